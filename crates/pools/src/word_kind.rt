@@ -1,0 +1,10 @@
+use crate::layout_id::LayoutId;
+
+/// What a word of a cell holds.
+#[derive(Clone, Copy, Debug, PartialEq, Eq)]
+pub enum WordKind {
+    /// An integer of so many bits, from 1 to 64.
+    Integer(u32),
+    /// Null, or a reference to a cell of this layout.
+    Reference(LayoutId),
+}
