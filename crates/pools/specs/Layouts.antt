@@ -17,5 +17,6 @@ is_reference_kind None = false
 is_reference_kind (Some (Integer bits)) = false
 is_reference_kind (Some (Reference layout)) = true
 
+-- whether this word of a layout holds references
 abbrev pub is_reference_word : List (List WordKind) → (layout word : ℕ) → Bool
 is_reference_word layouts layout word = is_reference_kind (kind_of_word layouts layout word)

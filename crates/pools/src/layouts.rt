@@ -61,6 +61,9 @@ impl Layouts {
     pub fn is_ref_word(&self, layout: LayoutId, word: u32) -> bool
         ensures { result ≡ is_reference_word self.now layout word }
     {
-        matches!(self.words(layout).get(word as usize), Some(WordKind::Reference(_)))
+        matches!(
+            self.words(layout).get(word as usize),
+            Some(WordKind::Reference(_))
+        )
     }
 }

@@ -3,8 +3,12 @@
 
 mod layout_id;
 mod layouts;
+mod pools;
+mod pools_fault;
 mod word_kind;
 
 pub use layout_id::LayoutId;
 pub use layouts::Layouts;
+pub use pools::{CELL_LIMIT, Pools};
+pub use pools_fault::PoolsFault;
 pub use word_kind::WordKind;
