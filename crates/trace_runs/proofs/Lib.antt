@@ -1,0 +1,16 @@
+pub mod Match
+pub mod Events
+pub mod Threads
+pub mod Readings
+pub mod Numbers
+pub mod Marking
+pub mod Storing
+pub mod Claiming
+pub mod Replies
+pub mod Moves
+pub mod Handshakes
+pub mod Passes
+pub mod Whole
+pub mod Typing
+pub mod Safeties
+pub mod References

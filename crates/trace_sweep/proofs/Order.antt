@@ -1,0 +1,307 @@
+-- The step in turn is one of the order, and no other step is.
+use Rattle.std.proofs.Common.{◌≡◌, inl, inr, ℕ, suc, ◌+◌, ◌-◌, ◌^◌, ◌<◌, ◌==◌, not, nat_lt, Bool, true, false, Option, Some, None, List, ◌∷◌, length, refl, sym, ap, ◌∙◌, subst, IsSome, if◌then◌else◌, arith}
+use Rattle.pools.specs.Heap.{Setup, cells, layout_of, kind_of, words_of_cell}
+use Rattle.pools.specs.Layouts.{is_reference_kind}
+use Rattle.colours.specs.declared.place.Place.{Place}
+use Rattle.colours.specs.declared.place.Place.TheVariants.{Word}
+use Rattle.colours.specs.declared.ask.Ask.{Ask}
+use Rattle.colours.specs.declared.turn.Turn.{Turn}
+use Rattle.colours.specs.declared.turn.Turn.TheVariants.{PostStage, ReadStage, MarkFound, ReadColour, ScanWord, Blacken, ClearWord, Free}
+use Rattle.colours.specs.Colours.{cycle_of, grey}
+use Rattle.colours.specs.Steps.{turn_of, place_of, FoundBy}
+use Rattle.colours.specs.Collector.{Collection, Posting, Waiting, ShadingGlobals, Passing, Scanning, Shading, Sweeping, Clearing, Pass, posted_of, Turns, wait_from, sweep_from, pass_from, has_answered, in_turn, looked, shaded_too, is_white, reference_from, Collects}
+use Rattle.trace_runs.proofs.Moves.{yes_or_no, lt_true, lt_false, lt_yes, lt_no, skip_found}
+use Rattle.trace_sweep.specs.Turns.{is_at_limit, turn_in, behind, TurnsInOrder}
+use Rattle.trace_sweep.specs.Collecting.{Collecting, plan_of, in_order, without_list, scans, posted_by, moved, NamesCells}
+use Rattle.trace_sweep.specs.Collecting as machine
+use Rattle.trace_sweep.specs.Stands.{StandsBehind, IsStepOn, ExtendsLogs}
+
+-- before the limit the next cycle is within it
+further : (stage : ℕ) → is_at_limit stage Posting ≡ false → cycle_of (stage + 1) < 2 ^ 60
+further stage e = lt_true (cycle_of (stage + 1)) (2 ^ 60) (both (nat_lt (cycle_of (stage + 1)) (2 ^ 60)) e)
+  where
+    both : (b : Bool) → not b ≡ false → b ≡ true
+    both true e = refl
+    both false e = absurd cc
+
+-- one number more
+next_is : (n : ℕ) → n + 1 ≡ suc n
+next_is n = omega arith
+
+-- ---- the step in turn is one of the order
+
+-- in the grammar it leads to the place behind it
+pub turns-turn_in : (s : Setup) (stage : ℕ) (c : Collection) (found : ℕ) → is_at_limit stage c ≡ false → TurnsInOrder s stage c (turn_in s stage c found) (behind s stage c found)
+turns-turn_in s stage Posting found e = (next_is stage, further stage e, refl)
+turns-turn_in s stage (Waiting thread) found e = (refl, ap (λ n. if has_answered stage found then wait_from s stage n else Waiting thread) (next_is thread))
+turns-turn_in s stage ShadingGlobals found e = (refl, refl)
+turns-turn_in s stage (Passing p) found e = (refl, refl)
+turns-turn_in s stage (Scanning cell word p) found e = elim (yes_or_no (nat_lt (reference_from s cell word) (length (words_of_cell s cell)))) [
+  | inl f ↦ rw f (
+    refl,
+    refl,
+    lt_true (reference_from s cell word) (length (words_of_cell s cell)) f,
+    ap (λ n. if found == 0 then Scanning cell n p else Shading found cell n p) (next_is (reference_from s cell word)),
+  )
+  | inr f ↦ rw f (refl, lt_false (reference_from s cell word) (length (words_of_cell s cell)) f, refl)
+]
+turns-turn_in s stage (Shading value cell word p) found e = (refl, refl)
+turns-turn_in s stage (Sweeping cell) found e = (refl, ap (λ n. if is_white stage found then Clearing cell 0 else sweep_from s n) (next_is cell))
+turns-turn_in s stage (Clearing cell word) found e = elim (yes_or_no (nat_lt word (length (words_of_cell s cell)))) [
+  | inl f ↦ rw f (refl, refl, lt_true word (length (words_of_cell s cell)) f, ap (Clearing cell) (next_is word))
+  | inr f ↦ rw f (refl, lt_false word (length (words_of_cell s cell)) f, ap (sweep_from s) (next_is cell))
+]
+
+-- it says what its word holds
+pub found-turn_in : (s : Setup) (stage : ℕ) (c : Collection) (found : ℕ) → FoundBy (turn_in s stage c found) found
+found-turn_in s stage Posting found = tt
+found-turn_in s stage (Waiting thread) found = refl
+found-turn_in s stage ShadingGlobals found = refl
+found-turn_in s stage (Passing p) found = refl
+found-turn_in s stage (Scanning cell word p) found = elim (yes_or_no (nat_lt (reference_from s cell word) (length (words_of_cell s cell)))) [
+  | inl f ↦ rw f refl
+  | inr f ↦ rw f tt
+]
+found-turn_in s stage (Shading value cell word p) found = refl
+found-turn_in s stage (Sweeping cell) found = refl
+found-turn_in s stage (Clearing cell word) found = elim (yes_or_no (nat_lt word (length (words_of_cell s cell)))) [
+  | inl f ↦ rw f tt
+  | inr f ↦ rw f tt
+]
+
+-- the operation does not depend on what its word holds
+pub turn_of-turn_in : (cycle : ℕ) (s : Setup) (stage : ℕ) (c : Collection) (found other : ℕ) → turn_of cycle (turn_in s stage c found) ≡ turn_of cycle (turn_in s stage c other)
+turn_of-turn_in cycle s stage Posting found other = refl
+turn_of-turn_in cycle s stage (Waiting thread) found other = refl
+turn_of-turn_in cycle s stage ShadingGlobals found other = refl
+turn_of-turn_in cycle s stage (Passing p) found other = refl
+turn_of-turn_in cycle s stage (Scanning cell word p) found other = elim (yes_or_no (nat_lt (reference_from s cell word) (length (words_of_cell s cell)))) [
+  | inl f ↦ rw f refl
+  | inr f ↦ rw f refl
+]
+turn_of-turn_in cycle s stage (Shading value cell word p) found other = refl
+turn_of-turn_in cycle s stage (Sweeping cell) found other = refl
+turn_of-turn_in cycle s stage (Clearing cell word) found other = elim (yes_or_no (nat_lt word (length (words_of_cell s cell)))) [
+  | inl f ↦ rw f refl
+  | inr f ↦ rw f refl
+]
+
+-- ---- and no other step is
+
+-- a step in turn that says what its word holds is this one, and leads to the place behind it
+pub turn_in-only : (s : Setup) (stage : ℕ) (c : Collection) (turn : Turn) (d : Collection) (found : ℕ) → TurnsInOrder s stage c turn d → FoundBy turn found
+    → (is_at_limit stage c ≡ false) × (turn ≡ turn_in s stage c found) × (d ≡ behind s stage c found)
+turn_in-only s stage Posting (PostStage to) d found x f = (limit, ap PostStage is, x.2 ∙ ap (λ n. wait_from s n 0) is)
+  where
+    is : to ≡ stage + 1
+    is = x.0 ∙ sym (next_is stage)
+
+    limit : not (nat_lt (cycle_of (stage + 1)) (2 ^ 60)) ≡ false
+    limit = ap not (lt_yes (cycle_of (stage + 1)) (2 ^ 60) (subst (λ n. cycle_of n < 2 ^ 60) is x.1))
+turn_in-only s stage (Waiting thread) (ReadStage t m) d found x f = (
+  refl,
+  ap (λ u. ReadStage u m) x.0 ∙ ap (ReadStage thread) (sym f),
+  x.1 ∙ ap (λ v. if has_answered stage v then wait_from s stage (suc thread) else Waiting thread) (sym f)
+      ∙ ap (λ n. if has_answered stage found then wait_from s stage n else Waiting thread) (sym (next_is thread)),
+)
+turn_in-only s stage ShadingGlobals (MarkFound cell m) d found x f = (refl, ap (λ u. MarkFound u m) x.0 ∙ ap (MarkFound 0) (sym f), x.1)
+turn_in-only s stage (Passing p) (ReadColour cell m) d found x f = (refl, ap (λ u. ReadColour u m) x.0 ∙ ap (ReadColour p.next) (sym f), x.1 ∙ ap (λ u. looked s stage (in_turn p) u m) x.0 ∙ ap (looked s stage (in_turn p) p.next) (sym f))
+turn_in-only s stage (Scanning cell word p) (ScanWord c w m) d found x f =
+    let here : nat_lt (reference_from s cell word) (length (words_of_cell s cell)) ≡ true = lt_yes (reference_from s cell word) (length (words_of_cell s cell)) (subst (λ n. n < length (words_of_cell s cell)) x.1 x.2) in (
+      refl,
+      ap (λ u. ScanWord u w m) x.0 ∙ ap (λ u. ScanWord cell u m) x.1 ∙ ap (ScanWord cell (reference_from s cell word)) (sym f) ∙ rw here refl,
+      x.3 ∙ ap (λ n. if m == 0 then Scanning cell (suc n) p else Shading m cell (suc n) p) x.1 ∙ ap (λ v. if v == 0 then Scanning cell (suc (reference_from s cell word)) p else Shading v cell (suc (reference_from s cell word)) p) (sym f)
+          ∙ ap (λ n. if found == 0 then Scanning cell n p else Shading found cell n p) (sym (next_is (reference_from s cell word))) ∙ rw here refl,
+    )
+turn_in-only s stage (Scanning cell word p) (Blacken c) d found x f =
+    let none : nat_lt (reference_from s cell word) (length (words_of_cell s cell)) ≡ false = lt_no (reference_from s cell word) (length (words_of_cell s cell)) x.1 in
+    (refl, ap Blacken x.0 ∙ rw none refl, x.2 ∙ rw none refl)
+turn_in-only s stage (Shading value cell word p) (MarkFound c m) d found x f = (refl, ap (λ u. MarkFound u m) x.0 ∙ ap (MarkFound value) (sym f), x.1 ∙ ap (λ v. Scanning cell word (shaded_too stage p value v)) (sym f))
+turn_in-only s stage (Sweeping cell) (ReadColour c m) d found x f = (
+  refl,
+  ap (λ u. ReadColour u m) x.0 ∙ ap (ReadColour cell) (sym f),
+  x.1 ∙ ap (λ v. if is_white stage v then Clearing cell 0 else sweep_from s (suc cell)) (sym f)
+      ∙ ap (λ n. if is_white stage found then Clearing cell 0 else sweep_from s n) (sym (next_is cell)),
+)
+turn_in-only s stage (Clearing cell word) (ClearWord c w) d found x f =
+    let here : nat_lt word (length (words_of_cell s cell)) ≡ true = lt_yes word (length (words_of_cell s cell)) (subst (λ n. n < length (words_of_cell s cell)) x.1 x.2) in
+    (refl, ap (λ u. ClearWord u w) x.0 ∙ ap (ClearWord cell) x.1 ∙ rw here refl, x.3 ∙ ap (Clearing cell) (sym (next_is word)) ∙ rw here refl)
+turn_in-only s stage (Clearing cell word) (Free c) d found x f =
+    let none : nat_lt word (length (words_of_cell s cell)) ≡ false = lt_no word (length (words_of_cell s cell)) x.1 in
+    (refl, ap Free x.0 ∙ rw none refl, x.2 ∙ ap (sweep_from s) (sym (next_is cell)) ∙ rw none refl)
+turn_in-only s stage _ turn d found x f = absurd x
+
+-- ---- the list of shaded cells does not change the step
+
+-- the limit
+same_limit : (stage : ℕ) (c : Collection) → is_at_limit stage (in_order c) ≡ is_at_limit stage c
+same_limit stage Posting = refl
+same_limit stage (Waiting thread) = refl
+same_limit stage ShadingGlobals = refl
+same_limit stage (Passing p) = refl
+same_limit stage (Scanning cell word p) = refl
+same_limit stage (Shading value cell word p) = refl
+same_limit stage (Sweeping cell) = refl
+same_limit stage (Clearing cell word) = refl
+
+-- the step
+same_turn : (s : Setup) (stage : ℕ) (c : Collection) (found : ℕ) → turn_in s stage (in_order c) found ≡ turn_in s stage c found
+same_turn s stage Posting found = refl
+same_turn s stage (Waiting thread) found = refl
+same_turn s stage ShadingGlobals found = refl
+same_turn s stage (Passing p) found = refl
+same_turn s stage (Scanning cell word p) found = refl
+same_turn s stage (Shading value cell word p) found = refl
+same_turn s stage (Sweeping cell) found = refl
+same_turn s stage (Clearing cell word) found = refl
+
+-- the pass behind it
+same_pass : (s : Setup) (p : Pass) → in_order (pass_from s (without_list p)) ≡ in_order (pass_from s p)
+same_pass s p = elim (yes_or_no (nat_lt p.next (cells s))) [
+  | inl e ↦ rw e refl
+  | inr e ↦ rw e (elim (yes_or_no p.met_grey) [ inl m ↦ rw m refl | inr m ↦ rw m refl ])
+]
+
+-- and the place behind it
+same_behind : (s : Setup) (stage : ℕ) (c : Collection) (found : ℕ) → in_order (behind s stage (in_order c) found) ≡ in_order (behind s stage c found)
+same_behind s stage Posting found = refl
+same_behind s stage (Waiting thread) found = refl
+same_behind s stage ShadingGlobals found = refl
+same_behind s stage (Passing p) found = elim (yes_or_no (found == grey (cycle_of stage))) [
+  | inl e ↦ rw e refl
+  | inr e ↦ rw e (same_pass s (in_turn p))
+]
+same_behind s stage (Scanning cell word p) found = elim (yes_or_no (nat_lt (reference_from s cell word) (length (words_of_cell s cell)))) [
+  | inl e ↦ rw e (elim (yes_or_no (found == 0)) [ inl z ↦ rw z refl | inr n ↦ rw n refl ])
+  | inr e ↦ rw e (same_pass s p)
+]
+same_behind s stage (Shading value cell word p) found = elim (yes_or_no (nat_lt found (grey (cycle_of stage)))) [ inl e ↦ rw e refl | inr e ↦ rw e refl ]
+same_behind s stage (Sweeping cell) found = refl
+same_behind s stage (Clearing cell word) found = refl
+
+-- ---- what the collector does not know of a heap does not change the order
+
+-- the order of a plan is that of its heaps
+pub turns-plan : (s : Setup) (stage : ℕ) (b : Collection) (turn : Turn) (c : Collection) → Turns (plan_of s) stage b turn c → Turns s stage b turn c
+unfolding kind_of layout_of
+turns-plan s stage b turn c t = t
+
+-- a step in turn is one of the order
+in_order-turns : (s : Setup) (stage : ℕ) (b : Collection) (turn : Turn) (c : Collection) → TurnsInOrder s stage b turn c → Turns s stage b turn c
+in_order-turns s stage (Passing p) (ReadColour cell colour) c x = inl x
+in_order-turns s stage (Passing p) turn c x = absurd x
+in_order-turns s stage Posting turn c x = x
+in_order-turns s stage (Waiting thread) turn c x = x
+in_order-turns s stage ShadingGlobals turn c x = x
+in_order-turns s stage (Scanning cell word p) turn c x = x
+in_order-turns s stage (Shading value cell word p) turn c x = x
+in_order-turns s stage (Sweeping cell) turn c x = x
+in_order-turns s stage (Clearing cell word) turn c x = x
+
+-- ---- behind the step, a collector stands behind the longer log
+
+-- the stage posted last is that of the longer log
+posted_by-posted_of : (turn : Turn) (log : List Turn) → posted_by turn (posted_of log) ≡ posted_of (turn ∷ log)
+posted_by-posted_of (PostStage to) log = refl
+posted_by-posted_of (ReadStage t m) log = refl
+posted_by-posted_of (MarkFound c m) log = refl
+posted_by-posted_of (ReadColour c m) log = refl
+posted_by-posted_of (ScanWord c w m) log = refl
+posted_by-posted_of (Blacken c) log = refl
+posted_by-posted_of (ClearWord c w) log = refl
+posted_by-posted_of (Free c) log = refl
+
+-- behind its step a collector stands behind the longer log, where it is seen at this place
+stands_as : (s : Setup) (stage : ℕ) (log : List Turn) (place : Collection) (found : ℕ) → stage ≡ posted_of log → Collects s log place → is_at_limit stage (in_order place) ≡ false
+    → StandsBehind s (turn_in (plan_of s) stage (in_order place) found ∷ log) (moved (record { heap = plan_of s; posted = stage; at = in_order place }) found)
+stands_as s stage log place found e col more = record {
+  heap = refl;
+  posted = ap (posted_by (turn_in (plan_of s) stage (in_order place) found)) e ∙ posted_by-posted_of (turn_in (plan_of s) stage (in_order place) found) log;
+  place = behind (plan_of s) stage place found;
+  at = same_behind (plan_of s) stage place found;
+  collects = (
+    place,
+    col,
+    subst (λ n. Turns s n place (turn_in (plan_of s) stage (in_order place) found) (behind (plan_of s) stage place found)) e
+        (turns-plan s stage place (turn_in (plan_of s) stage (in_order place) found) (behind (plan_of s) stage place found)
+        (in_order-turns (plan_of s) stage place (turn_in (plan_of s) stage (in_order place) found) (behind (plan_of s) stage place found)
+        (subst (λ (turn : Turn). TurnsInOrder (plan_of s) stage place turn (behind (plan_of s) stage place found)) (sym (same_turn (plan_of s) stage place found))
+        (turns-turn_in (plan_of s) stage place found (sym (same_limit stage place) ∙ more))))),
+  );
+}
+
+-- and wherever it is
+pub moved-stands : (s : Setup) (log : List Turn) (c : Collecting) (found : ℕ) → StandsBehind s log c → is_at_limit c.posted c.at ≡ false → StandsBehind s (machine.turn_of c found ∷ log) (moved c found)
+moved-stands s log c found h more =
+    let at : c ≡ record { heap = plan_of s; posted = c.posted; at = in_order h.place } = rw (sym h.heap, sym h.at) refl in
+    subst (λ (d : Collecting). StandsBehind s (machine.turn_of d found ∷ log) (moved d found)) (sym at) (stands_as s c.posted log h.place found h.posted h.collects (subst (λ (d : Collection). is_at_limit c.posted d ≡ false) h.at more))
+
+-- ---- what is read next is a cell's number
+
+-- a word that is read as a reference holds a cell's number
+pub fits-next : (s : Setup) (stage : ℕ) (c : Collection) (word_at : Place → ℕ) → NamesCells s word_at → (found : ℕ) → found ≡ word_at (place_of (turn_of (cycle_of stage) (turn_in s stage c 0)))
+    → scans (turn_in s stage c found) ≡ true → found < 2 ^ 32
+fits-next s stage (Scanning cell word p) word_at names found is e = elim (yes_or_no (nat_lt (reference_from s cell word) (length (words_of_cell s cell)))) [
+  | inl f ↦
+      let within : reference_from s cell word < length (words_of_cell s cell) = lt_true (reference_from s cell word) (length (words_of_cell s cell)) f in
+      let ref : is_reference_kind (kind_of s cell (reference_from s cell word)) ≡ true = skip_found s cell word (length (words_of_cell s cell) - word) (omega (arith, within)) in
+      let turn : turn_in s stage (Scanning cell word p) 0 ≡ ScanWord cell (reference_from s cell word) 0 = rw f refl in
+      let same : found ≡ word_at (Word cell (reference_from s cell word)) = is ∙ ap (λ (turn : Turn). word_at (place_of (turn_of (cycle_of stage) turn))) turn in
+      subst (λ n. n < 2 ^ 32) (sym same) (names cell (reference_from s cell word) ref)
+  | inr f ↦ let turn : turn_in s stage (Scanning cell word p) found ≡ Blacken cell = rw f refl in absurd (none (ap scans (sym turn) ∙ e))
+]
+  where
+    none : false ≡ true → ⊥
+    none e = cc
+fits-next s stage (Clearing cell word) word_at names found is e = elim (yes_or_no (nat_lt word (length (words_of_cell s cell)))) [
+  | inl f ↦ let turn : turn_in s stage (Clearing cell word) found ≡ ClearWord cell word = rw f refl in absurd (none (ap scans (sym turn) ∙ e))
+  | inr f ↦ let turn : turn_in s stage (Clearing cell word) found ≡ Free cell = rw f refl in absurd (none (ap scans (sym turn) ∙ e))
+]
+  where
+    none : false ≡ true → ⊥
+    none e = cc
+fits-next s stage _ word_at names found is e = absurd cc
+
+-- ---- as the calls say it
+
+-- where something is asked the limit is not reached
+pub asked-further : (c : Collecting) → IsSome (machine.ask_of c) → is_at_limit c.posted c.at ≡ false
+asked-further c asked = go (is_at_limit c.posted c.at) asked
+  where
+    go : (b : Bool) → IsSome (if b then None else Some (turn_of (cycle_of c.posted) (turn_in c.heap c.posted c.at 0))) → b ≡ false
+    go true x = absurd cc
+    go false x = refl
+
+-- the step taken extends each log
+pub took-stands : (c : Collecting) (found : ℕ) (turn : Turn) (d : Collecting) → turn ≡ machine.turn_of c found → d ≡ moved c found → IsSome (machine.ask_of c)
+    → ExtendsLogs c turn d
+took-stands c found turn d is to asked s log h =
+    subst (λ (t : Turn). StandsBehind s (t ∷ log) d) (sym is) (subst (λ (e : Collecting). StandsBehind s (machine.turn_of c found ∷ log) e) (sym to) (moved-stands s log c found h (asked-further c asked)))
+
+-- what is asked is the operation of the step
+pub asked-some : (c : Collecting) (ask : Ask) → machine.ask_of c ≡ Some ask → (is_at_limit c.posted c.at ≡ false) × (ask ≡ turn_of (cycle_of c.posted) (turn_in c.heap c.posted c.at 0))
+asked-some c ask e = go (is_at_limit c.posted c.at) e
+  where
+    go : (b : Bool) → (if b then None else Some (turn_of (cycle_of c.posted) (turn_in c.heap c.posted c.at 0))) ≡ Some ask → (b ≡ false) × (ask ≡ turn_of (cycle_of c.posted) (turn_in c.heap c.posted c.at 0))
+    go true x = absurd cc
+    go false x = (refl, cc)
+
+-- what is found at the place of the operation may be taken
+pub next-fits : (c : Collecting) (word_at : Place → ℕ) (ask : Ask) (place : Place) (found : ℕ) → NamesCells c.heap word_at → machine.ask_of c ≡ Some ask → place ≡ place_of ask → found ≡ word_at place → machine.FitsNext c found
+next-fits c word_at ask place found names e at is =
+    fits-next c.heap c.posted c.at word_at names found (is ∙ ap word_at (at ∙ ap place_of (asked-some c ask e).1))
+
+-- the motion is the collector's step on the words
+pub next-step : (c : Collecting) (word_at : Place → ℕ) (ask : Ask) (place : Place) (found : ℕ) (turn : Turn) (stored : Option ℕ) (d : Collecting) → machine.ask_of c ≡ Some ask → place ≡ place_of ask → found ≡ word_at place
+    → turn ≡ machine.turn_of c found → stored ≡ machine.stored_by ask found → d ≡ moved c found → IsStepOn word_at c (record { turn = turn; place = place; stored = stored }) d
+next-step c word_at ask place found turn stored d e at is taken put to = record {
+  further = (asked-some c ask e).0;
+  turn = taken ∙ ap (machine.turn_of c) is;
+  place = at ∙ ap place_of same;
+  stored = put ∙ ap (λ (a : Ask). machine.stored_by a found) same ∙ ap (machine.stored_by (turn_of (cycle_of c.posted) turn)) is;
+  found = subst (λ (t : Turn). FoundBy t (word_at place)) (sym taken) (subst (λ m. FoundBy (machine.turn_of c found) m) is (found-turn_in c.heap c.posted c.at found));
+  moves = to ∙ ap (moved c) is;
+}
+  where
+    same : ask ≡ turn_of (cycle_of c.posted) turn
+    same = (asked-some c ask e).1 ∙ turn_of-turn_in (cycle_of c.posted) c.heap c.posted c.at 0 found ∙ ap (turn_of (cycle_of c.posted)) (sym taken)

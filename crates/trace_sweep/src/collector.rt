@@ -1,0 +1,355 @@
+ghost use Rattle.std.specs.Prelude.{◌≡◌, List, [], ◌∷◌, ◌+◌, ◌<◌, ◌≤◌, ◌^◌, ◌↔◌, length, nat_lt, if◌then◌else◌, IsTrue, IsSome, IsNone, IfSome, IfNone, Some, None, slice_get, All};
+ghost use Rattle.pools.specs.Heap.{Setup, cells, words_of_cell};
+ghost use Rattle.pools.specs.Layouts.{is_reference_kind};
+ghost use Rattle.colours.specs.Collector.{looked, in_turn, wait_from, pass_from, sweep_from};
+ghost use Rattle.colours.specs.Steps as steps;
+ghost use Rattle.trace_sweep.specs.Turns.{is_at_limit, next_reference, behind};
+ghost use Rattle.trace_sweep.specs.Collecting.{plan, in_order, plan_of, begun, ask_of, turn_of, posted_by, moved, FitsNext, NamesCells, stored_by};
+ghost use Rattle.trace_sweep.specs.Stands.{StandsBehind, IsStepOn, ExtendsLogs, ExtendsRuns};
+ghost use Rattle.colours.specs.Runs.{Event, turns_of, word_after};
+ghost use Rattle.colours.specs.declared.place.Place.{Place};
+ghost use Rattle.trace_sweep.specs.Words.{reference_in};
+ghost use Rattle.colours.specs.declared.turn.Turn.{Turn};
+ghost use Rattle.trace_sweep.specs.Positions.{pass_of, collection_of, IsPlacedAt};
+
+use crate::motion::Motion;
+use crate::position::{Pass, Position};
+use crate::words::Words;
+use colours::{Ask, Place, Turn, cycle_of, mark_value};
+use handshake::has_answered;
+use pools::{Layouts, Pools, WordKind};
+use std::marker::Model;
+
+/// A cycle with this number is never begun.
+const CYCLE_LIMIT: u64 = 1 << 60;
+
+/// The collector of a heap, between two of its steps. It borrows the pools, and no call takes memory.
+#[derive(Debug, Drop)]
+pub struct Collector<'a> {
+    pools: &'a Pools,
+    layouts: &'a Layouts,
+    globals: &'a [WordKind],
+    threads: usize,
+    cells: u32,
+    posted: u64,
+    position: Position,
+}
+
+impl<'a> Model for Collector<'a> {
+    ghost use Rattle.trace_sweep.specs.Collecting.{Collecting};
+
+    ghost Value = { Collecting };
+
+    ghost use Rattle.trace_sweep.specs.View.{view_of, IsPlaced};
+
+    ghost view = { view_of };
+
+    ghost invariant = { IsPlaced };
+}
+
+impl<'a> Collector<'a> {
+    /// The collector before its first step, for a heap with these globals and so many threads.
+    pub fn new(
+        pools: &'a Pools,
+        layouts: &'a Layouts,
+        globals: &'a [WordKind],
+        threads: usize,
+    ) -> Self
+        requires globals { length globals.now < 2 ^ 32 }
+        requires words { All (λ words. length words < 2 ^ 32) layouts.now }
+        ensures begun { result ≡ begun (plan threads layouts.now pools.now globals.now) }
+
+        // It stands behind the empty log of each heap with this plan.
+        ensures stands { (s : Setup) → plan_of s ≡ result.heap → StandsBehind s [] result }
+    {
+        Collector {
+            pools,
+            layouts,
+            globals,
+            threads,
+            cells: pools.cells(),
+            posted: 0,
+            position: Position::Posting,
+        }
+    }
+
+    /// The operation of the next step; None where no further cycle may begin.
+    pub fn ask(&self) -> Option<Ask>
+        ensures { result ≡ ask_of self.now }
+    {
+        if self.is_at_limit() {
+            return None;
+        }
+        Some(operation_of(self.turn(0), cycle_of(self.posted)))
+    }
+
+    /// Takes what the word of the step held, and tells the step.
+    pub fn took(&mut self, answer: u64) -> Turn
+        requires asked { IsSome (ask_of self.old) }
+        requires fits { FitsNext self.old answer }
+        ensures turn { result ≡ turn_of self.old answer }
+        ensures moved { self.new ≡ moved self.old answer }
+
+        // The step is the next one of the order behind each log that led here.
+        ensures collects { ExtendsLogs self.old result self.new }
+    {
+        self.step(answer)
+    }
+
+    /// Makes one step on these words: looks at its word, and tells the step and what the caller has to store.
+    /// None at the limit of the cycles alone, and then nothing changes.
+    pub fn next<W: Words>(&mut self, words: &W) -> Option<Motion>
+        requires { NamesCells self.old.heap (W.word_at words.now) }
+        ensures limit { IsNone result ↔ IsTrue (is_at_limit self.old.posted self.old.at) }
+        ensures unmoved { IfNone result (self.new ≡ self.old) }
+        ensures step { IfSome result (λ motion. IsStepOn (W.word_at words.now) self.old motion self.new) }
+
+        // The step is the next one of the order behind each log that led here.
+        ensures collects { IfSome result (λ motion. ExtendsLogs self.old motion.turn self.new) }
+
+        // On the words of a run it is the run's next step, and tells the words behind it.
+        ensures extends { IfSome result (λ motion. ExtendsRuns self.old (W.word_at words.now) motion) }
+    {
+        let ask = self.ask()?;
+        let place = place_of(ask);
+        let found = words.look(place);
+        let turn = self.took(found);
+        Some(Motion {
+            turn,
+            place,
+            stored: stored_by(ask, found),
+        })
+    }
+
+    /// The next step in turn, whose word held this number.
+    fn step(&mut self, answer: u64) -> Turn
+        requires asked { IsSome (ask_of self.old) }
+        requires fits { FitsNext self.old answer }
+        ensures turn { result ≡ turn_of self.old answer }
+        ensures moved { self.new ≡ moved self.old answer }
+    {
+        let turn = self.turn(answer);
+        let position = self.behind(answer);
+        if let Turn::PostStage(stage) = turn {
+            self.posted = stage;
+        }
+        self.position = position;
+        turn
+    }
+
+    /// Whether the next cycle is past the limit.
+    fn is_at_limit(&self) -> bool
+        ensures { result ≡ is_at_limit self.now.posted self.now.at }
+    {
+        matches!(self.position, Position::Posting) && cycle_of(self.posted + 1) >= CYCLE_LIMIT
+    }
+
+    /// The next step in turn, where its word holds this number.
+    fn turn(&self, found: u64) -> Turn
+        ensures { result ≡ turn_of self.now found }
+    {
+        match self.position {
+            Position::Posting => Turn::PostStage(self.posted + 1),
+            Position::Waiting(thread) => Turn::ReadStage(thread, found),
+            Position::MarkingGlobals => Turn::MarkFound(0, found),
+            Position::Passing(pass) => Turn::ReadColour(pass.next, found),
+            Position::Scanning(cell, word, _) => match self.reference_from(cell, word) {
+                Some(word) => Turn::ScanWord(cell, word, found),
+                None => Turn::Blacken(cell),
+            },
+            Position::Marking(value, _, _, _) => Turn::MarkFound(value, found),
+            Position::Sweeping(cell) => Turn::ReadColour(cell, found),
+            Position::Clearing(cell, word) if (word as usize) < self.words(cell).len() =>
+                Turn::ClearWord(cell, word),
+            Position::Clearing(cell, _) => Turn::Free(cell),
+        }
+    }
+
+    /// Where the collector stands behind that step.
+    fn behind(&self, found: u64) -> Position
+        requires asked { IsSome (ask_of self.now) }
+        requires fits { FitsNext self.now found }
+        ensures place { collection_of result ≡ in_order (behind self.now.heap self.now.posted self.now.at found) }
+        ensures placed { IsPlacedAt self.now.heap result }
+    {
+        match self.position {
+            Position::Posting => self.wait_from(self.posted + 1, 0),
+            Position::Waiting(thread) if has_answered(self.posted, found) => self.wait_from(
+                self.posted,
+                thread + 1,
+            ),
+            Position::Waiting(thread) => Position::Waiting(thread),
+            Position::MarkingGlobals => Position::Posting,
+            Position::Passing(pass) => self.behind_look(pass, found),
+            Position::Scanning(cell, word, pass) => match self.reference_from(cell, word) {
+                Some(word) if found == 0 => Position::Scanning(cell, word + 1, pass),
+                Some(word) => Position::Marking(found as u32, cell, word + 1, pass),
+                None => self.pass_from(pass),
+            },
+            Position::Marking(_, cell, word, pass) => Position::Scanning(cell, word, pass),
+            Position::Sweeping(cell) if 0 < found && found < mark_value(cycle_of(self.posted)) =>
+                Position::Clearing(cell, 0),
+            Position::Sweeping(cell) => self.sweep_from(cell + 1),
+            Position::Clearing(cell, word) if (word as usize) < self.words(cell).len() =>
+                Position::Clearing(cell, word + 1),
+            Position::Clearing(cell, _) => self.sweep_from(cell + 1),
+        }
+    }
+
+    /// Behind a look at the cell in turn: a grey one is scanned.
+    fn behind_look(&self, pass: Pass, colour: u64) -> Position
+        requires { pass.next < cells self.now.heap }
+        ensures place { collection_of result
+            ≡ in_order (looked self.now.heap self.now.posted (in_turn (pass_of pass)) pass.next colour) }
+        ensures placed { IsPlacedAt self.now.heap result }
+    {
+        let grey = mark_value(cycle_of(self.posted));
+        let next = pass.next + 1;
+        if colour == grey {
+            return Position::Scanning(
+                pass.next,
+                0,
+                Pass {
+                    next,
+                    met_grey: true,
+                },
+            );
+        }
+        self.pass_from(Pass {
+            next,
+            met_grey: pass.met_grey,
+        })
+    }
+
+    /// The next thread of a wait, or what comes behind the last one's answer.
+    fn wait_from(&self, stage: u64, thread: usize) -> Position
+        requires { thread ≤ self.now.heap.threads }
+        ensures place { collection_of result ≡ in_order (wait_from self.now.heap stage thread) }
+        ensures placed { IsPlacedAt self.now.heap result }
+    {
+        if thread < self.threads {
+            return Position::Waiting(thread);
+        }
+        match stage % 3 {
+            1 => Position::Posting,
+            2 => Position::MarkingGlobals,
+            _ => Position::Passing(FIRST_PASS),
+        }
+    }
+
+    /// The next cell of a pass, the next pass where a grey cell was met, or the sweep.
+    fn pass_from(&self, pass: Pass) -> Position
+        requires { pass.next ≤ cells self.now.heap }
+        ensures place { collection_of result ≡ in_order (pass_from self.now.heap (pass_of pass)) }
+        ensures placed { IsPlacedAt self.now.heap result }
+    {
+        if pass.next < self.cells {
+            return Position::Passing(pass);
+        }
+        if pass.met_grey {
+            return Position::Passing(FIRST_PASS);
+        }
+        self.sweep_from(1)
+    }
+
+    /// The next cell of the sweep, or the next stage.
+    fn sweep_from(&self, cell: u32) -> Position
+        ensures place { collection_of result ≡ in_order (sweep_from self.now.heap cell) }
+        ensures placed { IsPlacedAt self.now.heap result }
+    {
+        if cell < self.cells {
+            return Position::Sweeping(cell);
+        }
+        Position::Posting
+    }
+
+    /// The place of the cell's next reference word from this one on; None where there is none.
+    fn reference_from(&self, cell: u32, word: u32) -> Option<u32>
+        requires is_cell { cell < cells self.now.heap }
+        requires within { word ≤ length (words_of_cell self.now.heap cell) }
+        ensures { result ≡ next_reference self.now.heap cell word }
+    {
+        let _invariant = &self.pools;
+        first_reference(self.words(cell), word)
+    }
+
+    /// What the words of a cell hold.
+    fn words(&self, cell: u32) -> &[WordKind]
+        requires { cell < cells self.now.heap }
+        ensures { result.now ≡ words_of_cell self.now.heap cell }
+    {
+        if cell == 0 {
+            return self.globals;
+        }
+        self.layouts.words(self.pools.pool_of(cell))
+    }
+}
+
+const FIRST_PASS: Pass = Pass {
+    next: 0,
+    met_grey: false,
+};
+
+/// The word of an operation.
+fn place_of(ask: Ask) -> Place
+    ensures { result ≡ steps.place_of ask }
+{
+    match ask {
+        Ask::Load(place)
+        | Ask::Store(place, _)
+        | Ask::FetchMax(place, _)
+        | Ask::CompareExchange(place, _, _) => place,
+    }
+}
+
+/// What an operation stores in its word, which held this number.
+fn stored_by(ask: Ask, found: u64) -> Option<u64>
+    ensures { result ≡ stored_by ask found }
+{
+    match ask {
+        Ask::Load(_) => None,
+        Ask::Store(_, value) => Some(value),
+        Ask::FetchMax(_, value) => Some(found.max(value)),
+        Ask::CompareExchange(_, old, new) => Some(if found == old { new } else { found }),
+    }
+}
+
+/// The operation of a step in this cycle.
+fn operation_of(turn: Turn, cycle: u64) -> Ask
+    requires { cycle < 2 ^ 62 }
+    ensures { result ≡ steps.turn_of cycle turn }
+{
+    match turn {
+        Turn::PostStage(stage) => Ask::Store(Place::Posted, stage),
+        Turn::ReadStage(thread, _) => Ask::Load(Place::Stage(thread)),
+        Turn::MarkFound(cell, _) => Ask::FetchMax(Place::Colour(cell), mark_value(cycle)),
+        Turn::ReadColour(cell, _) => Ask::Load(Place::Colour(cell)),
+        Turn::ScanWord(cell, word, _) => Ask::Load(Place::Word(cell, word)),
+        Turn::Blacken(cell) => Ask::Store(Place::Colour(cell), 2 * cycle + 1),
+        Turn::ClearWord(cell, word) => Ask::Store(Place::Word(cell, word), 0),
+        Turn::Free(cell) => Ask::Store(Place::Colour(cell), 0),
+    }
+}
+
+/// The place of the first reference from this one on; None where there is none.
+fn first_reference(words: &[WordKind], from: u32) -> Option<u32>
+    requires within { from ≤ length words.now }
+    requires numbered { length words.now < 2 ^ 32 }
+    ensures { result ≡ reference_in words.now from }
+{
+    let mut at = from;
+    while (at as usize) < words.len() {
+        if is_reference(words, at) {
+            return Some(at);
+        }
+        at += 1;
+    }
+    None
+}
+
+/// Whether the word at this place is there, and holds references.
+fn is_reference(words: &[WordKind], at: u32) -> bool
+    ensures { result ≡ is_reference_kind (slice_get words.now at) }
+{
+    matches!(words.get(at as usize), Some(WordKind::Reference(_)))
+}
