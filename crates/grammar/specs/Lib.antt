@@ -1,0 +1,5 @@
+pub mod Outcome
+pub mod Laws
+pub mod Grammar
+pub mod Takes
+pub mod Many

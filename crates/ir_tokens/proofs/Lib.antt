@@ -1,0 +1,4 @@
+pub mod Laws
+mod Turns
+mod Words
+mod Worked

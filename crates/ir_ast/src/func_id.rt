@@ -1,0 +1,33 @@
+ghost use Rattle.std.specs.Prelude.{◌≡◌};
+
+use std::marker::Model;
+
+/// The number of a defined function, in text order from 0.
+#[derive(Clone, Copy, Debug, PartialEq, Eq)]
+pub struct FuncId {
+    number: u32,
+}
+
+impl Model for FuncId {
+    ghost use Rattle.std.specs.Prelude.{ℕ};
+
+    ghost Value = { ℕ };
+
+    ghost view = { λ id. id.number };
+
+    ghost inverse = { λ n. record { number = n } };
+}
+
+impl FuncId {
+    pub fn new(number: u32) -> Self
+        ensures { result ≡ number }
+    {
+        FuncId { number }
+    }
+
+    pub fn number(self) -> u32
+        ensures { result ≡ self }
+    {
+        self.number
+    }
+}

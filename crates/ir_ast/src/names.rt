@@ -1,0 +1,87 @@
+ghost use Rattle.std.specs.Prelude.{◌≡◌, ◌<◌, ◌≤◌, ◌^◌, [], length, slice_get, None, OnOk, OnErr, IfOk, IfSome};
+ghost use Rattle.std.specs.Option.{option_copied};
+ghost use Rattle.ir_ast.specs.Names.{place_of, number_of, numbered};
+
+use indexmap::IndexSet;
+use std::alloc::{AllocError, Global};
+use std::marker::Model;
+
+/// How many names or types a table holds: each is numbered by a `u32`.
+pub(crate) const TABLE_LIMIT: usize = 1 << 32;
+
+/// Distinct names, numbered from 0 in the order in which they came.
+#[derive(Drop)]
+pub struct Names {
+    texts: IndexSet<Vec<u8>>,
+}
+
+impl Model for Names {
+    ghost use Rattle.std.specs.Prelude.{◌≤◌, ◌^◌, List, ℕ, length, map};
+
+    ghost Value = { List (List ℕ) };
+
+    ghost view = { λ names. map (λ text. text.items) names.texts.keys };
+
+    ghost invariant = { λ names. length names.texts.keys ≤ 2 ^ 32 };
+}
+
+impl Names {
+    pub fn new(alloc: Global) -> Self
+        ensures { result ≡ [] }
+    {
+        Names {
+            texts: IndexSet::new(alloc),
+        }
+    }
+
+    /// How many names there are.
+    pub fn count(&self) -> usize
+        ensures count { result ≡ length self.now }
+        ensures limit { length self.now ≤ 2 ^ 32 }
+    {
+        self.texts.len()
+    }
+
+    /// The number of a name, if it is there. It is looked up by its hash.
+    pub fn find(&self, text: &[u8]) -> Option<usize>
+        ensures place { result ≡ place_of text.now self.now }
+        ensures limit { IfSome result (λ number. number < 2 ^ 32) }
+    {
+        self.texts.get_index_of(text)
+    }
+
+    /// The name with this number.
+    pub fn get(&self, number: usize) -> Option<&[u8]>
+        ensures { option_copied result ≡ slice_get self.now number }
+    {
+        let text = self.texts.get_index(number)?;
+        Some(text.as_slice())
+    }
+
+    /// The number of a name; a new name is added at the end. For a name that is there no memory is taken, and the table
+    /// refuses to grow past 2 to the 32 names.
+    pub fn number(&mut self, alloc: Global, text: &[u8]) -> Result<usize, AllocError>
+        ensures number { IfOk result (λ number. number ≡ number_of text.now self.old) }
+        ensures limit { IfOk result (λ number. number < 2 ^ 32) }
+        ensures names { OnOk result (self.new ≡ numbered text.now self.old) }
+        ensures err { OnErr result (self.new ≡ self.old) }
+        ensures err_only_new { OnErr result (place_of text.now self.old ≡ None) }
+    {
+        if let Some(number) = self.find(text) {
+            return Ok(number);
+        }
+        if self.texts.len() >= TABLE_LIMIT {
+            return Err(AllocError);
+        }
+        let text = Vec::from_slice(alloc, text)?;
+        let (number, _) = self.texts.insert_full(text)?;
+        Ok(number)
+    }
+
+    /// No name is left; the room stays.
+    pub fn clear(&mut self)
+        ensures { self.new ≡ [] }
+    {
+        self.texts.clear();
+    }
+}

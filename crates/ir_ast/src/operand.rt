@@ -1,0 +1,20 @@
+use crate::symbol_id::SymbolId;
+use crate::value_id::ValueId;
+
+/// A constant, as it is written; `undef` is read as the number 0 or as null.
+#[derive(Clone, Copy, Debug, PartialEq, Eq)]
+pub enum Constant {
+    /// The number modulo 2 to the 64: at an integer type of fewer bits it is below 2 to the bits.
+    Number(u64),
+    Null,
+    /// `true` or `false` where the written type is not i1; at i1 they are read as the numbers 1 and 0. No rule lets it pass.
+    Truth(bool),
+}
+
+/// What an instruction reads.
+#[derive(Clone, Copy, Debug, PartialEq, Eq)]
+pub enum Operand {
+    Constant(Constant),
+    Local(ValueId),
+    Global(SymbolId),
+}

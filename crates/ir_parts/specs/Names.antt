@@ -1,0 +1,285 @@
+-- Names: where they are defined, and where they are used. One that is used may be defined further on.
+use Rattle.std.specs.Prelude.{◌≡◌, ℕ, ◌+◌, ◌≤◌, Bool, true, false, not, nat_lt, List, [], ◌∷◌, ◌++◌, length, Option, Some, None, slice_get, option_and_then, option_map, find, refl}
+use Rattle.std.proofs.Common.{arith, ◌∙◌}
+use Rattle.grammar.specs.Grammar.{step, checked, ◌>>◌}
+use Rattle.grammar.specs.Takes.{TakesWhere, Stays, stays_takes}
+use Rattle.ir_tokens.specs.declared.token.Kind.TheVariants as k
+use Rattle.ir_ast.specs.Names.{place_of, number_of}
+use Rattle.ir_ast.specs.declared.items_of_module.SymbolSort.{SymbolSort}
+use Rattle.ir_ast.specs.declared.items_of_module.SymbolSort.TheVariants as symbol
+use Rattle.ir_ast.specs.declared.function.LocalSort.{LocalSort}
+use Rattle.ir_ast.specs.declared.function.LocalSort.TheVariants as local
+use Rattle.ir_parts.specs.declared.fault.Fault.TheVariants.{DefinedTwice}
+use Rattle.ir_parts.specs.declared.input.Input.{Input}
+use Rattle.ir_parts.specs.declared.uses.LocalUse.{LocalUse}
+use Rattle.ir_parts.specs.Cursor.{next, start, size, spelled, name, is_plain, label, is_plain_label, left_out}
+use Rattle.ir_parts.specs.Input.{Form, left, limit, advanced, advanced_falls, sees_a, next_falls, advance_takes, IsKind}
+use Rattle.ir_parts.specs.RuntimeNames.{is_intrinsic, is_left_out}
+use Rattle.ir_parts.specs.declared.table.Table.{Table}
+use Rattle.ir_parts.specs.Table.{mentioned, defined}
+
+-- ---- rules
+
+-- names in quotes are not read yet
+abbrev pub plain : Form (Unit {0})
+plain = checked (λ i. is_plain i.cursor) (λ i. left_out i.cursor)
+
+-- numbers have 32 bits
+abbrev pub has_number : (Input → ℕ) → Form (Unit {0})
+has_number number = checked (λ i. nat_lt (number i) 4294967296) limit
+
+-- a name is defined once
+abbrev pub is_new : (Input → Bool) → Form (Unit {0})
+is_new is_defined = checked (λ i. not (is_defined i)) (λ i. DefinedTwice (start i.cursor))
+
+-- ---- names of structs
+
+abbrev pub is_struct : Option (Option ℕ) → Bool
+is_struct None = false
+is_struct (Some None) = false
+is_struct (Some (Some layout)) = true
+
+abbrev pub struct_number : Input → ℕ
+struct_number i = number_of (name i.cursor) i.struct_names.names
+
+abbrev pub with_struct_use : Input → Input
+with_struct_use i = record (advanced i) {
+  struct_names = mentioned (name i.cursor) None i.struct_names;
+  struct_uses = i.struct_uses ++ record { name = struct_number i; start = start i.cursor } ∷ [];
+}
+
+pub with_struct_use_falls : (i : Input) → left (with_struct_use i) ≤ left i
+unfolding left
+with_struct_use_falls i = next_falls i
+
+abbrev pub struct_name_rules : Form (Unit {0})
+struct_name_rules = plain >> has_number struct_number
+
+-- a struct's name in a type
+unfoldable pub struct_name : Form ℕ
+struct_name = struct_name_rules >> step struct_number with_struct_use with_struct_use_falls
+
+abbrev pub is_known_struct : Input → Bool
+is_known_struct i = is_struct (slice_get (mentioned (name i.cursor) None i.struct_names).sorts (struct_number i))
+
+abbrev pub with_struct : Input → Input
+with_struct i = record (advanced i) {
+  struct_names = defined (struct_number i) (Some (length i.structs)) (mentioned (name i.cursor) None i.struct_names);
+}
+
+pub with_struct_falls : (i : Input) → left (with_struct i) ≤ left i
+unfolding left
+with_struct_falls i = next_falls i
+
+abbrev pub new_struct_rules : Form (Unit {0})
+new_struct_rules = plain >> has_number struct_number >> has_number (λ i. length i.structs) >> is_new is_known_struct
+
+-- the name of the struct that comes next in text order
+unfoldable pub new_struct : Form ℕ
+new_struct = new_struct_rules >> step struct_number with_struct with_struct_falls
+
+-- ---- global names
+
+abbrev pub is_symbol : Option SymbolSort → Bool
+is_symbol None = false
+is_symbol (Some symbol.Unknown) = false
+is_symbol (Some (symbol.Global g)) = true
+is_symbol (Some (symbol.Declared d)) = true
+is_symbol (Some (symbol.Defined f)) = true
+
+abbrev pub is_function : Option SymbolSort → Bool
+is_function None = false
+is_function (Some symbol.Unknown) = false
+is_function (Some (symbol.Global g)) = false
+is_function (Some (symbol.Declared d)) = true
+is_function (Some (symbol.Defined f)) = true
+
+abbrev pub symbol_number : Input → ℕ
+symbol_number i = number_of (name i.cursor) i.symbols.names
+
+-- intrinsics other than the three are left out
+abbrev pub not_left_out : Form (Unit {0})
+not_left_out = checked (λ i. not (is_left_out (name i.cursor))) (λ i. left_out i.cursor)
+
+abbrev pub is_known_symbol : Input → Bool
+is_known_symbol i = is_symbol (slice_get (mentioned (name i.cursor) symbol.Unknown i.symbols).sorts (symbol_number i))
+
+abbrev pub with_symbol : SymbolSort → Input → Input
+with_symbol sort i = record (advanced i) { symbols = defined (symbol_number i) sort (mentioned (name i.cursor) symbol.Unknown i.symbols) }
+
+pub with_symbol_falls : (sort : SymbolSort) (i : Input) → left (with_symbol sort i) ≤ left i
+unfolding left
+with_symbol_falls sort i = next_falls i
+
+abbrev pub new_symbol_rules : Form (Unit {0})
+new_symbol_rules = plain >> not_left_out >> has_number symbol_number >> is_new is_known_symbol
+
+-- a global name that is defined here, as this
+unfoldable pub new_symbol : SymbolSort → Form ℕ
+new_symbol sort = new_symbol_rules >> step symbol_number (with_symbol sort) (with_symbol_falls sort)
+
+abbrev pub with_symbol_use : Bool → Input → Input
+with_symbol_use is_call i = record (advanced i) {
+  symbols = mentioned (name i.cursor) symbol.Unknown i.symbols;
+  symbol_uses = i.symbol_uses ++ record { symbol = symbol_number i; is_call = is_call; start = start i.cursor; length = size i.cursor } ∷ [];
+}
+
+pub with_symbol_use_falls : (is_call : Bool) (i : Input) → left (with_symbol_use is_call i) ≤ left i
+unfolding left
+with_symbol_use_falls is_call i = next_falls i
+
+-- a use of a global name, which is called or else is an operand
+unfoldable pub used_symbol : Bool → Form ℕ
+used_symbol is_call = has_number symbol_number >> step symbol_number (with_symbol_use is_call) (with_symbol_use_falls is_call)
+
+-- the name of a function that is called
+unfoldable pub callee : Form ℕ
+callee = plain >> not_left_out >> used_symbol true
+
+-- what the next token's global name stands for so far
+abbrev pub sort_of_symbol : Input → Option SymbolSort
+sort_of_symbol i = option_and_then (slice_get i.symbols.sorts) (place_of (name i.cursor) i.symbols.names)
+
+-- functions are no operands
+abbrev pub no_function : Form (Unit {0})
+no_function = checked (λ i. not (is_function (sort_of_symbol i))) (λ i. left_out i.cursor)
+
+-- the name of a global as an operand
+unfoldable pub used_global : Form ℕ
+used_global = plain >> checked (λ i. not (is_intrinsic (name i.cursor))) (λ i. left_out i.cursor) >> no_function >> used_symbol false
+
+-- ---- local names
+
+abbrev pub is_local : Option LocalSort → Bool
+is_local None = false
+is_local (Some local.Unknown) = false
+is_local (Some (local.Value t)) = true
+is_local (Some (local.Block b)) = true
+
+abbrev pub local_number : Input → ℕ
+local_number i = number_of (name i.cursor) i.locals.names
+
+abbrev pub with_value_use : Input → Input
+with_value_use i = record (advanced i) {
+  locals = mentioned (name i.cursor) local.Unknown i.locals;
+  local_uses = i.local_uses ++ record { value = local_number i; start = start i.cursor } ∷ [];
+}
+
+pub with_value_use_falls : (i : Input) → left (with_value_use i) ≤ left i
+unfolding left
+with_value_use_falls i = next_falls i
+
+-- a local name as an operand
+unfoldable pub used_value : Form ℕ
+used_value = plain >> has_number local_number >> step local_number with_value_use with_value_use_falls
+
+abbrev pub is_known_local : Input → Bool
+is_known_local i = is_local (slice_get (mentioned (name i.cursor) local.Unknown i.locals).sorts (local_number i))
+
+abbrev pub with_value : Input → Input
+with_value i = record (advanced i) { locals = mentioned (name i.cursor) local.Unknown i.locals; values = i.values + 1 }
+
+pub with_value_falls : (i : Input) → left (with_value i) ≤ left i
+unfolding left
+with_value_falls i = next_falls i
+
+-- a function defines at most a million values
+abbrev pub new_value_rules : Form (Unit {0})
+new_value_rules = plain >> has_number local_number >> is_new is_known_local >> checked (λ i. nat_lt i.values 1000000) limit
+
+-- the name of a value that is defined here
+unfoldable pub new_value : Form ℕ
+new_value = new_value_rules >> step local_number with_value with_value_falls
+
+abbrev pub with_type : ℕ → ℕ → Input → Input
+with_type value shown i = record i { locals = defined value (local.Value shown) i.locals }
+
+pub with_type_falls : (value shown : ℕ) (i : Input) → left (with_type value shown i) ≤ left i
+unfolding left
+with_type_falls value shown i = omega arith
+
+-- the type of the value that this name stands for
+abbrev pub set_type : ℕ → ℕ → Form (Unit {0})
+set_type value shown = step (λ _. tt) (with_type value shown) (with_type_falls value shown)
+
+abbrev pub label_number : Input → ℕ
+label_number i = number_of (label i.cursor) i.locals.names
+
+abbrev pub is_known_label : Input → Bool
+is_known_label i = is_local (slice_get (mentioned (label i.cursor) local.Unknown i.locals).sorts (label_number i))
+
+abbrev pub with_label : ℕ → Input → Input
+with_label block i = record (advanced i) { locals = defined (label_number i) (local.Block block) (mentioned (label i.cursor) local.Unknown i.locals) }
+
+pub with_label_falls : (block : ℕ) (i : Input) → left (with_label block i) ≤ left i
+unfolding left
+with_label_falls block i = next_falls i
+
+-- the label of the block with this number
+unfoldable pub new_label : ℕ → Form ℕ
+new_label block = checked (λ i. is_plain_label i.cursor) (λ i. left_out i.cursor) >> has_number label_number >> is_new is_known_label
+    >> step label_number (with_label block) (with_label_falls block)
+
+-- text in quotes
+unfoldable pub quoted : Form (List ℕ)
+quoted = sees_a k.Quoted >> step (λ i. spelled i.cursor) advanced advanced_falls
+
+abbrev pub is_value : Option LocalSort → Bool
+is_value None = false
+is_value (Some local.Unknown) = false
+is_value (Some (local.Value t)) = true
+is_value (Some (local.Block b)) = false
+
+-- where the first use stands of a local name that is no value
+abbrev pub first_missing : Table LocalSort → List LocalUse → Option ℕ
+first_missing t uses = option_map (λ u. u.start) (find (λ u. not (is_value (slice_get t.sorts u.value))) uses)
+
+-- ---- names take a token
+
+struct_use_left : (i : Input) → left (with_struct_use i) ≡ length (next i.cursor).rest
+unfolding left
+struct_use_left i = refl
+
+struct_name_stays : Stays struct_name_rules
+struct_name_stays i a o h = h.2.1 ∙ h.3.1
+
+pub struct_name_takes : TakesWhere (IsKind k.LocalName) struct_name
+unfolding struct_name
+struct_name_takes = stays_takes (IsKind k.LocalName) struct_name_rules (step struct_number with_struct_use with_struct_use_falls) struct_name_stays
+    (advance_takes k.LocalName (λ x. cc) struct_number with_struct_use with_struct_use_falls struct_use_left)
+
+new_struct_left : (i : Input) → left (with_struct i) ≡ length (next i.cursor).rest
+unfolding left
+new_struct_left i = refl
+
+new_struct_stays : Stays new_struct_rules
+new_struct_stays i a o h = h.2.2.2.1 ∙ h.2.2.3.1 ∙ h.2.3.1 ∙ h.3.1
+
+pub new_struct_takes : TakesWhere (IsKind k.LocalName) new_struct
+unfolding new_struct
+new_struct_takes = stays_takes (IsKind k.LocalName) new_struct_rules (step struct_number with_struct with_struct_falls) new_struct_stays
+    (advance_takes k.LocalName (λ x. cc) struct_number with_struct with_struct_falls new_struct_left)
+
+new_symbol_left : (sort : SymbolSort) (i : Input) → left (with_symbol sort i) ≡ length (next i.cursor).rest
+unfolding left
+new_symbol_left sort i = refl
+
+new_symbol_stays : Stays new_symbol_rules
+new_symbol_stays i a o h = h.2.2.2.1 ∙ h.2.2.3.1 ∙ h.2.3.1 ∙ h.3.1
+
+pub new_symbol_takes : (sort : SymbolSort) → TakesWhere (IsKind k.GlobalName) (new_symbol sort)
+unfolding new_symbol
+new_symbol_takes sort = stays_takes (IsKind k.GlobalName) new_symbol_rules (step symbol_number (with_symbol sort) (with_symbol_falls sort)) new_symbol_stays
+    (advance_takes k.GlobalName (λ x. cc) symbol_number (with_symbol sort) (with_symbol_falls sort) (new_symbol_left sort))
+
+new_value_left : (i : Input) → left (with_value i) ≡ length (next i.cursor).rest
+unfolding left
+new_value_left i = refl
+
+new_value_stays : Stays new_value_rules
+new_value_stays i a o h = h.2.2.2.1 ∙ h.2.2.3.1 ∙ h.2.3.1 ∙ h.3.1
+
+pub new_value_takes : TakesWhere (IsKind k.LocalName) new_value
+unfolding new_value
+new_value_takes = stays_takes (IsKind k.LocalName) new_value_rules (step local_number with_value with_value_falls) new_value_stays
+    (advance_takes k.LocalName (λ x. cc) local_number with_value with_value_falls new_value_left)

@@ -1,0 +1,11 @@
+-- What a cursor shows.
+use Rattle.std.specs.Prelude.{ℕ, List, Option}
+use Rattle.ir_tokens.specs.declared.token.Token.{Token}
+
+pub record Place : Type 0 where
+  -- the bytes of the whole text
+  pub text : List ℕ
+  -- the tokens from the next one on
+  pub rest : List Token
+  -- where, behind the tokens, no token begins
+  pub bad : Option ℕ

@@ -1,0 +1,374 @@
+-- Items: struct types, globals, declared and defined functions.
+use Rattle.std.specs.Prelude.{◌≤◌, ℕ, Bool, true, false, not, ◌==◌, ◌&&◌, ◌||◌, nat_lt, List, [], ◌∷◌, ◌++◌, length, Option, Some, None, is_some, is_none}
+use Rattle.std.proofs.Common.{arith}
+use Rattle.grammar.specs.Grammar.{pure, step, checked, refuse, look, ◌>>=◌, ◌>>◌}
+use Rattle.grammar.specs.Takes.{Takes, TakesWhere, first_takes_where, look_takes, stays_takes}
+use Rattle.grammar.specs.Many.{many}
+use Rattle.ir_tokens.specs.declared.token.Kind.{Kind}
+use Rattle.ir_tokens.specs.declared.token.Kind.TheVariants as k
+use Rattle.ir_ast.specs.declared.ir_type.IrType.TheVariants as type
+use Rattle.ir_ast.specs.declared.operand.Constant.{Constant}
+use Rattle.ir_ast.specs.declared.runtime.Runtime.{Runtime}
+use Rattle.ir_ast.specs.declared.block.Block.{Block}
+use Rattle.ir_ast.specs.declared.function.Function.{Function}
+use Rattle.ir_text.specs.declared.items_of_text.FunctionHead.{FunctionHead}
+use Rattle.ir_ast.specs.declared.items_of_module.SymbolSort.{SymbolSort}
+use Rattle.ir_ast.specs.declared.items_of_module.SymbolSort.TheVariants as symbol
+use Rattle.ir_ast.specs.declared.items_of_module.StructType.{StructType}
+use Rattle.ir_ast.specs.declared.items_of_module.Global.{Global}
+use Rattle.ir_ast.specs.declared.items_of_module.Declare.{Declare}
+use Rattle.ir_parts.specs.declared.input.Input.{Input}
+use Rattle.ir_parts.specs.declared.written.WrittenType.{WrittenType}
+use Rattle.ir_parts.specs.Cursor.{kind, sees, name, left_out, at_end}
+use Rattle.ir_parts.specs.Input.{Form, left, limit, unexpected, unread, skip, expect, IsKind, skip_takes}
+use Rattle.ir_parts.specs.RuntimeNames.{runtime_of}
+use Rattle.ir_parts.specs.Names.{new_struct, new_struct_takes, new_symbol, new_symbol_takes, new_label, quoted, first_missing}
+use Rattle.ir_parts.specs.Table.{empty}
+use Rattle.ir_parts.specs.Written.{type_within, intern, then_allowed, bits_of}
+use Rattle.ir_parts.specs.Operand.{constant, begins_unread_operand}
+use Rattle.ir_text.specs.Starts.{begins_parameter, begins_unread_block, begins_unread_item, decorates_function, is_decoration}
+use Rattle.ir_text.specs.Lists.{either, fields, parameters}
+use Rattle.ir_text.specs.Instructions.{instructions}
+
+-- ---- struct types
+
+abbrev pub open_struct_by : Kind → Form (Unit {0})
+open_struct_by k.OpenBrace = skip
+open_struct_by k.Less = refuse (λ i. left_out i.cursor)
+open_struct_by _ = refuse unexpected
+
+-- the brace before the fields; packed structs are left out
+unfoldable pub open_struct : Form (Unit {0})
+open_struct = look (λ i. kind i.cursor) open_struct_by
+
+abbrev pub with_struct_type : StructType → Input → Input
+with_struct_type s i = record i { structs = i.structs ++ s ∷ [] }
+
+pub with_struct_type_falls : (s : StructType) (i : Input) → left (with_struct_type s i) ≤ left i
+unfolding left
+with_struct_type_falls s i = omega arith
+
+abbrev pub add_struct : StructType → Form (Unit {0})
+add_struct s = step (λ _. tt) (with_struct_type s) (with_struct_type_falls s)
+
+abbrev pub struct_behind : ℕ → Form (Unit {0})
+struct_behind n = do
+  expect k.Equals
+  expect k.Type
+  open_struct
+  xs ← fields
+  expect k.CloseBrace
+  add_struct (record { name = n; fields = xs })
+
+-- `%N = type { T, .. }`
+unfoldable pub struct_type : Form (Unit {0})
+struct_type = new_struct >>= struct_behind
+
+-- ---- globals
+
+-- an integer, or a pointer to a named struct
+abbrev pub is_global_type : WrittenType → Bool
+is_global_type w = global_by w.base.bits w.stars where
+  global_by : Option ℕ → ℕ → Bool
+  global_by (Some bits) stars = stars == 0
+  global_by None stars = stars == 1
+
+abbrev pub is_one : Option ℕ → Bool
+is_one None = false
+is_one (Some bits) = bits == 1
+
+-- a global's first value fits its type, which is an integer type of so many bits or else a pointer type
+abbrev pub is_initial : Option ℕ → Kind → Bool
+is_initial bits k.Undef = true
+is_initial bits k.Zeroinitializer = true
+is_initial bits k.Number = is_some bits
+is_initial bits k.True = is_one bits
+is_initial bits k.False = is_one bits
+is_initial bits k.Null = is_none bits
+is_initial bits _ = false
+
+-- the first value of a global
+unfoldable pub initial : Option ℕ → Form Constant
+initial bits = checked (λ i. is_initial bits (kind i.cursor)) (unread begins_unread_operand) >> constant bits
+
+abbrev pub is_constant_by : Kind → Form Bool
+is_constant_by k.Global = skip >> pure false
+is_constant_by k.Constant = skip >> pure true
+is_constant_by _ = refuse (unread is_decoration)
+
+-- `global` or `constant`
+unfoldable pub is_constant : Form Bool
+is_constant = look (λ i. kind i.cursor) is_constant_by
+
+-- the type of a global
+unfoldable pub global_type : Form WrittenType
+global_type = look (λ i. left_out i.cursor) (λ fault. type_within 63 >>= λ w. then_allowed is_global_type w fault)
+
+abbrev pub with_global : Global → Input → Input
+with_global g i = record i { globals = i.globals ++ g ∷ [] }
+
+pub with_global_falls : (g : Global) (i : Input) → left (with_global g i) ≤ left i
+unfolding left
+with_global_falls g i = omega arith
+
+abbrev pub add_global : Global → Form (Unit {0})
+add_global g = step (λ _. tt) (with_global g) (with_global_falls g)
+
+abbrev pub global_behind : ℕ → Form (Unit {0})
+global_behind s = do
+  expect k.Equals
+  is_fixed ← is_constant
+  w ← global_type
+  x ← initial (bits_of w)
+  add_global (record { symbol = s; is_constant = is_fixed; held = w.id; initial = x })
+
+abbrev pub below : ℕ → (Input → ℕ) → Form (Unit {0})
+below most count = checked (λ i. nat_lt (count i) most) limit
+
+abbrev pub global_name : Form ℕ
+global_name = look (λ i. length i.globals) (λ n. new_symbol (symbol.Global n))
+
+-- `@g = global T c`, of which there are at most 4,096
+unfoldable pub global : Form (Unit {0})
+global = below 4096 (λ i. length i.globals) >> global_name >>= global_behind
+
+-- ---- declared functions
+
+abbrev pub declared_result_by : Kind → Form ℕ
+declared_result_by k.Void = skip >> intern type.Void
+declared_result_by k.LowercaseWord = refuse (λ i. left_out i.cursor)
+declared_result_by k.External = refuse (λ i. left_out i.cursor)
+declared_result_by k.ExternWeak = refuse (λ i. left_out i.cursor)
+declared_result_by _ = type_within 63 >>= λ w. pure w.id
+
+-- `void`, or a type
+unfoldable pub declared_result : Form ℕ
+declared_result = look (λ i. kind i.cursor) declared_result_by
+
+abbrev pub function_name_by : SymbolSort → Kind → Form ℕ
+function_name_by sort k.GlobalName = new_symbol sort
+function_name_by sort _ = refuse unexpected
+
+-- the name of a function that is declared or defined here
+unfoldable pub function_name : SymbolSort → Form ℕ
+function_name sort = look (λ i. kind i.cursor) (function_name_by sort)
+
+abbrev pub with_declare : Declare → Input → Input
+with_declare d i = record i { declares = i.declares ++ d ∷ [] }
+
+pub with_declare_falls : (d : Declare) (i : Input) → left (with_declare d i) ≤ left i
+unfolding left
+with_declare_falls d i = omega arith
+
+abbrev pub add_declare : Declare → Form (Unit {0})
+add_declare d = step (λ _. tt) (with_declare d) (with_declare_falls d)
+
+abbrev pub declare_behind : ℕ → ℕ → Option Runtime → Form (Unit {0})
+declare_behind number returned runtime = do
+  s ← function_name (symbol.Declared number)
+  expect k.OpenRound
+  ps ← parameters
+  expect k.CloseRound
+  add_declare (record { symbol = s; runtime = runtime; returned = returned; parameters = ps })
+
+abbrev pub declare_parts : ℕ → Form (Unit {0})
+declare_parts number = declared_result >>= λ returned. look (λ i. runtime_of (name i.cursor)) (declare_behind number returned)
+
+abbrev pub declare_numbered : ℕ → Form (Unit {0})
+declare_numbered number = skip >> declare_parts number
+
+-- `declare T @f(T, ..)`, of which there are at most 65,535
+unfoldable pub declaration : Form (Unit {0})
+declaration = below 65535 (λ i. length i.declares) >> look (λ i. length i.declares) declare_numbered
+
+-- ---- defined functions
+
+-- an integer, a reference or `i8*`
+abbrev pub is_result_type : WrittenType → Bool
+is_result_type w = result_by w.base.bits w.stars where
+  result_by : Option ℕ → ℕ → Bool
+  result_by (Some bits) stars = stars == 0 || (stars == 1 && bits == 8)
+  result_by None stars = stars == 1
+
+abbrev pub typed_result : Form ℕ
+typed_result = look (λ i. left_out i.cursor) (λ fault. type_within 63 >>= λ w. then_allowed is_result_type w fault) >>= λ w. pure w.id
+
+abbrev pub defined_result_by : Kind → Form ℕ
+defined_result_by k.Void = skip >> intern type.Void
+defined_result_by k.LowercaseWord = refuse (λ i. left_out i.cursor)
+defined_result_by k.External = refuse (λ i. left_out i.cursor)
+defined_result_by k.ExternWeak = refuse (λ i. left_out i.cursor)
+defined_result_by _ = typed_result
+
+-- `void`, or a type that a defined function may give
+unfoldable pub defined_result : Form ℕ
+defined_result = look (λ i. kind i.cursor) defined_result_by
+
+abbrev pub no_parameters_by : Kind → Form (Unit {0})
+no_parameters_by k.CloseRound = skip
+no_parameters_by _ = refuse (unread begins_parameter)
+
+-- parameters are not read yet
+unfoldable pub no_parameters : Form (Unit {0})
+no_parameters = look (λ i. kind i.cursor) no_parameters_by
+
+abbrev pub open_body_by : Kind → Form (Unit {0})
+open_body_by k.OpenBrace = skip
+open_body_by _ = refuse (unread decorates_function)
+
+unfoldable pub open_body : Form (Unit {0})
+open_body = look (λ i. kind i.cursor) open_body_by
+
+abbrev pub close_body_by : Kind → Form (Unit {0})
+close_body_by k.CloseBrace = skip
+close_body_by _ = refuse (unread begins_unread_block)
+
+unfoldable pub close_body : Form (Unit {0})
+close_body = look (λ i. kind i.cursor) close_body_by
+
+abbrev pub collector_name : Form (Option (List ℕ))
+collector_name = skip >> quoted >>= λ text. pure (Some text)
+
+-- `gc "name"`, if it is there
+unfoldable pub collector : Form (Option (List ℕ))
+collector = look (λ i. sees k.Gc i.cursor) (either collector_name (pure None))
+
+abbrev pub block_behind : ℕ → Form Block
+block_behind l = instructions >>= λ xs. pure (record { label = l; instructions = xs })
+
+abbrev pub entry_by : Kind → Form Block
+entry_by k.LabelName = new_label 0 >>= block_behind
+entry_by _ = refuse (unread begins_unread_block)
+
+-- the one block of a function
+unfoldable pub entry : Form Block
+entry = look (λ i. kind i.cursor) entry_by
+
+abbrev pub earlier : Option ℕ → Option ℕ → Option ℕ
+earlier None further = further
+earlier (Some place) further = Some place
+
+abbrev pub function_of : FunctionHead → Block → Input → Function
+function_of h b i = record {
+  symbol = h.symbol;
+  returned = h.returned;
+  collector = h.collector;
+  locals = i.locals.names;
+  sorts = i.locals.sorts;
+  blocks = b ∷ [];
+}
+
+-- the function is there, its names are looked at, and the next function begins with none
+unfoldable pub with_function : FunctionHead → Block → Input → Input
+with_function h b i = record i {
+  functions = i.functions ++ function_of h b i ∷ [];
+  locals = empty;
+  local_uses = [];
+  values = 0;
+  missing = earlier i.missing (first_missing i.locals i.local_uses);
+}
+
+pub with_function_falls : (h : FunctionHead) (b : Block) (i : Input) → left (with_function h b i) ≤ left i
+unfolding left with_function
+with_function_falls h b i = omega arith
+
+abbrev pub end_function : FunctionHead → Block → Form (Unit {0})
+end_function h b = step (λ _. tt) (with_function h b) (with_function_falls h b)
+
+abbrev pub head_behind : ℕ → ℕ → Form FunctionHead
+head_behind number returned = do
+  s ← function_name (symbol.Defined number)
+  expect k.OpenRound
+  no_parameters
+  c ← collector
+  pure (record { symbol = s; returned = returned; collector = c })
+
+abbrev pub head_result : ℕ → Form FunctionHead
+head_result number = defined_result >>= head_behind number
+
+-- `define T @f() gc "name"`
+unfoldable pub head : ℕ → Form FunctionHead
+head number = skip >> head_result number
+
+abbrev pub body_behind : FunctionHead → Form (Unit {0})
+body_behind h = do
+  open_body
+  b ← entry
+  close_body
+  end_function h b
+
+abbrev pub define_numbered : ℕ → Form (Unit {0})
+define_numbered number = head number >>= body_behind
+
+-- `define T @f() gc "name" { .. }`, of which there are at most 65,535
+unfoldable pub definition : Form (Unit {0})
+definition = below 65535 (λ i. length i.functions) >> look (λ i. length i.functions) define_numbered
+
+-- ---- all items
+
+abbrev pub item_by : Kind → Form (Unit {0})
+item_by k.LocalName = struct_type
+item_by k.GlobalName = global
+item_by k.Declare = declaration
+item_by k.Define = definition
+item_by _ = refuse (unread begins_unread_item)
+
+-- an item
+unfoldable pub item : Form (Unit {0})
+item = look (λ i. kind i.cursor) item_by
+
+struct_type_takes : TakesWhere (IsKind k.LocalName) struct_type
+unfolding struct_type
+struct_type_takes = first_takes_where (IsKind k.LocalName) new_struct struct_behind new_struct_takes
+
+global_name_takes : TakesWhere (IsKind k.GlobalName) global_name
+global_name_takes i a o e h = new_symbol_takes (symbol.Global (length i.globals)) i a o e h
+
+numbered_global_takes : TakesWhere (IsKind k.GlobalName) (below 4096 (λ i. length i.globals) >> global_name)
+numbered_global_takes = stays_takes (IsKind k.GlobalName) (below 4096 (λ i. length i.globals)) global_name (λ i a o h. h.1) global_name_takes
+
+global_takes : TakesWhere (IsKind k.GlobalName) global
+unfolding global
+global_takes = first_takes_where (IsKind k.GlobalName) (below 4096 (λ i. length i.globals) >> global_name) global_behind numbered_global_takes
+
+declare_numbered_takes : (number : ℕ) → TakesWhere (IsKind k.Declare) (declare_numbered number)
+declare_numbered_takes number = first_takes_where (IsKind k.Declare) skip (λ _. declare_parts number) (skip_takes k.Declare (λ x. cc))
+
+declaration_takes : TakesWhere (IsKind k.Declare) declaration
+unfolding declaration
+declaration_takes = stays_takes (IsKind k.Declare) (below 65535 (λ i. length i.declares)) (look (λ i. length i.declares) declare_numbered) (λ i a o h. h.1)
+    (λ i a o e h. declare_numbered_takes (length i.declares) i a o e h)
+
+head_takes : (number : ℕ) → TakesWhere (IsKind k.Define) (head number)
+unfolding head
+head_takes number = first_takes_where (IsKind k.Define) skip (λ _. head_result number) (skip_takes k.Define (λ x. cc))
+
+define_numbered_takes : (number : ℕ) → TakesWhere (IsKind k.Define) (define_numbered number)
+define_numbered_takes number = first_takes_where (IsKind k.Define) (head number) body_behind (head_takes number)
+
+definition_takes : TakesWhere (IsKind k.Define) definition
+unfolding definition
+definition_takes = stays_takes (IsKind k.Define) (below 65535 (λ i. length i.functions)) (look (λ i. length i.functions) define_numbered) (λ i a o h. h.1)
+    (λ i a o e h. define_numbered_takes (length i.functions) i a o e h)
+
+item_takes_by : (x : Kind) → TakesWhere (IsKind x) (item_by x)
+item_takes_by k.LocalName = struct_type_takes
+item_takes_by k.GlobalName = global_takes
+item_takes_by k.Declare = declaration_takes
+item_takes_by k.Define = definition_takes
+item_takes_by _ = λ i a o e h. absurd h
+
+pub item_takes : Takes item
+unfolding item
+item_takes = look_takes (λ i. kind i.cursor) item_by item_takes_by
+
+abbrev pub at_end_of_text : Input → Bool
+at_end_of_text i = sees k.End i.cursor
+
+-- the items of a text, up to its end
+unfoldable pub items : Form (List (Unit {0}))
+items = many at_end_of_text item item_takes
+
+-- a text is its items, and no bad byte stands behind them
+unfoldable pub whole : Form (Unit {0})
+whole = items >> checked (λ i. not (is_some i.cursor.bad)) (λ i. at_end i.cursor)

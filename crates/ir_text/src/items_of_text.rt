@@ -1,0 +1,417 @@
+//! Items: struct types, globals, declared and defined functions.
+ghost use Rattle.std.specs.Prelude.{◌≡◌, Ok};
+ghost use Rattle.ir_parts.specs.Input.{Reads};
+ghost use Rattle.ir_text.specs.ItemsOfText as form;
+
+use crate::instructions::instructions;
+use crate::lists::{Fields, Parameters};
+use crate::starts::{
+    begins_parameter, begins_unread_block, begins_unread_item, decorates_function, is_decoration,
+};
+use ir_ast as ast;
+use ir_ast::{
+    Block, BlockId, Constant, Declare, DeclareId, FuncId, Function, GlobalId, IrType, StructType,
+    SymbolId, SymbolSort, TypeId,
+};
+use ir_parts::{
+    Fault, Input, Listed, STARS, Table, WrittenType, begins_unread_operand, bits_of, first_missing,
+    many, runtime_of,
+};
+use ir_tokens::Kind;
+use items::Items;
+use std::alloc::Global;
+use std::mem;
+
+// ---- struct types
+
+/// `%N = type { T, .. }`
+#[tactic(auto, unfolding(crate::specs::ItemsOfText::struct_type, crate::specs::Lists::fields))]
+fn struct_type(alloc: Global, input: &mut Input<'_>) -> Result<(), Fault>
+    ensures { Reads (form.struct_type.read input.old) result input.new }
+{
+    let name = input.new_struct(alloc)?;
+    input.expect(Kind::Equals)?;
+    input.expect(Kind::Type)?;
+    open_struct(input)?;
+    let fields = many::<Fields>(alloc, input)?;
+    input.expect(Kind::CloseBrace)?;
+    input.structs.push(StructType { name, fields })?;
+    Ok(())
+}
+
+/// The brace before the fields; packed structs are left out.
+#[tactic(auto, unfolding(crate::specs::ItemsOfText::open_struct))]
+fn open_struct(input: &mut Input<'_>) -> Result<(), Fault>
+    ensures { Reads (form.open_struct.read input.old) result input.new }
+{
+    match input.kind() {
+        Kind::OpenBrace => {
+            input.skip();
+            Ok(())
+        }
+        Kind::Less => Err(input.left_out()),
+        _ => Err(input.refuse(false)),
+    }
+}
+
+// ---- globals
+
+/// Whether a global may have this type: an integer, or a pointer to a named struct.
+fn is_global_type(written: &WrittenType) -> bool
+    ensures { result ≡ form.is_global_type written.now }
+{
+    match written.base.bits {
+        Some(_) => written.stars == 0,
+        None => written.stars == 1,
+    }
+}
+
+/// Whether a token of this kind may be the first value of a global, whose type has so many bits or is a pointer.
+fn is_initial(bits: Option<u32>, kind: Kind) -> bool
+    ensures { result ≡ form.is_initial bits kind }
+{
+    match kind {
+        Kind::Undef | Kind::Zeroinitializer => true,
+        Kind::Number => bits.is_some(),
+        Kind::True | Kind::False => bits == Some(1),
+        Kind::Null => bits.is_none(),
+        _ => false,
+    }
+}
+
+/// The first value of a global.
+#[tactic(auto, unfolding(crate::specs::ItemsOfText::initial))]
+fn initial(input: &mut Input<'_>, bits: Option<u32>) -> Result<Constant, Fault>
+    ensures { Reads ((form.initial bits).read input.old) result input.new }
+{
+    let kind = input.kind();
+    if !is_initial(bits, kind) {
+        return Err(input.refuse(begins_unread_operand(kind)));
+    }
+    input.constant(bits)
+}
+
+/// `global` or `constant`. Answers whether it is `constant`.
+#[tactic(auto, unfolding(crate::specs::ItemsOfText::is_constant))]
+fn is_constant(input: &mut Input<'_>) -> Result<bool, Fault>
+    ensures { Reads (form.is_constant.read input.old) result input.new }
+{
+    match input.kind() {
+        Kind::Global => {
+            input.skip();
+            Ok(false)
+        }
+        Kind::Constant => {
+            input.skip();
+            Ok(true)
+        }
+        kind => Err(input.refuse(is_decoration(kind))),
+    }
+}
+
+/// The type of a global.
+#[tactic(auto, unfolding(crate::specs::ItemsOfText::global_type))]
+fn global_type(alloc: Global, input: &mut Input<'_>) -> Result<WrittenType, Fault>
+    ensures { Reads (form.global_type.read input.old) result input.new }
+{
+    let fault = input.left_out();
+    let written = input.type_within(alloc, STARS)?;
+    input.allow(is_global_type(&written), fault)?;
+    Ok(written)
+}
+
+/// `@g = global T c`
+#[tactic(auto, unfolding(crate::specs::ItemsOfText::global))]
+fn global(alloc: Global, input: &mut Input<'_>) -> Result<(), Fault>
+    ensures { Reads (form.global.read input.old) result input.new }
+{
+    if input.globals.len() >= 4096 {
+        return Err(input.limit());
+    }
+    let number = GlobalId::new(input.globals.len() as u32);
+    let symbol = input.new_symbol(alloc, SymbolSort::Global(number))?;
+    input.expect(Kind::Equals)?;
+    let is_constant = is_constant(input)?;
+    let written = global_type(alloc, input)?;
+    let initial = initial(input, bits_of(&written))?;
+    input.globals.push(ast::Global {
+        symbol,
+        is_constant,
+        held: written.id,
+        initial,
+    })?;
+    Ok(())
+}
+
+// ---- functions
+
+/// `void`, or a type.
+#[tactic(auto, unfolding(crate::specs::ItemsOfText::declared_result))]
+fn declared_result(alloc: Global, input: &mut Input<'_>) -> Result<TypeId, Fault>
+    ensures { Reads (form.declared_result.read input.old) result input.new }
+{
+    match input.kind() {
+        Kind::Void => {
+            input.skip();
+            input.intern(IrType::Void)
+        }
+        Kind::LowercaseWord | Kind::External | Kind::ExternWeak => Err(input.left_out()),
+        _ => Ok(input.type_within(alloc, STARS)?.id),
+    }
+}
+
+/// Whether a defined function may give a value of this type: an integer, a reference or `i8*`.
+fn is_result_type(written: &WrittenType) -> bool
+    ensures { result ≡ form.is_result_type written.now }
+{
+    match written.base.bits {
+        Some(bits) => written.stars == 0 || written.stars == 1 && bits == 8,
+        None => written.stars == 1,
+    }
+}
+
+/// `void`, or a type that a defined function may give.
+#[tactic(auto, unfolding(crate::specs::ItemsOfText::defined_result))]
+fn defined_result(alloc: Global, input: &mut Input<'_>) -> Result<TypeId, Fault>
+    ensures { Reads (form.defined_result.read input.old) result input.new }
+{
+    match input.kind() {
+        Kind::Void => {
+            input.skip();
+            input.intern(IrType::Void)
+        }
+        Kind::LowercaseWord | Kind::External | Kind::ExternWeak => Err(input.left_out()),
+        _ => {
+            let fault = input.left_out();
+            let written = input.type_within(alloc, STARS)?;
+            input.allow(is_result_type(&written), fault)?;
+            Ok(written.id)
+        }
+    }
+}
+
+/// The global name of a function that is defined or declared here.
+#[tactic(auto, unfolding(crate::specs::ItemsOfText::function_name))]
+fn function_name(alloc: Global, input: &mut Input<'_>, sort: SymbolSort) -> Result<SymbolId, Fault>
+    ensures { Reads ((form.function_name sort).read input.old) result input.new }
+{
+    match input.kind() {
+        Kind::GlobalName => input.new_symbol(alloc, sort),
+        _ => Err(input.refuse(false)),
+    }
+}
+
+/// `declare T @f(T, ..)`
+#[tactic(auto, unfolding(crate::specs::ItemsOfText::declaration, crate::specs::Lists::parameters))]
+fn declaration(alloc: Global, input: &mut Input<'_>) -> Result<(), Fault>
+    ensures { Reads (form.declaration.read input.old) result input.new }
+{
+    if input.declares.len() >= 65535 {
+        return Err(input.limit());
+    }
+    let number = DeclareId::new(input.declares.len() as u32);
+    input.skip();
+    let returned = declared_result(alloc, input)?;
+    let runtime = runtime_of(input.cursor.name());
+    let symbol = function_name(alloc, input, SymbolSort::Declared(number))?;
+    input.expect(Kind::OpenRound)?;
+    let parameters = many::<Parameters>(alloc, input)?;
+    input.expect(Kind::CloseRound)?;
+    input.declares.push(Declare {
+        symbol,
+        runtime,
+        returned,
+        parameters,
+    })?;
+    Ok(())
+}
+
+/// The bracket behind the parameters of a defined function, of which there are none.
+#[tactic(auto, unfolding(crate::specs::ItemsOfText::no_parameters))]
+fn no_parameters(input: &mut Input<'_>) -> Result<(), Fault>
+    ensures { Reads (form.no_parameters.read input.old) result input.new }
+{
+    match input.kind() {
+        Kind::CloseRound => {
+            input.skip();
+            Ok(())
+        }
+        kind => Err(input.refuse(begins_parameter(kind))),
+    }
+}
+
+/// The brace before a function's body.
+#[tactic(auto, unfolding(crate::specs::ItemsOfText::open_body))]
+fn open_body(input: &mut Input<'_>) -> Result<(), Fault>
+    ensures { Reads (form.open_body.read input.old) result input.new }
+{
+    match input.kind() {
+        Kind::OpenBrace => {
+            input.skip();
+            Ok(())
+        }
+        kind => Err(input.refuse(decorates_function(kind))),
+    }
+}
+
+/// The brace behind a function's body.
+#[tactic(auto, unfolding(crate::specs::ItemsOfText::close_body))]
+fn close_body(input: &mut Input<'_>) -> Result<(), Fault>
+    ensures { Reads (form.close_body.read input.old) result input.new }
+{
+    match input.kind() {
+        Kind::CloseBrace => {
+            input.skip();
+            Ok(())
+        }
+        kind => Err(input.refuse(begins_unread_block(kind))),
+    }
+}
+
+/// `gc "name"`, if it is there.
+#[tactic(auto, unfolding(crate::specs::ItemsOfText::collector))]
+fn collector(alloc: Global, input: &mut Input<'_>) -> Result<Option<Items<u8>>, Fault>
+    ensures { Reads (form.collector.read input.old) result input.new }
+{
+    if !input.sees(Kind::Gc) {
+        return Ok(None);
+    }
+    input.skip();
+    Ok(Some(input.quoted(alloc)?))
+}
+
+/// The one block of a function.
+#[tactic(auto, unfolding(crate::specs::ItemsOfText::entry))]
+fn entry(alloc: Global, input: &mut Input<'_>) -> Result<Block, Fault>
+    ensures { Reads (form.entry.read input.old) result input.new }
+{
+    match input.kind() {
+        Kind::LabelName => {
+            let label = input.new_label(alloc, BlockId::new(0))?;
+            let instructions = instructions(alloc, input)?;
+            Ok(Block {
+                label,
+                instructions,
+            })
+        }
+        kind => Err(input.refuse(begins_unread_block(kind))),
+    }
+}
+
+/// The head of a defined function.
+#[derive(Drop)]
+struct FunctionHead {
+    symbol: SymbolId,
+    returned: TypeId,
+    collector: Option<Items<u8>>,
+}
+
+/// `define T @f() gc "name"`
+#[tactic(auto, unfolding(crate::specs::ItemsOfText::head))]
+fn head(alloc: Global, input: &mut Input<'_>, number: FuncId) -> Result<FunctionHead, Fault>
+    ensures { Reads ((form.head number).read input.old) result input.new }
+{
+    input.skip();
+    let returned = defined_result(alloc, input)?;
+    let symbol = function_name(alloc, input, SymbolSort::Defined(number))?;
+    input.expect(Kind::OpenRound)?;
+    no_parameters(input)?;
+    let collector = collector(alloc, input)?;
+    Ok(FunctionHead {
+        symbol,
+        returned,
+        collector,
+    })
+}
+
+/// The end of a function: its names are looked at, and the next function begins with none.
+#[tactic(auto, unfolding(crate::specs::ItemsOfText::with_function))]
+fn end_function(
+    alloc: Global,
+    input: &mut Input<'_>,
+    head: FunctionHead,
+    block: Block,
+) -> Result<(), Fault>
+    ensures { Reads ((form.end_function head block).read input.old) result input.new }
+{
+    if input.missing.is_none() {
+        input.missing = first_missing(&input.locals, input.local_uses.as_slice());
+    }
+    let locals = mem::replace(&mut input.locals, Table::new(alloc));
+    input.local_uses.clear();
+    input.values = 0;
+    let mut blocks = Items::new(alloc);
+    blocks.push(block)?;
+    input.functions.push(Function {
+        symbol: head.symbol,
+        returned: head.returned,
+        collector: head.collector,
+        locals: locals.names,
+        sorts: locals.sorts,
+        blocks,
+    })?;
+    Ok(())
+}
+
+/// `define T @f() gc "name" { .. }`
+#[tactic(auto, unfolding(crate::specs::ItemsOfText::definition))]
+fn definition(alloc: Global, input: &mut Input<'_>) -> Result<(), Fault>
+    ensures { Reads (form.definition.read input.old) result input.new }
+{
+    if input.functions.len() >= 65535 {
+        return Err(input.limit());
+    }
+    let number = FuncId::new(input.functions.len() as u32);
+    let head = head(alloc, input, number)?;
+    open_body(input)?;
+    let block = entry(alloc, input)?;
+    close_body(input)?;
+    end_function(alloc, input, head, block)
+}
+
+/// An item.
+#[tactic(auto, unfolding(crate::specs::ItemsOfText::item))]
+fn item(alloc: Global, input: &mut Input<'_>) -> Result<(), Fault>
+    ensures { Reads (form.item.read input.old) result input.new }
+{
+    match input.kind() {
+        Kind::LocalName => struct_type(alloc, input),
+        Kind::GlobalName => global(alloc, input),
+        Kind::Declare => declaration(alloc, input),
+        Kind::Define => definition(alloc, input),
+        kind => Err(input.refuse(begins_unread_item(kind))),
+    }
+}
+
+/// The items of a text.
+pub struct TextItems;
+
+impl Listed for TextItems {
+    ghost use Rattle.ir_text.specs.ItemsOfText.{item, at_end_of_text};
+
+    type Item = ();
+
+    ghost form = { item.read };
+
+    ghost ends = { at_end_of_text };
+
+    fn ends(input: &Input<'_>) -> bool {
+        input.sees(Kind::End)
+    }
+
+    fn read(alloc: Global, input: &mut Input<'_>) -> Result<(), Fault> {
+        item(alloc, input)
+    }
+}
+
+/// All items of a text, behind which no bad byte stands.
+#[tactic(auto, unfolding(crate::specs::ItemsOfText::whole, crate::specs::ItemsOfText::items))]
+pub fn whole(alloc: Global, input: &mut Input<'_>) -> Result<(), Fault>
+    ensures { Reads (form.whole.read input.old) result input.new }
+{
+    many::<TextItems>(alloc, input)?;
+    if input.cursor.is_bad() {
+        return Err(input.cursor.at_end());
+    }
+    Ok(())
+}

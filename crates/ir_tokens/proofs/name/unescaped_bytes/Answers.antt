@@ -1,0 +1,23 @@
+use Rattle.std.proofs.Common.{rules, arith, ◌++◌}
+use Rattle.std.proofs.lemmas.Grind.{common_steps}
+use Rattle.ir_tokens.specs.Names.{unescaped_from}
+use Rattle.ir_tokens.proofs.Turns.{one_more, no_more}
+use Rattle.ir_tokens.proofs.name.unescaped_bytes.Goals as goal
+
+pub returns-in_default : goal.returns-in_default
+unfolding unescaped_from
+returns-in_default c =
+    let e = one_more (λ n. c.loop-turn.name ++ unescaped_from n c.loop-turn.rest.now) _ c.loop-turn._turn c.loop-turn-test.true c.loop-turn.invariant in
+    first_of (search rules, grind (arith, common_steps))
+
+pub loop-turn-preserved : goal.loop-turn-preserved
+unfolding unescaped_from
+loop-turn-preserved c =
+    let e = one_more (λ n. c.loop-turn.name ++ unescaped_from n c.loop-turn.rest.now) _ c.loop-turn._turn c.loop-turn-test.true c.loop-turn.invariant in
+    first_of (search rules, grind (arith, common_steps))
+
+pub returns : goal.returns
+unfolding unescaped_from
+returns c =
+    let e = no_more (λ n. c.loop-turn.name ++ unescaped_from n c.loop-turn.rest.now) _ c.loop-turn._turn c.loop-turn-test.false c.loop-turn.invariant in
+    first_of (search rules, grind (arith, common_steps))

@@ -1,0 +1,13 @@
+-- Lines and columns.
+use Rattle.std.specs.Prelude.{ℕ, ◌+◌, Bool, not, ◌==◌, take, count_by}
+use Rattle.std.specs.List.{suffix_len}
+use Rattle.ir_tokens.specs.declared.position.Position.{Position}
+use Rattle.ir_tokens.specs.Bytes.{Text}
+
+abbrev pub is_line_end : ℕ → Bool
+is_line_end b = b == 10
+
+-- One line more than there are line ends before the place, and one column more than there are bytes behind the last of them.
+abbrev pub position_of : Text → ℕ → Position
+position_of bytes place =
+    record { line = count_by is_line_end (take place bytes) + 1; column = suffix_len (λ b. not (is_line_end b)) (take place bytes) + 1 }

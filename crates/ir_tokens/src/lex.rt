@@ -1,0 +1,225 @@
+//! Bytes to tokens.
+ghost use Rattle.std.specs.Prelude.{◌≡◌, ◌≤◌, ◌<◌, ◌-◌, ◌||◌, [], length, true, false, IfOk};
+ghost use Rattle.ir_tokens.specs.Bytes.{shown};
+ghost use Rattle.ir_tokens.specs.Form as form;
+ghost use Rattle.ir_tokens.specs.Tokens as spec;
+ghost use Rattle.ir_tokens.specs.Tokens.{IsLexed, lexed_of, ends_line, before};
+ghost use Rattle.ir_tokens.specs.declared.lexed.Lexed.{Lexed as ALexed};
+
+use crate::bytes::{digit_len, name_len, past_quoted};
+use crate::class::{Class, first_class};
+use crate::keyword::word_kind;
+use crate::lexed::Lexed;
+use crate::token::{Kind, Token};
+use items::Items;
+use std::alloc::{AllocError, Global};
+
+/// How many bytes are read as tokens at most. A caller looks at a longer text up to here alone, or not at all.
+pub const TEXT_LIMIT: usize = 16_777_216;
+
+/// The kind of the token at the front of some bytes, and the bytes after it.
+type Spelled<'a> = Option<(Kind, &'a [u8])>;
+
+fn name(kind: Kind, bytes: &[u8]) -> Spelled<'_>
+    ensures { shown (λ x. (x.0, x.1.now)) result ≡ (spec.name kind).read bytes.now }
+{
+    Some((kind, &bytes[name_len(bytes)..]))
+}
+
+fn digits(kind: Kind, bytes: &[u8]) -> Spelled<'_>
+    ensures { shown (λ x. (x.0, x.1.now)) result ≡ (spec.digits kind).read bytes.now }
+{
+    Some((kind, &bytes[digit_len(bytes)..]))
+}
+
+/// The rest of a text in quotes, from its first quote on.
+fn quotation(kind: Kind, bytes: &[u8]) -> Spelled<'_>
+    requires { 0 < length bytes.now }
+    ensures { shown (λ x. (x.0, x.1.now)) result ≡ (spec.quotation kind).read bytes.now }
+{
+    let rest = past_quoted(&bytes[1..])?;
+    Some((kind, rest))
+}
+
+fn sign(kind: Kind, bytes: &[u8]) -> Spelled<'_>
+    requires { 0 < length bytes.now }
+    ensures { shown (λ x. (x.0, x.1.now)) result ≡ (spec.sign kind).read bytes.now }
+{
+    Some((kind, &bytes[1..]))
+}
+
+#[tactic(auto, unfolding(crate::specs::Tokens::local))]
+fn local(bytes: &[u8]) -> Spelled<'_>
+    requires { 0 < length bytes.now }
+    ensures { shown (λ x. (x.0, x.1.now)) result ≡ spec.local.read bytes.now }
+{
+    let bytes = &bytes[1..];
+    match first_class(bytes) {
+        Class::Quote => quotation(Kind::LocalName, bytes),
+        Class::Letter => name(Kind::LocalName, bytes),
+        Class::Digit => digits(Kind::LocalNumber, bytes),
+        _ => None,
+    }
+}
+
+#[tactic(auto, unfolding(crate::specs::Tokens::global))]
+fn global(bytes: &[u8]) -> Spelled<'_>
+    requires { 0 < length bytes.now }
+    ensures { shown (λ x. (x.0, x.1.now)) result ≡ spec.global.read bytes.now }
+{
+    let bytes = &bytes[1..];
+    match first_class(bytes) {
+        Class::Quote => quotation(Kind::GlobalName, bytes),
+        Class::Letter => name(Kind::GlobalName, bytes),
+        _ => None,
+    }
+}
+
+#[tactic(auto, unfolding(crate::specs::Tokens::group))]
+fn group(bytes: &[u8]) -> Spelled<'_>
+    requires { 0 < length bytes.now }
+    ensures { shown (λ x. (x.0, x.1.now)) result ≡ spec.group.read bytes.now }
+{
+    let bytes = &bytes[1..];
+    match first_class(bytes) {
+        Class::Digit => digits(Kind::AttributeGroup, bytes),
+        _ => None,
+    }
+}
+
+#[tactic(auto, unfolding(crate::specs::Tokens::metadata))]
+fn metadata(bytes: &[u8]) -> Spelled<'_>
+    requires { 0 < length bytes.now }
+    ensures { shown (λ x. (x.0, x.1.now)) result ≡ spec.metadata.read bytes.now }
+{
+    let bytes = &bytes[1..];
+    match first_class(bytes) {
+        Class::Letter => name(Kind::MetadataName, bytes),
+        Class::Digit => digits(Kind::MetadataNumber, bytes),
+        _ => Some((Kind::Exclamation, bytes)),
+    }
+}
+
+fn label_or(label: Kind, other: Kind, bytes: &[u8]) -> Spelled<'_>
+    ensures { shown (λ x. (x.0, x.1.now)) result ≡ (form.look (spec.label_or label other)).read bytes.now }
+{
+    match first_class(bytes) {
+        Class::Colon => Some((label, &bytes[1..])),
+        _ => Some((other, bytes)),
+    }
+}
+
+#[tactic(auto, unfolding(crate::specs::Tokens::word))]
+fn word(bytes: &[u8]) -> Spelled<'_>
+    ensures { shown (λ x. (x.0, x.1.now)) result ≡ spec.word.read bytes.now }
+{
+    let (word, rest) = bytes.split_at(name_len(bytes));
+    label_or(Kind::LabelName, word_kind(word), rest)
+}
+
+#[tactic(auto, unfolding(crate::specs::Tokens::number))]
+fn number(bytes: &[u8]) -> Spelled<'_>
+    ensures { shown (λ x. (x.0, x.1.now)) result ≡ spec.number.read bytes.now }
+{
+    label_or(Kind::LabelNumber, Kind::Number, &bytes[digit_len(bytes)..])
+}
+
+#[tactic(auto, unfolding(crate::specs::Tokens::quote))]
+fn quote(bytes: &[u8]) -> Spelled<'_>
+    requires { 0 < length bytes.now }
+    ensures { shown (λ x. (x.0, x.1.now)) result ≡ spec.quote.read bytes.now }
+{
+    let rest = past_quoted(&bytes[1..])?;
+    label_or(Kind::LabelName, Kind::Quoted, rest)
+}
+
+#[tactic(auto, unfolding(crate::specs::Tokens::token))]
+fn token(bytes: &[u8]) -> Spelled<'_>
+    requires { 0 < length bytes.now }
+    ensures { shown (λ x. (x.0, x.1.now)) result ≡ spec.token.read bytes.now }
+{
+    match first_class(bytes) {
+        Class::Letter => word(bytes),
+        Class::Digit => number(bytes),
+        Class::Quote => quote(bytes),
+        Class::Percent => local(bytes),
+        Class::At => global(bytes),
+        Class::Hash => group(bytes),
+        Class::Exclamation => metadata(bytes),
+        Class::Sign(kind) => sign(kind, bytes),
+        _ => None,
+    }
+}
+
+/// The bytes from the next one on that is neither blank nor in a comment.
+#[tactic(auto, unfolding(crate::specs::Tokens::past_gap))]
+fn past_gap(bytes: &[u8]) -> &[u8]
+    ensures value { result.now ≡ spec.past_gap false bytes.now }
+    ensures within { length result.now ≤ length bytes.now }
+{
+    let mut is_comment = false;
+    for (i, byte) in bytes.iter().enumerate() {
+        if is_comment {
+            is_comment = *byte != b'\n';
+        } else if *byte == b';' {
+            is_comment = true;
+        } else if !matches!(*byte, b' ' | b'\t' | b'\n' | b'\r') {
+            return &bytes[i..];
+        }
+    }
+    &[]
+}
+
+fn ends_line(gap: &[u8]) -> bool
+    ensures { result ≡ ends_line gap.now }
+{
+    gap.iter().any(|byte| *byte == b'\n')
+}
+
+fn lex(alloc: Global, bytes: &[u8]) -> Result<Lexed, AllocError>
+    requires { length bytes.now ≤ TEXT_LIMIT }
+    ensures { IfOk result (λ lexed. lexed ≡ lexed_of bytes.now) }
+{
+    let mut tokens = Items::new(alloc);
+    let mut rest = bytes;
+    let mut is_first = true;
+    for _turn in 0..bytes.len() {
+        let at = past_gap(rest);
+        if at.is_empty() {
+            return Ok(Lexed { tokens, bad: None });
+        }
+        let begins_line = is_first || ends_line(&rest[..rest.len() - at.len()]);
+        let start = bytes.len().saturating_sub(at.len()) as u32;
+        let Some((kind, after)) = token(at) else {
+            return Ok(Lexed {
+                tokens,
+                bad: Some(start),
+            });
+        };
+        let end = bytes.len().saturating_sub(after.len()) as u32;
+        tokens.push(Token {
+            kind,
+            begins_line,
+            start,
+            length: end.saturating_sub(start),
+        })?;
+        rest = after;
+        is_first = false;
+    }
+    let at = past_gap(rest);
+    let bad = if at.is_empty() {
+        None
+    } else {
+        Some(bytes.len().saturating_sub(at.len()) as u32)
+    };
+    Ok(Lexed { tokens, bad })
+}
+
+/// The tokens of a text. Where the bytes begin no token at some place, those before the first such place.
+pub fn read_tokens(alloc: Global, bytes: &[u8]) -> Result<Lexed, AllocError>
+    requires { length bytes.now ≤ TEXT_LIMIT }
+    ensures found { IfOk result (IsLexed bytes.now) }
+    ensures only { (lexed : ALexed) → IsLexed bytes.now lexed → IfOk result (λ found. found ≡ lexed) }
+{
+    lex(alloc, bytes)
+}
