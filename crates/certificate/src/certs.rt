@@ -1,0 +1,54 @@
+ghost use Rattle.std.specs.Prelude.{◌≡◌, ◌↔◌, IsTrue, length, slice_get};
+ghost use Rattle.std.specs.Option.{option_copied};
+ghost use Rattle.certificate.specs.Certs.{mark_of, Fits};
+
+use crate::section::{Mark, Section};
+use ir_ast::{FuncId, Module};
+use items::Items;
+use std::marker::Model;
+
+/// The certificates of a module's functions, by their numbers.
+#[derive(Debug, Drop)]
+pub struct Certs {
+    sections: Items<Section>,
+}
+
+impl Model for Certs {
+    ghost use Rattle.std.specs.Prelude.{List};
+    ghost use Rattle.certificate.specs.declared.section.Section.{Section};
+
+    ghost Value = { List Section };
+
+    ghost view = { λ certs. certs.sections };
+}
+
+impl Certs {
+    /// The certificate of the function with the number 0, with the number 1, and so on.
+    pub fn new(sections: Items<Section>) -> Self
+        ensures { result ≡ sections }
+    {
+        Certs { sections }
+    }
+
+    /// The certificate of this function.
+    pub fn section(&self, function: FuncId) -> Option<&Section>
+        ensures { option_copied result ≡ slice_get self.now function }
+    {
+        self.sections.get(function.number() as usize)
+    }
+
+    /// How this function is marked.
+    pub fn mark(&self, function: FuncId) -> Option<Mark>
+        ensures { result ≡ mark_of self.now function }
+    {
+        let section = self.section(function)?;
+        Some(section.mark)
+    }
+
+    /// Whether these are certificates of this module: one for each of its defined functions.
+    pub fn fits(&self, module: &Module) -> bool
+        ensures { IsTrue result ↔ Fits self.now «module».now }
+    {
+        self.sections.len() == module.functions.len()
+    }
+}

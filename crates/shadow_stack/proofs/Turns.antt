@@ -1,0 +1,235 @@
+-- Following names back along bitcasts: more turns than there are names show nothing new.
+use Rattle.std.proofs.Common.{◌≡◌, ◌<◌, ◌≤◌, ℕ, zero, suc, ◌+◌, ◌-◌, Bool, true, false, List, [], ◌∷◌, length, slice_index_or, refl, ap, sym, ◌∙◌, subst, arith, rules, inl, inr, ◌⊎◌, zero-add}
+use Rattle.std.proofs.lemmas.Option.{unwrap_or-slice_get}
+use Rattle.std.specs.Prelude.{map, Option, Some, None, is_some, slice_get, unwrap_or}
+use Rattle.shadow_stack.specs.declared.draft.Origin.{Origin}
+use Rattle.shadow_stack.specs.declared.draft.Origin.TheVariants.{Nowhere, Slot, Same}
+use Rattle.shadow_stack.specs.Slots.{origin_at, NamesSlot, Given, Renamed, hop, hops, slot_at, names_of, NamesAreExact}
+
+-- what isn't a bitcast stays as it is
+hops_nowhere : (origins : List Origin) (n : ℕ) → hops origins n Nowhere ≡ Nowhere
+hops_nowhere origins zero = refl
+hops_nowhere origins (suc n) = hops_nowhere origins n
+
+hops_slot : (origins : List Origin) (n s : ℕ) → hops origins n (Slot s) ≡ Slot s
+hops_slot origins zero s = refl
+hops_slot origins (suc n) s = hops_slot origins n s
+
+-- some turns, and then more
+hops_add : (origins : List Origin) (m n : ℕ) (o : Origin) → hops origins (m + n) o ≡ hops origins n (hops origins m o)
+hops_add origins zero n o = ap (λ k. hops origins k o) (zero-add n)
+hops_add origins (suc m) n o =
+    let e : suc m + n ≡ suc (m + n) = omega arith in
+    ap (λ k. hops origins k o) e ∙ hops_add origins m n (hop origins o)
+
+-- an element of a mapped list
+at_map : {B : Type 0} (f : Origin → B) (xs : List Origin) (v : ℕ) → slice_index_or (map f xs) v (f Nowhere) ≡ f (origin_at xs v)
+at_map f [] v = refl
+at_map f (x ∷ xs) zero = refl
+at_map f (x ∷ xs) (suc v) = at_map f xs v
+
+map_map : {B : Type 0} (f : Origin → Origin) (g : Origin → B) (xs : List Origin) → map g (map f xs) ≡ map (λ o. g (f o)) xs
+map_map f g [] = refl
+map_map f g (x ∷ xs) = ap (λ l. g (f x) ∷ l) (map_map f g xs)
+
+map_same : {B : Type 0} (f g : Origin → B) (xs : List Origin) → ((v : ℕ) → f (origin_at xs v) ≡ g (origin_at xs v)) → map f xs ≡ map g xs
+map_same f g [] same = refl
+map_same f g (x ∷ xs) same = ap (λ y. y ∷ map f xs) (same zero) ∙ ap (λ l. g x ∷ l) (map_same f g xs (λ v. same (suc v)))
+
+map_itself : (xs : List Origin) → xs ≡ map (λ o. o) xs
+map_itself [] = refl
+map_itself (x ∷ xs) = ap (λ l. x ∷ l) (map_itself xs)
+
+-- after no turn each origin stands as it was
+pub hops_none : (origins : List Origin) → origins ≡ map (hops origins zero) origins
+hops_none origins = map_itself origins
+
+-- a row of origins after some turns, with one hop in it
+hop_in_row : (origins : List Origin) (n : ℕ) (o : Origin) → hop (map (hops origins n) origins) o ≡ hops origins (suc n) o
+hop_in_row origins n Nowhere = sym (hops_nowhere origins n)
+hop_in_row origins n (Slot s) = sym (hops_slot origins n s)
+hop_in_row origins n (Same v) =
+    ap (λ d. slice_index_or (map (hops origins n) origins) v d) (sym (hops_nowhere origins n)) ∙ at_map (hops origins n) origins v
+
+-- a hop in each place of the row doubles the turns
+pub row_doubled : (origins row next : List Origin) (n : ℕ) → row ≡ map (hops origins n) origins → next ≡ map (hop row) row
+    → next ≡ map (hops origins (n + suc n)) origins
+row_doubled origins row next n is_row is_next =
+    let stands : map (hop row) row ≡ map (hop (map (hops origins n) origins)) (map (hops origins n) origins) = ap (λ r. map (hop r) r) is_row in
+    is_next ∙ stands ∙ map_map (hops origins n) (hop (map (hops origins n) origins)) origins
+    ∙ map_same (λ o. hop (map (hops origins n) origins) (hops origins n o)) (hops origins (n + suc n)) origins
+    (λ v. hop_in_row origins n (hops origins n (origin_at origins v)) ∙ sym (hops_add origins n (suc n) (origin_at origins v)))
+
+-- whether a slot shows after so many turns
+abbrev done : List Origin → ℕ → Origin → Bool
+done origins k o = is_some (slot_at (hops origins k o))
+
+no_true : false ≡ true → ⊥
+no_true e = search (rules, e)
+
+bool_cases : (b : Bool) → (b ≡ true) ⊎ (b ≡ false)
+bool_cases true = inl refl
+bool_cases false = inr refl
+
+is_some_value : (w : Option ℕ) → is_some w ≡ true → (s : ℕ) × (w ≡ Some s)
+is_some_value None e = absurd (no_true e)
+is_some_value (Some s) e = (s, refl)
+
+some_same : (t s : ℕ) → Some t ≡ Some s → t ≡ s
+some_same t s e = ap (λ w. unwrap_or w t) e
+
+-- what shows once stays
+slot_kept : (origins : List Origin) (i : ℕ) (o : Origin) (s : ℕ) → slot_at o ≡ Some s → slot_at (hops origins i o) ≡ Some s
+slot_kept origins i Nowhere s e = absurd (no_true (ap is_some e))
+slot_kept origins i (Slot t) s e = ap slot_at (hops_slot origins i t) ∙ e
+slot_kept origins i (Same v) s e = absurd (no_true (ap is_some e))
+
+shown_kept : (origins : List Origin) (k i : ℕ) (o : Origin) (s : ℕ) → slot_at (hops origins k o) ≡ Some s → slot_at (hops origins (k + i) o) ≡ Some s
+shown_kept origins k i o s e = ap slot_at (hops_add origins k i o) ∙ slot_kept origins i (hops origins k o) s e
+
+done_kept : (origins : List Origin) (k i : ℕ) (o : Origin) → done origins k o ≡ true → done origins (k + i) o ≡ true
+done_kept origins k i o e =
+    let found : (s : ℕ) × (slot_at (hops origins k o) ≡ Some s) = is_some_value (slot_at (hops origins k o)) e in
+    ap is_some (shown_kept origins k i o found.0 found.1)
+
+-- how many origins pass a test
+abbrev one_if : Bool → ℕ
+one_if true = 1
+one_if false = 0
+
+abbrev count : (Origin → Bool) → List Origin → ℕ
+count f [] = 0
+count f (x ∷ xs) = one_if (f x) + count f xs
+
+one_if_bound : (b : Bool) → one_if b ≤ 1
+one_if_bound true = omega arith
+one_if_bound false = omega arith
+
+one_if_le : (b c : Bool) → (b ≡ true → c ≡ true) → one_if b ≤ one_if c
+one_if_le true c imp = let e : c ≡ true = imp refl in rw e (omega arith)
+one_if_le false c imp = omega arith
+
+count_bound : (f : Origin → Bool) (xs : List Origin) → count f xs ≤ length xs
+count_bound f [] = omega arith
+count_bound f (x ∷ xs) = omega (arith, count_bound f xs, one_if_bound (f x))
+
+count_le : (f g : Origin → Bool) (xs : List Origin) → ((o : Origin) → f o ≡ true → g o ≡ true) → count f xs ≤ count g xs
+count_le f g [] imp = omega arith
+count_le f g (x ∷ xs) imp = omega (arith, count_le f g xs imp, one_if_le (f x) (g x) (imp x))
+
+same_at : (f g : Origin → Bool) (x : Origin) (xs : List Origin) → (g x ≡ true → f x ≡ true)
+    → ((v : ℕ) → g (origin_at xs v) ≡ true → f (origin_at xs v) ≡ true)
+    → (v : ℕ) → g (origin_at (x ∷ xs) v) ≡ true → f (origin_at (x ∷ xs) v) ≡ true
+same_at f g x xs first rest zero = first
+same_at f g x xs first rest (suc v) = rest v
+
+more_at : (b c : Bool) (m n : ℕ) → m ≤ n → b ≡ false → c ≡ true → one_if b + m < one_if c + n
+more_at b c m n h b_is c_is = rw (b_is, c_is) (omega (arith, h))
+
+-- a test that passes wherever another does passes there alone, or more often
+same_or_more : (f g : Origin → Bool) (xs : List Origin) → ((o : Origin) → f o ≡ true → g o ≡ true) → (g Nowhere ≡ true → f Nowhere ≡ true)
+    → ((v : ℕ) → g (origin_at xs v) ≡ true → f (origin_at xs v) ≡ true) ⊎ (count f xs < count g xs)
+same_or_more f g [] imp nowhere = inl (λ v e. nowhere e)
+same_or_more f g (x ∷ xs) imp nowhere =
+    elim (same_or_more f g xs imp nowhere) [
+      | inl same ↦ elim (bool_cases (f x)) [
+        | inl passes ↦ inl (same_at f g x xs (λ _. passes) same)
+        | inr fails ↦ elim (bool_cases (g x)) [
+          | inl more ↦ inr (more_at (f x) (g x) (count f xs) (count g xs) (count_le f g xs imp) fails more)
+          | inr neither ↦ inl (same_at f g x xs (λ e. absurd (no_true (sym neither ∙ e))) same)
+        ]
+      ]
+      | inr more ↦ inr (omega (arith, more, one_if_le (f x) (g x) (imp x)))
+    ]
+
+-- a turn after which no more names show their slot than before it
+abbrev Stable : List Origin → ℕ → Type 0
+Stable origins j = (v : ℕ) → done origins (suc j) (origin_at origins v) ≡ true → done origins j (origin_at origins v) ≡ true
+
+done_next : (origins : List Origin) (k : ℕ) (o : Origin) → done origins k o ≡ true → done origins (suc k) o ≡ true
+done_next origins k o e = let at : k + 1 ≡ suc k = omega arith in subst (λ n. done origins n o ≡ true) at (done_kept origins k 1 o e)
+
+nowhere_done : (origins : List Origin) (k : ℕ) (P : Type 0) → done origins k Nowhere ≡ true → P
+nowhere_done origins k P e = absurd (no_true (sym (ap (λ o. is_some (slot_at o)) (hops_nowhere origins k)) ∙ e))
+
+progress : (origins : List Origin) (k : ℕ) → ((j : ℕ) × ((j < k) × Stable origins j)) ⊎ (k ≤ count (done origins k) origins)
+progress origins zero = inr (omega arith)
+progress origins (suc k) =
+    elim (progress origins k) [
+      | inl early ↦ inl (early.0, (omega (arith, early.1.0), early.1.1))
+      | inr many ↦ elim (same_or_more (done origins k) (done origins (suc k)) origins (done_next origins k) (nowhere_done origins (suc k) (done origins k Nowhere ≡ true))) [
+        | inl stable ↦ inl (k, (omega arith, stable))
+        | inr more ↦ inr (omega (arith, more, many))
+      ]
+    ]
+
+-- after such a turn nothing new shows
+stays : (origins : List Origin) (j : ℕ) → Stable origins j → (i v : ℕ) (o : Origin) → origin_at origins v ≡ o → done origins (i + j) o ≡ true → done origins j o ≡ true
+stays origins j stable zero v o is e = subst (λ n. done origins n o ≡ true) (zero-add j) e
+stays origins j stable (suc i) v Nowhere is e = nowhere_done origins (suc i + j) (done origins j Nowhere ≡ true) e
+stays origins j stable (suc i) v (Slot s) is e = ap (λ o. is_some (slot_at o)) (hops_slot origins j s)
+stays origins j stable (suc i) v (Same w) is e =
+    let at : suc i + j ≡ suc (i + j) = omega arith in
+    let before : done origins j (origin_at origins w) ≡ true = stays origins j stable i w (origin_at origins w) refl (subst (λ n. done origins n (Same w) ≡ true) at e) in
+    subst (λ o. done origins j o ≡ true) is (stable v (subst (λ o. done origins (suc j) o ≡ true) (sym is) before))
+
+-- what shows at all shows after as many turns as there are names
+shows_early : (origins : List Origin) (n v : ℕ) → length origins ≤ n → done origins n (origin_at origins v) ≡ true → done origins (length origins) (origin_at origins v) ≡ true
+shows_early origins n v h e =
+    elim (progress origins (suc (length origins))) [
+      | inl early ↦
+          let j : ℕ = early.0 in
+          let below : j < suc (length origins) = early.1.0 in
+          let back : n - j + j ≡ n = omega arith in
+          let first : done origins j (origin_at origins v) ≡ true = stays origins j early.1.1 (n - j) v (origin_at origins v) refl (subst (λ k. done origins k (origin_at origins v) ≡ true) (sym back) e) in
+          let on : j + (length origins - j) ≡ length origins = omega arith in
+          subst (λ k. done origins k (origin_at origins v) ≡ true) on (done_kept origins j (length origins - j) (origin_at origins v) first)
+      | inr many ↦ absurd (omega (arith, many, count_bound (done origins (suc (length origins))) origins))
+    ]
+
+none_or_same : (a b : Option ℕ) → ((s : ℕ) → a ≡ Some s → b ≡ Some s) → (is_some b ≡ true → is_some a ≡ true) → b ≡ a
+none_or_same (Some s) b kept early = kept s refl
+none_or_same None None kept early = refl
+none_or_same None (Some s) kept early = absurd (no_true (early refl))
+
+settled : (origins : List Origin) (n v : ℕ) → length origins ≤ n → slot_at (hops origins n (origin_at origins v)) ≡ slot_at (hops origins (length origins) (origin_at origins v))
+settled origins n v h =
+    let o : Origin = origin_at origins v in
+    let on : length origins + (n - length origins) ≡ n = omega arith in
+    none_or_same (slot_at (hops origins (length origins) o)) (slot_at (hops origins n o))
+    (λ s e. subst (λ k. slot_at (hops origins k o) ≡ Some s) on (shown_kept origins (length origins) (n - length origins) o s e))
+    (shows_early origins n v h)
+
+-- the names as the row shows them
+pub names_at_row : (origins row : List Origin) (names : List (Option ℕ)) (n : ℕ) → length origins ≤ n → row ≡ map (hops origins n) origins → names ≡ map slot_at row → names ≡ names_of origins
+names_at_row origins row names n h is_row is_names =
+    is_names ∙ ap (λ r. map slot_at r) is_row ∙ map_map (hops origins n) slot_at origins
+    ∙ map_same (λ o. slot_at (hops origins n o)) (λ o. slot_at (hops origins (length origins) o)) origins (λ v. settled origins n v h)
+
+sound : (origins : List Origin) (k : ℕ) (o : Origin) (s : ℕ) → slot_at (hops origins k o) ≡ Some s → NamesSlot origins o s
+sound origins zero Nowhere s e = absurd (no_true (ap is_some e))
+sound origins zero (Slot t) s e = subst (λ u. NamesSlot origins (Slot t) u) (some_same t s e) (Given t)
+sound origins zero (Same v) s e = absurd (no_true (ap is_some e))
+sound origins (suc k) Nowhere s e = absurd (no_true (sym (ap (λ o. is_some (slot_at o)) (hops_nowhere origins k)) ∙ ap is_some e))
+sound origins (suc k) (Slot t) s e = subst (λ u. NamesSlot origins (Slot t) u) (some_same t s (sym (ap slot_at (hops_slot origins k t)) ∙ e)) (Given t)
+sound origins (suc k) (Same v) s e = Renamed v s (sound origins k (origin_at origins v) s e)
+
+complete : (origins : List Origin) (o : Origin) (s : ℕ) → NamesSlot origins o s → (k : ℕ) × (slot_at (hops origins k o) ≡ Some s)
+complete origins o s (Given t) = (zero, refl)
+complete origins o s (Renamed v t before) = let found : (k : ℕ) × (slot_at (hops origins k (origin_at origins v)) ≡ Some t) = complete origins (origin_at origins v) t before in (suc found.0, found.1)
+
+name_at : (origins : List Origin) (v : ℕ) → unwrap_or (slice_get (names_of origins) v) None ≡ slot_at (hops origins (length origins) (origin_at origins v))
+name_at origins v =
+    let f : Origin → Option ℕ = λ o. slot_at (hops origins (length origins) o) in
+    let none : None ≡ f Nowhere = sym (ap slot_at (hops_nowhere origins (length origins))) in
+    unwrap_or-slice_get (names_of origins) v None ∙ ap (λ d. slice_index_or (map f origins) v d) none ∙ at_map f origins v
+
+-- exactly the names that name a slot have one
+pub names_are_exact : (origins : List Origin) → NamesAreExact origins (names_of origins)
+names_are_exact origins v s = (
+  (λ e. sound origins (length origins) (origin_at origins v) s (sym (name_at origins v) ∙ e)),
+  (λ named.
+      let found : (k : ℕ) × (slot_at (hops origins k (origin_at origins v)) ≡ Some s) = complete origins (origin_at origins v) s named in
+      let later : slot_at (hops origins (found.0 + length origins) (origin_at origins v)) ≡ Some s = shown_kept origins found.0 (length origins) (origin_at origins v) s found.1 in
+      name_at origins v ∙ sym (settled origins (found.0 + length origins) v (omega arith)) ∙ later),
+)

@@ -1,0 +1,30 @@
+use Rattle.std.proofs.Common.{◌≡◌, ℕ, suc, ◌+◌, ◌-◌, ◌*◌, map, arith, sym, ◌∙◌, subst, ap}
+use Rattle.shadow_stack.specs.Slots.{hops, hop, slot_at, names_of, NamesAreExact}
+use Rattle.shadow_stack.proofs.Turns.{row_doubled, names_at_row, names_are_exact, hops_none}
+use Rattle.shadow_stack.proofs.hops.names_of.Goals as goal
+
+pub loop-reach-init : goal.loop-reach-init
+loop-reach-init c = record { positive = omega arith; row = c.in_ok-row.ensures.items ∙ hops_none c.args.origins.now }
+
+pub loop-reach-preserved : goal.loop-reach-preserved
+loop-reach-preserved c =
+    let n : ℕ = c.loop-reach.reach - 1 in
+    let positive = c.loop-reach.invariant.positive in
+    let turns : n + suc n ≡ c.loop-reach.reach * 2 - 1 = omega (arith, positive) in
+    record {
+      positive = omega (arith, positive);
+      row = subst (λ k. c.in_ok-row-2.row.items ≡ map (hops c.args.origins.now k) c.args.origins.now) turns
+          (row_doubled c.args.origins.now c.loop-reach.row.items c.in_ok-row-2.row.items n c.loop-reach.invariant.row
+          (c.in_ok-row-2.ensures ∙ ap (λ r. map (hop r) r) c.as_slice.ensures.value));
+    }
+
+pub returns-clause-names : goal.returns-clause-names
+returns-clause-names c =
+    names_at_row c.args.origins.now c.loop-reach.row.items c.from_vec.result (c.loop-reach.reach - 1) (omega (arith, c.loop-reach-test.false)) c.loop-reach.invariant.row
+    (c.from_vec.ensures ∙ c.in_ok-names.ensures ∙ ap (map slot_at) c.as_slice-2.ensures.value)
+
+pub returns-clause-exact : goal.returns-clause-exact
+returns-clause-exact c =
+    let is_names : c.from_vec.result ≡ names_of c.args.origins.now = names_at_row c.args.origins.now c.loop-reach.row.items c.from_vec.result (c.loop-reach.reach - 1) (omega (arith, c.loop-reach-test.false)) c.loop-reach.invariant.row
+    (c.from_vec.ensures ∙ c.in_ok-names.ensures ∙ ap (map slot_at) c.as_slice-2.ensures.value) in
+    subst (λ names. NamesAreExact c.args.origins.now names) (sym is_names) (names_are_exact c.args.origins.now)

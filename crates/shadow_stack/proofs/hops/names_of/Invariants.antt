@@ -1,0 +1,11 @@
+use Rattle.std.proofs.Common.{◌≡◌, ◌+◌, ◌-◌, ◌<◌, length}
+use Rattle.std.specs.Prelude.{map}
+use Rattle.shadow_stack.specs.Slots.{hops}
+use Rattle.shadow_stack.proofs.hops.names_of.Given as goal
+
+-- the row shows what stands so many bitcasts back
+abbrev pub invariant-loop-reach : goal.invariant-loop-reach
+invariant-loop-reach l = record { positive : 0 < l.reach; row : l.row.items ≡ map (hops l.fn.origins (l.reach - 1)) l.fn.origins }
+
+abbrev pub decreases-loop-reach : goal.decreases-loop-reach
+decreases-loop-reach l = length l.fn.origins + 1 - l.reach

@@ -1,0 +1,10 @@
+use Rattle.std.proofs.Common.{◌≡◌, drop}
+use Rattle.shadow_stack.specs.Slots.{with_roots}
+use Rattle.shadow_stack.proofs.slots.Slots.note_roots.Given as goal
+
+abbrev pub invariant-loop-instr : goal.invariant-loop-instr
+invariant-loop-instr l = record {
+  names : l.self.names ≡ l.initial.self.names;
+  held : l.self.held ≡ l.initial.self.held;
+  roots : with_roots l.fn.«module» l.initial.self.names l.initial.self.held l.fn.instructions l.initial.self.roots ≡ with_roots l.fn.«module» l.initial.self.names l.initial.self.held (drop l.instr-index l.fn.instructions) l.self.roots;
+}

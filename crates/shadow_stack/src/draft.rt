@@ -1,0 +1,93 @@
+ghost use Rattle.std.specs.Prelude.{◌≡◌, [], ◌∷◌, ◌++◌, length, replicate, IfOk, OnOk};
+ghost use Rattle.shadow_stack.specs.Slots.{put, origin_of, noted_op, noted, noted_blocks, draft_of};
+ghost use Rattle.shadow_stack.specs.declared.draft.Origin.TheVariants.{Nowhere};
+
+use crate::slot_id::SlotId;
+use ir_ast::{Block, Function, Instr, Op, Operand, TypeId, ValueId};
+use items::Items;
+use std::alloc::{AllocError, Global};
+
+/// What a local name was defined as.
+#[derive(Clone, Copy, Debug, PartialEq, Eq)]
+pub enum Origin {
+    /// Nothing that can be a slot.
+    Nowhere,
+    /// By an alloca.
+    Slot(SlotId),
+    /// By a bitcast of this name.
+    Same(ValueId),
+}
+
+/// What each local name was defined as, and the types of the allocas.
+#[derive(Debug, Drop)]
+pub struct Draft {
+    pub origins: Items<Origin>,
+    pub held: Items<TypeId>,
+}
+
+impl Draft {
+    pub fn of(alloc: Global, function: &Function) -> Result<Draft, AllocError>
+        ensures { IfOk result (λ draft. draft ≡ draft_of function.now) }
+    {
+        let nowhere = vec![in alloc; Origin::Nowhere; function.locals.count()]?;
+        let mut draft = Draft {
+            origins: Items::from_vec(nowhere),
+            held: Items::new(alloc),
+        };
+        draft.note_blocks(function.blocks.as_slice())?;
+        Ok(draft)
+    }
+
+    fn note_blocks(&mut self, blocks: &[Block]) -> Result<(), AllocError>
+        ensures { OnOk result (self.new ≡ noted_blocks blocks.now self.old) }
+    {
+        for block in blocks {
+            self.note_all(block.instructions.as_slice())?;
+        }
+        Ok(())
+    }
+
+    fn note_all(&mut self, instructions: &[Instr]) -> Result<(), AllocError>
+        ensures { OnOk result (self.new ≡ noted instructions.now self.old) }
+    {
+        for instr in instructions {
+            self.note(instr)?;
+        }
+        Ok(())
+    }
+
+    fn note(&mut self, instr: &Instr) -> Result<(), AllocError>
+        ensures { OnOk result (self.new ≡ noted_op instr.now.result instr.now.op self.old) }
+    {
+        match &instr.op {
+            Op::Alloca(held) => {
+                let slot = SlotId::new(self.held.len());
+                self.held.push(*held)?;
+                self.put(instr.result, Origin::Slot(slot));
+            }
+            Op::Bitcast { operand, .. } => self.put(instr.result, origin_of(*operand)),
+            _ => {}
+        }
+        Ok(())
+    }
+
+    fn put(&mut self, name: Option<ValueId>, origin: Origin)
+        ensures { self.new ≡ record self.old { origins = put name origin self.old.origins } }
+    {
+        if let Some(value) = name {
+            let at = value.number() as usize;
+            if at < self.origins.len() {
+                self.origins.set(at, origin);
+            }
+        }
+    }
+}
+
+fn origin_of(operand: Operand) -> Origin
+    ensures { result ≡ origin_of operand }
+{
+    match operand {
+        Operand::Local(value) => Origin::Same(value),
+        _ => Origin::Nowhere,
+    }
+}

@@ -1,0 +1,34 @@
+ghost use Rattle.std.specs.Prelude.{◌≡◌};
+ghost use Rattle.types.specs.References.{pointee, referenced_layout, struct_named};
+
+use ir_ast::{IrType, Module, TypeId};
+use pools::LayoutId;
+
+/// The type of what a pointer leads to; None where the type is no pointer.
+pub fn pointee(module: &Module, written: TypeId) -> Option<TypeId>
+    ensures { result ≡ pointee «module».now written }
+{
+    match module.types.get(written)? {
+        IrType::Pointer(part) => Some(part),
+        _ => None,
+    }
+}
+
+/// The layout to whose cells a type refers, where it is a reference: a pointer to a named struct.
+pub fn is_reference(module: &Module, written: TypeId) -> Option<LayoutId>
+    ensures { result ≡ referenced_layout «module».now written }
+{
+    match module.types.get(pointee(module, written)?)? {
+        IrType::Named(name) => struct_named(module, name.number() as usize),
+        _ => None,
+    }
+}
+
+fn struct_named(module: &Module, name: usize) -> Option<LayoutId>
+    ensures { result ≡ struct_named «module».now name }
+{
+    match module.struct_of.get(name) {
+        Some(layout) => *layout,
+        None => None,
+    }
+}
