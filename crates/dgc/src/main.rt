@@ -1,0 +1,82 @@
+//! `dgc`, the program: reads the command line and the files, does the command, and ends with its status.
+#![tactic(auto)]
+
+mod check;
+mod command_line;
+mod failure;
+mod line_reader;
+mod name;
+mod report;
+#[cfg(test)]
+mod tests;
+mod work;
+
+use command_line::{Line, LineFault};
+use failure::Failure;
+use line_reader::line;
+use report::{STATUS_USAGE, STATUS_YES};
+use std::process::ExitCode;
+use std::{env, fs};
+use work::work;
+
+/// The bytes of a file, if it can be read.
+fn bytes_of(rt: &HostRuntime, path: &str) -> Result<Option<Vec<u8>>, Failure> {
+    match fs::read(rt, path) {
+        Ok(bytes) => Ok(Some(bytes)),
+        Err(error) => match Failure::from(error) {
+            Failure::Memory => Err(Failure::Memory),
+            Failure::Outside => Ok(None),
+        },
+    }
+}
+
+/// Does what a line asks for.
+fn answer(rt: &HostRuntime, line: &Line<'_>) -> Result<u8, Failure> {
+    let mut files = Vec::new(rt.alloc());
+    for path in line.paths(rt.alloc())? {
+        files.push(bytes_of(rt, path)?)?;
+    }
+    Ok(work(
+        rt.alloc(),
+        line,
+        files.as_slice(),
+        &mut rt.stdout(),
+        &mut rt.stderr(),
+    ))
+}
+
+/// Reads the command line and does what it asks for.
+fn run(rt: &HostRuntime) -> Result<u8, Failure> {
+    let alloc = rt.alloc();
+    let owned: Vec<String> = env::args(rt)?.collect(alloc)?;
+    let words: Vec<&str> = owned.iter().map(|word| word.as_str()).collect(alloc)?;
+    match line(alloc, words.as_slice()) {
+        Ok(line) => answer(rt, &line),
+        Err(LineFault::Words(error)) => {
+            error.print(rt)?;
+            Ok(if error.use_stderr() {
+                STATUS_USAGE
+            } else {
+                STATUS_YES
+            })
+        }
+        Err(LineFault::NoCommand) => Ok(STATUS_USAGE),
+        Err(LineFault::Memory) => Err(Failure::Memory),
+    }
+}
+
+/// The status with which the program ends.
+fn ended(rt: &HostRuntime) -> u8 {
+    match run(rt) {
+        Ok(status) => status,
+        Err(Failure::Outside) => STATUS_USAGE,
+        Err(Failure::Memory) => match report::memory(&mut rt.stderr()) {
+            Ok(status) => status,
+            Err(_) => STATUS_USAGE,
+        },
+    }
+}
+
+fn main(rt: HostRuntime) -> ExitCode {
+    ExitCode::from(ended(&rt))
+}

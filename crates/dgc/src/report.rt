@@ -1,0 +1,179 @@
+//! How answers and faults are printed, each with the status that the program then ends with. An answer goes to the
+//! standard output, a fault to the standard error.
+ghost use Rattle.std.specs.Prelude.{◌≡◌, IfOk};
+ghost use Rattle.std.specs.Option.{option_copied};
+ghost use Rattle.dgc.specs.Report.{name_of_block, name_of_function, name_of_struct};
+
+use crate::name::write_name;
+use block_check::Refusal;
+use certificate::CertFault;
+use ir_ast::{BlockId, FuncId, Module};
+use ir_text::ReadFault;
+use ir_tokens::Position;
+use layout::LayoutFault;
+use std::io;
+use std::io::Write;
+
+/// The answer is yes, or help or the version was asked for.
+pub const STATUS_YES: u8 = 0;
+
+/// The answer is no.
+pub const STATUS_NO: u8 = 1;
+
+/// A text is no module or no certificate, or the module has no layouts.
+pub const STATUS_UNREADABLE: u8 = 2;
+
+/// Memory was refused.
+pub const STATUS_MEMORY: u8 = 3;
+
+/// The command line is refused, a file cannot be read, or a write failed.
+pub const STATUS_USAGE: u8 = 4;
+
+/// The name of a function, if there is that function.
+fn name_of_function(of_module: &Module, number: usize) -> Option<&[u8]>
+    ensures { option_copied result ≡ name_of_function of_module.now number }
+{
+    let function = of_module.functions.get(number)?;
+    of_module.symbols.get(function.symbol.number() as usize)
+}
+
+/// The name of a block of a function, if there is that block.
+fn name_of_block(of_module: &Module, func: FuncId, block: BlockId) -> Option<&[u8]>
+    ensures { option_copied result ≡ name_of_block of_module.now func block }
+{
+    let function = of_module.functions.get(func.number() as usize)?;
+    let block = function.blocks.get(block.number() as usize)?;
+    function.locals.get(block.label.number() as usize)
+}
+
+/// The name of a struct, if there is that struct.
+fn name_of_struct(of_module: &Module, number: usize) -> Option<&[u8]>
+    ensures { option_copied result ≡ name_of_struct of_module.now number }
+{
+    let named = of_module.structs.get(number)?;
+    of_module.struct_names.get(named.name.number() as usize)
+}
+
+fn write_found_name<W: Write>(out: &mut W, name: Option<&[u8]>) -> io::Result<()> {
+    match name {
+        Some(name) => write_name(out, name),
+        None => Ok(()),
+    }
+}
+
+/// A fault with its place: `error L4 23:13`.
+fn at_place<W: Write>(err: &mut W, code: &str, position: Position) -> io::Result<u8>
+    ensures { IfOk result (λ status. status ≡ STATUS_UNREADABLE) }
+{
+    let Position { line, column } = position;
+    writeln!(err, "error {code} {line}:{column}")?;
+    Ok(STATUS_UNREADABLE)
+}
+
+/// A form that is left out, with the word at which it begins: `error L7 10:8 sdiv`.
+fn left_out<W: Write>(err: &mut W, position: Position, word: &[u8]) -> io::Result<u8>
+    ensures { IfOk result (λ status. status ≡ STATUS_UNREADABLE) }
+{
+    let Position { line, column } = position;
+    write!(err, "error L7 {line}:{column} ")?;
+    err.write_all(word)?;
+    writeln!(err, "")?;
+    Ok(STATUS_UNREADABLE)
+}
+
+/// Something that is not as it must be, with its name: `error Y2 Node`, `error C5 @f`.
+fn of_name<W: Write>(err: &mut W, before: &str, name: Option<&[u8]>) -> io::Result<u8>
+    ensures { IfOk result (λ status. status ≡ STATUS_UNREADABLE) }
+{
+    write!(err, "error {before}")?;
+    write_found_name(err, name)?;
+    writeln!(err, "")?;
+    Ok(STATUS_UNREADABLE)
+}
+
+/// How many functions a module defines that is accepted: `yes 1`.
+pub fn accepted<W: Write>(out: &mut W, functions: usize) -> io::Result<u8>
+    ensures { IfOk result (λ status. status ≡ STATUS_YES) }
+{
+    writeln!(out, "yes {functions}")?;
+    Ok(STATUS_YES)
+}
+
+/// The first refused instruction, by its function, its block and its place there, and the rule that it breaks:
+/// `no @f %b 3 K6`.
+pub fn refused<W: Write>(out: &mut W, of_module: &Module, refusal: &Refusal) -> io::Result<u8>
+    ensures { IfOk result (λ status. status ≡ STATUS_NO) }
+{
+    let Refusal {
+        func,
+        block,
+        instr,
+        rule,
+        ..
+    } = *refusal;
+    write!(out, "no @")?;
+    write_found_name(out, name_of_function(of_module, func.number() as usize))?;
+    write!(out, " %")?;
+    write_found_name(out, name_of_block(of_module, func, block))?;
+    writeln!(out, " {instr} {rule}")?;
+    Ok(STATUS_NO)
+}
+
+/// Want of memory: `error memory`.
+pub fn memory<W: Write>(err: &mut W) -> io::Result<u8>
+    ensures { IfOk result (λ status. status ≡ STATUS_MEMORY) }
+{
+    writeln!(err, "error memory")?;
+    Ok(STATUS_MEMORY)
+}
+
+/// A file that cannot be read: `error file PATH`.
+pub fn no_file<W: Write>(err: &mut W, path: &str) -> io::Result<u8>
+    ensures { IfOk result (λ status. status ≡ STATUS_USAGE) }
+{
+    writeln!(err, "error file {path}")?;
+    Ok(STATUS_USAGE)
+}
+
+/// A text that is no module.
+pub fn no_module<W: Write>(err: &mut W, fault: &ReadFault) -> io::Result<u8> {
+    match fault {
+        ReadFault::BadByte(place) => at_place(err, "L1", *place),
+        ReadFault::Unfinished(place) => at_place(err, "L2", *place),
+        ReadFault::Unexpected(place) => at_place(err, "L3", *place),
+        ReadFault::DefinedTwice(place) => at_place(err, "L4", *place),
+        ReadFault::NotDefined(place) => at_place(err, "L5", *place),
+        ReadFault::OutOfRange(place) => at_place(err, "L6", *place),
+        ReadFault::LeftOut { place, word } => left_out(err, *place, word.as_slice()),
+        ReadFault::Limit(place) => at_place(err, "L8", *place),
+        ReadFault::Memory => memory(err),
+    }
+}
+
+/// A text that is no certificate of the module.
+pub fn no_certificate<W: Write>(
+    err: &mut W,
+    of_module: &Module,
+    fault: CertFault,
+) -> io::Result<u8> {
+    match fault {
+        CertFault::Syntax(position) => at_place(err, "C1", position),
+        CertFault::Version(position) => at_place(err, "C2", position),
+        CertFault::UnknownName(position) => at_place(err, "C3", position),
+        CertFault::ListedTwice(position) => at_place(err, "C4", position),
+        CertFault::Missing(number) => of_name(err, "C5 @", name_of_function(of_module, number)),
+        CertFault::Memory => memory(err),
+    }
+}
+
+/// A module that has no layouts.
+pub fn no_layouts<W: Write>(err: &mut W, of_module: &Module, fault: LayoutFault) -> io::Result<u8> {
+    match fault {
+        LayoutFault::TooManyWords(number) => of_name(err, "Y2 ", name_of_struct(of_module, number)),
+        LayoutFault::NoSuchLayout(_) => {
+            writeln!(err, "error Y3")?;
+            Ok(STATUS_UNREADABLE)
+        }
+        LayoutFault::Memory => memory(err),
+    }
+}
