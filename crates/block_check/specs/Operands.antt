@@ -7,7 +7,7 @@ use Rattle.ir_ast.specs.declared.module.Module.{Module}
 use Rattle.ir_ast.specs.declared.operand.Constant.{Constant}
 use Rattle.ir_ast.specs.declared.operand.Constant.TheVariants.{Number as Numeral, Truth, Null}
 use Rattle.ir_ast.specs.declared.operand.Operand.{Operand}
-use Rattle.ir_ast.specs.declared.operand.Operand.TheVariants.{Constant as Written, Local, Global}
+use Rattle.ir_ast.specs.declared.operand.Operand.TheVariants.{Constant as Written, Local, Global, CastGlobal}
 use Rattle.shadow_stack.specs.Slots.{SlotTable, slot_of, held_type}
 use Rattle.block_check.specs.declared.known.Age.{Age}
 use Rattle.block_check.specs.declared.known.Age.TheVariants.{Fresh, Held, Stale}
@@ -23,12 +23,14 @@ abbrev pub slot_named : SlotTable → Operand → Option ℕ
 slot_named slots (Written c) = None
 slot_named slots (Local v) = slot_of slots v
 slot_named slots (Global g) = None
+slot_named slots (CastGlobal given g cast) = None
 
 -- what is known of an operand
 abbrev pub known_of : FactSet → Operand → Known
 known_of facts (Written c) = Nothing
 known_of facts (Local v) = known_at facts.values v
 known_of facts (Global g) = Nothing
+known_of facts (CastGlobal given g cast) = Nothing
 
 -- something is known of a value
 abbrev pub is_known : Known → Bool
@@ -41,6 +43,7 @@ abbrev pub is_available : SlotTable → FactSet → Operand → Bool
 is_available slots facts (Written c) = true
 is_available slots facts (Local v) = is_some (slot_of slots v) || is_known (known_at facts.values v)
 is_available slots facts (Global g) = true
+is_available slots facts (CastGlobal given g cast) = true
 
 -- the type that the text gives a local name
 abbrev pub is_sort_of : (written : ℕ) → Option LocalSort → Bool
@@ -48,6 +51,7 @@ is_sort_of written None = false
 is_sort_of written (Some Unknown) = false
 is_sort_of written (Some (Value t)) = t == written
 is_sort_of written (Some (Block b)) = false
+is_sort_of written _ = false
 
 -- a constant is of this kind; a truth that was written at another type than i1 is of none
 abbrev pub constant_fits : Constant → TypeKind → Bool
@@ -60,6 +64,7 @@ abbrev pub has_type : Module → Function → (written : ℕ) → Operand → Bo
 has_type m f written (Written c) = constant_fits c (kind_of m written)
 has_type m f written (Local v) = is_sort_of written (slice_get f.sorts v)
 has_type m f written (Global g) = false
+has_type m f written (CastGlobal given g cast) = false
 
 -- a safepoint was passed
 abbrev pub is_stale : Age → Bool
@@ -84,6 +89,7 @@ abbrev pub is_null : Operand → Bool
 is_null (Written c) = is_null_constant c
 is_null (Local v) = false
 is_null (Global g) = false
+is_null (CastGlobal given g cast) = false
 
 -- a reference to a cell of this layout may be of this kind
 abbrev pub fits_layout : (layout : ℕ) → TypeKind → Bool
@@ -124,6 +130,7 @@ abbrev pub may_load : Module → SlotTable → FactSet → (loaded : ℕ) → (p
 may_load m slots facts loaded (Written c) = is_null_constant c
 may_load m slots facts loaded (Local v) = loads_local m slots (known_at facts.values v) loaded (slot_of slots v)
 may_load m slots facts loaded (Global g) = false
+may_load m slots facts loaded (CastGlobal given g cast) = false
 
 -- K2: a store of what is known of a value to a place
 abbrev pub fits_held : Module → FactSet → Known → (held : Option ℕ) → Bool
@@ -144,6 +151,7 @@ abbrev pub may_store : Module → SlotTable → FactSet → (stored : ℕ) → (
 may_store m slots facts stored value (Written c) = is_null_constant c && is_word (kind_of m stored)
 may_store m slots facts stored value (Local v) = stores_local m slots facts (known_at facts.values v) stored value (slot_of slots v)
 may_store m slots facts stored value (Global g) = false
+may_store m slots facts stored value (CastGlobal given g cast) = false
 
 -- K19: a bitcast leads to the same type, or to a type of the same layout
 abbrev pub casts_null : Module → (from to : ℕ) → Bool
@@ -187,6 +195,7 @@ abbrev pub casts_other : Module → SlotTable → FactSet → (from to : ℕ) �
 casts_other m slots facts from to (Written c) = casts_constant m from to c
 casts_other m slots facts from to (Local v) = casts_local m slots facts to (known_at facts.values v) (slot_of slots v)
 casts_other m slots facts from to (Global g) = true
+casts_other m slots facts from to (CastGlobal given g cast) = true
 
 -- a bitcast is allowed
 abbrev pub may_cast : Module → SlotTable → FactSet → (from to : ℕ) → Operand → Bool
@@ -216,3 +225,4 @@ abbrev pub numbers_layout : Module → Operand → Bool
 numbers_layout m (Written c) = numbers_one_of (length m.structs) c
 numbers_layout m (Local v) = false
 numbers_layout m (Global g) = false
+numbers_layout m (CastGlobal given g cast) = false

@@ -2,15 +2,15 @@
 use Rattle.std.specs.Prelude.{◌≡◌, ℕ, ◌==◌, Bool, false, not, ◌&&◌, ◌||◌, if◌then◌else◌, List, [], ◌∷◌, length, nat_lt, Option, Some, None, is_some}
 use Rattle.std.specs.List.{list_all}
 use Rattle.ir_ast.specs.declared.function.Function.{Function}
-use Rattle.ir_ast.specs.declared.instr.Argument.{Argument}
+use Rattle.ir_ast.specs.declared.op.Argument.{Argument}
 use Rattle.ir_ast.specs.declared.instr.Instr.{Instr}
-use Rattle.ir_ast.specs.declared.instr.Op.{Op}
-use Rattle.ir_ast.specs.declared.instr.Op.TheVariants.{Alloca, Bitcast, Load, Store, Call, ReturnVoid, Return}
+use Rattle.ir_ast.specs.declared.op.Op.{Op}
+use Rattle.ir_ast.specs.declared.op.Op.TheVariants.{Alloca, Bitcast, Load, Store, Call, ReturnVoid, Return}
 use Rattle.ir_ast.specs.declared.module.Module.{Module}
 use Rattle.ir_ast.specs.declared.operand.Constant.{Constant}
 use Rattle.ir_ast.specs.declared.operand.Constant.TheVariants.{Number as Numeral, Truth, Null}
 use Rattle.ir_ast.specs.declared.operand.Operand.{Operand}
-use Rattle.ir_ast.specs.declared.operand.Operand.TheVariants.{Constant as Written, Local, Global}
+use Rattle.ir_ast.specs.declared.operand.Operand.TheVariants.{Constant as Written, Local, Global, CastGlobal}
 use Rattle.ir_ast.specs.declared.runtime.Runtime.{Runtime}
 use Rattle.ir_ast.specs.declared.runtime.Runtime.TheVariants.{Alloc, Safepoint, GcRoot, GcRead, GcWrite}
 use Rattle.shadow_stack.specs.Slots.{SlotTable, slot_of, held_type, is_among}
@@ -155,6 +155,7 @@ op_conditions m f slots here facts result (Return argument) =
     ∷ (K3, is_current facts (known_of facts argument.operand))
     ∷ (K10, is_no_slot slots argument.operand)
     ∷ (K12, here.collected) ∷ []
+op_conditions m f slots here facts result _ = (K2, false) ∷ (K12, here.collected) ∷ []
 
 -- the conditions of an instruction
 abbrev pub conditions : Module → Function → SlotTable → Standing → FactSet → Instr → List (Rule × Bool)
@@ -200,6 +201,7 @@ abbrev pub after_cast : Module → SlotTable → (v from to : ℕ) → Operand �
 after_cast m slots v from to (Written c) facts = cast_constant m v from to c facts
 after_cast m slots v from to (Local u) facts = cast_local v (known_at facts.values u) (slot_of slots u) facts
 after_cast m slots v from to (Global g) facts = define v Nothing facts
+after_cast m slots v from to (CastGlobal given g cast) facts = define v Nothing facts
 
 -- a load from a slot is a number of its bits, or the reference there
 abbrev pub load_kind : (v s : ℕ) → TypeKind → FactSet → FactSet
@@ -247,6 +249,7 @@ abbrev pub alloc_layout : (v : ℕ) → Operand → FactSet → FactSet
 alloc_layout v (Written c) facts = alloc_numbered v c facts
 alloc_layout v (Local u) facts = define v Nothing facts
 alloc_layout v (Global g) facts = define v Nothing facts
+alloc_layout v (CastGlobal given g cast) facts = define v Nothing facts
 
 -- by the arguments
 abbrev pub after_alloc : (v : ℕ) → List Argument → FactSet → FactSet
@@ -278,6 +281,7 @@ after_op m slots result (Store stored value place_type place) facts = after_stor
 after_op m slots result (Call returned callee arguments) facts = after_call slots result arguments (callee_of m callee (length arguments)) facts
 after_op m slots result ReturnVoid facts = facts
 after_op m slots result (Return argument) facts = facts
+after_op m slots result _ facts = facts
 
 -- behind an instruction, by its name and what it does
 abbrev pub after : Module → SlotTable → FactSet → Instr → FactSet

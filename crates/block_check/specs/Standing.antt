@@ -5,11 +5,11 @@ use Rattle.std.specs.Str.{bytes_eq}
 use Rattle.ir_ast.specs.declared.block.Block.{Block}
 use Rattle.ir_ast.specs.declared.function.Function.{Function}
 use Rattle.ir_ast.specs.declared.instr.Instr.{Instr}
-use Rattle.ir_ast.specs.declared.instr.Op.{Op}
-use Rattle.ir_ast.specs.declared.instr.Op.TheVariants.{Alloca, Bitcast, Load, Store, Call, ReturnVoid, Return}
+use Rattle.ir_ast.specs.declared.op.Op.{Op}
+use Rattle.ir_ast.specs.declared.op.Op.TheVariants.{Alloca, Bitcast, Load, Store, Call, ReturnVoid, Return}
 use Rattle.ir_ast.specs.declared.module.Module.{Module}
 use Rattle.ir_ast.specs.declared.operand.Operand.{Operand}
-use Rattle.ir_ast.specs.declared.operand.Operand.TheVariants.{Constant as Written, Local, Global}
+use Rattle.ir_ast.specs.declared.operand.Operand.TheVariants.{Constant as Written, Local, Global, CastGlobal}
 use Rattle.ir_ast.specs.declared.runtime.Runtime.{Runtime}
 use Rattle.ir_ast.specs.declared.runtime.Runtime.TheVariants.{Alloc, Safepoint, GcRoot, GcRead, GcWrite}
 use Rattle.types.specs.RuntimeCall.{runtime_called}
@@ -23,6 +23,7 @@ abbrev pub is_constant : Operand → Bool
 is_constant (Written c) = true
 is_constant (Local v) = false
 is_constant (Global g) = false
+is_constant (CastGlobal given g cast) = false
 
 -- a function of the runtime is gcroot
 abbrev pub is_gcroot : Option Runtime → Bool
@@ -42,6 +43,7 @@ is_of_head m slots (Store stored value place_type place) = is_constant value && 
 is_of_head m slots (Call returned callee arguments) = is_gcroot (runtime_called m callee)
 is_of_head m slots ReturnVoid = false
 is_of_head m slots (Return argument) = false
+is_of_head m slots _ = false
 
 -- an instruction may be of the head
 abbrev pub is_head_instruction : Module → SlotTable → Instr → Bool
@@ -64,6 +66,7 @@ moves_reference m (Store stored value place_type place) = is_collected_type m st
 moves_reference m (Call returned callee arguments) = is_collected_type m returned || list_any (λ argument. is_collected_type m argument.written) arguments
 moves_reference m ReturnVoid = false
 moves_reference m (Return argument) = false
+moves_reference m _ = false
 
 -- an instruction moves references
 abbrev pub instruction_moves : Module → Instr → Bool

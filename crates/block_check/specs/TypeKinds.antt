@@ -18,6 +18,7 @@ pointer_to m Void = Address
 pointer_to m (Integer bits) = if bits == 8 then AnyReference else Address
 pointer_to m (Pointer t) = Address
 pointer_to m (Named name) = struct_pointer (struct_named m name)
+pointer_to m _ = Address
 
 -- a pointer to a type of the table
 abbrev pub pointer_kind : Module → Option IrType → TypeKind
@@ -30,6 +31,7 @@ kind_of_type m Void = NoValue
 kind_of_type m (Integer bits) = Bits bits
 kind_of_type m (Pointer t) = pointer_kind m (slice_get m.types t)
 kind_of_type m (Named name) = Other
+kind_of_type m _ = Other
 
 -- what a place of the table of types holds
 abbrev pub kind_in : Module → Option IrType → TypeKind

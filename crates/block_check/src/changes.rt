@@ -53,7 +53,7 @@ pub fn advance(scene: &Scene, facts: &mut Facts, instr: &Instr) -> Result<(), Al
                 runtime,
             )
         }
-        Op::ReturnVoid | Op::Return(_) => Ok(()),
+        _ => Ok(()),
     }
 }
 
@@ -96,7 +96,7 @@ fn after_cast(
             cast_local(facts, v, known, scene.slots.slot_of(u));
             Ok(())
         }
-        Operand::Global(_) => {
+        Operand::Global(_) | Operand::CastGlobal { .. } => {
             define(facts, v, Known::Nothing);
             Ok(())
         }

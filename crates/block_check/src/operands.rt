@@ -68,7 +68,7 @@ pub fn has_type(scene: &Scene, written: TypeId, operand: Operand) -> bool
                 _ => false,
             }
         }
-        Operand::Global(_) => false,
+        Operand::Global(_) | Operand::CastGlobal { .. } => false,
     }
 }
 
@@ -147,7 +147,7 @@ pub fn may_load(scene: &Scene, facts: &Facts, loaded: TypeId, place: Operand) ->
             Some(s) => moves(scene.module, loaded, scene.slots.held_type(s)),
             None => !is_known(facts.known(v.number() as usize)),
         },
-        Operand::Global(_) => false,
+        Operand::Global(_) | Operand::CastGlobal { .. } => false,
     }
 }
 
@@ -179,7 +179,7 @@ pub fn may_store(scene: &Scene, facts: &Facts, stored: TypeId, value: Known, pla
             Some(s) => stores_slot(scene, facts, stored, value, s),
             None => !is_known(facts.known(v.number() as usize)),
         },
-        Operand::Global(_) => false,
+        Operand::Global(_) | Operand::CastGlobal { .. } => false,
     }
 }
 
@@ -232,7 +232,7 @@ pub fn casts_other(scene: &Scene, facts: &Facts, from: TypeId, to: TypeId, opera
             Some(s) => casts_held(scene.module, to, scene.slots.held_type(s)),
             None => casts_known(scene.module, facts, to, facts.known(v.number() as usize)),
         },
-        Operand::Global(_) => true,
+        Operand::Global(_) | Operand::CastGlobal { .. } => true,
     }
 }
 

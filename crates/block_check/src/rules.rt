@@ -63,6 +63,7 @@ pub fn refusal(scene: &Scene, here: Standing, facts: &Facts, instr: &Instr) -> O
             (Rule::K12, here.collected),
         ]),
         Op::Return(argument) => return_refusal(scene, here, facts, *argument),
+        _ => first_failing(&[(Rule::K2, false), (Rule::K12, here.collected)]),
     }
 }
 

@@ -45,7 +45,7 @@ fn is_of_head(module: &Module, slots: &Slots, op: &Op) -> bool
         Op::Call { callee, .. } => {
             matches!(runtime_called(module, *callee), Some(Runtime::GcRoot))
         }
-        Op::Load { .. } | Op::ReturnVoid | Op::Return(_) => false,
+        _ => false,
     }
 }
 
@@ -76,7 +76,7 @@ fn moves_reference(module: &Module, op: &Op) -> bool
             arguments,
             ..
         } => is_collected_type(module, *returned) || any_collected(module, arguments.as_slice()),
-        Op::Alloca(_) | Op::Bitcast { .. } | Op::ReturnVoid | Op::Return(_) => false,
+        _ => false,
     }
 }
 

@@ -111,7 +111,7 @@ fn kind_of_type(module: &Module, ir_type: IrType) -> TypeKind
         IrType::Void => TypeKind::NoValue,
         IrType::Integer(bits) => TypeKind::Bits(bits),
         IrType::Pointer(pointee) => pointer_kind(module, pointee),
-        IrType::Named(_) => TypeKind::Other,
+        _ => TypeKind::Other,
     }
 }
 

@@ -1,6 +1,6 @@
 -- What is read is a certificate's text, and such a text is read; what is refused has its first fault.
-use Rattle.std.proofs.Common.{◌≡◌, ◌≢◌, ℕ, List, Result, Ok, Err, refl, ap, sym, ◌∙◌}
-use Rattle.grammar.specs.Outcome.{Outcome, Gives}
+use Rattle.std.proofs.Common.{◌≡◌, ◌≢◌, List, Result, Ok, Err, refl, ap, sym, ◌∙◌}
+use Rattle.grammar.specs.Outcome.{Outcome}
 use Rattle.ir_ast.specs.declared.module.Module.{Module}
 use Rattle.certificate.specs.Words.{Text}
 use Rattle.certificate.specs.Input.{Input, start_of}

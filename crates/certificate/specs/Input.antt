@@ -1,23 +1,32 @@
--- What is left of a certificate's text, and how the functions are marked so far.
+-- What is left of a certificate's text, and what is read so far.
 use Rattle.std.specs.Prelude.{ℕ, Bool, true, false, ◌||◌, List, [], ◌∷◌, Option, Some, None, length, map, slice_set}
 use Rattle.std.specs.Str.{bytes_eq}
+use Rattle.ir_ast.specs.declared.function.Function.{Function}
 use Rattle.ir_ast.specs.declared.module.Module.{Module}
 use Rattle.grammar.specs.Grammar.{Grammar}
 use Rattle.grammar.specs.Outcome as outcome
 use Rattle.grammar.specs.Outcome.{Outcome}
 use Rattle.std.specs.Prelude.{Result}
 use Rattle.certificate.specs.Words.{Text, past_word, past_blanks, past_lines, word_at, ends_line}
+use Rattle.certificate.specs.Drafts.{no_draft, draft_of, promised, wanting, listing, listing_slot, block_ended, first_missing}
+use Rattle.certificate.specs.declared.draft.Draft.{Draft}
+use Rattle.certificate.specs.declared.input.Kept.{Kept}
+use Rattle.certificate.specs.declared.section.Line.{Line}
 use Rattle.certificate.specs.declared.section.Mark.{Mark}
+use Rattle.certificate.specs.declared.section.Promise.{Promise}
 use Rattle.certificate.specs.declared.fault.Found.{Found}
 use Rattle.certificate.specs.declared.fault.Found.TheVariants.{Memory}
 
 pub record Input : Type 0 where
   pub rest : Text
-  pub marks : List (Option Mark)  -- by the numbers of the functions
+  pub sections : List (Option Kept)  -- by the numbers of the functions
+  pub draft : Draft  -- of the section that is read
 
+-- how many bytes are left
 abbrev pub left : Input → ℕ
 left i = length i.rest
 
+-- a form of a certificate's text
 abbrev pub Form : Type 0 → Type 1
 Form A = Grammar Input Found left A
 
@@ -25,10 +34,11 @@ Form A = Grammar Input Found left A
 abbrev pub Reads : {A : Type 0} → Outcome Input Found A → Result A Found → Input → Type 0
 Reads = outcome.Reads Memory
 
--- the state before a text: no function is marked
+-- the state before a text: no function has a section
 abbrev pub start_of : Module → Text → Input
-start_of m bytes = record { rest = past_lines false bytes; marks = map (λ _. None) m.functions }
+start_of m bytes = record { rest = past_lines false bytes; sections = map (λ _. None) m.functions; draft = no_draft }
 
+-- whether no byte is left
 abbrev pub is_nil : Text → Bool
 is_nil [] = true
 is_nil (byte ∷ bytes) = false
@@ -57,6 +67,38 @@ line_ends i = is_nil i.rest || ends_line i.rest
 unfoldable pub next_line : Input → Input
 next_line i = record i { rest = past_lines false i.rest }
 
--- the function has this mark from here on
-unfoldable pub marked_with : (function : ℕ) → Mark → Input → Input
-marked_with function mark i = record i { marks = slice_set i.marks function (Some mark) }
+-- at the beginning of this function's section
+unfoldable pub begun : Module → Function → Input → Input
+begun m f i = record i { draft = draft_of m f }
+
+-- with this promise of the parameter at this place
+unfoldable pub with_promise : (place : ℕ) → Promise → Input → Input
+with_promise place promise i = record i { draft = promised place promise i.draft }
+
+-- the next word names a value that the block has to list
+unfoldable pub wants : (value : ℕ) → Input → Input
+wants value i = record i { draft = wanting value (left i) i.draft }
+
+-- with this line of a value
+unfoldable pub with_line : (block value : ℕ) → Line → Input → Input
+with_line block value line i = record i { draft = listing block value line i.draft }
+
+-- with this line of a slot
+unfoldable pub with_slot_line : (block slot : ℕ) → Line → Input → Input
+with_slot_line block slot line i = record i { draft = listing_slot block slot line i.draft }
+
+-- behind the lines of this block
+unfoldable pub with_block : (block : ℕ) → Input → Input
+with_block block i = record i { draft = block_ended block i.draft }
+
+-- what is kept of the section that is read
+abbrev pub kept : Mark → (result : Option Promise) → Draft → Kept
+kept mark promise draft = record { section = record { mark = mark; parameters = draft.parameters; result = promise; blocks = draft.blocks }; missing = first_missing draft }
+
+-- behind the section of this function
+unfoldable pub with_section : (function : ℕ) → Mark → (result : Option Promise) → Input → Input
+with_section function mark promise i = record i { sections = slice_set i.sections function (Some (kept mark promise i.draft)); draft = no_draft }
+
+-- with no section left
+unfoldable pub emptied : Input → Input
+emptied i = record i { sections = [] }

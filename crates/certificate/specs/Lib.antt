@@ -1,7 +1,14 @@
 pub mod Certs
 pub mod Words
+pub mod Numbers
 pub mod Names
+pub mod Families
+pub mod Drafts
 pub mod Input
 pub mod View
 pub mod Falls
+pub mod Forms
+pub mod Lines
+pub mod Print
+pub mod Ends
 pub mod Text

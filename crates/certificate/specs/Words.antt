@@ -1,5 +1,5 @@
 -- The words, blanks and line ends of a certificate's text.
-use Rattle.std.specs.Prelude.{ℕ, ◌-◌, ◌≤◌, Bool, true, false, not, ◌||◌, ◌&&◌, ◌==◌, if◌then◌else◌, List, [], ◌∷◌, length, take}
+use Rattle.std.specs.Prelude.{ℕ, ◌-◌, Bool, true, false, not, ◌||◌, ◌&&◌, ◌==◌, if◌then◌else◌, List, [], ◌∷◌, length, take}
 
 -- a text is a list of bytes
 abbrev pub Text : Type 0
@@ -22,6 +22,7 @@ past_word quoted (byte ∷ bytes) = if not quoted && ends_word byte then byte �
 abbrev pub word_at : Text → Text
 word_at bytes = take (length bytes - length (past_word false bytes)) bytes
 
+-- whether this byte stands at the front
 abbrev pub begins_with : ℕ → Text → Bool
 begins_with byte [] = false
 begins_with byte (first ∷ bytes) = first == byte

@@ -37,6 +37,13 @@ impl Certs {
         self.sections.get(function.number() as usize)
     }
 
+    /// All certificates, by the numbers of their functions.
+    pub(crate) fn sections(&self) -> &[Section]
+        ensures { result.now ≡ self.now }
+    {
+        self.sections.as_slice()
+    }
+
     /// How this function is marked.
     pub fn mark(&self, function: FuncId) -> Option<Mark>
         ensures { result ≡ mark_of self.now function }

@@ -20,6 +20,9 @@ pub enum CertFault {
     /// The fault C5: this defined function, by its number, has no section.
     #[error("function {0} has no section")]
     Missing(usize),
+    /// The fault C5: this block, by the numbers of its function and of itself, has no section.
+    #[error("block {1} of function {0} has no section")]
+    MissingBlock(usize, usize),
     #[error("out of memory")]
     Memory,
 }
@@ -32,6 +35,7 @@ pub enum Found {
     UnknownName(usize),
     ListedTwice(usize),
     Missing(usize),
+    MissingBlock(usize, usize),
     Memory,
 }
 

@@ -2,15 +2,25 @@
 #![tactic(auto)]
 
 mod certs;
+mod draft;
+mod facts;
+mod family;
 mod fault;
+mod forms;
 mod input;
 mod naming;
+mod numbers;
 mod place;
+mod print;
+mod print_sections;
+mod promises;
 mod reader;
 mod section;
 mod words;
 
 pub use certs::Certs;
 pub use fault::CertFault;
+pub use print::print_line;
+pub use print_sections::print_cert;
 pub use reader::read_cert;
-pub use section::{Mark, Section};
+pub use section::{Age, Fact, Line, Mark, Promise, Section};

@@ -1,19 +1,81 @@
-ghost use Rattle.std.specs.Prelude.{◌≡◌, ◌≤◌, ◌^◌, Some, None, length, IfOk, ◌↔◌};
+//! What the words of a certificate name.
+ghost use Rattle.std.specs.Prelude.{◌≡◌, ◌≤◌, ◌^◌, Some, ◌∷◌, length, IfOk};
 ghost use Rattle.certificate.specs.Names as spec;
 ghost use Rattle.ir_tokens.specs.Names.{name_of};
 
-use ir_ast::{FuncId, Module, SymbolSort};
-use ir_tokens::{Kind, TEXT_LIMIT, Token, plain_name, read_tokens, unescaped};
+use ir_ast::{Function, LocalSort, Module, SymbolSort};
+use ir_tokens::{Kind, TEXT_LIMIT, Token, read_tokens, unescaped};
+use items::Items;
 use std::alloc::{AllocError, Global};
 
-/// What a word names where a function is to be named.
+/// What a word names where something is to be named.
 #[derive(Clone, Copy, Debug, PartialEq, Eq)]
 pub enum Naming {
-    /// It is no global name.
+    /// It is no name with the sign that is asked for.
     NoName,
-    /// The module defines no function of this name.
+    /// There is nothing of this name.
     Unknown,
-    Function(FuncId),
+    /// What has this number.
+    Named(u32),
+}
+
+/// The sign before a name.
+#[derive(Clone, Copy, Debug, PartialEq, Eq)]
+pub enum Sigil {
+    /// `@`.
+    Global,
+    /// `%`.
+    Local,
+}
+
+fn name_of_token(
+    alloc: Global,
+    sign: Sigil,
+    word: &[u8],
+    token: Token,
+) -> Result<Option<Items<u8>>, AllocError>
+    ensures { IfOk result (λ name. name ≡ spec.name_by sign token.kind (name_of word.now token)) }
+{
+    match (sign, token.kind) {
+        (Sigil::Global, Kind::GlobalName) => Ok(Some(unescaped(alloc, word, token)?)),
+        (Sigil::Local, Kind::LocalName) => Ok(Some(unescaped(alloc, word, token)?)),
+        _ => Ok(None),
+    }
+}
+
+fn name_of_tokens(
+    alloc: Global,
+    sign: Sigil,
+    word: &[u8],
+    bad: Option<u32>,
+    tokens: &[Token],
+) -> Result<Option<Items<u8>>, AllocError>
+    ensures { IfOk result (λ name. name ≡ spec.name_from sign word.now bad tokens.now) }
+{
+    if bad.is_some() {
+        return Ok(None);
+    }
+    match tokens {
+        [token] => {
+            if token.length as usize == word.len() {
+                name_of_token(alloc, sign, word, *token)
+            } else {
+                Ok(None)
+            }
+        }
+        _ => Ok(None),
+    }
+}
+
+/// The name with this sign that a word is.
+fn name_in(alloc: Global, sign: Sigil, word: &[u8]) -> Result<Option<Items<u8>>, AllocError>
+    ensures { IfOk result (λ name. name ≡ spec.name_in sign word.now) }
+{
+    if word.len() > TEXT_LIMIT {
+        return Ok(None);
+    }
+    let lexed = read_tokens(alloc, word)?;
+    name_of_tokens(alloc, sign, word, lexed.bad, lexed.tokens.as_slice())
 }
 
 fn function_named(module: &Module, name: &[u8]) -> Naming
@@ -22,61 +84,96 @@ fn function_named(module: &Module, name: &[u8]) -> Naming
     match module.symbols.find(name) {
         None => Naming::Unknown,
         Some(symbol) => match module.sorts.get(symbol) {
-            Some(SymbolSort::Defined(function)) => Naming::Function(*function),
+            Some(SymbolSort::Defined(function)) => Naming::Named(function.number()),
             _ => Naming::Unknown,
         },
     }
 }
 
-fn function_of_token(
-    alloc: Global,
-    module: &Module,
-    word: &[u8],
-    token: Token,
-) -> Result<Naming, AllocError>
-    ensures { IfOk result (λ naming. naming ≡ spec.function_named «module».now (spec.name_by token.kind (name_of word.now token))) }
-{
-    if token.kind != Kind::GlobalName {
-        return Ok(Naming::NoName);
-    }
-    if let Some(name) = plain_name(word, token) {
-        return Ok(function_named(module, name));
-    }
-    let name = unescaped(alloc, word, token)?;
-    Ok(function_named(module, name.as_slice()))
-}
-
-fn function_of_tokens(
-    alloc: Global,
-    module: &Module,
-    word: &[u8],
-    bad: Option<u32>,
-    tokens: &[Token],
-) -> Result<Naming, AllocError>
-    ensures { IfOk result (λ naming. naming ≡ spec.function_named «module».now (spec.name_from word.now bad tokens.now)) }
-{
-    if bad.is_some() {
-        return Ok(Naming::NoName);
-    }
-    match tokens {
-        [token] => {
-            if token.length as usize == word.len() {
-                function_of_token(alloc, module, word, *token)
-            } else {
-                Ok(Naming::NoName)
-            }
-        }
-        _ => Ok(Naming::NoName),
-    }
-}
-
-/// What a word names.
+/// The defined function that a word names.
 pub fn function_of_word(alloc: Global, module: &Module, word: &[u8]) -> Result<Naming, AllocError>
     ensures { IfOk result (λ naming. naming ≡ spec.function_of_word «module».now word.now) }
 {
-    if word.len() > TEXT_LIMIT {
-        return Ok(Naming::NoName);
+    match name_in(alloc, Sigil::Global, word)? {
+        None => Ok(Naming::NoName),
+        Some(name) => Ok(function_named(module, name.as_slice())),
     }
-    let lexed = read_tokens(alloc, word)?;
-    function_of_tokens(alloc, module, word, lexed.bad, lexed.tokens.as_slice())
+}
+
+fn value_named(function: &Function, name: &[u8]) -> Naming
+    ensures { result ≡ spec.value_named function.now (Some name.now) }
+{
+    match function.locals.find(name) {
+        None => Naming::Unknown,
+        Some(value) => match function.sorts.get(value) {
+            Some(LocalSort::Value(_)) => Naming::Named(value as u32),
+            Some(LocalSort::Element { .. }) => Naming::Named(value as u32),
+            _ => Naming::Unknown,
+        },
+    }
+}
+
+/// The value of a function that a word names.
+pub fn value_of_word(alloc: Global, function: &Function, word: &[u8]) -> Result<Naming, AllocError>
+    ensures { IfOk result (λ naming. naming ≡ spec.value_of_word function.now word.now) }
+{
+    match name_in(alloc, Sigil::Local, word)? {
+        None => Ok(Naming::NoName),
+        Some(name) => Ok(value_named(function, name.as_slice())),
+    }
+}
+
+fn block_named(function: &Function, name: &[u8]) -> Naming
+    ensures { result ≡ spec.block_named function.now (Some name.now) }
+{
+    match function.locals.find(name) {
+        None => Naming::Unknown,
+        Some(label) => match function.sorts.get(label) {
+            Some(LocalSort::Block(block)) => Naming::Named(block.number()),
+            _ => Naming::Unknown,
+        },
+    }
+}
+
+/// The block of a function that a word names.
+pub fn block_of_word(alloc: Global, function: &Function, word: &[u8]) -> Result<Naming, AllocError>
+    ensures { IfOk result (λ naming. naming ≡ spec.block_of_word function.now word.now) }
+{
+    match name_in(alloc, Sigil::Local, word)? {
+        None => Ok(Naming::NoName),
+        Some(name) => Ok(block_named(function, name.as_slice())),
+    }
+}
+
+fn layout_named(module: &Module, name: &[u8]) -> Naming
+    ensures { result ≡ spec.layout_named «module».now (Some name.now) }
+{
+    match module.struct_names.find(name) {
+        None => Naming::Unknown,
+        Some(name) => match module.struct_of.get(name) {
+            Some(Some(layout)) => Naming::Named(layout.number()),
+            _ => Naming::Unknown,
+        },
+    }
+}
+
+/// A word with `%` before it.
+fn with_sign(alloc: Global, word: &[u8]) -> Result<Vec<u8>, AllocError>
+    ensures { IfOk result (λ text. text.items ≡ 37 ∷ word.now) }
+{
+    let mut text = Vec::new(alloc);
+    text.push(b'%')?;
+    text.extend_from_slice(word)?;
+    Ok(text)
+}
+
+/// The layout whose type's name, without its sign, a word is.
+pub fn layout_of_word(alloc: Global, module: &Module, word: &[u8]) -> Result<Naming, AllocError>
+    ensures { IfOk result (λ naming. naming ≡ spec.layout_of_word «module».now word.now) }
+{
+    let text = with_sign(alloc, word)?;
+    match name_in(alloc, Sigil::Local, text.as_slice())? {
+        None => Ok(Naming::NoName),
+        Some(name) => Ok(layout_named(module, name.as_slice())),
+    }
 }

@@ -1,6 +1,7 @@
 //! The reader of certificates.
-ghost use Rattle.std.specs.Prelude.{◌≡◌, ◌≢◌, ◌+◌, List, None, map, position, is_none, IfOk, IfErr, Ok, Err};
-ghost use Rattle.std.specs.List.{list_all};
+ghost use Rattle.std.specs.Prelude.{◌≡◌, ◌≢◌, ◌+◌, List, None, map, slice_get, IfOk, IfErr, Ok, Err};
+ghost use Rattle.certificate.specs.Drafts as drafts;
+ghost use Rattle.certificate.specs.Drafts.{is_in};
 ghost use Rattle.certificate.specs.Input.{Reads, start_of};
 ghost use Rattle.certificate.specs.Text as text;
 ghost use Rattle.certificate.specs.Text.{IsCert, IsFault};
@@ -9,109 +10,272 @@ ghost use Rattle.certificate.specs.declared.section.Section.{Section as ASection
 ghost use Rattle.certificate.specs.declared.fault.CertFault.{CertFault as AFault};
 ghost use Rattle.certificate.specs.declared.fault.CertFault.TheVariants as fault;
 ghost use Rattle.certificate.specs.declared.fault.Found.TheVariants.{Memory};
-ghost use Rattle.ir_tokens.specs.Bytes.{is_digit as digit};
 
 use crate::certs::Certs;
+use crate::draft::{Draft, Wanted};
+use crate::facts::line;
+use crate::family::{family_of_type, family_of_value};
 use crate::fault::{CertFault, Found};
-use crate::input::Input;
-use crate::naming::{Naming, function_of_word};
+use crate::input::{Input, Kept};
+use crate::numbers::is_number;
 use crate::place::place;
-use crate::section::{Mark, Section};
-use ir_ast::Module;
+use crate::promises::promise;
+use crate::section::{Promise, Section};
+use ir_ast::{BlockId, FuncId, Function, Module};
 use items::Items;
 use std::alloc::{AllocError, Global};
 
-fn is_digit(byte: u8) -> bool
-    ensures { result ≡ digit byte }
-{
-    byte >= b'0' && byte <= b'9'
-}
-
-fn are_digits(word: &[u8]) -> bool
-    ensures { result ≡ list_all digit word.now }
-{
-    word.iter().all(|byte| is_digit(*byte))
-}
-
-fn is_number(word: &[u8]) -> bool
-    ensures { result ≡ text.is_number word.now }
-{
-    !word.is_empty() && are_digits(word)
-}
-
 /// The number of the format's version.
-#[tactic(auto, unfolding(crate::specs::Text::version, crate::specs::Text::skip))]
+#[tactic(auto, unfolding(crate::specs::Text::version, crate::specs::Forms::skip))]
 fn version(input: &mut Input<'_>) -> Result<(), Found>
     ensures { Reads (text.version.read input.old) result input.new }
 {
     if !is_number(input.word()) {
         return Err(Found::Syntax(input.left()));
     }
-    if input.word() != b"1".as_slice() {
+    if !input.begins(b"1") {
         return Err(Found::Version(input.left()));
     }
     input.skip();
     Ok(())
 }
 
-/// The name of a defined function that has no section so far.
-#[tactic(auto, unfolding(crate::specs::Text::new_function, crate::specs::Text::skip))]
-fn new_function(alloc: Global, input: &mut Input<'_>, module: &Module) -> Result<usize, Found>
-    ensures { Reads ((text.new_function «module».now).read input.old) result input.new }
+/// What is promised of a parameter.
+#[tactic(auto, unfolding(crate::specs::Text::parameter))]
+fn parameter(
+    alloc: Global,
+    input: &mut Input<'_>,
+    module: &Module,
+    function: &Function,
+) -> Result<(), Found>
+    ensures { Reads ((text.parameter «module».now function.now).read input.old) result input.new }
 {
-    match function_of_word(alloc, module, input.word())? {
-        Naming::NoName => Err(Found::Syntax(input.left())),
-        Naming::Unknown => Err(Found::UnknownName(input.left())),
-        Naming::Function(function) => {
-            let function = function.number() as usize;
-            match input.marks().get(function) {
-                None => Err(Found::UnknownName(input.left())),
-                Some(Some(_)) => Err(Found::ListedTwice(input.left())),
-                Some(None) => {
-                    input.skip();
-                    Ok(function)
-                }
-            }
+    input.expect(b"param")?;
+    let value = input.new_parameter(alloc, function)?;
+    let family = family_of_value(module, function, value);
+    let Promise {
+        layout,
+        nonnull,
+        below,
+    } = promise(alloc, input, module, family)?;
+    let promised = Promise {
+        layout,
+        nonnull,
+        below,
+    };
+    input.promise(value.number() as usize, &promised);
+    Ok(())
+}
+
+fn past_parameters(input: &Input<'_>) -> bool
+    ensures { result ≡ text.past_parameters input.now }
+{
+    !input.begins(b"param")
+}
+
+#[tactic(auto, unfolding(crate::specs::Text::parameters))]
+fn parameters(
+    alloc: Global,
+    input: &mut Input<'_>,
+    module: &Module,
+    function: &Function,
+) -> Result<(), Found>
+    ensures { Reads ((text.parameters «module».now function.now).read input.old) result input.new }
+{
+    for _turn in 0..input.left() + 1 {
+        if past_parameters(input) {
+            return Ok(());
+        }
+        parameter(alloc, input, module, function)?;
+    }
+    Ok(())
+}
+
+/// What is promised of the result, or nothing.
+#[tactic(auto, unfolding(crate::specs::Text::result_line, crate::specs::Forms::skip))]
+fn result_line(
+    alloc: Global,
+    input: &mut Input<'_>,
+    module: &Module,
+    function: &Function,
+) -> Result<Option<Promise>, Found>
+    ensures { Reads ((text.result_line «module».now function.now).read input.old) result input.new }
+{
+    if !input.begins(b"result") {
+        return Ok(None);
+    }
+    input.skip();
+    let promised = promise(
+        alloc,
+        input,
+        module,
+        family_of_type(module, function.returned),
+    )?;
+    Ok(Some(promised))
+}
+
+fn past_lines(input: &Input<'_>) -> bool
+    ensures { result ≡ text.past_lines input.now }
+{
+    input.begins(b"block") || input.begins(b"end")
+}
+
+#[tactic(auto, unfolding(crate::specs::Text::lines))]
+fn lines(
+    alloc: Global,
+    input: &mut Input<'_>,
+    module: &Module,
+    function: &Function,
+    block: BlockId,
+) -> Result<(), Found>
+    ensures { Reads ((text.lines «module».now function.now block).read input.old) result input.new }
+{
+    for _turn in 0..input.left() + 1 {
+        if past_lines(input) {
+            return Ok(());
+        }
+        line(alloc, input, module, function, block)?;
+    }
+    Ok(())
+}
+
+fn lists(listed: &[Option<BlockId>], block: BlockId, wanted: Wanted) -> bool
+    ensures { result ≡ is_in block (slice_get listed.now wanted.value) }
+{
+    match listed.get(wanted.value.number() as usize) {
+        Some(Some(last)) => *last == block,
+        _ => false,
+    }
+}
+
+/// Where the first value is named that the block does not list.
+fn first_unlisted(block: BlockId, listed: &[Option<BlockId>], wanted: &[Wanted]) -> Option<usize>
+    ensures { result ≡ drafts.first_unlisted block listed.now wanted.now }
+{
+    for wanted in wanted {
+        if !lists(listed, block, *wanted) {
+            return Some(wanted.left);
         }
     }
+    None
 }
 
-fn mark_of_word(word: &[u8]) -> Option<Mark>
-    ensures { result ≡ text.mark_of_word word.now }
+/// The block lists each value that it has to list.
+#[tactic(auto, unfolding(crate::specs::Text::all_listed))]
+fn all_listed(input: &mut Input<'_>, block: BlockId) -> Result<(), Found>
+    ensures { Reads ((text.all_listed block).read input.old) result input.new }
 {
-    if word == b"may".as_slice() {
-        Some(Mark::May)
-    } else if word == b"none".as_slice() {
-        Some(Mark::None)
-    } else {
-        None
+    let draft = input.draft();
+    match first_unlisted(block, draft.values.as_slice(), draft.wanted.as_slice()) {
+        None => Ok(()),
+        Some(left) => Err(Found::UnknownName(left)),
     }
 }
 
-#[tactic(auto, unfolding(crate::specs::Text::marked, crate::specs::Text::skip))]
-fn mark(input: &mut Input<'_>) -> Result<Mark, Found>
-    ensures { Reads (text.marked.read input.old) result input.new }
+/// A block and its lines.
+#[tactic(auto, unfolding(crate::specs::Text::block))]
+fn block(
+    alloc: Global,
+    input: &mut Input<'_>,
+    module: &Module,
+    function: &Function,
+) -> Result<(), Found>
+    ensures { Reads ((text.block «module».now function.now).read input.old) result input.new }
 {
-    match mark_of_word(input.word()) {
-        None => Err(Found::Syntax(input.left())),
-        Some(mark) => {
-            input.skip();
-            Ok(mark)
+    input.expect(b"block")?;
+    let block = input.new_block(alloc, function)?;
+    input.line_end()?;
+    lines(alloc, input, module, function, block)?;
+    all_listed(input, block)?;
+    input.end_block(alloc, block);
+    Ok(())
+}
+
+fn past_blocks(input: &Input<'_>) -> bool
+    ensures { result ≡ text.past_blocks input.now }
+{
+    !input.begins(b"block")
+}
+
+#[tactic(auto, unfolding(crate::specs::Text::blocks))]
+fn blocks(
+    alloc: Global,
+    input: &mut Input<'_>,
+    module: &Module,
+    function: &Function,
+) -> Result<(), Found>
+    ensures { Reads ((text.blocks «module».now function.now).read input.old) result input.new }
+{
+    for _turn in 0..input.left() + 1 {
+        if past_blocks(input) {
+            return Ok(());
         }
+        block(alloc, input, module, function)?;
     }
+    Ok(())
 }
 
-#[tactic(auto, unfolding(crate::specs::Text::section_behind, crate::specs::Text::put))]
+/// A section between its first line and its end.
+#[tactic(auto, unfolding(crate::specs::Text::body))]
+fn body(
+    alloc: Global,
+    input: &mut Input<'_>,
+    module: &Module,
+    function: &Function,
+) -> Result<Option<Promise>, Found>
+    ensures { Reads ((text.body «module».now function.now).read input.old) result input.new }
+{
+    input.begin(alloc, module, function)?;
+    parameters(alloc, input, module, function)?;
+    let promised = result_line(alloc, input, module, function)?;
+    blocks(alloc, input, module, function)?;
+    Ok(promised)
+}
+
+/// A section behind its function's name.
+#[tactic(auto, unfolding(crate::specs::Text::section_of))]
+fn section_of(
+    alloc: Global,
+    input: &mut Input<'_>,
+    module: &Module,
+    number: FuncId,
+    function: &Function,
+) -> Result<(), Found>
+    ensures { Reads ((text.section_of «module».now number function.now).read input.old) result input.new }
+{
+    let mark = input.mark()?;
+    input.line_end()?;
+    let promised = body(alloc, input, module, function)?;
+    input.expect(b"end")?;
+    input.line_end()?;
+    let promised = match promised {
+        None => None,
+        Some(
+            Promise {
+                layout,
+                nonnull,
+                below,
+            },
+        ) => Some(Promise {
+            layout,
+            nonnull,
+            below,
+        }),
+    };
+    input.end_section(alloc, number, mark, &promised);
+    Ok(())
+}
+
+/// A section behind its first word.
+#[tactic(auto, unfolding(crate::specs::Text::section_behind))]
 fn section_behind(alloc: Global, input: &mut Input<'_>, module: &Module) -> Result<(), Found>
     ensures { Reads ((text.section_behind «module».now).read input.old) result input.new }
 {
-    let function = new_function(alloc, input, module)?;
-    let mark = mark(input)?;
-    input.line_end()?;
-    input.expect(b"end")?;
-    input.line_end()?;
-    input.put(function, mark);
-    Ok(())
+    let number = input.new_function(alloc, module)?;
+    match module.functions.get(number.number() as usize) {
+        None => Err(Found::UnknownName(input.left())),
+        Some(function) => section_of(alloc, input, module, number, function),
+    }
 }
 
 #[tactic(auto, unfolding(crate::specs::Text::section))]
@@ -136,34 +300,53 @@ fn sections(alloc: Global, input: &mut Input<'_>, module: &Module) -> Result<(),
     Ok(())
 }
 
-fn sections_in(alloc: Global, marks: &[Option<Mark>]) -> Result<Items<Section>, AllocError>
-    ensures { IfOk result (λ sections. sections ≡ text.sections_in marks.now) }
+fn sections_in(alloc: Global, kept: Vec<Option<Kept>>) -> Result<Items<Section>, AllocError>
+    ensures { IfOk result (λ sections. sections ≡ text.sections_in kept.items) }
 {
     let mut sections = Items::new(alloc);
-    for mark in marks {
-        if let Some(mark) = mark {
-            sections.push(Section { mark: *mark })?;
+    for kept in kept {
+        if let Some(kept) = kept {
+            sections.push(kept.section)?;
         }
     }
     Ok(sections)
 }
 
-/// The first function without a mark.
-fn first_missing(marks: &[Option<Mark>]) -> Option<usize>
-    ensures { result ≡ position is_none marks.now }
+/// What is missing of a function.
+fn gap_of(function: usize, kept: &Option<Kept>) -> Option<Found>
+    ensures { result ≡ text.gap_of function kept.now }
 {
-    marks.iter().position(|mark| mark.is_none())
+    match kept {
+        None => Some(Found::Missing(function)),
+        Some(kept) => {
+            let block = kept.missing?;
+            Some(Found::MissingBlock(function, block))
+        }
+    }
 }
 
-/// The sections, where each function has one.
+/// The first function or block without a section.
+fn first_gap(sections: &[Option<Kept>]) -> Option<Found>
+    ensures { result ≡ text.first_gap 0 sections.now }
+{
+    for (function, kept) in sections.iter().enumerate() {
+        if let Some(gap) = gap_of(function, kept) {
+            return Some(gap);
+        }
+    }
+    None
+}
+
+/// The sections, where none is missing.
 #[tactic(auto, unfolding(crate::specs::Text::finished))]
 fn finished(alloc: Global, input: &mut Input<'_>) -> Result<Items<Section>, Found>
     ensures { Reads (text.finished.read input.old) result input.new }
 {
-    match first_missing(input.marks()) {
-        Some(function) => Err(Found::Missing(function)),
-        None => Ok(sections_in(alloc, input.marks())?),
+    if let Some(gap) = first_gap(input.sections()) {
+        return Err(gap);
     }
+    let kept = input.take_sections(alloc);
+    Ok(sections_in(alloc, kept)?)
 }
 
 #[tactic(auto, unfolding(crate::specs::Text::file))]
@@ -177,21 +360,21 @@ fn file(alloc: Global, input: &mut Input<'_>, module: &Module) -> Result<Items<S
     finished(alloc, input)
 }
 
-/// No function has a mark.
-fn unmarked(alloc: Global, module: &Module) -> Result<Items<Option<Mark>>, AllocError>
-    ensures { IfOk result (λ marks. marks ≡ map (λ _. None) «module».now.functions) }
+/// No function has a section.
+fn no_sections(alloc: Global, module: &Module) -> Result<Vec<Option<Kept>>, AllocError>
+    ensures { IfOk result (λ sections. sections.items ≡ map (λ _. None) «module».now.functions) }
 {
-    let mut marks = Items::new(alloc);
+    let mut sections = Vec::new(alloc);
     for _function in module.functions.as_slice() {
-        marks.push(None)?;
+        sections.push(None)?;
     }
-    Ok(marks)
+    Ok(sections)
 }
 
 fn sections_of(alloc: Global, bytes: &[u8], module: &Module) -> Result<Items<Section>, Found>
     ensures { Gives Memory result (text.value_of ((text.file «module».now).read (start_of «module».now bytes.now))) }
 {
-    let mut input = Input::new(bytes, unmarked(alloc, module)?);
+    let mut input = Input::new(alloc, bytes, no_sections(alloc, module)?);
     file(alloc, &mut input, module)
 }
 
@@ -205,6 +388,7 @@ fn placed(bytes: &[u8], found: Found) -> CertFault
         Found::UnknownName(rest) => CertFault::UnknownName(place(bytes, rest)),
         Found::ListedTwice(rest) => CertFault::ListedTwice(place(bytes, rest)),
         Found::Missing(function) => CertFault::Missing(function),
+        Found::MissingBlock(function, block) => CertFault::MissingBlock(function, block),
         Found::Memory => CertFault::Memory,
     }
 }

@@ -1,9 +1,9 @@
 -- When a module is accepted with its certificates, and which instruction is the first that is refused.
-use Rattle.std.specs.Prelude.{◌≡◌, ◌<◌, ℕ, List, length, slice_get}
+use Rattle.std.specs.Prelude.{◌≡◌, ◌<◌, ℕ, List, Option, length, slice_get}
 use Rattle.std.specs.Option.{option_map_or}
 use Rattle.ir_ast.specs.declared.module.Module.{Module}
 use Rattle.pools.specs.declared.word_kind.WordKind.{WordKind}
-use Rattle.layout.specs.Layouts.{AreLayouts, IsLayoutFault, LaidOut}
+use Rattle.layout.specs.Layouts.{AreLayouts, AreSizes, IsLayoutFault, LaidOut}
 use Rattle.layout.specs.declared.fault.LayoutFault.{LayoutFault}
 use Rattle.layout.specs.declared.fault.LayoutFault.TheVariants as layout
 use Rattle.certificate.specs.declared.section.Section.{Section}
@@ -65,14 +65,18 @@ verdict_of_layout fault = Layout fault
 -- the module has layouts, and with them and these certificates each of its functions is certified
 pub record IsAccepted (of_module : Module) (certs : List Section) : Type 0 where
   pub layouts : List (List WordKind)
+  pub sizes : List (Option ℕ)
   pub laid_out : AreLayouts of_module layouts
-  pub certified : IsModuleCertified (record { of_module = of_module; layouts = layouts }) certs (length of_module.functions)
+  pub sized : AreSizes of_module sizes
+  pub certified : IsModuleCertified (record { of_module = of_module; layouts = layouts; sizes = sizes }) certs (length of_module.functions)
 
 -- the module has layouts, and with them and these certificates this is its first refused instruction
 pub record IsFirstRefusal (of_module : Module) (certs : List Section) (refusal : Refusal) : Type 0 where
   pub layouts : List (List WordKind)
+  pub sizes : List (Option ℕ)
   pub laid_out : AreLayouts of_module layouts
-  pub first : IsFirstInModule (record { of_module = of_module; layouts = layouts }) certs (length of_module.functions) refusal
+  pub sized : AreSizes of_module sizes
+  pub first : IsFirstInModule (record { of_module = of_module; layouts = layouts; sizes = sizes }) certs (length of_module.functions) refusal
 
 -- why a module is not accepted
 abbrev pub IsVerdictOf : Module → List Section → Verdict → Type 0

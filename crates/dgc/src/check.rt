@@ -128,7 +128,6 @@ fn fault_in_module(alloc: Global, program: &Program, certs: &Certs) -> Option<Bl
 }
 
 /// Checks a module against its certificates, and answers how many functions it defines.
-#[tactic(auto, using(crate::proofs::Exclusive::only_memory))]
 pub fn check(alloc: Global, of_module: Module, certs: Certs) -> Result<usize, NotAccepted>
     ensures count { IfOk result (λ count. count ≡ length of_module.functions) }
     ensures accepted { OnOk result (IsAccepted of_module certs) }

@@ -6,6 +6,8 @@ mod command_line;
 mod failure;
 mod line_reader;
 mod name;
+#[cfg(test)]
+mod reading_tests;
 mod report;
 #[cfg(test)]
 mod tests;

@@ -41,8 +41,15 @@ fn name_of_function(of_module: &Module, number: usize) -> Option<&[u8]>
 fn name_of_block(of_module: &Module, func: FuncId, block: BlockId) -> Option<&[u8]>
     ensures { option_copied result ≡ name_of_block of_module.now func block }
 {
-    let function = of_module.functions.get(func.number() as usize)?;
-    let block = function.blocks.get(block.number() as usize)?;
+    name_of_block_at(of_module, func.number() as usize, block.number() as usize)
+}
+
+/// The same, by the places of the function and of the block.
+fn name_of_block_at(of_module: &Module, func: usize, block: usize) -> Option<&[u8]>
+    ensures { option_copied result ≡ name_of_block of_module.now func block }
+{
+    let function = of_module.functions.get(func)?;
+    let block = function.blocks.get(block)?;
     function.locals.get(block.label.number() as usize)
 }
 
@@ -150,6 +157,21 @@ pub fn no_module<W: Write>(err: &mut W, fault: &ReadFault) -> io::Result<u8> {
     }
 }
 
+/// A block without its section: `error C5 @f %b`.
+fn missing_block<W: Write>(
+    err: &mut W,
+    of_module: &Module,
+    function: usize,
+    block: usize,
+) -> io::Result<u8> {
+    write!(err, "error C5 @")?;
+    write_found_name(err, name_of_function(of_module, function))?;
+    write!(err, " %")?;
+    write_found_name(err, name_of_block_at(of_module, function, block))?;
+    writeln!(err, "")?;
+    Ok(STATUS_UNREADABLE)
+}
+
 /// A text that is no certificate of the module.
 pub fn no_certificate<W: Write>(
     err: &mut W,
@@ -162,6 +184,7 @@ pub fn no_certificate<W: Write>(
         CertFault::UnknownName(position) => at_place(err, "C3", position),
         CertFault::ListedTwice(position) => at_place(err, "C4", position),
         CertFault::Missing(number) => of_name(err, "C5 @", name_of_function(of_module, number)),
+        CertFault::MissingBlock(function, block) => missing_block(err, of_module, function, block),
         CertFault::Memory => memory(err),
     }
 }
@@ -169,6 +192,7 @@ pub fn no_certificate<W: Write>(
 /// A module that has no layouts.
 pub fn no_layouts<W: Write>(err: &mut W, of_module: &Module, fault: LayoutFault) -> io::Result<u8> {
     match fault {
+        LayoutFault::HoldsItself(number) => of_name(err, "Y1 ", name_of_struct(of_module, number)),
         LayoutFault::TooManyWords(number) => of_name(err, "Y2 ", name_of_struct(of_module, number)),
         LayoutFault::NoSuchLayout(_) => {
             writeln!(err, "error Y3")?;

@@ -8,7 +8,7 @@ use std::io::Write;
 use std::test::Fail;
 
 /// What stands before the functions: seven lines.
-const HEAD: &str =
+pub(crate) const HEAD: &str =
     "%Node = type { i64, %Node* }\n@g = global %Node* null\ndeclare i8* @dg_alloc(i32)\ndeclare void @dg_safepoint()\ndeclare void @llvm.gcroot(i8**, i8*)\ndeclare i8* @llvm.gcread(i8*, i8**)\ndeclare void @llvm.gcwrite(i8*, i8*, i8**)\n";
 
 const ONE: &str =
@@ -21,7 +21,7 @@ const CHECK: Line<'static> = Line::Check {
     certificate_path: "one.cert",
 };
 
-fn joined(alloc: Global, texts: &[&str]) -> Result<Vec<u8>, AllocError> {
+pub(crate) fn joined(alloc: Global, texts: &[&str]) -> Result<Vec<u8>, AllocError> {
     let mut bytes = Vec::new(alloc);
     for text in texts {
         bytes.extend_from_slice(text.as_bytes())?;
@@ -30,7 +30,7 @@ fn joined(alloc: Global, texts: &[&str]) -> Result<Vec<u8>, AllocError> {
 }
 
 /// Whether a check of these texts prints this, and ends so.
-fn prints(
+pub(crate) fn prints(
     alloc: Global,
     module: &[&str],
     certificate: &str,

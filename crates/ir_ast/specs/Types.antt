@@ -1,13 +1,16 @@
 -- Types and their numbers.
-use Rattle.std.specs.Prelude.{ℕ, Bool, true, false, ◌==◌, List, ◌++◌, [], ◌∷◌, Option, position, length, unwrap_or, is_some, if◌then◌else◌}
+use Rattle.std.specs.Prelude.{ℕ, Bool, true, false, ◌==◌, ◌&&◌, List, ◌++◌, [], ◌∷◌, Option, position, length, unwrap_or, is_some, if◌then◌else◌}
 use Rattle.ir_ast.specs.declared.ir_type.IrType.{IrType}
-use Rattle.ir_ast.specs.declared.ir_type.IrType.TheVariants.{Void, Integer, Pointer, Named}
+use Rattle.ir_ast.specs.declared.ir_type.IrType.TheVariants.{Void, Integer, Pointer, Array, EmptyStruct, Struct, Named}
 
 -- whether two types of one table are one type
 abbrev pub is_same_type : IrType → IrType → Bool
 is_same_type Void Void = true
 is_same_type (Integer bits) (Integer other) = bits == other
 is_same_type (Pointer part) (Pointer other) = part == other
+is_same_type (Array length part) (Array other_length other) = (length == other_length) && (part == other)
+is_same_type EmptyStruct EmptyStruct = true
+is_same_type (Struct first rest) (Struct other_first other_rest) = (first == other_first) && (rest == other_rest)
 is_same_type (Named name) (Named other) = name == other
 is_same_type _ _ = false
 

@@ -3,6 +3,7 @@ use crate::block_id::BlockId;
 use crate::names::Names;
 use crate::symbol_id::SymbolId;
 use crate::type_id::TypeId;
+use crate::value_id::ValueId;
 use items::Items;
 
 /// What a local name stands for.
@@ -10,9 +11,18 @@ use items::Items;
 pub enum LocalSort {
     /// It was used, and not defined so far.
     Unknown,
-    /// An instruction's value, of the type that the instruction gives it.
+    /// A parameter's or an instruction's value, of the type that it is given.
     Value(TypeId),
+    /// The value of the getelementptr at this place of this block: a pointer to the part that its indices lead to.
+    Element { block: BlockId, place: u32 },
     Block(BlockId),
+}
+
+/// A parameter of a defined function.
+#[derive(Clone, Copy, Debug, PartialEq, Eq)]
+pub struct Parameter {
+    pub written: TypeId,
+    pub value: ValueId,
 }
 
 /// A defined function.
@@ -20,6 +30,7 @@ pub enum LocalSort {
 pub struct Function {
     pub symbol: SymbolId,
     pub returned: TypeId,
+    pub parameters: Items<Parameter>,
     /// The text behind `gc`, without its quotes.
     pub collector: Option<Items<u8>>,
     /// The local names in the order in which they are mentioned first; a name's place is its `ValueId`.

@@ -8,6 +8,12 @@ pub enum IrType {
     /// An integer of so many bits, from 1 to 64.
     Integer(u32),
     Pointer(TypeId),
+    /// `[length x part]`.
+    Array { length: u64, part: TypeId },
+    /// `{ }`, a struct without a field.
+    EmptyStruct,
+    /// `{ first, .. }`: a struct with this field, and behind it the fields of the struct `rest`.
+    Struct { first: TypeId, rest: TypeId },
     /// A named struct.
     Named(StructNameId),
 }

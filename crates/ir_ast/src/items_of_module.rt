@@ -12,7 +12,8 @@ use items::Items;
 #[derive(Debug, Drop)]
 pub struct StructType {
     pub name: StructNameId,
-    pub fields: Items<TypeId>,
+    /// The struct type that the name stands for.
+    pub body: TypeId,
 }
 
 /// A global, which is one word.

@@ -1,4 +1,5 @@
 use crate::symbol_id::SymbolId;
+use crate::type_id::TypeId;
 use crate::value_id::ValueId;
 
 /// A constant, as it is written; `undef` is read as the number 0 or as null.
@@ -17,4 +18,10 @@ pub enum Operand {
     Constant(Constant),
     Local(ValueId),
     Global(SymbolId),
+    /// `bitcast (from @global to to)`.
+    CastGlobal {
+        from: TypeId,
+        global: SymbolId,
+        to: TypeId,
+    },
 }

@@ -1,3 +1,3 @@
-pub mod Decimals
+pub mod Fields
 pub mod Stars
 pub mod Turns

@@ -8,12 +8,12 @@ use Rattle.ir_tokens.specs.declared.token.Kind.{Kind}
 use Rattle.ir_tokens.specs.declared.token.Kind.TheVariants as k
 use Rattle.ir_tokens.specs.contracts.token.Kind.{the_type}
 use Rattle.ir_tokens.specs.declared.token.Token.{Token}
-use Rattle.ir_parts.specs.declared.fault.Fault.{Fault}
-use Rattle.ir_parts.specs.declared.fault.Fault.TheVariants.{Memory, Limit}
+use Rattle.ir_cursor.specs.declared.fault.Fault.{Fault}
+use Rattle.ir_cursor.specs.declared.fault.Fault.TheVariants.{Memory, Limit}
 use Rattle.ir_parts.specs.declared.input.Input.{Input}
-use Rattle.ir_parts.specs.Place.{Place}
-use Rattle.ir_parts.specs.Table.{empty}
-use Rattle.ir_parts.specs.Cursor.{kind, kind_first, same_kind, sees, start, next, rest_of, refused}
+use Rattle.ir_cursor.specs.Place.{Place}
+use Rattle.ir_cursor.specs.Table.{empty}
+use Rattle.ir_cursor.specs.Cursor.{kind, kind_first, same_kind, sees, start, next, rest_of, refused}
 use denote.Enum.Bare.{same_true}
 
 -- how many tokens are left

@@ -1,10 +1,4 @@
-pub mod Place
-pub mod View
-pub mod Cursor
-pub mod Number
-pub mod Table
 pub mod Input
-pub mod RuntimeNames
 pub mod Names
 pub mod Written
 pub mod Operand

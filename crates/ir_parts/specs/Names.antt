@@ -1,22 +1,25 @@
 -- Names: where they are defined, and where they are used. One that is used may be defined further on.
-use Rattle.std.specs.Prelude.{◌≡◌, ℕ, ◌+◌, ◌≤◌, Bool, true, false, not, nat_lt, List, [], ◌∷◌, ◌++◌, length, Option, Some, None, slice_get, option_and_then, option_map, find, refl}
+use Rattle.std.specs.Prelude.{◌≡◌, ℕ, ◌+◌, ◌≤◌, Bool, true, false, not, nat_lt, List, [], ◌∷◌, ◌++◌, ◌==◌, length, Option, Some, None, slice_get, option_and_then, option_map, find, refl}
 use Rattle.std.proofs.Common.{arith, ◌∙◌}
-use Rattle.grammar.specs.Grammar.{step, checked, ◌>>◌}
+use Rattle.grammar.specs.Grammar.{step, checked, refuse, look, ◌>>◌}
 use Rattle.grammar.specs.Takes.{TakesWhere, Stays, stays_takes}
+use Rattle.ir_tokens.specs.declared.token.Kind.{Kind}
 use Rattle.ir_tokens.specs.declared.token.Kind.TheVariants as k
 use Rattle.ir_ast.specs.Names.{place_of, number_of}
 use Rattle.ir_ast.specs.declared.items_of_module.SymbolSort.{SymbolSort}
 use Rattle.ir_ast.specs.declared.items_of_module.SymbolSort.TheVariants as symbol
 use Rattle.ir_ast.specs.declared.function.LocalSort.{LocalSort}
 use Rattle.ir_ast.specs.declared.function.LocalSort.TheVariants as local
-use Rattle.ir_parts.specs.declared.fault.Fault.TheVariants.{DefinedTwice}
+use Rattle.ir_cursor.specs.declared.fault.Fault.TheVariants.{DefinedTwice}
 use Rattle.ir_parts.specs.declared.input.Input.{Input}
-use Rattle.ir_parts.specs.declared.uses.LocalUse.{LocalUse}
-use Rattle.ir_parts.specs.Cursor.{next, start, size, spelled, name, is_plain, label, is_plain_label, left_out}
-use Rattle.ir_parts.specs.Input.{Form, left, limit, advanced, advanced_falls, sees_a, next_falls, advance_takes, IsKind}
-use Rattle.ir_parts.specs.RuntimeNames.{is_intrinsic, is_left_out}
-use Rattle.ir_parts.specs.declared.table.Table.{Table}
-use Rattle.ir_parts.specs.Table.{mentioned, defined}
+use Rattle.ir_cursor.specs.declared.uses.LocalUse.{LocalUse}
+use Rattle.ir_cursor.specs.declared.uses.Wanted.{Wanted}
+use Rattle.ir_cursor.specs.declared.uses.Wanted.TheVariants as wants
+use Rattle.ir_cursor.specs.Cursor.{kind, next, start, size, spelled, name, is_plain, label, is_plain_label, left_out}
+use Rattle.ir_parts.specs.Input.{Form, left, limit, unread, expect, advanced, advanced_falls, sees_a, next_falls, advance_takes, IsKind}
+use Rattle.ir_cursor.specs.RuntimeNames.{is_intrinsic, is_left_out}
+use Rattle.ir_cursor.specs.declared.table.Table.{Table}
+use Rattle.ir_cursor.specs.Table.{mentioned, defined}
 
 -- ---- rules
 
@@ -154,24 +157,50 @@ abbrev pub is_local : Option LocalSort → Bool
 is_local None = false
 is_local (Some local.Unknown) = false
 is_local (Some (local.Value t)) = true
+is_local (Some (local.Element block place)) = true
 is_local (Some (local.Block b)) = true
 
 abbrev pub local_number : Input → ℕ
 local_number i = number_of (name i.cursor) i.locals.names
 
-abbrev pub with_value_use : Input → Input
-with_value_use i = record (advanced i) {
+abbrev pub with_local_use : Wanted → Input → Input
+with_local_use wanted i = record (advanced i) {
   locals = mentioned (name i.cursor) local.Unknown i.locals;
-  local_uses = i.local_uses ++ record { value = local_number i; start = start i.cursor } ∷ [];
+  local_uses = i.local_uses ++ record { value = local_number i; wanted = wanted; start = start i.cursor } ∷ [];
 }
 
-pub with_value_use_falls : (i : Input) → left (with_value_use i) ≤ left i
+pub with_local_use_falls : (wanted : Wanted) (i : Input) → left (with_local_use wanted i) ≤ left i
 unfolding left
-with_value_use_falls i = next_falls i
+with_local_use_falls wanted i = next_falls i
+
+-- a local name that has to stand for this
+unfoldable pub used_local : Wanted → Form ℕ
+used_local wanted = plain >> has_number local_number >> step local_number (with_local_use wanted) (with_local_use_falls wanted)
 
 -- a local name as an operand
-unfoldable pub used_value : Form ℕ
-used_value = plain >> has_number local_number >> step local_number with_value_use with_value_use_falls
+abbrev pub used_value : Form ℕ
+used_value = used_local wants.Value
+
+-- blocks without a written name
+abbrev pub begins_unread_label : Kind → Bool
+begins_unread_label k.LocalNumber = true
+begins_unread_label _ = false
+
+abbrev pub used_label_by : Wanted → Kind → Form ℕ
+used_label_by wanted k.LocalName = used_local wanted
+used_label_by wanted _ = refuse (unread begins_unread_label)
+
+-- `%b`, the name of a block
+unfoldable pub used_label : Wanted → Form ℕ
+used_label wanted = look (λ i. kind i.cursor) (used_label_by wanted)
+
+-- `%b`, a block from which this one is entered
+abbrev pub incoming_label : Form ℕ
+incoming_label = used_label wants.Block
+
+-- `label %b`, a block that is gone on with
+unfoldable pub target : Form ℕ
+target = expect k.Label >> used_label wants.Target
 
 abbrev pub is_known_local : Input → Bool
 is_known_local i = is_local (slice_get (mentioned (name i.cursor) local.Unknown i.locals).sorts (local_number i))
@@ -191,16 +220,24 @@ new_value_rules = plain >> has_number local_number >> is_new is_known_local >> c
 unfoldable pub new_value : Form ℕ
 new_value = new_value_rules >> step local_number with_value with_value_falls
 
-abbrev pub with_type : ℕ → ℕ → Input → Input
-with_type value shown i = record i { locals = defined value (local.Value shown) i.locals }
+abbrev pub with_sort : ℕ → LocalSort → Input → Input
+with_sort value sort i = record i { locals = defined value sort i.locals }
 
-pub with_type_falls : (value shown : ℕ) (i : Input) → left (with_type value shown i) ≤ left i
+pub with_sort_falls : (value : ℕ) (sort : LocalSort) (i : Input) → left (with_sort value sort i) ≤ left i
 unfolding left
-with_type_falls value shown i = omega arith
+with_sort_falls value sort i = omega arith
+
+-- what the value is that this name stands for
+abbrev pub set_sort : ℕ → LocalSort → Form (Unit {0})
+set_sort value sort = step (λ _. tt) (with_sort value sort) (with_sort_falls value sort)
 
 -- the type of the value that this name stands for
 abbrev pub set_type : ℕ → ℕ → Form (Unit {0})
-set_type value shown = step (λ _. tt) (with_type value shown) (with_type_falls value shown)
+set_type value shown = set_sort value (local.Value shown)
+
+-- the name stands for the value of the getelementptr at this place of this block
+abbrev pub set_element : ℕ → ℕ → ℕ → Form (Unit {0})
+set_element value block place = set_sort value (local.Element block place)
 
 abbrev pub label_number : Input → ℕ
 label_number i = number_of (label i.cursor) i.locals.names
@@ -224,15 +261,28 @@ new_label block = checked (λ i. is_plain_label i.cursor) (λ i. left_out i.curs
 unfoldable pub quoted : Form (List ℕ)
 quoted = sees_a k.Quoted >> step (λ i. spelled i.cursor) advanced advanced_falls
 
-abbrev pub is_value : Option LocalSort → Bool
-is_value None = false
-is_value (Some local.Unknown) = false
-is_value (Some (local.Value t)) = true
-is_value (Some (local.Block b)) = false
+abbrev pub wants_value : Wanted → Bool
+wants_value wants.Value = true
+wants_value wants.Block = false
+wants_value wants.Target = false
 
--- where the first use stands of a local name that is no value
+-- the entry, which is block 0, is no target
+abbrev pub wants_block : Wanted → ℕ → Bool
+wants_block wants.Value block = false
+wants_block wants.Block block = true
+wants_block wants.Target block = not (block == 0)
+
+-- the name stands for what is wanted
+abbrev pub is_wanted : Wanted → Option LocalSort → Bool
+is_wanted wanted None = false
+is_wanted wanted (Some local.Unknown) = false
+is_wanted wanted (Some (local.Value t)) = wants_value wanted
+is_wanted wanted (Some (local.Element block place)) = wants_value wanted
+is_wanted wanted (Some (local.Block b)) = wants_block wanted b
+
+-- where the first use stands of a local name that is not what is wanted
 abbrev pub first_missing : Table LocalSort → List LocalUse → Option ℕ
-first_missing t uses = option_map (λ u. u.start) (find (λ u. not (is_value (slice_get t.sorts u.value))) uses)
+first_missing t uses = option_map (λ u. u.start) (find (λ u. not (is_wanted u.wanted (slice_get t.sorts u.value))) uses)
 
 -- ---- names take a token
 

@@ -7,12 +7,14 @@ use Rattle.ir_ast.specs.declared.operand.Constant.{Constant}
 use Rattle.ir_ast.specs.declared.operand.Constant.TheVariants as c
 use Rattle.ir_ast.specs.declared.operand.Operand.{Operand}
 use Rattle.ir_ast.specs.declared.operand.Operand.TheVariants as o
-use Rattle.ir_parts.specs.declared.fault.Fault.TheVariants.{OutOfRange}
+use Rattle.ir_cursor.specs.declared.fault.Fault.TheVariants.{OutOfRange}
 use Rattle.ir_parts.specs.declared.input.Input.{Input}
-use Rattle.ir_parts.specs.Cursor.{kind, start, spelling}
-use Rattle.ir_parts.specs.Number as numbers
-use Rattle.ir_parts.specs.Input.{Form, unread, advanced, advanced_falls, skip}
+use Rattle.ir_cursor.specs.Cursor.{kind, start, spelling}
+use Rattle.ir_cursor.specs.Number as numbers
+use Rattle.ir_parts.specs.Input.{Form, unread, advanced, advanced_falls, skip, expect}
 use Rattle.ir_parts.specs.Names.{used_value, used_global}
+use Rattle.ir_parts.specs.declared.written.WrittenType.{WrittenType}
+use Rattle.ir_parts.specs.Written.{pointer_type}
 
 -- constant expressions, aggregates, unnamed values and decorations
 abbrev pub begins_unread_operand : Kind → Bool
@@ -71,9 +73,47 @@ constant_by bits _ = refuse (unread begins_unread_operand)
 unfoldable pub constant : Option ℕ → Form Constant
 constant bits = look (λ i. kind i.cursor) (constant_by bits)
 
+-- operands other than globals
+abbrev pub begins_other_operand : Kind → Bool
+begins_other_operand k.LocalName = true
+begins_other_operand k.Number = true
+begins_other_operand k.True = true
+begins_other_operand k.False = true
+begins_other_operand k.Null = true
+begins_other_operand k.Undef = true
+begins_other_operand k.Zeroinitializer = true
+begins_other_operand x = begins_unread_operand x
+
+abbrev pub cast_operand_by : Kind → Form ℕ
+cast_operand_by k.GlobalName = used_global
+cast_operand_by _ = refuse (unread begins_other_operand)
+
+-- the global in a constant bitcast; other operands are left out there
+unfoldable pub cast_operand : Form ℕ
+cast_operand = look (λ i. kind i.cursor) cast_operand_by
+
+abbrev pub cast_to : WrittenType → ℕ → Form Operand
+cast_to from global = do
+  expect k.To
+  to ← pointer_type
+  expect k.CloseRound
+  pure (o.CastGlobal from.id global to.id)
+
+abbrev pub cast_behind : Form Operand
+cast_behind = do
+  expect k.OpenRound
+  from ← pointer_type
+  global ← cast_operand
+  cast_to from global
+
+-- `bitcast (T* @g to U*)`
+unfoldable pub cast : Form Operand
+cast = skip >> cast_behind
+
 abbrev pub operand_by : Option ℕ → Kind → Form Operand
 operand_by bits k.LocalName = used_value >>= λ value. pure (o.Local value)
 operand_by bits k.GlobalName = used_global >>= λ symbol. pure (o.Global symbol)
+operand_by bits k.Bitcast = cast
 operand_by bits _ = constant bits >>= λ x. pure (o.Constant x)
 
 -- an operand at an integer type of so many bits, or else at a pointer type

@@ -1,15 +1,12 @@
 //! What a reader of modules reads from, and the steps that every form is made of.
 ghost use Rattle.std.specs.Prelude.{◌≡◌, ◌<◌, ◌^◌, Ok};
-ghost use Rattle.ir_parts.specs.Cursor as place;
+ghost use Rattle.ir_cursor.specs.Cursor as place;
 ghost use Rattle.ir_parts.specs.Input.{left, start_of, Reads};
 ghost use Rattle.ir_parts.specs.Input as form;
 
-use crate::cursor::Cursor;
-use crate::fault::Fault;
-use crate::table::Table;
-use crate::uses::{LocalUse, StructUse, SymbolUse};
 use ir_ast as ast;
 use ir_ast::{Declare, Function, LocalSort, StructType, SymbolSort, Types};
+use ir_cursor::{Cursor, Fault, LocalUse, StructUse, SymbolUse, Table};
 use ir_tokens::Kind;
 use items::Items;
 use pools::LayoutId;

@@ -3,8 +3,8 @@ ghost use Rattle.std.specs.Prelude.{◌≡◌, [], suc};
 ghost use Rattle.grammar.specs.Many.{many_from};
 ghost use Rattle.ir_parts.specs.Input.{Reads, left};
 
-use crate::fault::Fault;
 use crate::input::Input;
+use ir_cursor::Fault;
 use items::Items;
 use std::alloc::Global;
 

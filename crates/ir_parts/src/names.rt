@@ -3,12 +3,9 @@ ghost use Rattle.std.specs.Prelude.{◌≡◌, Ok, Err, if◌then◌else◌, nat
 ghost use Rattle.ir_parts.specs.Input.{Reads};
 ghost use Rattle.ir_parts.specs.Names as form;
 
-use crate::fault::Fault;
 use crate::input::Input;
-use crate::runtime_names::{is_intrinsic, is_left_out};
-use crate::table::Table;
-use crate::uses::{LocalUse, StructUse, SymbolUse};
 use ir_ast::{BlockId, LocalSort, StructNameId, SymbolId, SymbolSort, TypeId, ValueId};
+use ir_cursor::{Fault, LocalUse, StructUse, SymbolUse, Table, Wanted, is_intrinsic, is_left_out};
 use ir_tokens::Kind;
 use items::Items;
 use pools::LayoutId;
@@ -46,10 +43,20 @@ fn is_function(sort: Option<SymbolSort>) -> bool
     matches!(sort, Some(SymbolSort::Declared(_) | SymbolSort::Defined(_)))
 }
 
+/// Kinds of tokens with which the name of a block begins that is not read yet.
+fn begins_unread_label(kind: Kind) -> bool
+    ensures { result ≡ form.begins_unread_label kind }
+{
+    matches!(kind, Kind::LocalNumber)
+}
+
 fn is_local(sort: Option<LocalSort>) -> bool
     ensures { result ≡ form.is_local sort }
 {
-    matches!(sort, Some(LocalSort::Value(_) | LocalSort::Block(_)))
+    matches!(
+        sort,
+        Some(LocalSort::Value(_) | LocalSort::Element { .. } | LocalSort::Block(_))
+    )
 }
 
 impl<'a> Input<'a> {
@@ -171,10 +178,10 @@ impl<'a> Input<'a> {
         Ok(symbol)
     }
 
-    /// A local name as an operand.
-    #[tactic(auto, unfolding(crate::specs::Names::used_value))]
-    pub fn used_value(&mut self, alloc: Global) -> Result<ValueId, Fault>
-        ensures { Reads (form.used_value.read self.old) result self.new }
+    /// A local name that has to stand for this, here or further on.
+    #[tactic(auto, unfolding(crate::specs::Names::used_local))]
+    fn used_local(&mut self, alloc: Global, wanted: Wanted) -> Result<ValueId, Fault>
+        ensures { Reads ((form.used_local wanted).read self.old) result self.new }
     {
         if !self.cursor.is_plain() {
             return Err(self.left_out());
@@ -184,9 +191,48 @@ impl<'a> Input<'a> {
             .locals
             .mention(alloc, self.cursor.name(), LocalSort::Unknown)?;
         let value = ValueId::new(numbered(number, self.limit())?);
-        self.local_uses.push(LocalUse { value, start })?;
+        let used = LocalUse {
+            value,
+            wanted,
+            start,
+        };
+        self.local_uses.push(used)?;
         self.cursor.skip();
         Ok(value)
+    }
+
+    /// A local name as an operand.
+    pub fn used_value(&mut self, alloc: Global) -> Result<ValueId, Fault>
+        ensures { Reads (form.used_value.read self.old) result self.new }
+    {
+        self.used_local(alloc, Wanted::Value)
+    }
+
+    /// The name of a block.
+    #[tactic(auto, unfolding(crate::specs::Names::used_label))]
+    fn used_label(&mut self, alloc: Global, wanted: Wanted) -> Result<ValueId, Fault>
+        ensures { Reads ((form.used_label wanted).read self.old) result self.new }
+    {
+        match self.kind() {
+            Kind::LocalName => self.used_local(alloc, wanted),
+            kind => Err(self.refuse(begins_unread_label(kind))),
+        }
+    }
+
+    /// The name of a block from which this one is entered, the entry or another.
+    pub fn incoming_label(&mut self, alloc: Global) -> Result<ValueId, Fault>
+        ensures { Reads (form.incoming_label.read self.old) result self.new }
+    {
+        self.used_label(alloc, Wanted::Block)
+    }
+
+    /// `label %b`, a block that is gone on with.
+    #[tactic(auto, unfolding(crate::specs::Names::target))]
+    pub fn target(&mut self, alloc: Global) -> Result<ValueId, Fault>
+        ensures { Reads (form.target.read self.old) result self.new }
+    {
+        self.expect(Kind::Label)?;
+        self.used_label(alloc, Wanted::Target)
     }
 
     /// The name of a value that is defined here; what type it has comes behind.
@@ -218,6 +264,13 @@ impl<'a> Input<'a> {
     {
         self.locals
             .define(value.number() as usize, LocalSort::Value(shown));
+    }
+
+    /// The value that this name stands for is the one of the getelementptr at this place of this block.
+    pub fn set_element(&mut self, value: ValueId, block: BlockId, place: u32)
+        ensures { (form.set_element value block place).read self.old ≡ Ok (tt, self.new) }
+    {
+        self.locals.define(value.number() as usize, LocalSort::Element { block, place });
     }
 
     /// The label of a block.
@@ -254,16 +307,41 @@ impl<'a> Input<'a> {
     }
 }
 
-fn is_value(sort: Option<LocalSort>) -> bool
-    ensures { result ≡ form.is_value sort }
+fn wants_value(wanted: Wanted) -> bool
+    ensures { result ≡ form.wants_value wanted }
 {
-    matches!(sort, Some(LocalSort::Value(_)))
+    matches!(wanted, Wanted::Value)
 }
 
-/// Where the first use stands of a local name that is no value, if there is one.
+/// Whether the block with this number may stand where this is wanted.
+fn wants_block(wanted: Wanted, block: u32) -> bool
+    ensures { result ≡ form.wants_block wanted block }
+{
+    match wanted {
+        Wanted::Value => false,
+        Wanted::Block => true,
+        Wanted::Target => block != 0,
+    }
+}
+
+/// Whether a name that stands for this is what is wanted.
+fn is_wanted(wanted: Wanted, sort: Option<LocalSort>) -> bool
+    ensures { result ≡ form.is_wanted wanted sort }
+{
+    match &sort {
+        Some(LocalSort::Value(_) | LocalSort::Element { .. }) => wants_value(wanted),
+        Some(LocalSort::Block(block)) => wants_block(wanted, block.number()),
+        _ => false,
+    }
+}
+
+/// Where the first use stands of a local name that is not what is wanted there, if there is one.
 pub fn first_missing(locals: &Table<LocalSort>, uses: &[LocalUse]) -> Option<u32>
     ensures { result ≡ form.first_missing locals.now uses.now }
 {
-    let missing = uses.iter().find(|used| !is_value(locals.sort(used.value.number() as usize)))?;
+    let missing = uses.iter().find(|used| !is_wanted(
+        used.wanted,
+        locals.sort(used.value.number() as usize),
+    ))?;
     Some(missing.start)
 }

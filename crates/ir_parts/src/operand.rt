@@ -3,10 +3,9 @@ ghost use Rattle.std.specs.Prelude.{◌≡◌};
 ghost use Rattle.ir_parts.specs.Input.{Reads};
 ghost use Rattle.ir_parts.specs.Operand as form;
 
-use crate::fault::Fault;
 use crate::input::Input;
-use crate::number::constant;
-use ir_ast::{Constant, Operand};
+use ir_ast::{Constant, Operand, SymbolId};
+use ir_cursor::{Fault, constant};
 use ir_tokens::Kind;
 use std::alloc::Global;
 
@@ -58,6 +57,23 @@ fn truth_of(bits: Option<u32>, truth: bool) -> Constant
     }
 }
 
+/// Kinds of tokens with which an operand begins that is no global.
+fn begins_other_operand(kind: Kind) -> bool
+    ensures { result ≡ form.begins_other_operand kind }
+{
+    begins_unread_operand(kind)
+        || matches!(
+            kind,
+            Kind::LocalName
+                | Kind::Number
+                | Kind::True
+                | Kind::False
+                | Kind::Null
+                | Kind::Undef
+                | Kind::Zeroinitializer
+        )
+}
+
 impl<'a> Input<'a> {
     /// A number, which has to lie in the range of its type.
     #[tactic(auto, unfolding(crate::specs::Operand::number, crate::specs::Operand::number_at))]
@@ -100,6 +116,32 @@ impl<'a> Input<'a> {
         }
     }
 
+    /// The global in a constant bitcast.
+    #[tactic(auto, unfolding(crate::specs::Operand::cast_operand))]
+    fn cast_operand(&mut self, alloc: Global) -> Result<SymbolId, Fault>
+        ensures { Reads (form.cast_operand.read self.old) result self.new }
+    {
+        match self.kind() {
+            Kind::GlobalName => self.used_global(alloc),
+            kind => Err(self.refuse(begins_other_operand(kind))),
+        }
+    }
+
+    /// `bitcast (T* @g to U*)`
+    #[tactic(auto, unfolding(crate::specs::Operand::cast))]
+    fn cast(&mut self, alloc: Global) -> Result<Operand, Fault>
+        ensures { Reads (form.cast.read self.old) result self.new }
+    {
+        self.skip();
+        self.expect(Kind::OpenRound)?;
+        let from = self.pointer_type(alloc)?.id;
+        let global = self.cast_operand(alloc)?;
+        self.expect(Kind::To)?;
+        let to = self.pointer_type(alloc)?.id;
+        self.expect(Kind::CloseRound)?;
+        Ok(Operand::CastGlobal { from, global, to })
+    }
+
     /// An operand at an integer type of so many bits, or else at a pointer type.
     #[tactic(auto, unfolding(crate::specs::Operand::operand))]
     pub fn operand(&mut self, alloc: Global, bits: Option<u32>) -> Result<Operand, Fault>
@@ -108,6 +150,7 @@ impl<'a> Input<'a> {
         match self.kind() {
             Kind::LocalName => Ok(Operand::Local(self.used_value(alloc)?)),
             Kind::GlobalName => Ok(Operand::Global(self.used_global(alloc)?)),
+            Kind::Bitcast => self.cast(alloc),
             _ => Ok(Operand::Constant(self.constant(bits)?)),
         }
     }

@@ -1,25 +1,24 @@
-//! Types as they are written.
-ghost use Rattle.std.specs.Prelude.{◌≡◌, ◌-◌, Ok, if◌then◌else◌};
-ghost use Rattle.ir_parts.specs.Cursor as place;
-ghost use Rattle.ir_parts.specs.Number.{small};
+//! Types as they are written, and which of them may stand where.
+ghost use Rattle.std.specs.Prelude.{◌≡◌, ◌≤◌, Ok};
 ghost use Rattle.ir_parts.specs.Input.{Reads};
 ghost use Rattle.ir_parts.specs.Written as form;
 
-use crate::fault::Fault;
 use crate::input::Input;
 use crate::names::numbered;
-use crate::number::decimal;
-use ir_ast::{IrType, StructNameId, TypeId};
+use ir_ast::{IrType, TypeId};
+use ir_cursor::{Fault, decimal};
 use ir_tokens::Kind;
 use std::alloc::Global;
 
 /// What a type is before its stars.
 #[derive(Clone, Copy, Debug, PartialEq, Eq)]
-pub struct Base {
-    /// The type's place in the table.
-    pub id: TypeId,
-    /// How many bits it has, if it is an integer; otherwise it is a named struct.
-    pub bits: Option<u32>,
+pub enum Base {
+    /// An integer of so many bits.
+    Integer(u32),
+    /// A named struct.
+    Named,
+    /// An array, or a struct that is written out.
+    Aggregate,
 }
 
 /// A type as it is written: a base with stars behind it.
@@ -29,10 +28,22 @@ pub struct WrittenType {
     pub stars: u32,
     /// The type's place in the table.
     pub id: TypeId,
+    /// How many levels more it might have.
+    pub room: u32,
 }
 
-/// How many stars a type has at most: with its base it has 64 levels.
-pub const STARS: u32 = 63;
+/// How many levels a type has at most over its first.
+pub const ROOM: u32 = 63;
+
+/// Whether a type of the forms that are read begins with a token of this kind.
+pub fn begins_type(kind: Kind) -> bool
+    ensures { result ≡ form.begins_type kind }
+{
+    matches!(
+        kind,
+        Kind::IntegerType | Kind::LocalName | Kind::OpenSquare | Kind::OpenBrace
+    )
+}
 
 /// Kinds of tokens with which a type begins that is not read yet, or is left out.
 pub fn begins_unread_type(kind: Kind) -> bool
@@ -40,12 +51,7 @@ pub fn begins_unread_type(kind: Kind) -> bool
 {
     matches!(
         kind,
-        Kind::LocalNumber
-            | Kind::OpenSquare
-            | Kind::OpenBrace
-            | Kind::Less
-            | Kind::Dots
-            | Kind::Volatile
+        Kind::LocalNumber | Kind::Less | Kind::Dots | Kind::Volatile
     )
 }
 
@@ -53,17 +59,38 @@ pub fn begins_unread_type(kind: Kind) -> bool
 pub fn is_scalar(written: &WrittenType) -> bool
     ensures { result ≡ form.is_scalar written.now }
 {
-    written.stars > 0 || written.base.bits.is_some()
+    written.stars > 0 || matches!(written.base, Base::Integer(_))
 }
 
 /// How many bits the type has, if it is an integer type.
 pub fn bits_of(written: &WrittenType) -> Option<u32>
     ensures { result ≡ form.bits_of written.now }
 {
-    if written.stars == 0 {
-        written.base.bits
-    } else {
-        None
+    match written.base {
+        Base::Integer(bits) if written.stars == 0 => Some(bits),
+        _ => None,
+    }
+}
+
+/// Whether a function may take and give a value of this type: an integer, a reference or `i8*`.
+pub fn is_passed(written: &WrittenType) -> bool
+    ensures { result ≡ form.is_passed written.now }
+{
+    match written.base {
+        Base::Integer(bits) => written.stars == 0 || written.stars == 1 && bits == 8,
+        Base::Named => written.stars == 1,
+        Base::Aggregate => false,
+    }
+}
+
+/// Whether a global may have this type: an integer or a reference.
+pub fn is_held(written: &WrittenType) -> bool
+    ensures { result ≡ form.is_held written.now }
+{
+    match written.base {
+        Base::Integer(_) => written.stars == 0,
+        Base::Named => written.stars == 1,
+        Base::Aggregate => false,
     }
 }
 
@@ -79,7 +106,7 @@ impl<'a> Input<'a> {
 
     /// An integer type.
     #[tactic(auto, unfolding(crate::specs::Written::integer, crate::specs::Written::bits_at))]
-    fn integer(&mut self) -> Result<u32, Fault>
+    pub fn integer(&mut self) -> Result<u32, Fault>
         ensures { Reads (form.integer.read self.old) result self.new }
     {
         match decimal(self.cursor.name()) {
@@ -91,70 +118,21 @@ impl<'a> Input<'a> {
         }
     }
 
-    /// A type before its stars.
-    #[tactic(auto, unfolding(crate::specs::Written::base))]
-    pub fn base(&mut self, alloc: Global) -> Result<Base, Fault>
-        ensures { Reads (form.base.read self.old) result self.new }
-    {
-        match self.kind() {
-            Kind::IntegerType => {
-                let bits = self.integer()?;
-                let id = self.intern(IrType::Integer(bits))?;
-                Ok(Base {
-                    id,
-                    bits: Some(bits),
-                })
-            }
-            Kind::LocalName => {
-                let name = self.struct_name(alloc)?;
-                let id = self.intern(IrType::Named(name))?;
-                Ok(Base { id, bits: None })
-            }
-            kind => Err(self.refuse(begins_unread_type(kind))),
-        }
-    }
-
-    /// Stars behind a type, of which there may be so many. Answers how many more there might be.
-    pub fn pointers(&mut self, room: u32, pointee: TypeId) -> Result<(u32, TypeId), Fault>
-        ensures { Reads ((form.pointers room pointee).read self.old) result self.new }
-    {
-        if !self.sees(Kind::Star) {
-            return Ok((room, pointee));
-        }
-        if room == 0 {
-            return Err(self.limit());
-        }
-        self.skip();
-        let pointer = self.intern(IrType::Pointer(pointee))?;
-        self.pointers(room - 1, pointer)
-    }
-
-    /// A type with at most so many stars.
+    /// A type with at most so many levels over its first.
     #[tactic(auto, unfolding(crate::specs::Written::type_within))]
     pub fn type_within(&mut self, alloc: Global, room: u32) -> Result<WrittenType, Fault>
+        requires { room ≤ 63 }
         ensures { Reads ((form.type_within room).read self.old) result self.new }
     {
-        let base = self.base(alloc)?;
-        let (more, id) = self.pointers(room, base.id)?;
-        if self.sees(Kind::OpenRound) {
-            return Err(self.left_out());
-        }
-        Ok(WrittenType {
-            base,
-            stars: room.saturating_sub(more),
-            id,
-        })
+        self.part(alloc, room + 1)
     }
 
-    /// A type that a word holds, with at most so many stars.
-    #[tactic(auto, unfolding(crate::specs::Written::scalar_within))]
-    pub fn scalar_within(&mut self, alloc: Global, room: u32) -> Result<WrittenType, Fault>
-        ensures { Reads ((form.scalar_within room).read self.old) result self.new }
+    /// Any type but `void`.
+    #[tactic(auto, unfolding(crate::specs::Written::any_type))]
+    pub fn any_type(&mut self, alloc: Global) -> Result<WrittenType, Fault>
+        ensures { Reads (form.any_type.read self.old) result self.new }
     {
-        let fault = self.left_out();
-        let written = self.type_within(alloc, room)?;
-        self.allow(is_scalar(&written), fault)?;
-        Ok(written)
+        self.type_within(alloc, ROOM)
     }
 
     /// The type before here may stand here; otherwise it is left out, but where the text ends.
@@ -170,45 +148,57 @@ impl<'a> Input<'a> {
         }
     }
 
+    /// A type that a word holds, with at most so many levels over its first.
+    #[tactic(auto, unfolding(crate::specs::Written::scalar_within))]
+    pub fn scalar_within(&mut self, alloc: Global, room: u32) -> Result<WrittenType, Fault>
+        requires { room ≤ 63 }
+        ensures { Reads ((form.scalar_within room).read self.old) result self.new }
+    {
+        let fault = self.left_out();
+        let written = self.type_within(alloc, room)?;
+        self.allow(is_scalar(&written), fault)?;
+        Ok(written)
+    }
+
     /// A type that a word holds.
     #[tactic(auto, unfolding(crate::specs::Written::scalar))]
     pub fn scalar(&mut self, alloc: Global) -> Result<WrittenType, Fault>
         ensures { Reads (form.scalar.read self.old) result self.new }
     {
-        self.scalar_within(alloc, STARS)
+        self.scalar_within(alloc, ROOM)
     }
 
-    /// So many stars.
-    pub fn stars(&mut self, count: u32) -> Result<(), Fault>
-        ensures { Reads ((form.stars count).read self.old) result self.new }
+    /// A type with a star behind it.
+    #[tactic(auto, unfolding(crate::specs::Written::pointer_type))]
+    pub fn pointer_type(&mut self, alloc: Global) -> Result<WrittenType, Fault>
+        ensures { Reads (form.pointer_type.read self.old) result self.new }
     {
-        if count == 0 {
-            return Ok(());
+        let written = self.any_type(alloc)?;
+        if written.stars == 0 {
+            return Err(self.refuse(false));
         }
-        self.expect(Kind::Star)?;
-        self.stars(count - 1)
+        Ok(written)
     }
 
-    /// A second mention of a type.
-    #[tactic(auto, unfolding(crate::specs::Written::again))]
-    pub fn again(&mut self, alloc: Global, written: &WrittenType) -> Result<(), Fault>
-        ensures { Reads ((form.again written.now).read self.old) result self.new }
+    /// The type of a parameter or a result.
+    #[tactic(auto, unfolding(crate::specs::Written::passed_type))]
+    pub fn passed_type(&mut self, alloc: Global) -> Result<WrittenType, Fault>
+        ensures { Reads (form.passed_type.read self.old) result self.new }
     {
-        let start = self.cursor.start();
-        let base = self.base(alloc)?;
-        if written.base.id.number() != base.id.number() {
-            return Err(Fault::Unexpected(start));
-        }
-        self.stars(written.stars)
+        let fault = self.left_out();
+        let written = self.type_within(alloc, ROOM)?;
+        self.allow(is_passed(&written), fault)?;
+        Ok(written)
     }
 
-    /// The type of pointers to a type that is mentioned here again. Answers its place.
-    #[tactic(auto, unfolding(crate::specs::Written::pointer_again))]
-    pub fn pointer_again(&mut self, alloc: Global, written: &WrittenType) -> Result<TypeId, Fault>
-        ensures { Reads ((form.pointer_again written.now).read self.old) result self.new }
+    /// The type of a global.
+    #[tactic(auto, unfolding(crate::specs::Written::held_type))]
+    pub fn held_type(&mut self, alloc: Global) -> Result<WrittenType, Fault>
+        ensures { Reads (form.held_type.read self.old) result self.new }
     {
-        self.again(alloc, written)?;
-        self.expect(Kind::Star)?;
-        self.intern(IrType::Pointer(written.id))
+        let fault = self.left_out();
+        let written = self.type_within(alloc, ROOM)?;
+        self.allow(is_held(&written), fault)?;
+        Ok(written)
     }
 }

@@ -1,5 +1,5 @@
 -- Items: struct types, globals, declared and defined functions.
-use Rattle.std.specs.Prelude.{◌≤◌, ℕ, Bool, true, false, not, ◌==◌, ◌&&◌, ◌||◌, nat_lt, List, [], ◌∷◌, ◌++◌, length, Option, Some, None, is_some, is_none}
+use Rattle.std.specs.Prelude.{◌≤◌, ℕ, Bool, true, false, not, ◌==◌, nat_lt, List, [], ◌∷◌, ◌++◌, length, Option, Some, None, is_some, is_none}
 use Rattle.std.proofs.Common.{arith}
 use Rattle.grammar.specs.Grammar.{pure, step, checked, refuse, look, ◌>>=◌, ◌>>◌}
 use Rattle.grammar.specs.Takes.{Takes, TakesWhere, first_takes_where, look_takes, stays_takes}
@@ -18,28 +18,29 @@ use Rattle.ir_ast.specs.declared.items_of_module.StructType.{StructType}
 use Rattle.ir_ast.specs.declared.items_of_module.Global.{Global}
 use Rattle.ir_ast.specs.declared.items_of_module.Declare.{Declare}
 use Rattle.ir_parts.specs.declared.input.Input.{Input}
-use Rattle.ir_parts.specs.declared.written.WrittenType.{WrittenType}
-use Rattle.ir_parts.specs.Cursor.{kind, sees, name, left_out, at_end}
+use Rattle.ir_cursor.specs.Cursor.{kind, sees, name, left_out, at_end}
 use Rattle.ir_parts.specs.Input.{Form, left, limit, unexpected, unread, skip, expect, IsKind, skip_takes}
-use Rattle.ir_parts.specs.RuntimeNames.{runtime_of}
-use Rattle.ir_parts.specs.Names.{new_struct, new_struct_takes, new_symbol, new_symbol_takes, new_label, quoted, first_missing}
-use Rattle.ir_parts.specs.Table.{empty}
-use Rattle.ir_parts.specs.Written.{type_within, intern, then_allowed, bits_of}
+use Rattle.ir_cursor.specs.RuntimeNames.{runtime_of}
+use Rattle.ir_parts.specs.Names.{new_struct, new_struct_takes, new_symbol, new_symbol_takes, quoted, first_missing}
+use Rattle.ir_cursor.specs.Table.{empty}
+use Rattle.ir_parts.specs.Written.{any_type, held_type, passed_type, intern, struct_body, bits_of}
 use Rattle.ir_parts.specs.Operand.{constant, begins_unread_operand}
-use Rattle.ir_text.specs.Starts.{begins_parameter, begins_unread_block, begins_unread_item, decorates_function, is_decoration}
-use Rattle.ir_text.specs.Lists.{either, fields, parameters}
-use Rattle.ir_text.specs.Instructions.{instructions}
+use Rattle.ir_text.specs.Starts.{begins_unread_item, decorates_function}
+use Rattle.ir_instructions.specs.Lists.{either}
+use Rattle.ir_instructions.specs.Starts.{is_decoration}
+use Rattle.ir_text.specs.Parameters.{declared_parameters, parameters}
+use Rattle.ir_text.specs.Blocks.{blocks}
 
 -- ---- struct types
 
-abbrev pub open_struct_by : Kind → Form (Unit {0})
-open_struct_by k.OpenBrace = skip
-open_struct_by k.Less = refuse (λ i. left_out i.cursor)
-open_struct_by _ = refuse unexpected
+abbrev pub body_by : Kind → Form ℕ
+body_by k.OpenBrace = struct_body
+body_by k.Less = refuse (λ i. left_out i.cursor)
+body_by _ = refuse unexpected
 
--- the brace before the fields; packed structs are left out
-unfoldable pub open_struct : Form (Unit {0})
-open_struct = look (λ i. kind i.cursor) open_struct_by
+-- `{ T, .. }`; packed structs are left out
+unfoldable pub body : Form ℕ
+body = look (λ i. kind i.cursor) body_by
 
 abbrev pub with_struct_type : StructType → Input → Input
 with_struct_type s i = record i { structs = i.structs ++ s ∷ [] }
@@ -55,23 +56,14 @@ abbrev pub struct_behind : ℕ → Form (Unit {0})
 struct_behind n = do
   expect k.Equals
   expect k.Type
-  open_struct
-  xs ← fields
-  expect k.CloseBrace
-  add_struct (record { name = n; fields = xs })
+  t ← body
+  add_struct (record { name = n; body = t })
 
 -- `%N = type { T, .. }`
 unfoldable pub struct_type : Form (Unit {0})
 struct_type = new_struct >>= struct_behind
 
 -- ---- globals
-
--- an integer, or a pointer to a named struct
-abbrev pub is_global_type : WrittenType → Bool
-is_global_type w = global_by w.base.bits w.stars where
-  global_by : Option ℕ → ℕ → Bool
-  global_by (Some bits) stars = stars == 0
-  global_by None stars = stars == 1
 
 abbrev pub is_one : Option ℕ → Bool
 is_one None = false
@@ -100,10 +92,6 @@ is_constant_by _ = refuse (unread is_decoration)
 unfoldable pub is_constant : Form Bool
 is_constant = look (λ i. kind i.cursor) is_constant_by
 
--- the type of a global
-unfoldable pub global_type : Form WrittenType
-global_type = look (λ i. left_out i.cursor) (λ fault. type_within 63 >>= λ w. then_allowed is_global_type w fault)
-
 abbrev pub with_global : Global → Input → Input
 with_global g i = record i { globals = i.globals ++ g ∷ [] }
 
@@ -118,7 +106,7 @@ abbrev pub global_behind : ℕ → Form (Unit {0})
 global_behind s = do
   expect k.Equals
   is_fixed ← is_constant
-  w ← global_type
+  w ← held_type
   x ← initial (bits_of w)
   add_global (record { symbol = s; is_constant = is_fixed; held = w.id; initial = x })
 
@@ -139,7 +127,7 @@ declared_result_by k.Void = skip >> intern type.Void
 declared_result_by k.LowercaseWord = refuse (λ i. left_out i.cursor)
 declared_result_by k.External = refuse (λ i. left_out i.cursor)
 declared_result_by k.ExternWeak = refuse (λ i. left_out i.cursor)
-declared_result_by _ = type_within 63 >>= λ w. pure w.id
+declared_result_by _ = any_type >>= λ w. pure w.id
 
 -- `void`, or a type
 unfoldable pub declared_result : Form ℕ
@@ -167,7 +155,7 @@ abbrev pub declare_behind : ℕ → ℕ → Option Runtime → Form (Unit {0})
 declare_behind number returned runtime = do
   s ← function_name (symbol.Declared number)
   expect k.OpenRound
-  ps ← parameters
+  ps ← declared_parameters
   expect k.CloseRound
   add_declare (record { symbol = s; runtime = runtime; returned = returned; parameters = ps })
 
@@ -183,34 +171,16 @@ declaration = below 65535 (λ i. length i.declares) >> look (λ i. length i.decl
 
 -- ---- defined functions
 
--- an integer, a reference or `i8*`
-abbrev pub is_result_type : WrittenType → Bool
-is_result_type w = result_by w.base.bits w.stars where
-  result_by : Option ℕ → ℕ → Bool
-  result_by (Some bits) stars = stars == 0 || (stars == 1 && bits == 8)
-  result_by None stars = stars == 1
-
-abbrev pub typed_result : Form ℕ
-typed_result = look (λ i. left_out i.cursor) (λ fault. type_within 63 >>= λ w. then_allowed is_result_type w fault) >>= λ w. pure w.id
-
 abbrev pub defined_result_by : Kind → Form ℕ
 defined_result_by k.Void = skip >> intern type.Void
 defined_result_by k.LowercaseWord = refuse (λ i. left_out i.cursor)
 defined_result_by k.External = refuse (λ i. left_out i.cursor)
 defined_result_by k.ExternWeak = refuse (λ i. left_out i.cursor)
-defined_result_by _ = typed_result
+defined_result_by _ = passed_type >>= λ w. pure w.id
 
 -- `void`, or a type that a defined function may give
 unfoldable pub defined_result : Form ℕ
 defined_result = look (λ i. kind i.cursor) defined_result_by
-
-abbrev pub no_parameters_by : Kind → Form (Unit {0})
-no_parameters_by k.CloseRound = skip
-no_parameters_by _ = refuse (unread begins_parameter)
-
--- parameters are not read yet
-unfoldable pub no_parameters : Form (Unit {0})
-no_parameters = look (λ i. kind i.cursor) no_parameters_by
 
 abbrev pub open_body_by : Kind → Form (Unit {0})
 open_body_by k.OpenBrace = skip
@@ -219,13 +189,6 @@ open_body_by _ = refuse (unread decorates_function)
 unfoldable pub open_body : Form (Unit {0})
 open_body = look (λ i. kind i.cursor) open_body_by
 
-abbrev pub close_body_by : Kind → Form (Unit {0})
-close_body_by k.CloseBrace = skip
-close_body_by _ = refuse (unread begins_unread_block)
-
-unfoldable pub close_body : Form (Unit {0})
-close_body = look (λ i. kind i.cursor) close_body_by
-
 abbrev pub collector_name : Form (Option (List ℕ))
 collector_name = skip >> quoted >>= λ text. pure (Some text)
 
@@ -233,74 +196,65 @@ collector_name = skip >> quoted >>= λ text. pure (Some text)
 unfoldable pub collector : Form (Option (List ℕ))
 collector = look (λ i. sees k.Gc i.cursor) (either collector_name (pure None))
 
-abbrev pub block_behind : ℕ → Form Block
-block_behind l = instructions >>= λ xs. pure (record { label = l; instructions = xs })
-
-abbrev pub entry_by : Kind → Form Block
-entry_by k.LabelName = new_label 0 >>= block_behind
-entry_by _ = refuse (unread begins_unread_block)
-
--- the one block of a function
-unfoldable pub entry : Form Block
-entry = look (λ i. kind i.cursor) entry_by
-
 abbrev pub earlier : Option ℕ → Option ℕ → Option ℕ
 earlier None further = further
 earlier (Some place) further = Some place
 
-abbrev pub function_of : FunctionHead → Block → Input → Function
-function_of h b i = record {
+abbrev pub function_of : FunctionHead → List Block → Input → Function
+function_of h bs i = record {
   symbol = h.symbol;
   returned = h.returned;
+  parameters = h.parameters;
   collector = h.collector;
   locals = i.locals.names;
   sorts = i.locals.sorts;
-  blocks = b ∷ [];
+  blocks = bs;
 }
 
 -- the function is there, its names are looked at, and the next function begins with none
-unfoldable pub with_function : FunctionHead → Block → Input → Input
-with_function h b i = record i {
-  functions = i.functions ++ function_of h b i ∷ [];
+unfoldable pub with_function : FunctionHead → List Block → Input → Input
+with_function h bs i = record i {
+  functions = i.functions ++ function_of h bs i ∷ [];
   locals = empty;
   local_uses = [];
   values = 0;
   missing = earlier i.missing (first_missing i.locals i.local_uses);
 }
 
-pub with_function_falls : (h : FunctionHead) (b : Block) (i : Input) → left (with_function h b i) ≤ left i
+pub with_function_falls : (h : FunctionHead) (bs : List Block) (i : Input) → left (with_function h bs i) ≤ left i
 unfolding left with_function
-with_function_falls h b i = omega arith
+with_function_falls h bs i = omega arith
 
-abbrev pub end_function : FunctionHead → Block → Form (Unit {0})
-end_function h b = step (λ _. tt) (with_function h b) (with_function_falls h b)
+abbrev pub end_function : FunctionHead → List Block → Form (Unit {0})
+end_function h bs = step (λ _. tt) (with_function h bs) (with_function_falls h bs)
 
 abbrev pub head_behind : ℕ → ℕ → Form FunctionHead
 head_behind number returned = do
   s ← function_name (symbol.Defined number)
   expect k.OpenRound
-  no_parameters
+  ps ← parameters
+  expect k.CloseRound
   c ← collector
-  pure (record { symbol = s; returned = returned; collector = c })
+  pure (record { symbol = s; returned = returned; parameters = ps; collector = c })
 
 abbrev pub head_result : ℕ → Form FunctionHead
 head_result number = defined_result >>= head_behind number
 
--- `define T @f() gc "name"`
+-- `define T @f(T %a, ..) gc "name"`
 unfoldable pub head : ℕ → Form FunctionHead
 head number = skip >> head_result number
 
 abbrev pub body_behind : FunctionHead → Form (Unit {0})
 body_behind h = do
   open_body
-  b ← entry
-  close_body
-  end_function h b
+  bs ← blocks
+  expect k.CloseBrace
+  end_function h bs
 
 abbrev pub define_numbered : ℕ → Form (Unit {0})
 define_numbered number = head number >>= body_behind
 
--- `define T @f() gc "name" { .. }`, of which there are at most 65,535
+-- `define T @f(T %a, ..) gc "name" { .. }`, of which there are at most 65,535
 unfoldable pub definition : Form (Unit {0})
 definition = below 65535 (λ i. length i.functions) >> look (λ i. length i.functions) define_numbered
 

@@ -1,6 +1,6 @@
 pub mod Starts
-pub mod Lists
-pub mod Instructions
+pub mod Parameters
+pub mod Blocks
 pub mod ItemsOfText
 pub mod Late
 pub mod Read

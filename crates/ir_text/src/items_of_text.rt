@@ -3,20 +3,17 @@ ghost use Rattle.std.specs.Prelude.{◌≡◌, Ok};
 ghost use Rattle.ir_parts.specs.Input.{Reads};
 ghost use Rattle.ir_text.specs.ItemsOfText as form;
 
-use crate::instructions::instructions;
-use crate::lists::{Fields, Parameters};
-use crate::starts::{
-    begins_parameter, begins_unread_block, begins_unread_item, decorates_function, is_decoration,
-};
+use crate::blocks::all_blocks;
+use crate::parameters::{DeclaredParameters, DefinedParameters};
+use crate::starts::{begins_unread_item, decorates_function};
 use ir_ast as ast;
 use ir_ast::{
-    Block, BlockId, Constant, Declare, DeclareId, FuncId, Function, GlobalId, IrType, StructType,
+    Block, Constant, Declare, DeclareId, FuncId, Function, GlobalId, IrType, Parameter, StructType,
     SymbolId, SymbolSort, TypeId,
 };
-use ir_parts::{
-    Fault, Input, Listed, STARS, Table, WrittenType, begins_unread_operand, bits_of, first_missing,
-    many, runtime_of,
-};
+use ir_cursor::{Fault, Table, runtime_of};
+use ir_instructions::is_decoration;
+use ir_parts::{Input, Listed, begins_unread_operand, bits_of, first_missing, many};
 use ir_tokens::Kind;
 use items::Items;
 use std::alloc::Global;
@@ -25,46 +22,31 @@ use std::mem;
 // ---- struct types
 
 /// `%N = type { T, .. }`
-#[tactic(auto, unfolding(crate::specs::ItemsOfText::struct_type, crate::specs::Lists::fields))]
+#[tactic(auto, unfolding(crate::specs::ItemsOfText::struct_type))]
 fn struct_type(alloc: Global, input: &mut Input<'_>) -> Result<(), Fault>
     ensures { Reads (form.struct_type.read input.old) result input.new }
 {
     let name = input.new_struct(alloc)?;
     input.expect(Kind::Equals)?;
     input.expect(Kind::Type)?;
-    open_struct(input)?;
-    let fields = many::<Fields>(alloc, input)?;
-    input.expect(Kind::CloseBrace)?;
-    input.structs.push(StructType { name, fields })?;
+    let body = body(alloc, input)?;
+    input.structs.push(StructType { name, body })?;
     Ok(())
 }
 
-/// The brace before the fields; packed structs are left out.
-#[tactic(auto, unfolding(crate::specs::ItemsOfText::open_struct))]
-fn open_struct(input: &mut Input<'_>) -> Result<(), Fault>
-    ensures { Reads (form.open_struct.read input.old) result input.new }
+/// The fields of a struct in their braces; packed structs are left out.
+#[tactic(auto, unfolding(crate::specs::ItemsOfText::body))]
+fn body(alloc: Global, input: &mut Input<'_>) -> Result<TypeId, Fault>
+    ensures { Reads (form.body.read input.old) result input.new }
 {
     match input.kind() {
-        Kind::OpenBrace => {
-            input.skip();
-            Ok(())
-        }
+        Kind::OpenBrace => input.struct_body(alloc),
         Kind::Less => Err(input.left_out()),
         _ => Err(input.refuse(false)),
     }
 }
 
 // ---- globals
-
-/// Whether a global may have this type: an integer, or a pointer to a named struct.
-fn is_global_type(written: &WrittenType) -> bool
-    ensures { result ≡ form.is_global_type written.now }
-{
-    match written.base.bits {
-        Some(_) => written.stars == 0,
-        None => written.stars == 1,
-    }
-}
 
 /// Whether a token of this kind may be the first value of a global, whose type has so many bits or is a pointer.
 fn is_initial(bits: Option<u32>, kind: Kind) -> bool
@@ -109,17 +91,6 @@ fn is_constant(input: &mut Input<'_>) -> Result<bool, Fault>
     }
 }
 
-/// The type of a global.
-#[tactic(auto, unfolding(crate::specs::ItemsOfText::global_type))]
-fn global_type(alloc: Global, input: &mut Input<'_>) -> Result<WrittenType, Fault>
-    ensures { Reads (form.global_type.read input.old) result input.new }
-{
-    let fault = input.left_out();
-    let written = input.type_within(alloc, STARS)?;
-    input.allow(is_global_type(&written), fault)?;
-    Ok(written)
-}
-
 /// `@g = global T c`
 #[tactic(auto, unfolding(crate::specs::ItemsOfText::global))]
 fn global(alloc: Global, input: &mut Input<'_>) -> Result<(), Fault>
@@ -132,7 +103,7 @@ fn global(alloc: Global, input: &mut Input<'_>) -> Result<(), Fault>
     let symbol = input.new_symbol(alloc, SymbolSort::Global(number))?;
     input.expect(Kind::Equals)?;
     let is_constant = is_constant(input)?;
-    let written = global_type(alloc, input)?;
+    let written = input.held_type(alloc)?;
     let initial = initial(input, bits_of(&written))?;
     input.globals.push(ast::Global {
         symbol,
@@ -156,17 +127,7 @@ fn declared_result(alloc: Global, input: &mut Input<'_>) -> Result<TypeId, Fault
             input.intern(IrType::Void)
         }
         Kind::LowercaseWord | Kind::External | Kind::ExternWeak => Err(input.left_out()),
-        _ => Ok(input.type_within(alloc, STARS)?.id),
-    }
-}
-
-/// Whether a defined function may give a value of this type: an integer, a reference or `i8*`.
-fn is_result_type(written: &WrittenType) -> bool
-    ensures { result ≡ form.is_result_type written.now }
-{
-    match written.base.bits {
-        Some(bits) => written.stars == 0 || written.stars == 1 && bits == 8,
-        None => written.stars == 1,
+        _ => Ok(input.any_type(alloc)?.id),
     }
 }
 
@@ -181,12 +142,7 @@ fn defined_result(alloc: Global, input: &mut Input<'_>) -> Result<TypeId, Fault>
             input.intern(IrType::Void)
         }
         Kind::LowercaseWord | Kind::External | Kind::ExternWeak => Err(input.left_out()),
-        _ => {
-            let fault = input.left_out();
-            let written = input.type_within(alloc, STARS)?;
-            input.allow(is_result_type(&written), fault)?;
-            Ok(written.id)
-        }
+        _ => Ok(input.passed_type(alloc)?.id),
     }
 }
 
@@ -202,7 +158,7 @@ fn function_name(alloc: Global, input: &mut Input<'_>, sort: SymbolSort) -> Resu
 }
 
 /// `declare T @f(T, ..)`
-#[tactic(auto, unfolding(crate::specs::ItemsOfText::declaration, crate::specs::Lists::parameters))]
+#[tactic(auto, unfolding(crate::specs::ItemsOfText::declaration, crate::specs::Parameters::declared_parameters))]
 fn declaration(alloc: Global, input: &mut Input<'_>) -> Result<(), Fault>
     ensures { Reads (form.declaration.read input.old) result input.new }
 {
@@ -215,7 +171,7 @@ fn declaration(alloc: Global, input: &mut Input<'_>) -> Result<(), Fault>
     let runtime = runtime_of(input.cursor.name());
     let symbol = function_name(alloc, input, SymbolSort::Declared(number))?;
     input.expect(Kind::OpenRound)?;
-    let parameters = many::<Parameters>(alloc, input)?;
+    let parameters = many::<DeclaredParameters>(alloc, input)?;
     input.expect(Kind::CloseRound)?;
     input.declares.push(Declare {
         symbol,
@@ -224,20 +180,6 @@ fn declaration(alloc: Global, input: &mut Input<'_>) -> Result<(), Fault>
         parameters,
     })?;
     Ok(())
-}
-
-/// The bracket behind the parameters of a defined function, of which there are none.
-#[tactic(auto, unfolding(crate::specs::ItemsOfText::no_parameters))]
-fn no_parameters(input: &mut Input<'_>) -> Result<(), Fault>
-    ensures { Reads (form.no_parameters.read input.old) result input.new }
-{
-    match input.kind() {
-        Kind::CloseRound => {
-            input.skip();
-            Ok(())
-        }
-        kind => Err(input.refuse(begins_parameter(kind))),
-    }
 }
 
 /// The brace before a function's body.
@@ -254,20 +196,6 @@ fn open_body(input: &mut Input<'_>) -> Result<(), Fault>
     }
 }
 
-/// The brace behind a function's body.
-#[tactic(auto, unfolding(crate::specs::ItemsOfText::close_body))]
-fn close_body(input: &mut Input<'_>) -> Result<(), Fault>
-    ensures { Reads (form.close_body.read input.old) result input.new }
-{
-    match input.kind() {
-        Kind::CloseBrace => {
-            input.skip();
-            Ok(())
-        }
-        kind => Err(input.refuse(begins_unread_block(kind))),
-    }
-}
-
 /// `gc "name"`, if it is there.
 #[tactic(auto, unfolding(crate::specs::ItemsOfText::collector))]
 fn collector(alloc: Global, input: &mut Input<'_>) -> Result<Option<Items<u8>>, Fault>
@@ -280,34 +208,17 @@ fn collector(alloc: Global, input: &mut Input<'_>) -> Result<Option<Items<u8>>, 
     Ok(Some(input.quoted(alloc)?))
 }
 
-/// The one block of a function.
-#[tactic(auto, unfolding(crate::specs::ItemsOfText::entry))]
-fn entry(alloc: Global, input: &mut Input<'_>) -> Result<Block, Fault>
-    ensures { Reads (form.entry.read input.old) result input.new }
-{
-    match input.kind() {
-        Kind::LabelName => {
-            let label = input.new_label(alloc, BlockId::new(0))?;
-            let instructions = instructions(alloc, input)?;
-            Ok(Block {
-                label,
-                instructions,
-            })
-        }
-        kind => Err(input.refuse(begins_unread_block(kind))),
-    }
-}
-
 /// The head of a defined function.
 #[derive(Drop)]
 struct FunctionHead {
     symbol: SymbolId,
     returned: TypeId,
+    parameters: Items<Parameter>,
     collector: Option<Items<u8>>,
 }
 
-/// `define T @f() gc "name"`
-#[tactic(auto, unfolding(crate::specs::ItemsOfText::head))]
+/// `define T @f(T %a, ..) gc "name"`
+#[tactic(auto, unfolding(crate::specs::ItemsOfText::head, crate::specs::Parameters::parameters))]
 fn head(alloc: Global, input: &mut Input<'_>, number: FuncId) -> Result<FunctionHead, Fault>
     ensures { Reads ((form.head number).read input.old) result input.new }
 {
@@ -315,11 +226,13 @@ fn head(alloc: Global, input: &mut Input<'_>, number: FuncId) -> Result<Function
     let returned = defined_result(alloc, input)?;
     let symbol = function_name(alloc, input, SymbolSort::Defined(number))?;
     input.expect(Kind::OpenRound)?;
-    no_parameters(input)?;
+    let parameters = many::<DefinedParameters>(alloc, input)?;
+    input.expect(Kind::CloseRound)?;
     let collector = collector(alloc, input)?;
     Ok(FunctionHead {
         symbol,
         returned,
+        parameters,
         collector,
     })
 }
@@ -330,9 +243,9 @@ fn end_function(
     alloc: Global,
     input: &mut Input<'_>,
     head: FunctionHead,
-    block: Block,
+    blocks: Items<Block>,
 ) -> Result<(), Fault>
-    ensures { Reads ((form.end_function head block).read input.old) result input.new }
+    ensures { Reads ((form.end_function head blocks).read input.old) result input.new }
 {
     if input.missing.is_none() {
         input.missing = first_missing(&input.locals, input.local_uses.as_slice());
@@ -340,11 +253,10 @@ fn end_function(
     let locals = mem::replace(&mut input.locals, Table::new(alloc));
     input.local_uses.clear();
     input.values = 0;
-    let mut blocks = Items::new(alloc);
-    blocks.push(block)?;
     input.functions.push(Function {
         symbol: head.symbol,
         returned: head.returned,
+        parameters: head.parameters,
         collector: head.collector,
         locals: locals.names,
         sorts: locals.sorts,
@@ -353,7 +265,7 @@ fn end_function(
     Ok(())
 }
 
-/// `define T @f() gc "name" { .. }`
+/// `define T @f(T %a, ..) gc "name" { .. }`
 #[tactic(auto, unfolding(crate::specs::ItemsOfText::definition))]
 fn definition(alloc: Global, input: &mut Input<'_>) -> Result<(), Fault>
     ensures { Reads (form.definition.read input.old) result input.new }
@@ -364,9 +276,9 @@ fn definition(alloc: Global, input: &mut Input<'_>) -> Result<(), Fault>
     let number = FuncId::new(input.functions.len() as u32);
     let head = head(alloc, input, number)?;
     open_body(input)?;
-    let block = entry(alloc, input)?;
-    close_body(input)?;
-    end_function(alloc, input, head, block)
+    let blocks = all_blocks(alloc, input)?;
+    input.expect(Kind::CloseBrace)?;
+    end_function(alloc, input, head, blocks)
 }
 
 /// An item.

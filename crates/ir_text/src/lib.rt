@@ -1,10 +1,10 @@
 //! The reader of modules: the text of LLVM IR to a module, exactly.
 #![tactic(auto)]
 
-mod instructions;
+mod blocks;
 mod items_of_text;
 mod late;
-mod lists;
+mod parameters;
 mod read_fault;
 mod reader;
 mod starts;

@@ -1,1 +1,7 @@
+pub mod Before
+pub mod Rings
+pub mod Turns
+pub mod Steps
+pub mod Moves
 pub mod Faults
+pub mod Searches

@@ -1,2 +1,5 @@
 pub mod Words
 pub mod Layouts
+pub mod Offsets
+pub mod Survey
+pub mod Ring

@@ -4,6 +4,9 @@ use thiserror::Error;
 /// Why a module has no layouts. A struct is named by its number in text order.
 #[derive(Clone, Copy, Debug, PartialEq, Eq, Error)]
 pub enum LayoutFault {
+    /// The fault Y1.
+    #[error("struct {0} holds itself")]
+    HoldsItself(usize),
     /// The fault Y2.
     #[error("struct {0} has more than 64 words")]
     TooManyWords(usize),

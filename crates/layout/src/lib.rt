@@ -3,8 +3,12 @@
 
 mod fault;
 mod program;
+mod ring;
+mod step;
 mod struct_words;
+mod survey;
 
 pub use fault::LayoutFault;
 pub use program::{NotAProgram, Program};
+pub use step::Step;
 pub use struct_words::layouts;

@@ -1,30 +1,38 @@
-ghost use Rattle.std.specs.Prelude.{◌≡◌, ◌≢◌, List, IfOk, IfErr};
+ghost use Rattle.std.specs.Prelude.{◌≡◌, ◌≢◌, List, Some, slice_get, IfOk, IfErr};
 ghost use Rattle.pools.specs.declared.word_kind.WordKind.{WordKind as AWord};
-ghost use Rattle.layout.specs.Layouts.{AreLayouts, IsLayoutFault};
 ghost use Rattle.layout.specs.declared.fault.LayoutFault.TheVariants.{Memory};
+ghost use Rattle.layout.specs.Layouts.{AreLayouts, AreSizes, IsLayoutFault};
+ghost use Rattle.layout.specs.Offsets.{size_of, words_before, sum_of, field_offset, step_of};
 
 use crate::fault::LayoutFault;
-use crate::struct_words::layouts;
-use ir_ast::Module;
+use crate::step::Step;
+use crate::struct_words::table;
+use ir_ast::{Argument, IrType, Module, TypeId};
+use items::Items;
 use pools::Layouts;
 use std::alloc::Global;
 use std::marker::Model;
+use types::{field_at, index_number, written_out};
 
-/// A module with its layouts.
+/// How many words a cell may have.
+const WORD_LIMIT: u64 = 64;
+
+/// A module with its layouts, and how many words each type of its table has.
 #[derive(Drop)]
 pub struct Program {
     of_module: Module,
     layouts: Layouts,
+    sizes: Items<Option<u32>>,
 }
 
 impl Model for Program {
-    ghost use Rattle.layout.specs.Layouts.{LaidOut, AreLayouts};
+    ghost use Rattle.layout.specs.Layouts.{LaidOut, AreLayouts, AreSizes};
 
     ghost Value = { LaidOut };
 
-    ghost view = { λ program. record { of_module = program.of_module; layouts = program.layouts } };
+    ghost view = { λ program. record { of_module = program.of_module; layouts = program.layouts; sizes = program.sizes } };
 
-    ghost invariant = { λ program. AreLayouts program.of_module program.layouts };
+    ghost invariant = { λ program. AreLayouts program.of_module program.layouts × AreSizes program.of_module program.sizes };
 }
 
 /// A module that has no layouts, given back.
@@ -37,13 +45,17 @@ pub struct NotAProgram {
 impl Program {
     /// A module with its layouts, or the first fault in them and the module.
     pub fn new(alloc: Global, of_module: Module) -> Result<Self, NotAProgram>
-        ensures found { IfOk result (λ program. (program.of_module ≡ of_module) × AreLayouts of_module program.layouts) }
+        ensures found { IfOk result (λ program. (program.of_module ≡ of_module) × AreLayouts of_module program.layouts × AreSizes of_module program.sizes) }
         ensures given_back { IfErr result (λ refused. refused.of_module ≡ of_module) }
         ensures fault { IfErr result (λ refused. refused.fault ≢ Memory → IsLayoutFault of_module refused.fault) }
         ensures refused_only_so { (words : List (List AWord)) → AreLayouts of_module words → IfErr result (λ refused. refused.fault ≡ Memory) }
     {
-        match layouts(alloc, &of_module) {
-            Ok(layouts) => Ok(Program { of_module, layouts }),
+        match table(alloc, &of_module) {
+            Ok((layouts, sizes)) => Ok(Program {
+                of_module,
+                layouts,
+                sizes,
+            }),
             Err(fault) => Err(NotAProgram { fault, of_module }),
         }
     }
@@ -70,4 +82,75 @@ impl Program {
     {
         self.of_module
     }
+
+    /// How many words a type of the module has, if it has at most 64.
+    pub fn size_of(&self, written: TypeId) -> Option<u32>
+        ensures { result ≡ size_of self.now written }
+    {
+        match self.sizes.get(written.number() as usize) {
+            Some(size) => *size,
+            None => None,
+        }
+    }
+
+    /// How many words lie before a field, numbered from 0, of a struct type, which may be a name.
+    pub fn field_offset(&self, written: TypeId, number: u64) -> Option<u32>
+        ensures { result ≡ field_offset self.now written number }
+    {
+        self.words_before(written_out(&self.of_module, written)?, number)
+    }
+
+    #[tactic(auto, using(crate::proofs::Before::past_first, crate::proofs::Before::at_first, crate::proofs::Before::past_unknown))]
+    fn words_before(&self, written: TypeId, number: u64) -> Option<u32>
+        ensures { result ≡ words_before self.now (slice_get self.now.of_module.types written) number }
+    {
+        let mut fields = written;
+        let mut before = number;
+        let mut words: u32 = 0;
+        while before > 0 {
+            match self.of_module.types.get(fields)? {
+                IrType::Struct { first, rest } => {
+                    words = sum_within(words, self.size_of(first)?)?;
+                    fields = rest;
+                }
+                _ => return None,
+            }
+            before -= 1;
+        }
+        match self.of_module.types.get(fields)? {
+            IrType::Struct { .. } => Some(words),
+            _ => None,
+        }
+    }
+
+    /// How an index leads from a type to a part of it; None where a number of words on the way is not known, or there is no such part.
+    pub fn step(&self, written: TypeId, index: Argument) -> Option<Step>
+        ensures { result ≡ step_of self.now written index }
+    {
+        match self.of_module.types.get(written)? {
+            IrType::Array { length, part } => Some(Step::Elements {
+                length,
+                words: self.size_of(part)?,
+                part,
+            }),
+            _ => {
+                let number = index_number(&self.of_module, index)?;
+                Some(Step::Field {
+                    words: self.field_offset(written, number)?,
+                    part: field_at(&self.of_module, written, number)?,
+                })
+            }
+        }
+    }
+}
+
+/// The sum of two numbers of words, if it is at most 64.
+pub(crate) fn sum_within(one: u32, other: u32) -> Option<u32>
+    ensures { result ≡ sum_of (Some one) (Some other) }
+{
+    let sum = u64::from(one) + u64::from(other);
+    if sum > WORD_LIMIT {
+        return None;
+    }
+    Some(sum as u32)
 }

@@ -1,22 +1,21 @@
-ghost use Rattle.std.specs.Prelude.{◌≡◌, ◌≢◌, ◌⊎◌, ◌≤◌, List, [], ◌∷◌, length, map, position, None, Some, Ok, Err, IfOk, IfErr, is_none};
-ghost use Rattle.std.specs.List.{list_any};
-ghost use Rattle.layout.specs.Words.{word_of, known_word, words_of};
-ghost use Rattle.layout.specs.Layouts.{AreLayouts, IsLayoutFault, first_fault, has_too_many_words, points_nowhere};
+ghost use Rattle.std.specs.Prelude.{◌≡◌, ◌≢◌, ◌⊎◌, List, length, map, position, Some, Ok, Err, IfOk, IfErr};
+ghost use Rattle.layout.specs.Layouts.{AreLayouts, AreSizes, IsLayoutFault};
+ghost use Rattle.layout.specs.Survey.{IsSettled, is_endless, is_large, struct_is_endless, struct_is_large, points_nowhere, known_word, words_of, first_fault, span_of, size_in, mark_at, fields_at, IsWithin};
+ghost use Rattle.layout.specs.Words.{word_of};
 ghost use Rattle.layout.specs.declared.fault.LayoutFault.{LayoutFault as AFault};
 ghost use Rattle.layout.specs.declared.fault.LayoutFault.TheVariants.{Memory};
 ghost use Rattle.pools.specs.declared.word_kind.WordKind.{WordKind as AWord};
 
 use crate::fault::LayoutFault;
+use crate::ring::first_ring;
+use crate::survey::{Mark, NO_FIELDS, Span, Survey};
 use ir_ast::{IrType, Module, StructType, TypeId};
 use items::Items;
 use pools::{Layouts, WordKind};
 use std::alloc::{AllocError, Global};
 use types::is_reference;
 
-/// How many words a cell may have.
-const WORD_LIMIT: usize = 64;
-
-/// What a field holds: None where it points to no named struct.
+/// What a scalar field holds: None where it points to no named struct.
 fn word_of(module: &Module, field: TypeId) -> Option<WordKind>
     ensures { result ≡ word_of «module».now field }
 {
@@ -30,22 +29,6 @@ fn word_of(module: &Module, field: TypeId) -> Option<WordKind>
     }
 }
 
-fn has_too_many_words(named: &StructType) -> bool
-    ensures { result ≡ has_too_many_words named.now }
-{
-    named.fields.len() > WORD_LIMIT
-}
-
-fn points_nowhere(module: &Module, named: &StructType) -> bool
-    ensures { result ≡ points_nowhere «module».now named.now }
-{
-    named
-        .fields
-        .as_slice()
-        .iter()
-        .any(|field| word_of(module, *field).is_none())
-}
-
 /// What a field holds, where it is a word.
 fn known_word(module: &Module, field: TypeId) -> WordKind
     ensures { result ≡ known_word «module».now field }
@@ -53,67 +36,216 @@ fn known_word(module: &Module, field: TypeId) -> WordKind
     word_of(module, field).unwrap_or(WordKind::Integer(64))
 }
 
-fn words_of(
+fn struct_is_endless(survey: &Survey, named: &StructType) -> bool
+    ensures { result ≡ struct_is_endless survey.now.marks named.now }
+{
+    match survey.mark(named.body) {
+        Mark::Endless => true,
+        _ => false,
+    }
+}
+
+fn struct_is_large(survey: &Survey, named: &StructType) -> bool
+    ensures { result ≡ struct_is_large survey.now.marks named.now }
+{
+    match survey.mark(named.body) {
+        Mark::Large => true,
+        _ => false,
+    }
+}
+
+fn span_of(mark: Mark) -> Span
+    ensures { result ≡ span_of mark }
+{
+    match mark {
+        Mark::Known(span) => span,
+        _ => NO_FIELDS,
+    }
+}
+
+fn points_nowhere(survey: &Survey, module: &Module, named: &StructType) -> bool
+    ensures { result ≡ points_nowhere «module».now survey.now.marks survey.now.fields.items named.now }
+{
+    let span = span_of(survey.mark(named.body));
+    survey
+        .fields
+        .iter()
+        .skip(span.start)
+        .take(span.count)
+        .any(|field| word_of(module, *field).is_none())
+}
+
+/// The words of the fields at a span.
+fn words_at(
     alloc: Global,
     module: &Module,
-    named: &StructType,
+    fields: &[TypeId],
+    span: Span,
 ) -> Result<Items<WordKind>, AllocError>
-    ensures { IfOk result (λ words. words ≡ words_of «module».now named.now) }
+    requires { IsWithin fields.now span }
+    ensures { IfOk result (λ words. words ≡ map (known_word «module».now) (fields_at fields.now span)) }
 {
     let mut words = Items::new(alloc);
-    for field in named.fields.as_slice() {
+    for field in &fields[span.start..span.start + span.count] {
         words.push(known_word(module, *field))?;
     }
     Ok(words)
 }
 
-fn all_words(alloc: Global, module: &Module, structs: &[StructType]) -> Result<Layouts, AllocError>
-    ensures { IfOk result (λ layouts. layouts ≡ map (words_of «module».now) structs.now) }
+fn words_of(
+    alloc: Global,
+    survey: &Survey,
+    module: &Module,
+    named: &StructType,
+) -> Result<Items<WordKind>, AllocError>
+    requires settled { IsSettled «module».now survey.now.marks survey.now.fields.items }
+    ensures { IfOk result (λ words. words ≡ words_of «module».now survey.now.marks survey.now.fields.items named.now) }
+{
+    let span = span_of(survey.mark(named.body));
+    words_at(alloc, module, survey.fields.as_slice(), span)
+}
+
+fn all_words(
+    alloc: Global,
+    survey: &Survey,
+    module: &Module,
+    structs: &[StructType],
+) -> Result<Layouts, AllocError>
+    requires settled { IsSettled «module».now survey.now.marks survey.now.fields.items }
+    ensures { IfOk result (λ layouts. layouts ≡ map (words_of «module».now survey.now.marks survey.now.fields.items) structs.now) }
 {
     let mut layouts = Layouts::new(alloc);
     for named in structs {
-        layouts.push(words_of(alloc, module, named)?)?;
+        layouts.push(words_of(alloc, survey, module, named)?)?;
     }
     Ok(layouts)
 }
 
-fn first_large(structs: &[StructType]) -> Option<usize>
-    ensures { result ≡ position has_too_many_words structs.now }
-{
-    structs.iter().position(has_too_many_words)
-}
-
-fn first_nowhere(module: &Module, structs: &[StructType]) -> Option<usize>
-    ensures { result ≡ position (points_nowhere «module».now) structs.now }
+fn first_endless(survey: &Survey, structs: &[StructType]) -> Option<usize>
+    ensures { result ≡ position (struct_is_endless survey.now.marks) structs.now }
 {
     structs
         .iter()
-        .position(|named| points_nowhere(module, named))
+        .position(|named| struct_is_endless(survey, named))
+}
+
+fn first_large(survey: &Survey, structs: &[StructType]) -> Option<usize>
+    ensures { result ≡ position (struct_is_large survey.now.marks) structs.now }
+{
+    structs
+        .iter()
+        .position(|named| struct_is_large(survey, named))
+}
+
+fn first_nowhere(survey: &Survey, module: &Module, structs: &[StructType]) -> Option<usize>
+    ensures { result ≡ position (points_nowhere «module».now survey.now.marks survey.now.fields.items) structs.now }
+{
+    structs
+        .iter()
+        .position(|named| points_nowhere(survey, module, named))
 }
 
 /// The first fault in the layouts of a module.
-fn first_fault(module: &Module) -> Option<LayoutFault>
-    ensures { result ≡ first_fault «module».now }
+fn first_fault(survey: &Survey, module: &Module) -> Option<LayoutFault>
+    ensures { result ≡ first_fault «module».now survey.now.marks survey.now.fields.items }
 {
     let structs = module.structs.as_slice();
-    match (first_large(structs), first_nowhere(module, structs)) {
-        (Some(number), _) => Some(LayoutFault::TooManyWords(number)),
-        (None, Some(number)) => Some(LayoutFault::NoSuchLayout(number)),
-        (None, None) => None,
+    if let Some(number) = first_endless(survey, structs) {
+        return Some(LayoutFault::HoldsItself(number));
+    }
+    if let Some(number) = first_large(survey, structs) {
+        return Some(LayoutFault::TooManyWords(number));
+    }
+    match first_nowhere(survey, module, structs) {
+        Some(number) => Some(LayoutFault::NoSuchLayout(number)),
+        None => None,
     }
 }
 
-/// The words of each struct of a module. Of several faults too many words go before a word that points to no named struct, each at the
-/// first struct in text order. The section of the LLVM Language Reference is 'Structure Type'.
-#[tactic(auto, using(crate::proofs::Faults::laid_out, crate::proofs::Faults::only_layouts, crate::proofs::Faults::is_fault, crate::proofs::Faults::only_fault, crate::proofs::Faults::no_other_fault, crate::proofs::Faults::no_layouts))]
+/// The first fault, at the first struct that holds itself where it is a struct that has no end.
+fn at_ring(
+    alloc: Global,
+    survey: &Survey,
+    module: &Module,
+    fault: LayoutFault,
+) -> Result<LayoutFault, AllocError>
+    requires settled { IsSettled «module».now survey.now.marks survey.now.fields.items }
+    requires first { first_fault «module».now survey.now.marks survey.now.fields.items ≡ Some fault }
+    ensures fault { IfOk result (IsLayoutFault «module».now) }
+    ensures only_fault { (other : AFault) → IsLayoutFault «module».now other → IfOk result (λ found. found ≡ other) }
+{
+    match fault {
+        LayoutFault::HoldsItself(number) => {
+            let ring = first_ring(alloc, survey, module)?;
+            Ok(LayoutFault::HoldsItself(ring.unwrap_or(number)))
+        }
+        _ => Ok(fault),
+    }
+}
+
+/// The words of each struct of a module, by what is known of its types.
+#[tactic(auto, using(crate::proofs::Faults::laid_out, crate::proofs::Faults::only_layouts, crate::proofs::Faults::no_other_fault, crate::proofs::Faults::no_layouts))]
+pub(crate) fn layouts_of(
+    alloc: Global,
+    survey: &Survey,
+    module: &Module,
+) -> Result<Layouts, LayoutFault>
+    requires settled { IsSettled «module».now survey.now.marks survey.now.fields.items }
+    ensures found { IfOk result (λ layouts. AreLayouts «module».now layouts) }
+    ensures only { (layouts : List (List AWord)) → AreLayouts «module».now layouts → (result ≡ Ok layouts) ⊎ (result ≡ Err Memory) }
+    ensures fault { IfErr result (λ fault. fault ≢ Memory → IsLayoutFault «module».now fault) }
+    ensures only_fault { (fault : AFault) → IsLayoutFault «module».now fault → (result ≡ Err fault) ⊎ (result ≡ Err Memory) }
+{
+    if let Some(fault) = first_fault(survey, module) {
+        return Err(at_ring(alloc, survey, module, fault)?);
+    }
+    Ok(all_words(alloc, survey, module, module.structs.as_slice())?)
+}
+
+fn size_in(mark: Mark) -> Option<u32>
+    ensures { result ≡ size_in mark }
+{
+    match mark {
+        Mark::Known(span) => Some(span.count.min(64) as u32),
+        _ => None,
+    }
+}
+
+/// How many words each type of the table has.
+fn sizes_of(alloc: Global, survey: &Survey) -> Result<Items<Option<u32>>, AllocError>
+    ensures { IfOk result (λ sizes. sizes ≡ map size_in survey.now.marks) }
+{
+    let mut sizes = Items::new(alloc);
+    for mark in survey.marks.as_slice() {
+        sizes.push(size_in(*mark))?;
+    }
+    Ok(sizes)
+}
+
+/// The words of each struct of a module, and how many words each type of its table has.
+#[tactic(auto, using(crate::proofs::Faults::are_sizes))]
+pub(crate) fn table(
+    alloc: Global,
+    module: &Module,
+) -> Result<(Layouts, Items<Option<u32>>), LayoutFault>
+    ensures found { IfOk result (λ table. AreLayouts «module».now table.0 × AreSizes «module».now table.1) }
+    ensures fault { IfErr result (λ fault. fault ≢ Memory → IsLayoutFault «module».now fault) }
+    ensures refused_only_so { (words : List (List AWord)) → AreLayouts «module».now words → IfErr result (λ fault. fault ≡ Memory) }
+{
+    let survey = Survey::of(alloc, module)?;
+    let layouts = layouts_of(alloc, &survey, module)?;
+    let sizes = sizes_of(alloc, &survey)?;
+    Ok((layouts, sizes))
+}
+
+/// The words of each struct of a module. Of several faults a struct that holds itself goes before too many words, and that before a word that
+/// points to no named struct, each at the first struct in text order. The section of the LLVM Language Reference is 'Structure Type'.
 pub fn layouts(alloc: Global, module: &Module) -> Result<Layouts, LayoutFault>
     ensures found { IfOk result (λ layouts. AreLayouts «module».now layouts) }
     ensures only { (layouts : List (List AWord)) → AreLayouts «module».now layouts → (result ≡ Ok layouts) ⊎ (result ≡ Err Memory) }
     ensures fault { IfErr result (λ fault. fault ≢ Memory → IsLayoutFault «module».now fault) }
     ensures only_fault { (fault : AFault) → IsLayoutFault «module».now fault → (result ≡ Err fault) ⊎ (result ≡ Err Memory) }
 {
-    if let Some(fault) = first_fault(module) {
-        return Err(fault);
-    }
-    Ok(all_words(alloc, module, module.structs.as_slice())?)
+    let survey = Survey::of(alloc, module)?;
+    layouts_of(alloc, &survey, module)
 }

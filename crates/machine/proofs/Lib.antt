@@ -1,0 +1,3 @@
+mod Few
+mod Phis
+mod Arguments

@@ -1,40 +1,45 @@
--- Kinds of values and operands.
-use Rattle.std.specs.Prelude.{ℕ, ◌==◌, Bool, true, false, ◌&&◌, ◌||◌, List, slice_get, unwrap_or, Option, Some, None, is_some, is_none, if◌then◌else◌}
+-- Kinds of types, operands and values.
+use Rattle.std.specs.Prelude.{ℕ, ◌==◌, ◌%◌, ◌^◌, Bool, true, false, ◌&&◌, ◌||◌, List, slice_get, unwrap_or, Option, Some, None, is_some, is_none, nat_lt, if◌then◌else◌}
 use Rattle.ir_ast.specs.declared.function.Function.{Function}
-use Rattle.ir_ast.specs.declared.function.LocalSort.{LocalSort}
-use Rattle.ir_ast.specs.declared.function.LocalSort.TheVariants as sort
 use Rattle.ir_ast.specs.declared.ir_type.IrType.{IrType}
-use Rattle.ir_ast.specs.declared.ir_type.IrType.TheVariants.{Void, Integer, Pointer, Named}
+use Rattle.ir_ast.specs.declared.ir_type.IrType.TheVariants.{Void, Integer}
 use Rattle.ir_ast.specs.declared.module.Module.{Module}
 use Rattle.ir_ast.specs.declared.operand.Constant.{Constant}
 use Rattle.ir_ast.specs.declared.operand.Constant.TheVariants as constant
 use Rattle.ir_ast.specs.declared.operand.Operand.{Operand}
 use Rattle.ir_ast.specs.declared.operand.Operand.TheVariants as operand
 use Rattle.types.specs.References.{pointee, referenced_layout}
+use Rattle.types.specs.ValueTypes.{has_type}
 use Rattle.shadow_stack.specs.Slots.{SlotTable, slot_of, operand_slot}
+use Rattle.machine.specs.declared.value.Place.{Place}
 use Rattle.machine.specs.declared.value.Value.{Value}
 use Rattle.machine.specs.declared.value.Value.TheVariants as value
 
+-- ---- types
+
+-- an integer
 abbrev pub is_integer : Option IrType → Bool
-is_integer None = false
-is_integer (Some Void) = false
 is_integer (Some (Integer bits)) = true
-is_integer (Some (Pointer part)) = false
-is_integer (Some (Named name)) = false
+is_integer _ = false
 
+-- an integer of so many bits
 abbrev pub is_integer_of : (bits : ℕ) → Option IrType → Bool
-is_integer_of n None = false
-is_integer_of n (Some Void) = false
 is_integer_of n (Some (Integer bits)) = bits == n
-is_integer_of n (Some (Pointer part)) = false
-is_integer_of n (Some (Named name)) = false
+is_integer_of n _ = false
 
+-- void
 abbrev pub is_void : Option IrType → Bool
-is_void None = false
 is_void (Some Void) = true
-is_void (Some (Integer bits)) = false
-is_void (Some (Pointer part)) = false
-is_void (Some (Named name)) = false
+is_void _ = false
+
+-- how many bits an integer has
+abbrev pub bits_of : Option IrType → ℕ
+bits_of (Some (Integer bits)) = bits
+bits_of _ = 0
+
+-- and of the type with this number
+abbrev pub bits_at : Module → (written : ℕ) → ℕ
+bits_at m written = bits_of (slice_get m.types written)
 
 -- whether the type that a pointer leads to passes a test
 abbrev pub leads_to : (ℕ → Bool) → (part : Option ℕ) → Bool
@@ -53,72 +58,128 @@ is_place_of_bytes m written = leads_to (is_byte_pointer m) (pointee m written)
 abbrev pub may_refer : Module → (written : ℕ) → Bool
 may_refer m written = is_some (referenced_layout m written) || is_byte_pointer m written
 
+-- an integer, a reference, or i8*
+abbrev pub is_scalar : Module → (written : ℕ) → Bool
+is_scalar m written = is_integer (slice_get m.types written) || may_refer m written
+
+-- i8**, or a pointer to references
+abbrev pub may_lead : Module → (written : ℕ) → Bool
+may_lead m written = leads_to (may_refer m) (pointee m written)
+
+-- ---- numbers
+
+-- how many values an integer of so many bits has; none has more than 64 bits
+abbrev pub modulus : (bits : ℕ) → ℕ
+modulus bits = if nat_lt bits 64 then 2 ^ bits else 2 ^ 64
+
+-- a number as an integer of so many bits
+abbrev pub wrapped : (bits n : ℕ) → ℕ
+wrapped bits n = n % modulus bits
+
+-- ---- values
+
+-- something was put there
+abbrev pub is_set : Value → Bool
+is_set value.Unset = false
+is_set _ = true
+
+-- a number, or null, or a reference
+abbrev pub is_plain : Value → Bool
+is_plain value.Unset = false
+is_plain (value.Address at) = false
+is_plain _ = true
+
+-- a number
+abbrev pub is_number : Value → Bool
+is_number (value.Number n) = true
+is_number _ = false
+
+-- the number that a value is; any other value is taken as 0
+abbrev pub number_in : Value → ℕ
+number_in (value.Number n) = n
+number_in _ = 0
+
+-- null
+abbrev pub is_null : Value → Bool
+is_null value.Null = true
+is_null _ = false
+
+-- null, or a reference
+abbrev pub is_reference : Value → Bool
+is_reference value.Null = true
+is_reference (value.Cell layout at) = true
+is_reference _ = false
+
+-- null is of every layout
+abbrev pub fits_layout : (layout : ℕ) → Value → Bool
+fits_layout layout value.Null = true
+fits_layout layout (value.Cell own at) = own == layout
+fits_layout layout _ = false
+
+-- where a layout is asked for, a value has it
+abbrev pub fits_layout_of : Option ℕ → Value → Bool
+fits_layout_of None v = true
+fits_layout_of (Some layout) v = fits_layout layout v
+
+-- two references may stand beside one another: they are of one layout, or one of them is null
+abbrev pub are_of_one_layout : (first second : Value) → Bool
+are_of_one_layout (value.Cell layout at) second = fits_layout layout second
+are_of_one_layout first second = is_reference first && is_reference second
+
+-- the value of a register
+abbrev pub register_at : List Value → (value : ℕ) → Value
+register_at registers v = unwrap_or (slice_get registers v) value.Unset
+
+-- ---- operands
+
 -- a constant fits the type that is written with it
 abbrev pub constant_fits : Module → (written : ℕ) → Constant → Bool
 constant_fits m written (constant.Number n) = is_integer (slice_get m.types written)
 constant_fits m written constant.Null = is_some (pointee m written)
 constant_fits m written (constant.Truth b) = false
 
--- a local name is a value of this type
-abbrev pub is_value_of : (written : ℕ) → Option LocalSort → Bool
-is_value_of written None = false
-is_value_of written (Some sort.Unknown) = false
-is_value_of written (Some (sort.Value t)) = t == written
-is_value_of written (Some (sort.Block b)) = false
+-- the value of a constant that is written with this type
+abbrev pub constant_value : Module → (written : ℕ) → Constant → Value
+constant_value m written (constant.Number n) = value.Number (wrapped (bits_at m written) n)
+constant_value m written constant.Null = value.Null
+constant_value m written (constant.Truth b) = value.Unset
 
-abbrev pub has_type : Function → (written value : ℕ) → Bool
-has_type f written v = is_value_of written (slice_get f.sorts v)
+-- the value that an operand of this type has
+abbrev pub value_of : Module → List Value → (written : ℕ) → Operand → Value
+value_of m registers written (operand.Constant c) = constant_value m written c
+value_of m registers written (operand.Local v) = register_at registers v
+value_of m registers written _ = value.Unset
 
-abbrev pub is_set : Value → Bool
-is_set value.Unset = false
-is_set (value.Number n) = true
-is_set value.Null = true
-is_set (value.Cell layout at) = true
+-- an operand is a constant that fits the written type, or a local name of that type that names no slot
+abbrev pub is_typed : Module → Function → SlotTable → (written : ℕ) → Operand → Bool
+is_typed m f slots written (operand.Constant c) = constant_fits m written c
+is_typed m f slots written (operand.Local v) = has_type m f written v && is_none (slot_of slots v)
+is_typed m f slots written _ = false
 
-abbrev pub register_at : List Value → (value : ℕ) → Value
-register_at registers v = unwrap_or (slice_get registers v) value.Unset
-
--- an operand that is a value of the written type, and set; a slot is none
+-- an operand is a number or a reference of the written type, and set
 abbrev pub is_usable : Module → Function → SlotTable → List Value → (written : ℕ) → Operand → Bool
-is_usable m f slots registers written (operand.Constant c) = constant_fits m written c
-is_usable m f slots registers written (operand.Local v) = has_type f written v && (is_none (slot_of slots v) && is_set (register_at registers v))
-is_usable m f slots registers written (operand.Global g) = false
+is_usable m f slots registers written o = is_typed m f slots written o && is_plain (value_of m registers written o)
 
-abbrev pub constant_value : Constant → Value
-constant_value (constant.Number n) = value.Number n
-constant_value constant.Null = value.Null
-constant_value (constant.Truth b) = value.Unset
+-- an operand is an integer of the written type, and set
+abbrev pub is_usable_number : Module → Function → SlotTable → List Value → (written : ℕ) → Operand → Bool
+is_usable_number m f slots registers written o =
+    is_integer (slice_get m.types written) && (is_typed m f slots written o && is_number (value_of m registers written o))
 
--- the value that an operand has
-abbrev pub value_of : List Value → Operand → Value
-value_of registers (operand.Constant c) = constant_value c
-value_of registers (operand.Local v) = register_at registers v
-value_of registers (operand.Global g) = value.Unset
-
--- whether an operand is a local name of this type
-abbrev pub is_typed : Function → (written : ℕ) → Operand → Bool
-is_typed f written (operand.Constant c) = false
-is_typed f written (operand.Local v) = has_type f written v
-is_typed f written (operand.Global g) = false
+-- an operand is a local name of this type
+abbrev pub is_local_of : Module → Function → (written : ℕ) → Operand → Bool
+is_local_of m f written (operand.Local v) = has_type m f written v
+is_local_of m f written _ = false
 
 -- the slot that an operand names under this type
-abbrev pub slot_at_place : Function → SlotTable → (written : ℕ) → Operand → Option ℕ
-slot_at_place f slots written o = if is_typed f written o then operand_slot slots.names o else None
+abbrev pub slot_at_place : Module → Function → SlotTable → (written : ℕ) → Operand → Option ℕ
+slot_at_place m f slots written o = if is_local_of m f written o then operand_slot slots.names o else None
 
-abbrev pub is_null : Value → Bool
-is_null value.Unset = false
-is_null (value.Number n) = false
-is_null value.Null = true
-is_null (value.Cell layout at) = false
+-- the address that an operand of this type is
+abbrev pub address_in : Value → Option Place
+address_in (value.Address at) = Some at
+address_in _ = None
 
--- null is of every layout
-abbrev pub fits_layout : (layout : ℕ) → Value → Bool
-fits_layout layout value.Unset = false
-fits_layout layout (value.Number n) = false
-fits_layout layout value.Null = true
-fits_layout layout (value.Cell own at) = own == layout
-
--- where a layout is asked for, a value has it
-abbrev pub fits_layout_of : Option ℕ → Value → Bool
-fits_layout_of None v = true
-fits_layout_of (Some layout) v = fits_layout layout v
+-- the same of an operand that is typed so
+abbrev pub address_at_place : Module → Function → SlotTable → List Value → (written : ℕ) → Operand → Option Place
+address_at_place m f slots registers written o =
+    if is_typed m f slots written o then address_in (value_of m registers written o) else None

@@ -1,4 +1,7 @@
-use crate::value::Reference;
+ghost use Rattle.std.specs.Prelude.{◌≡◌};
+ghost use Rattle.machine.specs.Asks.{only_if};
+
+use crate::value::{Reference, Value};
 use pools::LayoutId;
 
 /// What the instruction at which a thread stands asks for.
@@ -6,6 +9,17 @@ use pools::LayoutId;
 pub enum Action {
     /// One step that touches no shared word.
     Local,
+    /// What this word of a cell holds.
+    Read {
+        at: Reference,
+        word: u32,
+    },
+    /// This value is put into a word of a cell, without the barrier.
+    StorePlain {
+        at: Reference,
+        word: u32,
+        value: Value,
+    },
     /// A cell of this layout.
     Alloc(LayoutId),
     /// The thread ends.
@@ -18,8 +32,17 @@ pub enum Action {
 #[derive(Clone, Copy, Debug, PartialEq, Eq)]
 pub enum Answer {
     Done,
-    /// No cell was found.
+    /// The word that was read holds this number.
+    Number(u64),
+    /// The word that was read holds null, or no cell was found for an alloc.
     Null,
-    /// This cell was claimed.
-    Claimed(Reference),
+    /// The word that was read refers to this cell, or an alloc claimed it.
+    Cell(Reference),
+}
+
+/// Where a condition fails, an instruction has no meaning.
+pub(crate) fn only_if(condition: bool, action: Action) -> Action
+    ensures { result ≡ only_if condition action }
+{
+    if condition { action } else { Action::Wrong }
 }

@@ -1,406 +1,269 @@
-ghost use Rattle.std.specs.Prelude.{◌≡◌};
-ghost use Rattle.std.specs.Option.{option_copied};
-ghost use Rattle.shadow_stack.specs.Slots.{operand_slot};
-ghost use Rattle.types.specs.RuntimeCall.{runtime_called};
-ghost use Rattle.machine.specs.Machine.{only_if, is_slot_type, is_held_as, fits_type, fits_held, may_lead, is_reference_value, is_layout, refers_to, is_slot_under, may_cast, may_cast_slot, cast_action, load_action, store_action, are_gcroot_types, are_alloc_types, declare_of, declared_with, is_root_place, gcroot_action, layout_named, alloc_action, call_action, op_action};
+ghost use Rattle.std.specs.Prelude.{◌≡◌, ◌&&◌, slice_get};
+ghost use Rattle.machine.specs.Kinds.{is_integer, bits_at, is_usable_number};
+ghost use Rattle.machine.specs.Integers.{may_resize};
+ghost use Rattle.machine.specs.Asks.{are_indices, are_numbers, are_references, may_compare, may_select, is_condition, element_action, enter_action, branch_way, way_of, target_at, way_action, op_action};
 
-use crate::action::Action;
+use crate::action::{Action, only_if};
+use crate::calls::call_action;
+use crate::casts::cast_action;
+use crate::elements::element_place_of;
+use crate::integers::{is_equality, may_resize};
+use crate::jumps::{cases_fit, phis_fit, phis_of, switch_way};
 use crate::kinds::{
-    fits_layout_of, is_byte_pointer, is_integer_of, is_null, is_place_of_bytes, is_typed,
-    is_usable, is_void, may_refer, operand_slot, slot_at_place, value_of,
+    are_of_one_layout, bits_at, is_integer, is_integer_of, is_reference, may_refer, number_in,
 };
-use crate::value::Value;
-use ir_ast::{
-    Argument, Constant, Declare, Function, Module, Op, Operand, Runtime, SymbolId, SymbolSort,
-    TypeId,
-};
-use pools::LayoutId;
-use shadow_stack::{SlotId, Slots};
-use types::{is_reference, pointee, runtime_called};
+use crate::moves::{load_action, store_action};
+use crate::operands::{is_typed, is_usable, is_usable_number, value_of};
+use crate::scene::Scene;
+use ir_ast::{Argument, BlockId, Comparison, Function, Op, Operand, Resize, TypeId, ValueId};
+use types::{element_type, target_of};
 
-/// What an instruction asks for.
-pub fn op_action(
-    of_module: &Module,
-    function: &Function,
-    slots: &Slots,
-    registers: &[Value],
-    op: &Op,
+fn are_indices(scene: &Scene<'_>, indices: &[Argument]) -> bool
+    ensures { result ≡ are_indices scene.now.program.now.of_module scene.now.function.now scene.now.slots.now scene.now.registers.now indices.now }
+{
+    indices.iter().all(|index| is_usable_number(scene, index.written, &index.operand))
+}
+
+fn are_numbers(scene: &Scene<'_>, written: TypeId, first: &Operand, second: &Operand) -> bool
+    ensures { result ≡ are_numbers scene.now.program.now.of_module scene.now.function.now scene.now.slots.now scene.now.registers.now written first.now second.now }
+{
+    is_usable_number(scene, written, first) && is_usable_number(scene, written, second)
+}
+
+fn are_references(scene: &Scene<'_>, written: TypeId, first: &Operand, second: &Operand) -> bool
+    ensures { result ≡ are_references scene.now.program.now.of_module scene.now.function.now scene.now.slots.now scene.now.registers.now written first.now second.now }
+{
+    may_refer(scene.of_module(), written)
+        && ((is_typed(scene, written, first) && is_reference(&value_of(scene, written, first)))
+            && (is_typed(scene, written, second)
+                && is_reference(&value_of(scene, written, second))))
+}
+
+fn may_compare(
+    scene: &Scene<'_>,
+    kind: Comparison,
+    written: TypeId,
+    first: &Operand,
+    second: &Operand,
+) -> bool
+    ensures { result ≡ may_compare scene.now.program.now.of_module scene.now.function.now scene.now.slots.now scene.now.registers.now kind written first.now second.now }
+{
+    are_numbers(scene, written, first, second)
+        || (is_equality(kind) && are_references(scene, written, first, second))
+}
+
+fn may_select(scene: &Scene<'_>, written: TypeId, chosen: &Operand, other: &Operand) -> bool
+    ensures { result ≡ may_select scene.now.program.now.of_module scene.now.function.now scene.now.slots.now scene.now.registers.now written chosen.now other.now }
+{
+    are_numbers(scene, written, chosen, other)
+        || (are_references(scene, written, chosen, other)
+            && are_of_one_layout(
+                &value_of(scene, written, chosen),
+                &value_of(scene, written, other),
+            ))
+}
+
+/// Whether a condition is an integer of one bit.
+fn is_condition(scene: &Scene<'_>, written: TypeId, operand: &Operand) -> bool
+    ensures { result ≡ is_condition scene.now.program.now.of_module scene.now.function.now scene.now.slots.now scene.now.registers.now written operand.now }
+{
+    is_integer_of(scene.of_module(), 1, written) && is_usable_number(scene, written, operand)
+}
+
+fn may_resize_to(
+    scene: &Scene<'_>,
+    kind: Resize,
+    from: TypeId,
+    operand: &Operand,
+    to: TypeId,
+) -> bool
+    ensures { let m = scene.now.program.now.of_module in result ≡ is_usable_number m scene.now.function.now scene.now.slots.now scene.now.registers.now from operand.now && (is_integer (slice_get m.types to) && may_resize kind (bits_at m from) (bits_at m to)) }
+{
+    let of_module = scene.of_module();
+    is_usable_number(scene, from, operand)
+        && (is_integer(of_module, to)
+            && may_resize(kind, bits_at(of_module, from), bits_at(of_module, to)))
+}
+
+fn element_action(
+    scene: &Scene<'_>,
+    source: TypeId,
+    base_type: TypeId,
+    base: &Operand,
+    indices: &[Argument],
 ) -> Action
-    ensures { result ≡ op_action of_module.now function.now slots.now registers.now op.now }
+    ensures { result ≡ element_action scene.now.program.now scene.now.function.now scene.now.slots.now scene.now.registers.now source base_type base.now indices.now }
+{
+    only_if(
+        is_typed(scene, base_type, base)
+            && (are_indices(scene, indices)
+                && (element_type(scene.of_module(), source, indices).is_some()
+                    && element_place_of(
+                        scene.program,
+                        scene.registers,
+                        source,
+                        &value_of(scene, base_type, base),
+                        indices,
+                    )
+                    .is_some())),
+        Action::Local,
+    )
+}
+
+/// The label to which an instruction goes on, if it is a br or a switch.
+fn way_of(scene: &Scene<'_>, op: &Op) -> Option<ValueId>
+    ensures { result ≡ way_of scene.now.program.now.of_module scene.now.registers.now op.now }
 {
     match op {
-        Op::Alloca(_) => Action::Local,
-        Op::Bitcast { from, operand, to } => {
-            cast_action(of_module, function, slots, registers, *from, *operand, *to)
+        Op::Jump(label) => Some(*label),
+        Op::Branch {
+            condition_type,
+            condition,
+            taken,
+            other,
+        } => {
+            let condition = value_of(scene, *condition_type, condition);
+            Some(if number_in(&condition) == 0 {
+                *other
+            } else {
+                *taken
+            })
         }
+        Op::Switch {
+            written,
+            value,
+            otherwise,
+            cases,
+        } => Some(switch_way(
+            scene.of_module(),
+            *written,
+            number_in(&value_of(scene, *written, value)),
+            *otherwise,
+            cases.as_slice(),
+        )),
+        _ => None,
+    }
+}
+
+/// The block to which a br or a switch leads.
+pub fn target_of_way(scene: &Scene<'_>, op: &Op) -> Option<BlockId>
+    ensures { result ≡ target_at scene.now.function.now (way_of scene.now.program.now.of_module scene.now.registers.now op.now) }
+{
+    target_of(scene.function, way_of(scene, op)?)
+}
+
+/// What a br or a switch of this block asks for.
+fn way_action(scene: &Scene<'_>, from: usize, op: &Op) -> Action
+    ensures { result ≡ way_action scene.now.program.now.of_module scene.now.function.now scene.now.slots.now from scene.now.registers.now op.now }
+{
+    match target_of_way(scene, op) {
+        Some(block) => only_if(
+            phis_fit(scene, from, phis_of(scene.function, block)),
+            Action::Local,
+        ),
+        None => Action::End,
+    }
+}
+
+/// What an instruction of this block asks for.
+pub fn op_action(scene: &Scene<'_>, block: usize, op: &Op) -> Action
+    ensures { result ≡ op_action scene.now.program.now scene.now.function.now scene.now.slots.now block scene.now.registers.now op.now }
+{
+    match op {
+        Op::Alloca(_) | Op::Phi { .. } => Action::Local,
+        Op::Bitcast { from, operand, to } => cast_action(scene, *from, operand, *to),
         Op::Load {
             loaded,
             place_type,
             place,
-        } => load_action(
-            of_module,
-            slots,
-            *loaded,
-            slot_at_place(function, slots, *place_type, *place),
-        ),
+        } => load_action(scene, *loaded, *place_type, place),
         Op::Store {
             stored,
             value,
             place_type,
             place,
+        } => { store_action(scene, *stored, value, *place_type, place) }
+        Op::Element {
+            source,
+            base_type,
+            base,
+            indices,
+        } => { element_action(scene, *source, *base_type, base, indices.as_slice()) }
+        Op::Arithmetic {
+            written,
+            first,
+            second,
+            ..
+        } => { only_if(are_numbers(scene, *written, first, second), Action::Local) }
+        Op::Resize {
+            kind,
+            from,
+            operand,
+            to,
         } => {
-            let usable = is_usable(of_module, function, slots, registers, *stored, *value);
-            let place = slot_at_place(function, slots, *place_type, *place);
-            store_action(
-                of_module,
-                slots,
-                *stored,
-                usable,
-                &value_of(registers, *value),
-                place,
+            only_if(
+                may_resize_to(scene, *kind, *from, operand, *to),
+                Action::Local,
             )
         }
+        Op::Compare {
+            kind,
+            written,
+            first,
+            second,
+        } => {
+            only_if(
+                may_compare(scene, *kind, *written, first, second),
+                Action::Local,
+            )
+        }
+        Op::Select {
+            condition_type,
+            condition,
+            written,
+            chosen,
+            other,
+        } => only_if(
+            is_condition(scene, *condition_type, condition)
+                && may_select(scene, *written, chosen, other),
+            Action::Local,
+        ),
         Op::Call {
             returned,
             callee,
             arguments,
-        } => call_action(
-            of_module,
-            function,
-            slots,
-            registers,
-            *returned,
-            arguments.as_slice(),
-            *callee,
-        ),
-        Op::ReturnVoid => Action::End,
-        Op::Return(argument) => only_if(
-            argument.written == function.returned
-                && is_usable(
-                    of_module,
-                    function,
-                    slots,
-                    registers,
-                    argument.written,
-                    argument.operand,
-                ),
-            Action::End,
-        ),
-    }
-}
-
-fn only_if(allowed: bool, action: Action) -> Action
-    ensures { result ≡ only_if allowed action }
-{
-    if allowed { action } else { Action::Wrong }
-}
-
-fn cast_action(
-    of_module: &Module,
-    function: &Function,
-    slots: &Slots,
-    registers: &[Value],
-    from: TypeId,
-    operand: Operand,
-    to: TypeId,
-) -> Action
-    ensures { result ≡ cast_action of_module.now function.now slots.now registers.now from operand to (operand_slot slots.now.names operand) }
-{
-    match operand_slot(slots, operand) {
-        Some(slot) => only_if(
-            is_typed(function, from, operand)
-                && may_cast_slot(of_module, slots.held_type(slot), from, to),
-            Action::Local,
-        ),
-        None => only_if(
-            is_usable(of_module, function, slots, registers, from, operand)
-                && may_cast(of_module, from, to, &value_of(registers, operand)),
-            Action::Local,
-        ),
-    }
-}
-
-fn may_cast_slot(of_module: &Module, held: Option<TypeId>, from: TypeId, to: TypeId) -> bool
-    ensures { result ≡ may_cast_slot of_module.now held from to }
-{
-    if from == to {
-        return true;
-    }
-    match pointee(of_module, to) {
-        Some(part) => is_slot_under(of_module, held, part),
-        None => false,
-    }
-}
-
-fn is_slot_under(of_module: &Module, held: Option<TypeId>, part: TypeId) -> bool
-    ensures { result ≡ is_slot_under of_module.now held part }
-{
-    match held {
-        Some(held) => refers_to(of_module, is_reference(of_module, held), part),
-        None => false,
-    }
-}
-
-fn refers_to(of_module: &Module, layout: Option<LayoutId>, written: TypeId) -> bool
-    ensures { result ≡ refers_to of_module.now layout written }
-{
-    match layout {
-        Some(layout) => {
-            is_byte_pointer(of_module, written)
-                || is_layout(is_reference(of_module, written), layout)
-        }
-        None => false,
-    }
-}
-
-fn is_layout(found: Option<LayoutId>, layout: LayoutId) -> bool
-    ensures { result ≡ is_layout found layout }
-{
-    match found {
-        Some(other) => other == layout,
-        None => false,
-    }
-}
-
-fn is_reference_value(value: &Value) -> bool
-    ensures { result ≡ is_reference_value value.now }
-{
-    matches!(value, Value::Null | Value::Cell(_, _))
-}
-
-fn may_cast(of_module: &Module, from: TypeId, to: TypeId, value: &Value) -> bool
-    ensures { result ≡ may_cast of_module.now from to value.now }
-{
-    from == to
-        || (is_reference_value(value)
-            && may_refer(of_module, to)
-            && fits_type(of_module, to, value))
-        || (may_lead(of_module, from) && may_lead(of_module, to) && is_null(value))
-}
-
-fn may_lead(of_module: &Module, written: TypeId) -> bool
-    ensures { result ≡ may_lead of_module.now written }
-{
-    match pointee(of_module, written) {
-        Some(part) => may_refer(of_module, part),
-        None => false,
-    }
-}
-
-fn fits_type(of_module: &Module, written: TypeId, value: &Value) -> bool
-    ensures { result ≡ fits_type of_module.now written value.now }
-{
-    fits_layout_of(is_reference(of_module, written), value)
-}
-
-fn fits_held(of_module: &Module, held: Option<TypeId>, value: &Value) -> bool
-    ensures { result ≡ fits_held of_module.now held value.now }
-{
-    match held {
-        Some(held) => fits_type(of_module, held, value),
-        None => false,
-    }
-}
-
-fn is_held_as(of_module: &Module, held: Option<TypeId>, written: TypeId) -> bool
-    ensures { result ≡ is_held_as of_module.now held written }
-{
-    match held {
-        Some(held) => is_slot_type(of_module, held, written),
-        None => false,
-    }
-}
-
-fn is_slot_type(of_module: &Module, held: TypeId, written: TypeId) -> bool
-    ensures { result ≡ is_slot_type of_module.now held written }
-{
-    held == written
-        || (is_reference(of_module, held).is_some() && is_byte_pointer(of_module, written))
-}
-
-fn load_action(of_module: &Module, slots: &Slots, loaded: TypeId, place: Option<SlotId>) -> Action
-    ensures { result ≡ load_action of_module.now slots.now loaded place }
-{
-    match place {
-        Some(slot) => only_if(
-            is_held_as(of_module, slots.held_type(slot), loaded),
-            Action::Local,
-        ),
-        None => Action::Wrong,
-    }
-}
-
-fn store_action(
-    of_module: &Module,
-    slots: &Slots,
-    stored: TypeId,
-    usable: bool,
-    value: &Value,
-    place: Option<SlotId>,
-) -> Action
-    ensures { result ≡ store_action of_module.now slots.now stored usable value.now place }
-{
-    match place {
-        Some(slot) => {
-            let held = slots.held_type(slot);
-            only_if(
-                usable && is_held_as(of_module, held, stored) && fits_held(of_module, held, value),
-                Action::Local,
-            )
-        }
-        None => Action::Wrong,
-    }
-}
-
-fn call_action(
-    of_module: &Module,
-    function: &Function,
-    slots: &Slots,
-    registers: &[Value],
-    returned: TypeId,
-    arguments: &[Argument],
-    callee: SymbolId,
-) -> Action
-    ensures { result ≡ call_action of_module.now function.now slots.now registers.now returned arguments.now (declare_of of_module.now callee) (runtime_called of_module.now callee) }
-{
-    match runtime_called(of_module, callee) {
-        Some(Runtime::Alloc) => only_if(
-            is_declared_as_alloc(of_module, callee),
-            alloc_action(of_module, returned, arguments),
-        ),
-        Some(Runtime::GcRoot) => only_if(
-            is_declared_as_gcroot(of_module, callee),
-            gcroot_action(of_module, function, slots, registers, returned, arguments),
-        ),
-        _ => Action::Wrong,
-    }
-}
-
-fn is_declared_as_alloc(of_module: &Module, callee: SymbolId) -> bool
-    ensures { result ≡ declared_with (are_alloc_types of_module.now) (declare_of of_module.now callee) }
-{
-    match declare_of(of_module, callee) {
-        Some(declare) => are_alloc_types(
-            of_module,
-            declare.returned,
-            declare.parameters.as_slice(),
-        ),
-        None => false,
-    }
-}
-
-fn is_declared_as_gcroot(of_module: &Module, callee: SymbolId) -> bool
-    ensures { result ≡ declared_with (are_gcroot_types of_module.now) (declare_of of_module.now callee) }
-{
-    match declare_of(of_module, callee) {
-        Some(declare) => are_gcroot_types(
-            of_module,
-            declare.returned,
-            declare.parameters.as_slice(),
-        ),
-        None => false,
-    }
-}
-
-fn declare_of(of_module: &Module, callee: SymbolId) -> Option<&Declare>
-    ensures { option_copied result ≡ declare_of of_module.now callee }
-{
-    match of_module.sorts.get(callee.number() as usize) {
-        Some(SymbolSort::Declared(declare)) => of_module.declares.get(declare.number() as usize),
-        _ => None,
-    }
-}
-
-fn are_gcroot_types(of_module: &Module, returned: TypeId, parameters: &[TypeId]) -> bool
-    ensures { result ≡ are_gcroot_types of_module.now returned parameters.now }
-{
-    match parameters {
-        [place, metadata] => {
-            is_void(of_module, returned)
-                && is_place_of_bytes(of_module, *place)
-                && is_byte_pointer(of_module, *metadata)
-        }
-        _ => false,
-    }
-}
-
-fn are_alloc_types(of_module: &Module, returned: TypeId, parameters: &[TypeId]) -> bool
-    ensures { result ≡ are_alloc_types of_module.now returned parameters.now }
-{
-    match parameters {
-        [layout] => is_byte_pointer(of_module, returned) && is_integer_of(of_module, 32, *layout),
-        _ => false,
-    }
-}
-
-fn is_root_place(of_module: &Module, slots: &Slots, place: Option<SlotId>) -> bool
-    ensures { result ≡ is_root_place of_module.now slots.now place }
-{
-    match place {
-        Some(slot) => slots.is_reference(of_module, slot),
-        None => false,
-    }
-}
-
-fn gcroot_action(
-    of_module: &Module,
-    function: &Function,
-    slots: &Slots,
-    registers: &[Value],
-    returned: TypeId,
-    arguments: &[Argument],
-) -> Action
-    ensures { result ≡ gcroot_action of_module.now function.now slots.now registers.now returned arguments.now }
-{
-    match arguments {
-        [place, metadata] => only_if(
-            are_gcroot_types(of_module, returned, &[place.written, metadata.written])
-                && is_root_place(
-                    of_module,
-                    slots,
-                    slot_at_place(function, slots, place.written, place.operand),
-                )
-                && is_usable(
-                    of_module,
-                    function,
-                    slots,
-                    registers,
-                    metadata.written,
-                    metadata.operand,
-                ),
-            Action::Local,
-        ),
-        _ => Action::Wrong,
-    }
-}
-
-fn alloc_action(of_module: &Module, returned: TypeId, arguments: &[Argument]) -> Action
-    ensures { result ≡ alloc_action of_module.now returned arguments.now }
-{
-    match arguments {
-        [layout] => match layout_named(of_module, layout.operand) {
-            Some(number) => only_if(
-                are_alloc_types(of_module, returned, &[layout.written]),
-                Action::Alloc(number),
-            ),
-            None => Action::Wrong,
-        },
-        _ => Action::Wrong,
-    }
-}
-
-/// The layout that a constant numbers.
-pub fn layout_named(of_module: &Module, operand: Operand) -> Option<LayoutId>
-    ensures { result ≡ layout_named of_module.now operand }
-{
-    match operand {
-        Operand::Constant(Constant::Number(number)) => {
-            if number < of_module.structs.len() as u64 && number < 4294967296 {
-                Some(LayoutId::new(number as u32))
+        } => { call_action(scene, *returned, *callee, arguments.as_slice()) }
+        Op::Jump(_) => way_action(scene, block, op),
+        Op::Branch {
+            condition_type,
+            condition,
+            ..
+        } => {
+            if is_condition(scene, *condition_type, condition) {
+                way_action(scene, block, op)
             } else {
-                None
+                Action::Wrong
             }
         }
-        _ => None,
+        Op::Switch {
+            written,
+            value,
+            cases,
+            ..
+        } => {
+            if is_usable_number(scene, *written, value)
+                && cases_fit(scene.of_module(), *written, cases.as_slice())
+            {
+                way_action(scene, block, op)
+            } else {
+                Action::Wrong
+            }
+        }
+        Op::Unreachable | Op::ReturnVoid => Action::End,
+        Op::Return(argument) => only_if(
+            argument.written == scene.function.returned
+                && is_usable(scene, argument.written, &argument.operand),
+            Action::End,
+        ),
     }
 }

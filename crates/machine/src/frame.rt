@@ -1,16 +1,25 @@
-ghost use Rattle.std.specs.Prelude.{◌≡◌};
-ghost use Rattle.shadow_stack.specs.Slots.{operand_slot};
+ghost use Rattle.std.specs.Prelude.{◌≡◌, ◌≤◌, length, map, take, slice_get, slice_set};
 ghost use Rattle.types.specs.RuntimeCall.{runtime_called};
 ghost use Rattle.machine.specs.Kinds.{value_of};
-ghost use Rattle.machine.specs.Machine.{alloc_value, initial, is_return, set_register, set_slot, slot_value, loaded_from, after_cast, layout_of_call, root_of_call, after_call, after_op};
+ghost use Rattle.machine.specs.Jumps.{put_register, put_each, phi_value, phis_of, enter};
+ghost use Rattle.machine.specs.Machine.{initial, set_register, set_slot, loaded_from, after_call, after_op};
 
 use crate::action::Answer;
-use crate::asks::layout_named;
-use crate::kinds::{is_integer, operand_slot, slot_at_place, value_of};
+use crate::calls::{layout_of_call, root_of_call};
+use crate::elements::element_place_of;
+use crate::jumps::{phi_value, phis_of};
+use crate::kinds::{bits_at, is_integer};
+use crate::operands::{address_at_place, operand_slot, slot_at_place, value_of};
+use crate::results::{
+    address_of, alloc_value, arithmetic_value, compared, loaded_from, resized_value, selected,
+};
+use crate::scene::Scene;
 use crate::value::Value;
-use ir_ast::{Argument, FuncId, Function, Module, Op, Operand, Runtime, SymbolId, TypeId, ValueId};
+use ir_ast::{
+    Argument, BlockId, FuncId, Function, Instr, Module, Op, Runtime, SymbolId, TypeId, ValueId,
+};
 use items::Items;
-use pools::LayoutId;
+use layout::Program;
 use shadow_stack::{SlotId, Slots};
 use types::runtime_called;
 
@@ -25,22 +34,43 @@ pub struct Frame {
 }
 
 impl Frame {
-    /// What an instruction that stays in its frame does with the answer.
+    /// What an instruction of the frame looks at.
+    pub fn scene<'a>(
+        &'a self,
+        program: &'a Program,
+        function: &'a Function,
+        slots: &'a Slots,
+    ) -> Scene<'a>
+        ensures program { result.program.now ≡ program.now }
+        ensures function { result.function.now ≡ function.now }
+        ensures slots { result.slots.now ≡ slots.now }
+        ensures registers { result.registers.now ≡ self.now.registers }
+    {
+        Scene {
+            program,
+            function,
+            slots,
+            registers: self.registers.as_slice(),
+        }
+    }
+
+    /// What an instruction that stays in its block does with the answer.
     pub fn after_op(
         &mut self,
-        of_module: &Module,
+        program: &Program,
         function: &Function,
         slots: &Slots,
         name: Option<ValueId>,
         op: &Op,
         answer: Answer,
     )
-        ensures { self.new ≡ after_op of_module.now function.now slots.now name op.now answer self.old }
+        ensures { self.new ≡ after_op program.now function.now slots.now name op.now answer self.old }
     {
+        let scene = self.scene(program, function, slots);
         match op {
-            Op::Bitcast { operand, .. } => {
-                if operand_slot(slots, *operand).is_none() {
-                    let value = self.value_of(*operand);
+            Op::Bitcast { from, operand, .. } => {
+                let value = value_of(&scene, *from, operand);
+                if operand_slot(slots, operand).is_none() {
                     self.set_register(name, value);
                 }
             }
@@ -49,40 +79,104 @@ impl Frame {
                 place,
                 ..
             } => {
-                let slot = slot_at_place(function, slots, *place_type, *place);
-                let value = self.loaded_from(slot);
+                let slot = slot_at_place(&scene, *place_type, place);
+                let address = address_at_place(&scene, *place_type, place);
+                let value = loaded_from(program, self.slots.as_slice(), slot, address, answer);
                 self.set_register(name, value);
             }
             Op::Store {
+                stored,
                 value,
                 place_type,
                 place,
-                ..
             } => {
-                let slot = slot_at_place(function, slots, *place_type, *place);
-                let value = self.value_of(*value);
+                let slot = slot_at_place(&scene, *place_type, place);
+                let value = value_of(&scene, *stored, value);
                 self.set_slot(slot, value);
+            }
+            Op::Element {
+                source,
+                base_type,
+                base,
+                indices,
+            } => {
+                let base = value_of(&scene, *base_type, base);
+                let place = element_place_of(
+                    program,
+                    scene.registers,
+                    *source,
+                    &base,
+                    indices.as_slice(),
+                );
+                self.set_register(name, address_of(place));
+            }
+            Op::Arithmetic {
+                kind,
+                written,
+                first,
+                second,
+            } => {
+                let value = arithmetic_value(&scene, *kind, *written, first, second);
+                self.set_register(name, value);
+            }
+            Op::Resize {
+                kind,
+                from,
+                operand,
+                to,
+            } => {
+                let value = resized_value(&scene, *kind, *from, operand, *to);
+                self.set_register(name, value);
+            }
+            Op::Compare {
+                kind,
+                written,
+                first,
+                second,
+            } => {
+                let bits = bits_at(program.module(), *written);
+                let (first, second) = (
+                    value_of(&scene, *written, first),
+                    value_of(&scene, *written, second),
+                );
+                self.set_register(name, compared(*kind, bits, first, second));
+            }
+            Op::Select {
+                condition_type,
+                condition,
+                written,
+                chosen,
+                other,
+            } => {
+                let condition = value_of(&scene, *condition_type, condition);
+                let (chosen, other) = (
+                    value_of(&scene, *written, chosen),
+                    value_of(&scene, *written, other),
+                );
+                self.set_register(name, selected(condition, chosen, other));
             }
             Op::Call {
                 callee,
                 arguments,
                 ..
-            } => self.after_call(
-                of_module,
-                function,
-                slots,
-                name,
-                arguments.as_slice(),
-                *callee,
-                answer,
-            ),
+            } => {
+                self.after_call(
+                    program,
+                    function,
+                    slots,
+                    name,
+                    arguments.as_slice(),
+                    *callee,
+                    answer,
+                );
+            }
             _ => {}
         }
     }
 
     fn after_call(
         &mut self,
-        of_module: &Module,
+        program: &Program,
         function: &Function,
         slots: &Slots,
         name: Option<ValueId>,
@@ -90,91 +184,60 @@ impl Frame {
         callee: SymbolId,
         answer: Answer,
     )
-        ensures { self.new ≡ after_call of_module.now function.now slots.now name arguments.now (runtime_called of_module.now callee) answer self.old }
+        ensures { let m = program.now.of_module in self.new ≡ after_call m function.now slots.now name arguments.now (runtime_called m callee) answer self.old }
     {
-        match runtime_called(of_module, callee) {
+        match runtime_called(program.module(), callee) {
             Some(Runtime::Alloc) => {
-                self.set_register(
-                    name,
-                    alloc_value(layout_of_call(of_module, arguments), answer),
-                );
+                let layout = layout_of_call(program.module(), arguments);
+                self.set_register(name, alloc_value(layout, answer));
             }
             Some(Runtime::GcRoot) => {
-                self.set_slot(root_of_call(function, slots, arguments), Value::Null);
+                let slot = root_of_call(&self.scene(program, function, slots), arguments);
+                self.set_slot(slot, Value::Null);
             }
             _ => {}
         }
     }
 
-    fn value_of(&self, operand: Operand) -> Value
-        ensures { result ≡ value_of self.now.registers operand }
+    /// The frame enters a block: its phis take the values of their entries for the block that it leaves.
+    pub fn enter(
+        &mut self,
+        of_module: &Module,
+        function: &Function,
+        block: BlockId,
+        phi_values: &mut Items<Value>,
+    )
+        requires { length (phis_of (slice_get function.now.blocks block)) ≤ length phi_values.now }
+        ensures frame { self.new ≡ enter of_module.now function.now self.old.block block (phis_of (slice_get function.now.blocks block)) self.old }
+        ensures room { length phi_values.new ≡ length phi_values.old }
     {
-        value_of(self.registers.as_slice(), operand)
+        let phis = phis_of(function, block);
+        take_values(
+            of_module,
+            function,
+            self.registers.as_slice(),
+            self.block,
+            phis,
+            phi_values,
+        );
+        put_values(phis, phi_values.as_slice(), &mut self.registers);
+        self.block = block.number() as usize;
+        self.place = phis.len();
     }
 
-    fn loaded_from(&self, slot: Option<SlotId>) -> Value
-        ensures { result ≡ loaded_from self.now.slots slot }
-    {
-        match slot {
-            Some(slot) => match self.slots.get(slot.number()) {
-                Some(value) => *value,
-                None => Value::Unset,
-            },
-            None => Value::Unset,
-        }
-    }
-
+    /// A value is put into a register, if there is a name.
     fn set_register(&mut self, name: Option<ValueId>, value: Value)
         ensures { self.new ≡ set_register name value self.old }
     {
-        if let Some(name) = name {
-            let at = name.number() as usize;
-            if at < self.registers.len() {
-                self.registers.set(at, value);
-            }
-        }
+        put_register(&mut self.registers, name, value);
     }
 
     fn set_slot(&mut self, slot: Option<SlotId>, value: Value)
         ensures { self.new ≡ set_slot slot value self.old }
     {
         if let Some(slot) = slot {
-            if slot.number() < self.slots.len() {
-                self.slots.set(slot.number(), value);
-            }
+            put_at(&mut self.slots, slot.number(), value);
         }
-    }
-}
-
-fn layout_of_call(of_module: &Module, arguments: &[Argument]) -> Option<LayoutId>
-    ensures { result ≡ layout_of_call of_module.now arguments.now }
-{
-    match arguments {
-        [argument, ..] => layout_named(of_module, argument.operand),
-        [] => None,
-    }
-}
-
-fn root_of_call(function: &Function, slots: &Slots, arguments: &[Argument]) -> Option<SlotId>
-    ensures { result ≡ root_of_call function.now slots.now arguments.now }
-{
-    match arguments {
-        [argument, ..] => slot_at_place(function, slots, argument.written, argument.operand),
-        [] => None,
-    }
-}
-
-/// What an alloc of this layout gives.
-fn alloc_value(layout: Option<LayoutId>, answer: Answer) -> Value
-    ensures { result ≡ alloc_value layout answer }
-{
-    match answer {
-        Answer::Done => Value::Unset,
-        Answer::Null => Value::Null,
-        Answer::Claimed(at) => match layout {
-            Some(layout) => Value::Cell(layout, at),
-            None => Value::Unset,
-        },
     }
 }
 
@@ -189,8 +252,60 @@ pub fn initial(of_module: &Module, held: TypeId) -> Value
     }
 }
 
-pub fn is_return(op: &Op) -> bool
-    ensures { result ≡ is_return op.now }
+/// A value is put into a register.
+pub fn put(registers: &mut Items<Value>, name: ValueId, value: Value)
+    ensures { registers.new ≡ slice_set registers.old name value }
 {
-    matches!(op, Op::ReturnVoid | Op::Return(_))
+    put_at(registers, name.number() as usize, value);
+}
+
+/// A value is put in the place of another; past the end nothing is put.
+fn put_at(values: &mut Items<Value>, at: usize, value: Value)
+    ensures { values.new ≡ slice_set values.old at value }
+{
+    if at >= values.len() {
+        return;
+    }
+    // Both arms do the same. The first names the place: the prover has to see its type where it sets a value.
+    match value {
+        Value::Address(place) => values.set(at, Value::Address(place)),
+        value => values.set(at, value),
+    }
+}
+
+/// A value is put into a register, if there is a name.
+fn put_register(registers: &mut Items<Value>, name: Option<ValueId>, value: Value)
+    ensures { registers.new ≡ put_register name value registers.old }
+{
+    if let Some(name) = name {
+        put(registers, name, value);
+    }
+}
+
+/// The values of some phis, each by the registers as they stand, are kept in order.
+fn take_values(
+    of_module: &Module,
+    function: &Function,
+    registers: &[Value],
+    from: usize,
+    phis: &[Instr],
+    values: &mut Items<Value>,
+)
+    requires { length phis.now ≤ length values.now }
+    ensures values { take (length phis.now) values.new ≡ map (λ phi. phi_value of_module.now function.now registers.now from phi.op) phis.now }
+    ensures room { length values.new ≡ length values.old }
+{
+    for place in 0..phis.len() {
+        let value = phi_value(of_module, function, registers, from, &phis[place].op);
+        put_at(values, place, value);
+    }
+}
+
+/// Each phi takes its value.
+fn put_values(phis: &[Instr], values: &[Value], registers: &mut Items<Value>)
+    ensures { registers.new ≡ put_each phis.now values.now registers.old }
+{
+    for (phi, value) in phis.iter().zip(values.iter()) {
+        put_register(registers, phi.result, *value);
+    }
 }

@@ -3,11 +3,20 @@
 
 mod action;
 mod asks;
+mod calls;
+mod casts;
+mod elements;
 mod frame;
+mod integers;
+mod jumps;
 mod kinds;
+mod moves;
+mod operands;
+mod results;
+mod scene;
 mod thread;
 mod value;
 
 pub use action::{Action, Answer};
 pub use thread::{StartFault, Thread};
-pub use value::{Reference, Value};
+pub use value::{Place, Reference, Value};

@@ -7,6 +7,19 @@ pub struct Reference {
     pub birth: u64,
 }
 
+/// Where an address leads.
+#[derive(Clone, Copy, Debug, PartialEq, Eq)]
+pub enum Place {
+    /// The address was taken from null: it leads to no word.
+    OfNull,
+    /// A word of a cell of this layout.
+    Word {
+        layout: LayoutId,
+        at: Reference,
+        word: u32,
+    },
+}
+
 /// What a register or a slot holds.
 #[derive(Clone, Copy, Debug, PartialEq, Eq)]
 pub enum Value {
@@ -16,4 +29,5 @@ pub enum Value {
     Null,
     /// A reference to a cell of this layout.
     Cell(LayoutId, Reference),
+    Address(Place),
 }

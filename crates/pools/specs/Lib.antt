@@ -1,3 +1,4 @@
 pub mod Layouts
 pub mod Heap
 pub mod Pools
+pub mod WordSets

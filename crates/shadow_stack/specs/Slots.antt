@@ -3,15 +3,15 @@ use Rattle.std.specs.Prelude.{◌≡◌, ℕ, zero, suc, nat_eq, Bool, false, if
 use Rattle.std.specs.List.{list_any}
 use Rattle.ir_ast.specs.declared.block.Block.{Block}
 use Rattle.ir_ast.specs.declared.function.Function.{Function}
-use Rattle.ir_ast.specs.declared.instr.Argument.{Argument}
 use Rattle.ir_ast.specs.declared.instr.Instr.{Instr}
-use Rattle.ir_ast.specs.declared.instr.Op.{Op}
-use Rattle.ir_ast.specs.declared.instr.Op.TheVariants.{Alloca, Bitcast, Load, Store, Call, ReturnVoid, Return}
 use Rattle.ir_ast.specs.declared.module.Module.{Module}
+use Rattle.ir_ast.specs.declared.op.Argument.{Argument}
+use Rattle.ir_ast.specs.declared.op.Op.{Op}
+use Rattle.ir_ast.specs.declared.op.Op.TheVariants.{Alloca, Bitcast, Call}
 use Rattle.ir_ast.specs.declared.operand.Operand.{Operand}
-use Rattle.ir_ast.specs.declared.operand.Operand.TheVariants.{Constant, Local, Global}
+use Rattle.ir_ast.specs.declared.operand.Operand.TheVariants.{Local}
 use Rattle.ir_ast.specs.declared.runtime.Runtime.{Runtime}
-use Rattle.ir_ast.specs.declared.runtime.Runtime.TheVariants.{Alloc, Safepoint, GcRoot, GcRead, GcWrite}
+use Rattle.ir_ast.specs.declared.runtime.Runtime.TheVariants.{GcRoot}
 use Rattle.shadow_stack.specs.declared.draft.Origin.{Origin}
 use Rattle.shadow_stack.specs.declared.draft.Origin.TheVariants.{Nowhere, Slot, Same}
 use Rattle.shadow_stack.specs.declared.draft.Draft.{Draft}
@@ -43,19 +43,14 @@ put (Some value) origin origins = slice_set origins value origin
 
 -- a bitcast is what its operand is
 abbrev pub origin_of : Operand → Origin
-origin_of (Constant c) = Nowhere
 origin_of (Local value) = Same value
-origin_of (Global symbol) = Nowhere
+origin_of _ = Nowhere
 
 -- with what an instruction defines: an alloca a new slot, a bitcast another name
 abbrev pub noted_op : (name : Option ℕ) → Op → Draft → Draft
 noted_op name (Alloca held) draft = record { origins = put name (Slot (length draft.held)) draft.origins; held = draft.held ++ held ∷ [] }
 noted_op name (Bitcast from operand to) draft = record { origins = put name (origin_of operand) draft.origins; held = draft.held }
-noted_op name (Load loaded place_type place) draft = draft
-noted_op name (Store stored value place_type place) draft = draft
-noted_op name (Call returned callee arguments) draft = draft
-noted_op name ReturnVoid draft = draft
-noted_op name (Return argument) draft = draft
+noted_op name _ draft = draft
 
 abbrev pub noted : List Instr → Draft → Draft
 noted [] draft = draft
@@ -105,9 +100,8 @@ is_reference_held m (Some held) = is_some (referenced_layout m held)
 
 -- the slot that is an operand
 abbrev pub operand_slot : List (Option ℕ) → Operand → Option ℕ
-operand_slot names (Constant c) = None
 operand_slot names (Local value) = unwrap_or (slice_get names value) None
-operand_slot names (Global symbol) = None
+operand_slot names _ = None
 
 abbrev pub first_slot : List (Option ℕ) → List Argument → Option ℕ
 first_slot names [] = None
@@ -115,21 +109,12 @@ first_slot names (argument ∷ arguments) = operand_slot names argument.operand
 
 -- the slot that a call names as a root
 abbrev pub slot_rooted : List (Option ℕ) → List Argument → Option Runtime → Option ℕ
-slot_rooted names arguments None = None
-slot_rooted names arguments (Some Alloc) = None
-slot_rooted names arguments (Some Safepoint) = None
 slot_rooted names arguments (Some GcRoot) = first_slot names arguments
-slot_rooted names arguments (Some GcRead) = None
-slot_rooted names arguments (Some GcWrite) = None
+slot_rooted names arguments _ = None
 
 abbrev pub slot_rooted_by : Module → List (Option ℕ) → Op → Option ℕ
-slot_rooted_by m names (Alloca held) = None
-slot_rooted_by m names (Bitcast from operand to) = None
-slot_rooted_by m names (Load loaded place_type place) = None
-slot_rooted_by m names (Store stored value place_type place) = None
 slot_rooted_by m names (Call returned callee arguments) = slot_rooted names arguments (runtime_called m callee)
-slot_rooted_by m names ReturnVoid = None
-slot_rooted_by m names (Return argument) = None
+slot_rooted_by m names _ = None
 
 -- with a slot that is named as a root, where it is of reference type and new
 abbrev pub with_root : Module → (held : List ℕ) → Option ℕ → (roots : List ℕ) → List ℕ

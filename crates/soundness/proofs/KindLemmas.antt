@@ -1,18 +1,16 @@
 -- The kinds of types as the rules and as the machine see them are one.
-use Rattle.std.proofs.Common.{◌≡◌, ℕ, Bool, true, false, Option, Some, None, is_some, refl, sym, ap, ◌∙◌, slice_get}
+use Rattle.std.proofs.Common.{◌≡◌, ℕ, Bool, true, false, Option, Some, None, is_some, refl, sym, ap, ◌∙◌, subst, slice_get}
 use Rattle.std.specs.Prelude.{◌==◌, ◌||◌, ◌&&◌, if◌then◌else◌}
-use Rattle.ir_ast.specs.declared.function.LocalSort.{LocalSort}
-use Rattle.ir_ast.specs.declared.function.LocalSort.TheVariants as sort
 use Rattle.ir_ast.specs.declared.ir_type.IrType.{IrType}
-use Rattle.ir_ast.specs.declared.ir_type.IrType.TheVariants.{Void, Integer, Pointer, Named}
+use Rattle.ir_ast.specs.declared.ir_type.IrType.TheVariants.{Void, Integer, Pointer, Array, EmptyStruct, Struct, Named}
 use Rattle.ir_ast.specs.declared.module.Module.{Module}
 use Rattle.ir_ast.specs.declared.operand.Constant.{Constant}
 use Rattle.ir_ast.specs.declared.operand.Constant.TheVariants as constant
 use Rattle.types.specs.References.{pointee, struct_named, referenced_layout}
-use Rattle.block_check.specs.declared.type_kind.TypeKind.{TypeKind}
-use Rattle.block_check.specs.declared.type_kind.TypeKind.TheVariants.{NoValue, Bits, Reference, AnyReference, Address, Other}
-use Rattle.block_check.specs.TypeKinds.{kind_in, kind_of, kind_at, place_kind, pointer_kind, struct_pointer, is_void, is_bits, is_any_reference, is_integer, is_pointer, may_be_reference}
-use Rattle.block_check.specs.Operands.{is_sort_of, constant_fits, layout_of_kind}
+use Rattle.block_rules.specs.declared.type_kind.TypeKind.{TypeKind}
+use Rattle.block_rules.specs.declared.type_kind.TypeKind.TheVariants.{NoValue, Bits, Reference, AnyReference, Address, Other}
+use Rattle.block_rules.specs.TypeKinds.{kind_in, kind_of, kind_at, place_kind, pointer_kind, struct_pointer, is_void, is_bits, is_any_reference, is_integer, is_pointer, may_be_reference, layout_of_kind}
+use Rattle.block_rules.specs.Operands.{constant_fits, fits_bits}
 use Rattle.machine.specs.Kinds as k
 
 module _ (m : Module) where
@@ -41,6 +39,9 @@ module _ (m : Module) where
   is_kind (Some Void) = tt
   is_kind (Some (Integer bits)) = byte_kind (bits == 8)
   is_kind (Some (Pointer part)) = tt
+  is_kind (Some (Array length part)) = tt
+  is_kind (Some EmptyStruct) = tt
+  is_kind (Some (Struct first rest)) = tt
   is_kind (Some (Named name)) = struct_kind (struct_named m name)
 
   no_integer : (x : TypeKind) → IsPointerKind x → is_integer x ≡ false
@@ -86,6 +87,9 @@ module _ (m : Module) where
     by (Some Void) = refl
     by (Some (Integer bits)) = refl
     by (Some (Pointer part)) = no_integer (pointer_kind m (slice_get m.types part)) (is_kind (slice_get m.types part))
+    by (Some (Array length part)) = refl
+    by (Some EmptyStruct) = refl
+    by (Some (Struct first rest)) = refl
     by (Some (Named name)) = refl
 
   pub bits_same : (n w : ℕ) → is_bits n (kind_of m w) ≡ k.is_integer_of n (slice_get m.types w)
@@ -95,6 +99,9 @@ module _ (m : Module) where
     by (Some Void) = refl
     by (Some (Integer bits)) = refl
     by (Some (Pointer part)) = no_bits n (pointer_kind m (slice_get m.types part)) (is_kind (slice_get m.types part))
+    by (Some (Array length part)) = refl
+    by (Some EmptyStruct) = refl
+    by (Some (Struct first rest)) = refl
     by (Some (Named name)) = refl
 
   pub void_same : (w : ℕ) → is_void (kind_of m w) ≡ k.is_void (slice_get m.types w)
@@ -104,6 +111,9 @@ module _ (m : Module) where
     by (Some Void) = refl
     by (Some (Integer bits)) = refl
     by (Some (Pointer part)) = no_void (pointer_kind m (slice_get m.types part)) (is_kind (slice_get m.types part))
+    by (Some (Array length part)) = refl
+    by (Some EmptyStruct) = refl
+    by (Some (Struct first rest)) = refl
     by (Some (Named name)) = refl
 
   pub pointer_same : (w : ℕ) → is_pointer (kind_of m w) ≡ is_some (pointee m w)
@@ -113,6 +123,9 @@ module _ (m : Module) where
     by (Some Void) = refl
     by (Some (Integer bits)) = refl
     by (Some (Pointer part)) = a_pointer (pointer_kind m (slice_get m.types part)) (is_kind (slice_get m.types part))
+    by (Some (Array length part)) = refl
+    by (Some EmptyStruct) = refl
+    by (Some (Struct first rest)) = refl
     by (Some (Named name)) = refl
 
   byte_or_not : (b : Bool) → is_any_reference (if b then AnyReference else Address) ≡ b
@@ -130,6 +143,9 @@ module _ (m : Module) where
     inner (Some Void) = refl
     inner (Some (Integer bits)) = byte_or_not (bits == 8)
     inner (Some (Pointer part)) = refl
+    inner (Some (Array length part)) = refl
+    inner (Some EmptyStruct) = refl
+    inner (Some (Struct first rest)) = refl
     inner (Some (Named name)) = struct_not_byte (struct_named m name)
 
     by : (o : Option IrType) → is_any_reference (kind_in m o) ≡ k.leads_to (λ part. k.is_integer_of 8 (slice_get m.types part)) (Rattle.types.specs.References.part_of_pointer o)
@@ -137,6 +153,9 @@ module _ (m : Module) where
     by (Some Void) = refl
     by (Some (Integer bits)) = refl
     by (Some (Pointer part)) = inner (slice_get m.types part)
+    by (Some (Array length part)) = refl
+    by (Some EmptyStruct) = refl
+    by (Some (Struct first rest)) = refl
     by (Some (Named name)) = refl
 
   no_layout : (b : Bool) → layout_of_kind (if b then AnyReference else Address) ≡ None
@@ -154,6 +173,9 @@ module _ (m : Module) where
     inner (Some Void) = refl
     inner (Some (Integer bits)) = no_layout (bits == 8)
     inner (Some (Pointer part)) = refl
+    inner (Some (Array length part)) = refl
+    inner (Some EmptyStruct) = refl
+    inner (Some (Struct first rest)) = refl
     inner (Some (Named name)) = struct_layout (struct_named m name)
 
     by : (o : Option IrType) → layout_of_kind (kind_in m o) ≡ Rattle.types.specs.References.layout_behind m (Rattle.types.specs.References.part_of_pointer o)
@@ -161,6 +183,9 @@ module _ (m : Module) where
     by (Some Void) = refl
     by (Some (Integer bits)) = refl
     by (Some (Pointer part)) = inner (slice_get m.types part)
+    by (Some (Array length part)) = refl
+    by (Some EmptyStruct) = refl
+    by (Some (Struct first rest)) = refl
     by (Some (Named name)) = refl
 
   refers : (x : TypeKind) → may_be_reference x ≡ (is_some (layout_of_kind x) || is_any_reference x)
@@ -186,14 +211,30 @@ module _ (m : Module) where
     by None = refl
     by (Some part) = refers_same part
 
-  pub constant_same : (w : ℕ) (c : Constant) → constant_fits c (kind_of m w) ≡ k.constant_fits m w c
-  constant_same w (constant.Number n) = integer_same w
-  constant_same w (constant.Truth b) = refl
-  constant_same w constant.Null = pointer_same w
+  integer_bits : (n : ℕ) (x : TypeKind) → fits_bits n x ≡ true → is_integer x ≡ true
+  integer_bits n NoValue e = absurd cc
+  integer_bits n (Bits bits) e = refl
+  integer_bits n (Reference layout) e = absurd cc
+  integer_bits n AnyReference e = absurd cc
+  integer_bits n Address e = absurd cc
+  integer_bits n Other e = absurd cc
 
--- the type that the text gives a local name
-pub sort_same : (w : ℕ) (o : Option LocalSort) → is_sort_of w o ≡ k.is_value_of w o
-sort_same w None = refl
-sort_same w (Some sort.Unknown) = refl
-sort_same w (Some (sort.Value t)) = refl
-sort_same w (Some (sort.Block b)) = refl
+  -- a constant that the rules let stand at a type fits it
+  pub constant_passes : (w : ℕ) (c : Constant) → constant_fits c (kind_of m w) ≡ true → k.constant_fits m w c ≡ true
+  constant_passes w (constant.Number n) e = sym (integer_same w) ∙ integer_bits n (kind_of m w) e
+  constant_passes w (constant.Truth b) e = absurd cc
+  constant_passes w constant.Null e = sym (pointer_same w) ∙ e
+
+  -- the bits of an integer type
+  pub bits_are : (w n : ℕ) → kind_of m w ≡ Bits n → k.bits_at m w ≡ n
+  unfolding IsPointerKind
+  bits_are w n e = by (slice_get m.types w) e where
+    by : (o : Option IrType) → kind_in m o ≡ Bits n → k.bits_of o ≡ n
+    by None e = absurd cc
+    by (Some Void) e = absurd cc
+    by (Some (Integer bits)) e = cc
+    by (Some (Pointer part)) e = absurd (subst IsPointerKind e (is_kind (slice_get m.types part)))
+    by (Some (Array length part)) e = absurd cc
+    by (Some EmptyStruct) e = absurd cc
+    by (Some (Struct first rest)) e = absurd cc
+    by (Some (Named name)) e = absurd cc

@@ -1,245 +1,325 @@
--- Loads and stores.
-use Rattle.std.proofs.Common.{◌≡◌, ◌≢◌, ℕ, zero, suc, ◌+◌, ◌<◌, List, [], ◌∷◌, ◌++◌, length, refl, sym, ap, ◌∙◌, subst, arith, true, false, Bool, Option, Some, None, is_some, is_none, slice_set, slice_get}
-use Rattle.std.specs.Prelude.{◌==◌, ◌||◌, ◌&&◌, not, if◌then◌else◌}
+-- Loads from slots, and stores to slots.
+use Rattle.std.proofs.Common.{◌≡◌, ◌≢◌, ℕ, ◌<◌, List, [], ◌∷◌, length, refl, sym, ap, ◌∙◌, subst, arith, true, false, Bool, Option, Some, None, slice_set, slice_get}
+use Rattle.std.specs.Prelude.{◌==◌, ◌||◌, ◌&&◌, not, is_some, if◌then◌else◌}
 use Rattle.std.proofs.lemmas.List.{length-set}
 use Rattle.ir_ast.specs.declared.function.Function.{Function}
-use Rattle.ir_ast.specs.declared.module.Module.{Module}
+use Rattle.ir_ast.specs.declared.op.Op.TheVariants.{Load, Store}
 use Rattle.ir_ast.specs.declared.operand.Constant.{Constant}
 use Rattle.ir_ast.specs.declared.operand.Constant.TheVariants as constant
 use Rattle.ir_ast.specs.declared.operand.Operand.{Operand}
 use Rattle.ir_ast.specs.declared.operand.Operand.TheVariants as operand
-use Rattle.types.specs.References.{pointee, referenced_layout}
-use Rattle.shadow_stack.specs.Slots.{SlotTable, slot_of, held_type, operand_slot}
-use Rattle.block_check.specs.declared.known.Class.{Class}
-use Rattle.block_check.specs.declared.known.Age.TheVariants.{Held}
-use Rattle.block_check.specs.declared.known.Known.{Known}
-use Rattle.block_check.specs.declared.known.Known.TheVariants.{Nothing, Number, Cell}
-use Rattle.block_check.specs.declared.type_kind.TypeKind.{TypeKind}
-use Rattle.block_check.specs.declared.type_kind.TypeKind.TheVariants.{NoValue, Bits, Reference, AnyReference, Address, Other}
-use Rattle.block_check.specs.Facts.{FactSet, known_at, slot_at, class_at, forget, define, define_new, end_slot, clear_slot, drop_held, set_slot, hold, store_slot, load_slot, load_held, learn_nonnull}
-use Rattle.block_check.specs.Operands as o
-use Rattle.block_check.specs.TypeKinds.{kind_of, kind_at, place_kind, is_bits, is_integer, is_pointer, is_any_reference, may_be_reference}
-use Rattle.block_check.specs.Rules.{after_alloca, after_alloca_of, cast_number, cast_null, cast_constant, cast_local, after_cast, load_kind, load_held_type, after_load, after_store}
+use Rattle.pools.specs.Heap.{Setup}
+use Rattle.layout.specs.Layouts.{LaidOut}
+use Rattle.types.specs.References.{referenced_layout}
+use Rattle.types.specs.ValueTypes.{has_type}
+use Rattle.shadow_stack.specs.Slots.{SlotTable, slot_of, held_type}
+use Rattle.facts.specs.declared.known.Class.{Class}
+use Rattle.facts.specs.declared.known.Known.{Known}
+use Rattle.facts.specs.declared.known.Known.TheVariants.{Nothing, Number, Cell, Null, Address, GlobalAddress}
+use Rattle.facts.specs.declared.known.SlotFact.{SlotFact}
+use Rattle.facts.specs.Facts.{FactSet, known_at, slot_at, class_at, lost_class, holds_class, forget, set_known, add_class, learn_nonnull, load_held, load_slot, hold, clear_slot, store_slot}
+use Rattle.block_rules.specs.declared.type_kind.TypeKind.{TypeKind}
+use Rattle.block_rules.specs.declared.type_kind.TypeKind.TheVariants.{NoValue, Bits, Reference, AnyReference, Address as AddressKind, Other}
+use Rattle.block_rules.specs.Operands as o
+use Rattle.block_rules.specs.Places as r
+use Rattle.block_rules.specs.Rules.{after_op}
+use Rattle.block_rules.specs.TypeKinds.{kind_of, is_integer, is_pointer, is_any_reference, layout_of_kind}
 use Rattle.machine.specs.declared.value.Value.{Value}
 use Rattle.machine.specs.declared.value.Value.TheVariants as value
 use Rattle.machine.specs.declared.frame.Frame.{Frame}
-use Rattle.machine.specs.declared.action.Action.{Action}
-use Rattle.machine.specs.declared.action.Action.TheVariants.{Local, Alloc, End, Wrong}
-use Rattle.machine.specs.declared.action.Answer.{Answer}
-use Rattle.machine.specs.declared.action.Answer.TheVariants as answer
+use Rattle.machine.specs.Asks as a
 use Rattle.machine.specs.Kinds as k
-use Rattle.machine.specs.Kinds.{register_at, fits_layout, fits_layout_of}
+use Rattle.machine.specs.Kinds.{register_at, bits_at, value_of, fits_layout_of}
 use Rattle.machine.specs.Machine as mc
-use Rattle.machine.specs.Log.{Log, Possible, IsNotWrong}
-use Rattle.soundness.specs.Meaning.{Cells, IsOfClass, Means, FitsKind, FitsHeld, IsHeldIn, Holds}
-use Rattle.soundness.proofs.Lists.{both, negated, either_true, other_true, equal, equal_test, turned, got_set}
-use Rattle.soundness.proofs.KindLemmas.{refers_same, layout_same, bytes_same, leads_same, constant_same, sort_same}
-use Rattle.soundness.proofs.Keep.{forget_keeps, put_keeps, class_keeps, fact_keeps, slot_keeps, class_added, extend, extend_new}
-use Rattle.soundness.proofs.Steps.{Goes, goes_local, fits_set, usable, define_keeps, typed, available, nothing_keeps}
+use Rattle.machine.specs.Machine.{slot_value}
+use Rattle.machine.specs.Log.{Log}
+use Rattle.soundness.specs.Meaning.{Cells, Guarded, IsReferenceTo, IsOwn, IsInteger, IsMember, AreApart, Means, FitsReference, FitsHeld, FitsSlot, Holds}
+use Rattle.soundness.proofs.Lists.{both, either_true, other_true, equal, equal_test, turned, got_set, longer, at_end}
+use Rattle.soundness.proofs.KindLemmas.{integer_same, layout_same, bytes_same, bits_are}
+use Rattle.soundness.proofs.Keep.{Beside, forget_keeps, put_keeps, known_within, set_cell}
+use Rattle.soundness.proofs.Change.{apart_turned, extend, extend_old, extend_new, define_plain, learn_keeps, add_keeps}
+use Rattle.soundness.proofs.SlotsKeep.{Fits, slot_keeps, fact_keeps}
+use Rattle.soundness.proofs.Steps.{Goes, goes_local, usable, integer_is, available, kind_bits}
+
+-- a slot holds a class only while some value is of it
+abbrev pub HaveMembers : FactSet → Type 0
+HaveMembers facts = (s c : ℕ) → (slot_at facts.slots s).holds ≡ Some c → (w : ℕ) × (l : ℕ) × (stale : Bool) × (known_at facts.values w ≡ Cell c l stale)
+
+different : (d c : ℕ) → d ≢ c → (d == c) ≡ false
+different d c ne = pick (d == c) refl where
+  pick : (b : Bool) → (d == c) ≡ b → (d == c) ≡ false
+  pick true e = absurd (ne (equal d c e))
+  pick false e = e
 
 -- a place that the rules take for a slot is that slot
-module _ (m : Module) (f : Function) (slots : SlotTable) where
-  pub place_is : (written p s : ℕ) → o.has_type m f written (operand.Local p) ≡ true → slot_of slots p ≡ Some s → k.slot_at_place f slots written (operand.Local p) ≡ Some s
-  place_is written p s k2 is = rw (sym (sort_same written (slice_get f.sorts p)) ∙ k2) is
+module _ (p : LaidOut) (f : Function) (table : SlotTable) where
+  pub place_is : (written v s : ℕ) → has_type p.of_module f written v ≡ true → slot_of table v ≡ Some s → k.slot_at_place p.of_module f table written (operand.Local v) ≡ Some s
+  place_is written v s k2 is = rw k2 is
 
   -- a type under which a slot is loaded or stored
-  moves_is : (written held : ℕ) → o.moves_kind (written == held) (kind_of m written) (kind_of m held) ≡ true → mc.is_slot_type m held written ≡ true
-  moves_is written held e = by (kind_of m held) refl e where
-    by : (x : TypeKind) → kind_of m held ≡ x → o.moves_kind (written == held) (kind_of m written) x ≡ true → mc.is_slot_type m held written ≡ true
+  moves_is : (written held : ℕ) → r.moves_kind (written == held) (kind_of p.of_module written) (kind_of p.of_module held) ≡ true → a.is_slot_type p.of_module held written ≡ true
+  moves_is written held e = by (kind_of p.of_module held) refl e where
+    by : (x : TypeKind) → kind_of p.of_module held ≡ x → r.moves_kind (written == held) (kind_of p.of_module written) x ≡ true → a.is_slot_type p.of_module held written ≡ true
     by NoValue is e = absurd cc
-    by (Bits bits) is e = either_true (held == written) (is_some (referenced_layout m held) && k.is_byte_pointer m written) (turned written held e)
+    by (Bits bits) is e = either_true (held == written) (is_some (referenced_layout p.of_module held) && k.is_byte_pointer p.of_module written) (turned written held e)
     by (Reference layout) is e = pick (written == held) refl e where
-      pick : (b : Bool) → (written == held) ≡ b → (b || is_any_reference (kind_of m written)) ≡ true → mc.is_slot_type m held written ≡ true
-      pick true same e = either_true (held == written) (is_some (referenced_layout m held) && k.is_byte_pointer m written) (turned written held same)
-      pick false same e = other_true (held == written) (is_some (referenced_layout m held) && k.is_byte_pointer m written)
-          (rw (sym (layout_same m held) ∙ ap o.layout_of_kind is, sym (bytes_same m written) ∙ e) refl)
+      pick : (b : Bool) → (written == held) ≡ b → (b || is_any_reference (kind_of p.of_module written)) ≡ true → a.is_slot_type p.of_module held written ≡ true
+      pick true same e = either_true (held == written) (is_some (referenced_layout p.of_module held) && k.is_byte_pointer p.of_module written) (turned written held same)
+      pick false same e = other_true (held == written) (is_some (referenced_layout p.of_module held) && k.is_byte_pointer p.of_module written)
+          (rw (sym (layout_same p.of_module held) ∙ ap layout_of_kind is, sym (bytes_same p.of_module written) ∙ e) refl)
     by AnyReference is e = absurd cc
-    by Address is e = absurd cc
+    by AddressKind is e = absurd cc
     by Other is e = absurd cc
 
-  pub held_as : (written : ℕ) (held : Option ℕ) → o.moves m written held ≡ true → mc.is_held_as m held written ≡ true
+  pub held_as : (written : ℕ) (held : Option ℕ) → r.moves p.of_module written held ≡ true → a.is_held_as p.of_module held written ≡ true
   held_as written None e = absurd cc
   held_as written (Some held) e = moves_is written held e
 
-  -- a value that a slot of this kind may hold fits the slot's type
-  pub kind_fits : (held : ℕ) (v : Value) → o.moves_kind true (kind_of m held) (kind_of m held) ≡ true → FitsKind (kind_of m held) v → mc.fits_type m held v ≡ true
-  kind_fits held v e fits = ap (λ x. fits_layout_of x v) (sym (layout_same m held)) ∙ by (kind_of m held) e fits where
-    by : (x : TypeKind) → o.moves_kind true x x ≡ true → FitsKind x v → fits_layout_of (o.layout_of_kind x) v ≡ true
-    by NoValue e fits = absurd cc
-    by (Bits bits) e fits = refl
-    by (Reference layout) e fits = fits
-    by AnyReference e fits = absurd cc
-    by Address e fits = absurd cc
-    by Other e fits = absurd cc
-
-module _ (m : Module) (f : Function) (slots : SlotTable) (cells : Cells) (facts : FactSet) (frame : Frame) (h : Holds m slots cells facts frame.registers frame.slots) where
+module _ (heap : Setup) (p : LaidOut) (f : Function) (table : SlotTable) (guarded : Guarded) (log : Log) (cells : Cells) (facts : FactSet) (frame : Frame) (h : Holds heap p table guarded log cells facts frame.registers frame.slots) where
   -- ---- loads
 
   -- the reference in a slot is of the class that the slot holds, or of a new one
-  load_reference : (v s layout : ℕ) → fits_layout layout (mc.slot_value frame.slots s) ≡ true → (more : Cells) × Holds m slots more (load_slot v s layout facts) (slice_set frame.registers v (mc.slot_value frame.slots s)) frame.slots
-  load_reference v s layout fits = by (slot_at (forget v facts).slots s).holds (slot_at (forget v facts).slots s).nonnull (rest.slot_facts s) where
-    new : Value
-    new = mc.slot_value frame.slots s
+  module _ (v s layout : ℕ) (members : HaveMembers (forget v facts)) (refers : IsReferenceTo heap layout (slot_value frame.slots s)) (own : IsOwn log guarded (slot_value frame.slots s)) where
+    abbrev new : Value
+    new = slot_value frame.slots s
 
-    rest : Holds m slots cells (forget v facts) (slice_set frame.registers v new) frame.slots
-    rest = forget_keeps m slots cells facts frame.registers frame.slots v new h
+    abbrev rest : FactSet
+    rest = forget v facts
 
-    here : v < length (slice_set frame.registers v new) → register_at (slice_set frame.registers v new) v ≡ new
-    here lt = got_set frame.registers v new value.Unset (omega (arith, length-set frame.registers v new))
+    abbrev there : List Value
+    there = slice_set frame.registers v new
 
-    by : (holds : Option ℕ) (nonnull : Bool) → IsHeldIn cells (length facts.classes) holds new → (more : Cells) × Holds m slots more (load_held v s layout nonnull holds (forget v facts)) (slice_set frame.registers v new) frame.slots
-    by (Some c) nonnull held = (
-      cells,
-      let put = put_keeps m slots cells (forget v facts) (slice_set frame.registers v new) frame.slots v (Cell c) new rest here held in
-          class_keeps m slots cells (record (forget v facts) { values = slice_set (forget v facts).values v (Cell c) }) (slice_set frame.registers v new) frame.slots c _ refl put,
-    )
-    by None nonnull held =
-        let next = length facts.classes in
-        let class : Class = record { layout = layout; nonnull = nonnull; age = Held } in
-        let more = extend cells next new in
-        let longer = Rattle.soundness.proofs.Lists.longer facts.classes class in
-        let grown = class_added m slots cells (forget v facts) (slice_set frame.registers v new) frame.slots class new fits rest in
-        let of_new : IsOfClass more (length (facts.classes ++ class ∷ [])) next new = (sym (extend_new cells next new), omega (arith, longer)) in
-        let put = put_keeps m slots more (record (forget v facts) { classes = facts.classes ++ class ∷ [] }) (slice_set frame.registers v new) frame.slots v (Cell next) new grown here of_new in
-        (more, fact_keeps m slots more (record (forget v facts) { classes = facts.classes ++ class ∷ []; values = slice_set (forget v facts).values v (Cell next) }) (slice_set frame.registers v new) frame.slots s _ of_new put)
+    kept : Holds heap p table guarded log cells rest there frame.slots
+    kept = forget_keeps heap p table guarded log cells facts frame.registers frame.slots v new h
 
-  load_of_kind : (v s : ℕ) (x : TypeKind) → FitsKind x (mc.slot_value frame.slots s) → (more : Cells) × Holds m slots more (load_kind v s x facts) (slice_set frame.registers v (mc.slot_value frame.slots s)) frame.slots
-  load_of_kind v s NoValue fits = (cells, define_keeps m f slots cells facts frame h v Nothing _ tt)
-  load_of_kind v s (Bits bits) fits = (cells, define_keeps m f slots cells facts frame h v (Number bits) _ fits)
-  load_of_kind v s (Reference layout) fits = load_reference v s layout fits
-  load_of_kind v s AnyReference fits = (cells, define_keeps m f slots cells facts frame h v Nothing _ tt)
-  load_of_kind v s Address fits = (cells, define_keeps m f slots cells facts frame h v Nothing _ tt)
-  load_of_kind v s Other fits = (cells, define_keeps m f slots cells facts frame h v Nothing _ tt)
+    here : v < length there → register_at there v ≡ new
+    here lt = got_set frame.registers v new value.Unset (omega (arith, lt, length-set frame.registers v new))
 
-  load_of_type : (v s : ℕ) (held : Option ℕ) → FitsHeld m held (mc.slot_value frame.slots s) → (more : Cells) × Holds m slots more (load_held_type m v s held facts) (slice_set frame.registers v (mc.slot_value frame.slots s)) frame.slots
-  load_of_type v s None fits = (cells, define_keeps m f slots cells facts frame h v Nothing _ tt)
-  load_of_type v s (Some held) fits = load_of_kind v s (kind_of m held) fits
+    joins : (c : ℕ) → (slot_at rest.slots s).holds ≡ Some c → Holds heap p table guarded log cells (set_known v (Cell c layout false) rest) there frame.slots
+    joins c is = put_keeps heap p table guarded log cells rest there frame.slots kept v (Cell c layout false)
+        (λ lt. subst (IsMember heap guarded log cells (length rest.classes) c layout false) (sym (here lt)) (record { is = held.0; within = held.1; refers = refers; own = λ e. own }))
+        (record {
+          fresh_here = λ d l st e fr w b m is2 ne. let same : c ≡ d = cc in kept.alone u.0 w d b u.1 m u.2 (u.3 ∙ ap (λ x. Cell x u.1 u.2) same) is2 fr ne;
+          fresh_there = λ b m e w d l st is2 fr ne. let same : c ≡ b = cc in
+              subst (AreApart (cells d)) (held.0 ∙ ap cells same) (kept.alone_in_slots w s d l st is2 fr (ap (holds_class d) is ∙ different c d (λ z. ne (sym z ∙ same))));
+          fresh_slots = λ d l st e fr t out. let same : c ≡ d = cc in kept.alone_in_slots u.0 t d u.1 u.2 (u.3 ∙ ap (λ x. Cell x u.1 u.2) same) fr out;
+        }) where
+          held : (new ≡ cells c) × (c < length rest.classes)
+          held = (kept.slot_facts s).holds c is
 
-  abbrev pub after_named_load : (result : Option ℕ) → (slot : Option ℕ) → FactSet
-  after_named_load None slot = facts
-  after_named_load (Some v) slot = after_load m slots v slot facts
+          u : (w : ℕ) × (l : ℕ) × (stale : Bool) × (known_at rest.values w ≡ Cell c l stale)
+          u = members s c is
 
-  loaded_keeps : (result : Option ℕ) (s : ℕ) → (more : Cells) × Holds m slots more (after_named_load result (Some s)) (mc.set_register result (mc.slot_value frame.slots s) frame).registers (mc.set_register result (mc.slot_value frame.slots s) frame).slots
-  loaded_keeps None s = (cells, h)
-  loaded_keeps (Some v) s = load_of_type v s (held_type slots s) (h.slot_types s)
+    -- the class of a slot that holds none
+    abbrev class_of : (nonnull : Bool) → Class
+    class_of nonnull = record { nonnull = nonnull; fresh = false }
 
-  abbrev pub load_action : (loaded place_type : ℕ) → Operand → Action
-  load_action loaded place_type x = mc.load_action m slots loaded (k.slot_at_place f slots place_type x)
+    abbrev more : Cells
+    more = extend cells (length rest.classes) new
 
-  abbrev pub behind_load : (result : Option ℕ) → (place_type : ℕ) → Operand → Answer → Frame
-  behind_load result place_type x given = mc.set_register result (mc.loaded_from frame.slots (k.slot_at_place f slots place_type x)) frame
+    begins : (nonnull : Bool) → (nonnull ≡ true → new ≢ value.Null) → Holds heap p table guarded log more (add_class (class_of nonnull) rest) there frame.slots
+    begins nonnull known = add_keeps heap p table guarded log cells rest there frame.slots kept (class_of nonnull) new (record { nonnull = known; fresh = λ z. absurd cc })
 
-  pub load_goes : (result : Option ℕ) (loaded place_type : ℕ) (x : Operand) → o.is_available slots facts x ≡ true → o.has_type m f place_type x ≡ true → o.may_load m slots facts loaded x ≡ true → not (o.is_null x) ≡ true
-      → Goes m slots (after_named_load result (o.slot_named slots x)) (load_action loaded place_type x) (behind_load result place_type x)
-  load_goes result loaded place_type (operand.Constant c) k1 k2 load k4 = absurd (let n = negated (o.is_null_constant c) k4 in cc)
-  load_goes result loaded place_type (operand.Global g) k1 k2 load k4 = absurd cc
-  load_goes result loaded place_type (operand.Local p) k1 k2 load k4 = by (slot_of slots p) refl where
-    by : (slot : Option ℕ) → slot_of slots p ≡ slot → Goes m slots (after_named_load result (slot_of slots p)) (load_action loaded place_type (operand.Local p)) (behind_load result place_type (operand.Local p))
-    by None is = absurd (let known = available m f slots cells facts frame h p is k1 in let none = negated (o.is_known (known_at facts.values p)) (rw is at load) in cc)
-    by (Some s) is =
-        subst (λ x. Goes m slots (after_named_load result (slot_of slots p)) (mc.load_action m slots loaded x) (λ given. mc.set_register result (mc.loaded_from frame.slots x) frame)) (sym (place_is m f slots place_type p s k2 is))
-        (subst (λ x. Goes m slots (after_named_load result x) (mc.load_action m slots loaded (Some s)) (λ given. mc.set_register result (mc.slot_value frame.slots s) frame)) (sym is)
-        (goes_local m slots _ _ _ (rw (held_as m f slots loaded (held_type slots s) (rw is at load)) refl) (loaded_keeps result s)))
+    no_fresh : (nonnull : Bool) → (class_at (add_class (class_of nonnull) rest).classes (length rest.classes)).fresh ≡ true → ⊥
+    no_fresh nonnull z = let e = sym (ap (λ x. x.fresh) (at_end rest.classes (class_of nonnull) lost_class)) ∙ z in absurd cc
+
+    named_so : (nonnull : Bool) → (nonnull ≡ true → new ≢ value.Null) → (slot_at rest.slots s).holds ≡ None → Holds heap p table guarded log more (set_known v (Cell (length rest.classes) layout false) (add_class (class_of nonnull) rest)) there frame.slots
+    named_so nonnull known is = put_keeps heap p table guarded log more (add_class (class_of nonnull) rest) there frame.slots (begins nonnull known) v (Cell (length rest.classes) layout false)
+        (λ lt. subst (IsMember heap guarded log more (length (add_class (class_of nonnull) rest).classes) (length rest.classes) layout false) (sym (here lt))
+        (record { is = sym (extend_new cells (length rest.classes) new); within = omega (arith, longer rest.classes (class_of nonnull)); refers = refers; own = λ e. own }))
+        (record {
+          fresh_here = λ d l st e fr. let same : length rest.classes ≡ d = cc in absurd (no_fresh nonnull (subst (λ x. (class_at (add_class (class_of nonnull) rest).classes x).fresh ≡ true) (sym same) fr));
+          fresh_there = λ b m e w d l st is2 fr ne. let same : length rest.classes ≡ b = cc in
+              subst (AreApart (more d)) (sym (extend_new cells (length rest.classes) new) ∙ ap more same) ((begins nonnull known).alone_in_slots w s d l st is2 fr (ap (holds_class d) is));
+          fresh_slots = λ d l st e fr. let same : length rest.classes ≡ d = cc in absurd (no_fresh nonnull (subst (λ x. (class_at (add_class (class_of nonnull) rest).classes x).fresh ≡ true) (sym same) fr));
+        })
+
+    held_so : (nonnull : Bool) → (nonnull ≡ true → new ≢ value.Null) → (slot_at rest.slots s).holds ≡ None
+        → Holds heap p table guarded log more (hold s (length rest.classes) (set_known v (Cell (length rest.classes) layout false) (add_class (class_of nonnull) rest))) there frame.slots
+    held_so nonnull known is = fact_keeps heap p table guarded log more (set_known v (Cell (length rest.classes) layout false) (add_class (class_of nonnull) rest)) there frame.slots (named_so nonnull known is) s _ (record {
+      means = record {
+        nonnull = λ z w. ((named_so nonnull known is).classes (length rest.classes)).nonnull z (extend_new cells (length rest.classes) new ∙ w);
+        holds = λ c e. let same : length rest.classes ≡ c = cc in (sym (extend_new cells (length rest.classes) new) ∙ ap more same, omega (arith, same, longer rest.classes (class_of nonnull)));
+      };
+      apart = λ w d l st is2 fr out. (named_so nonnull known is).alone_in_slots w s d l st is2 fr (ap (holds_class d) is);
+    })
+
+    pub reference_loaded : (more : Cells) × Holds heap p table guarded log more (load_slot v s layout facts) there frame.slots
+    reference_loaded = by (slot_at rest.slots s).holds refl where
+      nonnull : Bool
+      nonnull = (slot_at rest.slots s).nonnull
+
+      by : (holds : Option ℕ) → (slot_at rest.slots s).holds ≡ holds → (more : Cells) × Holds heap p table guarded log more (load_held v s layout nonnull holds rest) there frame.slots
+      by (Some c) is = (cells, learn_keeps heap p table guarded log cells (set_known v (Cell c layout false) rest) there frame.slots (joins c is) c nonnull (λ z w. (kept.slot_facts s).nonnull z (((kept.slot_facts s).holds c is).0 ∙ w)))
+      by None is = (more, held_so nonnull (kept.slot_facts s).nonnull is)
+
+  load_of_kind : (v s held : ℕ) (x : TypeKind) → kind_of p.of_module held ≡ x → HaveMembers (forget v facts) → FitsHeld heap p.of_module guarded log held (slot_value frame.slots s)
+      → (more : Cells) × Holds heap p table guarded log more (r.load_kind v s x facts) (slice_set frame.registers v (slot_value frame.slots s)) frame.slots
+  load_of_kind v s held (Bits bits) is members fits =
+      let i = fits.integer (sym (integer_same p.of_module held) ∙ ap is_integer is) in (
+        cells,
+        define_plain heap p table guarded log cells facts frame.registers frame.slots h v (Number bits None) (slot_value frame.slots s) (λ d l st e. cc)
+            (subst (λ b. IsInteger b None (slot_value frame.slots s)) (bits_are p.of_module held bits is) i),
+      )
+  load_of_kind v s held (Reference layout) is members fits =
+      let q = subst (λ l. FitsReference heap guarded log l (slot_value frame.slots s)) (sym (layout_same p.of_module held) ∙ ap layout_of_kind is) (fits.reference (sym (integer_same p.of_module held) ∙ ap is_integer is)) in
+      reference_loaded v s layout members q.0 q.1
+  load_of_kind v s held NoValue is members fits = (cells, define_plain heap p table guarded log cells facts frame.registers frame.slots h v Nothing (slot_value frame.slots s) (λ d l st e. cc) tt)
+  load_of_kind v s held AnyReference is members fits = (cells, define_plain heap p table guarded log cells facts frame.registers frame.slots h v Nothing (slot_value frame.slots s) (λ d l st e. cc) tt)
+  load_of_kind v s held AddressKind is members fits = (cells, define_plain heap p table guarded log cells facts frame.registers frame.slots h v Nothing (slot_value frame.slots s) (λ d l st e. cc) tt)
+  load_of_kind v s held Other is members fits = (cells, define_plain heap p table guarded log cells facts frame.registers frame.slots h v Nothing (slot_value frame.slots s) (λ d l st e. cc) tt)
+
+  load_of_type : (v s : ℕ) (held : Option ℕ) → HaveMembers (forget v facts) → FitsSlot heap p.of_module guarded log held (slot_value frame.slots s)
+      → (more : Cells) × Holds heap p table guarded log more (r.load_held_type p.of_module v s held facts) (slice_set frame.registers v (slot_value frame.slots s)) frame.slots
+  load_of_type v s None members fits = (cells, define_plain heap p table guarded log cells facts frame.registers frame.slots h v Nothing (slot_value frame.slots s) (λ d l st e. cc) tt)
+  load_of_type v s (Some held) members fits = load_of_kind v s held (kind_of p.of_module held) refl members fits
+
+  pub slot_load_goes : (result : Option ℕ) (loaded place_type u s : ℕ) → ((v : ℕ) → result ≡ Some v → HaveMembers (forget v facts)) → slot_of table u ≡ Some s → has_type p.of_module f place_type u ≡ true → r.moves p.of_module loaded (held_type table s) ≡ true
+      → Goes heap p table guarded log (after_op p table result (Load loaded place_type (operand.Local u)) facts)
+      (a.load_action p table loaded (k.slot_at_place p.of_module f table place_type (operand.Local u)) (k.address_at_place p.of_module f table frame.registers place_type (operand.Local u)))
+      (λ given. mc.set_register result (mc.loaded_from p frame.slots (k.slot_at_place p.of_module f table place_type (operand.Local u)) (k.address_at_place p.of_module f table frame.registers place_type (operand.Local u)) given) frame)
+  slot_load_goes result loaded place_type u s members is k2 moves =
+      subst (λ x. Goes heap p table guarded log (after_op p table result (Load loaded place_type (operand.Local u)) facts)
+      (a.load_action p table loaded x (k.address_at_place p.of_module f table frame.registers place_type (operand.Local u)))
+      (λ given. mc.set_register result (mc.loaded_from p frame.slots x (k.address_at_place p.of_module f table frame.registers place_type (operand.Local u)) given) frame))
+      (sym (place_is p f table place_type u s k2 is))
+      (goes_local heap p table guarded log _ _ _ (rw (held_as p f table loaded (held_type table s) moves) refl) (loaded_keeps result members)) where
+        loaded_keeps : (result : Option ℕ) → ((v : ℕ) → result ≡ Some v → HaveMembers (forget v facts))
+            → (more : Cells) × Holds heap p table guarded log more (after_op p table result (Load loaded place_type (operand.Local u)) facts) (mc.set_register result (slot_value frame.slots s) frame).registers (mc.set_register result (slot_value frame.slots s) frame).slots
+        loaded_keeps None members = (cells, h)
+        loaded_keeps (Some v) members = rw is (load_of_type v s (held_type table s) (members v refl) (h.slot_types s))
 
   -- ---- stores
 
-  -- what is stored is what a slot of this kind may hold
-  constant_stored : (stored held : ℕ) (c : Constant) → o.constant_fits c (kind_of m stored) ≡ true → o.moves_kind (stored == held) (kind_of m stored) (kind_of m held) ≡ true → FitsKind (kind_of m held) (k.constant_value c)
-  constant_stored stored held c fits moves = by c (kind_of m held) refl fits moves where
-    same_kind : (x : TypeKind) → kind_of m held ≡ x → (stored == held) ≡ true → kind_of m stored ≡ x
-    same_kind x is same = ap (kind_of m) (equal stored held same) ∙ is
+  -- what is stored in a slot of references is a reference of its layout
+  number_in : (stored held n layout : ℕ) → kind_of p.of_module held ≡ Reference layout → o.fits_bits n (kind_of p.of_module stored) ≡ true → r.moves_kind (stored == held) (kind_of p.of_module stored) (Reference layout) ≡ true → ⊥
+  number_in stored held n layout is fits moves = pick (stored == held) refl moves where
+    by : (y : TypeKind) → o.fits_bits n y ≡ true → is_any_reference y ≡ true → ⊥
+    by NoValue e z = absurd cc
+    by (Bits bits) e z = absurd cc
+    by (Reference l) e z = absurd cc
+    by AnyReference e z = absurd cc
+    by AddressKind e z = absurd cc
+    by Other e z = absurd cc
 
-    number_in : (n layout : ℕ) → kind_of m held ≡ Reference layout → (b : Bool) → (stored == held) ≡ b → (y : TypeKind) → kind_of m stored ≡ y → is_integer y ≡ true → (b || is_any_reference y) ≡ true → ⊥
-    number_in n layout is true same y isy fits moves = let r = sym isy ∙ same_kind (Reference layout) is same in let t = ap is_integer r in cc
-    number_in n layout is false same NoValue isy fits moves = cc
-    number_in n layout is false same (Bits bits) isy fits moves = cc
-    number_in n layout is false same (Reference l) isy fits moves = cc
-    number_in n layout is false same AnyReference isy fits moves = cc
-    number_in n layout is false same Address isy fits moves = cc
-    number_in n layout is false same Other isy fits moves = cc
+    pick : (b : Bool) → (stored == held) ≡ b → (b || is_any_reference (kind_of p.of_module stored)) ≡ true → ⊥
+    pick true same e = let x : o.fits_bits n (Reference layout) ≡ true = subst (λ y. o.fits_bits n y ≡ true) (ap (kind_of p.of_module) (equal stored held same) ∙ is) fits in absurd cc
+    pick false same e = by (kind_of p.of_module stored) fits e
 
-    by : (c : Constant) (x : TypeKind) → kind_of m held ≡ x → o.constant_fits c (kind_of m stored) ≡ true → o.moves_kind (stored == held) (kind_of m stored) x ≡ true → FitsKind x (k.constant_value c)
-    by c NoValue is fits moves = tt
-    by (constant.Number n) (Bits bits) is fits moves = (n, refl)
-    by constant.Null (Bits bits) is fits moves = absurd (let r = ap is_pointer (same_kind (Bits bits) is moves) in cc)
-    by (constant.Truth b) (Bits bits) is fits moves = absurd cc
-    by (constant.Number n) (Reference layout) is fits moves = absurd (number_in n layout is (stored == held) refl (kind_of m stored) refl fits moves)
-    by constant.Null (Reference layout) is fits moves = refl
-    by (constant.Truth b) (Reference layout) is fits moves = absurd cc
-    by c AnyReference is fits moves = tt
-    by c Address is fits moves = tt
-    by c Other is fits moves = tt
+  known_reference : (layout : ℕ) (known : Known) (v : Value) → Means heap p guarded log cells (length facts.classes) frame.registers known v → o.is_known facts known ≡ true → o.known_fits (Reference layout) known ≡ true → o.is_current facts known ≡ true
+      → IsReferenceTo heap layout v × IsOwn log guarded v
+  known_reference layout Nothing v means is fits current = absurd cc
+  known_reference layout (Number bits below) v means is fits current = absurd cc
+  known_reference layout (Cell c l true) v means is fits current = absurd cc
+  known_reference layout (Cell c l false) v means is fits current = (subst (λ x. IsReferenceTo heap x v) (sym (equal layout l fits)) means.refers, means.own refl)
+  known_reference layout Null v means is fits current = subst (λ x. IsReferenceTo heap layout x × IsOwn log guarded x) (sym means) (tt, tt)
+  known_reference layout (Address base words) v means is fits current = absurd cc
+  known_reference layout (GlobalAddress g) v means is fits current = absurd means
 
-  local_stored : (v held : ℕ) (known : Known) → Means cells (length facts.classes) known (register_at frame.registers v) → o.is_known known ≡ true → o.known_fits facts (kind_of m held) known ≡ true → FitsKind (kind_of m held) (register_at frame.registers v)
-  local_stored v held known means is fits = by known (kind_of m held) means is fits where
-    by : (known : Known) (x : TypeKind) → Means cells (length facts.classes) known (register_at frame.registers v) → o.is_known known ≡ true → o.known_fits facts x known ≡ true → FitsKind x (register_at frame.registers v)
-    by Nothing x means is fits = absurd cc
-    by (Number n) NoValue means is fits = tt
-    by (Number n) (Bits bits) means is fits = means
-    by (Number n) (Reference layout) means is fits = absurd cc
-    by (Number n) AnyReference means is fits = tt
-    by (Number n) Address means is fits = tt
-    by (Number n) Other means is fits = tt
-    by (Cell c) NoValue means is fits = tt
-    by (Cell c) (Bits bits) means is fits = absurd cc
-    by (Cell c) (Reference layout) means is fits = subst (λ l. fits_layout l (register_at frame.registers v) ≡ true) (sym (equal layout (class_at facts.classes c).layout fits)) (ap (fits_layout (class_at facts.classes c).layout) means.0 ∙ h.classes c means.1)
-    by (Cell c) AnyReference means is fits = tt
-    by (Cell c) Address means is fits = tt
-    by (Cell c) Other means is fits = tt
+  reference_stored : (stored held layout : ℕ) (x : Operand) → kind_of p.of_module held ≡ Reference layout → o.is_available table facts x ≡ true → o.is_value p.of_module f facts stored x ≡ true → o.is_current facts (o.known_of facts x) ≡ true → o.slot_named table x ≡ None
+      → r.moves_kind (stored == held) (kind_of p.of_module stored) (Reference layout) ≡ true → o.known_fits (Reference layout) (o.known_of facts x) ≡ true
+      → IsReferenceTo heap layout (value_of p.of_module frame.registers stored x) × IsOwn log guarded (value_of p.of_module frame.registers stored x)
+  reference_stored stored held layout (operand.Constant (constant.Number n)) is k1 k2 k3 none moves fits = absurd (number_in stored held n layout is (both (o.fits_bits n (kind_of p.of_module stored)) true k2).0 moves)
+  reference_stored stored held layout (operand.Constant (constant.Truth b)) is k1 k2 k3 none moves fits = absurd cc
+  reference_stored stored held layout (operand.Constant constant.Null) is k1 k2 k3 none moves fits = (tt, tt)
+  reference_stored stored held layout (operand.Local u) is k1 k2 k3 none moves fits = known_reference layout (known_at facts.values u) (register_at frame.registers u) (h.values u) (available heap p f table guarded log cells facts frame h u none k1) fits k3
+  reference_stored stored held layout (operand.Global g) is k1 k2 k3 none moves fits = absurd cc
+  reference_stored stored held layout (operand.CastGlobal a b c) is k1 k2 k3 none moves fits = absurd cc
 
-  value_stored : (stored held : ℕ) (x : Operand) → o.is_available slots facts x ≡ true → o.has_type m f stored x ≡ true → o.slot_named slots x ≡ None
-      → o.moves_kind (stored == held) (kind_of m stored) (kind_of m held) ≡ true → o.known_fits facts (kind_of m held) (o.known_of facts x) ≡ true → FitsKind (kind_of m held) (k.value_of frame.registers x)
-  value_stored stored held (operand.Constant c) k1 k2 none moves fits = constant_stored stored held c k2 moves
-  value_stored stored held (operand.Local v) k1 k2 none moves fits = local_stored v held (known_at facts.values v) (h.values v) (available m f slots cells facts frame h v none k1) fits
-  value_stored stored held (operand.Global g) k1 k2 none moves fits = absurd cc
+  -- what is stored fits the slot
+  module _ (stored held : ℕ) (x : Operand) (k1 : o.is_available table facts x ≡ true) (k2 : o.is_value p.of_module f facts stored x ≡ true) (k3 : o.is_current facts (o.known_of facts x) ≡ true) (none : o.slot_named table x ≡ None)
+      (moves : r.moves_kind (stored == held) (kind_of p.of_module stored) (kind_of p.of_module held) ≡ true) (fits : o.known_fits (kind_of p.of_module held) (o.known_of facts x) ≡ true) where
+    abbrev given : Value
+    given = value_of p.of_module frame.registers stored x
 
-  known_held : (x : Operand) → Means cells (length facts.classes) (o.known_of facts x) (k.value_of frame.registers x)
-  known_held (operand.Constant c) = tt
-  known_held (operand.Local v) = h.values v
-  known_held (operand.Global g) = tt
+    value_fits : FitsHeld heap p.of_module guarded log held given × (fits_layout_of (referenced_layout p.of_module held) given ≡ true)
+    value_fits = by (kind_of p.of_module held) refl moves fits where
+      no_layout : (y : TypeKind) → kind_of p.of_module held ≡ y → layout_of_kind y ≡ None → fits_layout_of (referenced_layout p.of_module held) given ≡ true
+      no_layout y is e = ap (λ l. fits_layout_of l given) (sym (layout_same p.of_module held) ∙ ap layout_of_kind is ∙ e)
 
-  stored_keeps : (s : ℕ) (known : Known) (new : Value) → Means cells (length facts.classes) known new → FitsHeld m (held_type slots s) new → Holds m slots cells (store_slot s known facts) frame.registers (slice_set frame.slots s new)
-  stored_keeps s Nothing new means fits = slot_keeps m slots cells facts frame.registers frame.slots s _ new fits tt h
-  stored_keeps s (Number bits) new means fits = slot_keeps m slots cells facts frame.registers frame.slots s _ new fits tt h
-  stored_keeps s (Cell c) new means fits = slot_keeps m slots cells facts frame.registers frame.slots s _ new fits means h
+      of_layout : (layout : ℕ) (v : Value) → IsReferenceTo heap layout v → k.fits_layout layout v ≡ true
+      of_layout layout value.Unset q = absurd q
+      of_layout layout (value.Number n) q = absurd q
+      of_layout layout value.Null q = refl
+      of_layout layout (value.Cell own at) q = equal_test own layout q.0
+      of_layout layout (value.Address at) q = absurd q
 
-  -- a kind that something moves to is one of words
-  word_kind : (same : Bool) (written x : TypeKind) → o.moves_kind same written x ≡ true → o.moves_kind true x x ≡ true
-  word_kind same written NoValue e = absurd cc
-  word_kind same written (Bits bits) e = refl
-  word_kind same written (Reference layout) e = refl
-  word_kind same written AnyReference e = absurd cc
-  word_kind same written Address e = absurd cc
-  word_kind same written Other e = absurd cc
+      by : (y : TypeKind) → kind_of p.of_module held ≡ y → r.moves_kind (stored == held) (kind_of p.of_module stored) y ≡ true → o.known_fits y (o.known_of facts x) ≡ true → FitsHeld heap p.of_module guarded log held given × (fits_layout_of (referenced_layout p.of_module held) given ≡ true)
+      by NoValue is moves fits = absurd cc
+      by (Bits bits) is moves fits =
+          let i = integer_is heap p f table guarded log cells facts frame h stored bits x (ap (kind_of p.of_module) (equal stored held moves) ∙ is) k1 k2 none in (
+            record {
+              integer = λ z. subst (λ b. IsInteger b None given) (sym (bits_are p.of_module held bits is)) (record { number = i.number; is = i.is; fits = i.fits; under = tt });
+              reference = λ z. absurd (let y = sym z ∙ sym (integer_same p.of_module held) ∙ ap is_integer is in cc);
+            },
+            no_layout (Bits bits) is refl,
+          )
+      by (Reference layout) is moves fits =
+          let q = reference_stored stored held layout x is k1 k2 k3 none moves fits in
+          let l : referenced_layout p.of_module held ≡ Some layout = sym (layout_same p.of_module held) ∙ ap layout_of_kind is in (
+            record {
+              integer = λ z. absurd (let y = sym z ∙ sym (integer_same p.of_module held) ∙ ap is_integer is in cc);
+              reference = λ z. subst (λ o. FitsReference heap guarded log o given) (sym l) q;
+            },
+            ap (λ o. fits_layout_of o given) l ∙ of_layout layout given q.0,
+          )
+      by AnyReference is moves fits = absurd cc
+      by AddressKind is moves fits = absurd cc
+      by Other is moves fits = absurd cc
 
-  abbrev pub store_action : (stored : ℕ) → Operand → (place_type : ℕ) → Operand → Action
-  store_action stored x place_type place = mc.store_action m slots stored (k.is_usable m f slots frame.registers stored x) (k.value_of frame.registers x) (k.slot_at_place f slots place_type place)
+  apart_plain : (s : ℕ) (given : Value) → ((c : ℕ) → AreApart (cells c) given) → Fits cells facts (record (slot_at facts.slots s) { nonnull = false; holds = None }) given
+  apart_plain s given apart = record { means = record { nonnull = λ z. absurd cc; holds = λ c z. absurd cc }; apart = λ v c l st is fr out. apart c }
 
-  abbrev pub behind_store : Operand → (place_type : ℕ) → Operand → Answer → Frame
-  behind_store x place_type place given = mc.set_slot (k.slot_at_place f slots place_type place) (k.value_of frame.registers x) frame
+  apart_null : (given : Value) → given ≡ value.Null → (c : ℕ) → AreApart (cells c) given
+  apart_null v e c = subst (AreApart (cells c)) (sym e) (apart_turned value.Null (cells c) tt)
 
-  store_in : (stored s : ℕ) (x : Operand) → o.is_available slots facts x ≡ true → o.has_type m f stored x ≡ true → o.slot_named slots x ≡ None → (held : Option ℕ) → held_type slots s ≡ held
-      → (o.moves m stored held && o.fits_held m facts (o.known_of facts x) held) ≡ true
-      → Goes m slots (after_store (o.known_of facts x) (Some s) facts) (mc.store_action m slots stored (k.is_usable m f slots frame.registers stored x) (k.value_of frame.registers x) (Some s)) (λ given. mc.set_slot (Some s) (k.value_of frame.registers x) frame)
-  store_in stored s x k1 k2 none None is e = absurd cc
-  store_in stored s x k1 k2 none (Some held) is e =
-      let b = both (o.moves m stored (Some held)) (o.known_fits facts (kind_of m held) (o.known_of facts x)) e in
-      let new = k.value_of frame.registers x in
-      let fits = value_stored stored held x k1 k2 none b.0 b.1 in
-      let word = word_kind (stored == held) (kind_of m stored) (kind_of m held) b.0 in
-      goes_local m slots _ _ _
-      (rw (is, usable m f slots cells facts frame h stored x k1 k2 none, held_as m f slots stored (Some held) b.0, kind_fits m f slots held new word fits) refl)
-      (cells, stored_keeps s (o.known_of facts x) new (known_held x) (subst (λ y. FitsHeld m y new) (sym is) fits))
+  apart_number : (given : Value) (n : ℕ) → given ≡ value.Number n → (c : ℕ) → AreApart (cells c) given
+  apart_number v n e c = subst (AreApart (cells c)) (sym e) (apart_turned (value.Number n) (cells c) tt)
 
-  pub store_goes : (stored : ℕ) (x : Operand) (place_type : ℕ) (place : Operand) → o.is_available slots facts x ≡ true → o.is_available slots facts place ≡ true → o.has_type m f stored x ≡ true → o.has_type m f place_type place ≡ true
-      → o.may_store m slots facts stored (o.known_of facts x) place ≡ true → not (o.is_null place) ≡ true → o.slot_named slots x ≡ None
-      → Goes m slots (after_store (o.known_of facts x) (o.slot_named slots place) facts) (store_action stored x place_type place) (behind_store x place_type place)
-  store_goes stored x place_type (operand.Constant c) k1 k1p k2 k2p store k4 none = absurd (let n = negated (o.is_null_constant c) k4 in let b = both (o.is_null_constant c) _ store in let t = b.0 in cc)
-  store_goes stored x place_type (operand.Global g) k1 k1p k2 k2p store k4 none = absurd cc
-  store_goes stored x place_type (operand.Local p) k1 k1p k2 k2p store k4 none = by (slot_of slots p) refl where
-    by : (slot : Option ℕ) → slot_of slots p ≡ slot → Goes m slots (after_store (o.known_of facts x) (slot_of slots p) facts) (store_action stored x place_type (operand.Local p)) (behind_store x place_type (operand.Local p))
-    by None is = absurd (let known = available m f slots cells facts frame h p is k1p in let not_known = negated (o.is_known (known_at facts.values p)) (rw is at store) in cc)
-    by (Some s) is =
-        subst (λ y. Goes m slots (after_store (o.known_of facts x) (slot_of slots p) facts) (mc.store_action m slots stored (k.is_usable m f slots frame.registers stored x) (k.value_of frame.registers x) y) (λ given. mc.set_slot y (k.value_of frame.registers x) frame)) (sym (place_is m f slots place_type p s k2p is))
-        (subst (λ y. Goes m slots (after_store (o.known_of facts x) y facts) (mc.store_action m slots stored (k.is_usable m f slots frame.registers stored x) (k.value_of frame.registers x) (Some s)) (λ given. mc.set_slot (Some s) (k.value_of frame.registers x) frame)) (sym is)
-        (store_in stored s x k1 k2 none (held_type slots s) refl (rw is at store)))
+  -- what the slot is then known to hold
+  stored_keeps : (stored s : ℕ) (x : Operand) → o.is_available table facts x ≡ true → o.is_value p.of_module f facts stored x ≡ true → o.is_current facts (o.known_of facts x) ≡ true → o.slot_named table x ≡ None
+      → FitsSlot heap p.of_module guarded log (held_type table s) (value_of p.of_module frame.registers stored x) → Holds heap p table guarded log cells (store_slot s (o.known_of facts x) facts) frame.registers (slice_set frame.slots s (value_of p.of_module frame.registers stored x))
+  stored_keeps stored s (operand.Constant (constant.Number n)) k1 k2 k3 none fits = slot_keeps heap p table guarded log cells facts frame.registers frame.slots h s _ _ fits (apart_plain s _ (apart_number _ _ refl))
+  stored_keeps stored s (operand.Constant (constant.Truth b)) k1 k2 k3 none fits = absurd cc
+  stored_keeps stored s (operand.Constant constant.Null) k1 k2 k3 none fits = slot_keeps heap p table guarded log cells facts frame.registers frame.slots h s _ _ fits (apart_plain s _ (apart_null _ refl))
+  stored_keeps stored s (operand.Global g) k1 k2 k3 none fits = absurd cc
+  stored_keeps stored s (operand.CastGlobal a b c) k1 k2 k3 none fits = absurd cc
+  stored_keeps stored s (operand.Local u) k1 k2 k3 none fits = by (known_at facts.values u) refl (h.values u) (available heap p f table guarded log cells facts frame h u none k1) (both (has_type p.of_module f stored u) (o.known_fits (kind_of p.of_module stored) (known_at facts.values u)) k2).1 k3 where
+    new : Value
+    new = register_at frame.registers u
+
+    by : (known : Known) → known_at facts.values u ≡ known → Means heap p guarded log cells (length facts.classes) frame.registers known new → o.is_known facts known ≡ true → o.known_fits (kind_of p.of_module stored) known ≡ true → o.is_current facts known ≡ true
+        → Holds heap p table guarded log cells (store_slot s known facts) frame.registers (slice_set frame.slots s new)
+    by Nothing is means known fits2 current = absurd cc
+    by (Number bits below) is means known fits2 current = slot_keeps heap p table guarded log cells facts frame.registers frame.slots h s _ new fits (apart_plain s new (apart_number new means.number means.is))
+    by (Cell c l true) is means known fits2 current = absurd cc
+    by (Cell c l false) is means known fits2 current = slot_keeps heap p table guarded log cells facts frame.registers frame.slots h s _ new fits (record {
+      means = record { nonnull = λ z w. (h.classes c).nonnull z (sym means.is ∙ w); holds = λ d e. let same : c ≡ d = cc in (means.is ∙ ap cells same, subst (λ y. y < length facts.classes) same means.within) };
+      apart = λ v d m st is2 fr out. subst (AreApart (cells d)) (sym means.is) (h.alone v u d c m l st is2 is fr (λ z. let t = equal_test c d (sym z) in let y = sym t ∙ out in absurd cc));
+    })
+    by Null is means known fits2 current = slot_keeps heap p table guarded log cells facts frame.registers frame.slots h s _ new fits (apart_plain s new (apart_null new means))
+    by (Address base words) is means known fits2 current = absurd cc
+    by (GlobalAddress g) is means known fits2 current = absurd means
+
+  pub slot_store_goes : (result : Option ℕ) (stored : ℕ) (x : Operand) (place_type u s : ℕ) → o.is_available table facts x ≡ true → o.is_value p.of_module f facts stored x ≡ true → o.is_current facts (o.known_of facts x) ≡ true → o.slot_named table x ≡ None
+      → slot_of table u ≡ Some s → has_type p.of_module f place_type u ≡ true → r.stores_slot p.of_module table stored (o.known_of facts x) s ≡ true
+      → Goes heap p table guarded log (after_op p table result (Store stored x place_type (operand.Local u)) facts)
+      (a.store_action p table stored (k.is_usable p.of_module f table frame.registers stored x) (value_of p.of_module frame.registers stored x) (k.slot_at_place p.of_module f table place_type (operand.Local u)) (k.address_at_place p.of_module f table frame.registers place_type (operand.Local u)))
+      (λ given. mc.set_slot (k.slot_at_place p.of_module f table place_type (operand.Local u)) (value_of p.of_module frame.registers stored x) frame)
+  slot_store_goes result stored x place_type u s k1 k2 k3 none is k2p stores =
+      subst (λ y. Goes heap p table guarded log (after_op p table result (Store stored x place_type (operand.Local u)) facts)
+      (a.store_action p table stored (k.is_usable p.of_module f table frame.registers stored x) (value_of p.of_module frame.registers stored x) y (k.address_at_place p.of_module f table frame.registers place_type (operand.Local u)))
+      (λ given. mc.set_slot y (value_of p.of_module frame.registers stored x) frame)) (sym (place_is p f table place_type u s k2p is))
+      (by (held_type table s) refl stores) where
+        new : Value
+        new = value_of p.of_module frame.registers stored x
+
+        by : (held : Option ℕ) → held_type table s ≡ held → (r.moves p.of_module stored held && r.fits_held p.of_module (o.known_of facts x) held) ≡ true
+            → Goes heap p table guarded log (after_op p table result (Store stored x place_type (operand.Local u)) facts)
+            (a.store_action p table stored (k.is_usable p.of_module f table frame.registers stored x) new (Some s) (k.address_at_place p.of_module f table frame.registers place_type (operand.Local u))) (λ given. mc.set_slot (Some s) new frame)
+        by None at e = absurd cc
+        by (Some held) at e =
+            let b = both (r.moves p.of_module stored (Some held)) (o.known_fits (kind_of p.of_module held) (o.known_of facts x)) e in
+            let q = value_fits stored held x k1 k2 k3 none b.0 b.1 in
+            goes_local heap p table guarded log _ _ _ (rw (at, usable heap p f table guarded log cells facts frame h stored x k1 k2 none, held_as p f table stored (Some held) b.0, q.1) refl)
+            (cells, subst (λ z. Holds heap p table guarded log cells (r.after_store (o.known_of facts x) z facts) frame.registers (slice_set frame.slots s new)) (sym is) (stored_keeps stored s x k1 k2 k3 none (subst (λ y. FitsSlot heap p.of_module guarded log y new) (sym at) q.0)))

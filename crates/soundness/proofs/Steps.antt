@@ -1,136 +1,224 @@
--- Each instruction that is no call: its step is not wrong, and what is known behind it holds of what it leaves.
-use Rattle.std.proofs.Common.{◌≡◌, ◌≢◌, ℕ, zero, suc, ◌+◌, ◌<◌, List, [], ◌∷◌, ◌++◌, length, refl, sym, ap, ◌∙◌, subst, arith, true, false, Bool, Option, Some, None, is_some, is_none, slice_set, slice_get}
-use Rattle.std.specs.Prelude.{◌==◌, ◌||◌, ◌&&◌, not, if◌then◌else◌}
-use Rattle.std.proofs.lemmas.List.{length-set}
+-- The step of an instruction: it keeps the discipline, and what is known behind the instruction holds of what the step leaves. What operands are.
+use Rattle.std.proofs.Common.{◌≡◌, ◌≢◌, ℕ, zero, suc, ◌<◌, ◌^◌, List, [], ◌∷◌, length, refl, sym, ap, ◌∙◌, subst, arith, true, false, Bool, Option, Some, None, inl, inr, is_none, slice_set, slice_get}
+use Rattle.std.specs.Prelude.{◌==◌, ◌||◌, ◌&&◌, not, is_some, if◌then◌else◌, nat_lt}
 use Rattle.ir_ast.specs.declared.function.Function.{Function}
-use Rattle.ir_ast.specs.declared.module.Module.{Module}
+use Rattle.ir_ast.specs.declared.op.Op.TheVariants.{Alloca}
 use Rattle.ir_ast.specs.declared.operand.Constant.{Constant}
 use Rattle.ir_ast.specs.declared.operand.Constant.TheVariants as constant
 use Rattle.ir_ast.specs.declared.operand.Operand.{Operand}
 use Rattle.ir_ast.specs.declared.operand.Operand.TheVariants as operand
-use Rattle.types.specs.References.{pointee, referenced_layout}
-use Rattle.shadow_stack.specs.Slots.{SlotTable, slot_of, held_type, operand_slot}
-use Rattle.block_check.specs.declared.known.Class.{Class}
-use Rattle.block_check.specs.declared.known.Age.TheVariants.{Held}
-use Rattle.block_check.specs.declared.known.Known.{Known}
-use Rattle.block_check.specs.declared.known.Known.TheVariants.{Nothing, Number, Cell}
-use Rattle.block_check.specs.declared.type_kind.TypeKind.{TypeKind}
-use Rattle.block_check.specs.declared.type_kind.TypeKind.TheVariants.{NoValue, Bits, Reference, AnyReference, Address, Other}
-use Rattle.block_check.specs.Facts.{FactSet, known_at, slot_at, class_at, forget, define, define_new, end_slot, clear_slot, drop_held, set_slot, hold, store_slot, load_slot, load_held, learn_nonnull}
-use Rattle.block_check.specs.Operands as o
-use Rattle.block_check.specs.TypeKinds.{kind_of, kind_at, place_kind, is_bits, is_integer, is_pointer, is_any_reference, may_be_reference}
-use Rattle.block_check.specs.Rules.{after_alloca, after_alloca_of, cast_number, cast_null, cast_constant, cast_local, after_cast, load_kind, load_held_type, after_load, after_store}
+use Rattle.pools.specs.Heap.{Setup}
+use Rattle.layout.specs.Layouts.{LaidOut}
+use Rattle.types.specs.ValueTypes.{has_type}
+use Rattle.shadow_stack.specs.Slots.{SlotTable, slot_of}
+use Rattle.facts.specs.declared.known.Known.{Known}
+use Rattle.facts.specs.declared.known.Known.TheVariants.{Nothing, Number, Cell, Null, Address, GlobalAddress}
+use Rattle.facts.specs.Facts.{FactSet, known_at, class_at}
+use Rattle.block_rules.specs.declared.rule.Rule.{Rule}
+use Rattle.block_rules.specs.declared.type_kind.TypeKind.{TypeKind}
+use Rattle.block_rules.specs.declared.type_kind.TypeKind.TheVariants.{NoValue, Bits, Reference, AnyReference, Address as AddressKind, Other}
+use Rattle.block_rules.specs.Bounds.{below_next}
+use Rattle.block_rules.specs.Integers.{below_of, below_known}
+use Rattle.block_rules.specs.Operands as o
+use Rattle.block_rules.specs.Rules.{first_failing, after_op, after_alloca}
+use Rattle.block_rules.specs.TypeKinds.{kind_of, is_integer}
+use Rattle.machine.specs.declared.value.Place.TheVariants as place
 use Rattle.machine.specs.declared.value.Value.{Value}
 use Rattle.machine.specs.declared.value.Value.TheVariants as value
 use Rattle.machine.specs.declared.frame.Frame.{Frame}
 use Rattle.machine.specs.declared.action.Action.{Action}
-use Rattle.machine.specs.declared.action.Action.TheVariants.{Local, Alloc, End, Wrong}
+use Rattle.machine.specs.declared.action.Action.TheVariants.{Local}
 use Rattle.machine.specs.declared.action.Answer.{Answer}
 use Rattle.machine.specs.declared.action.Answer.TheVariants as answer
 use Rattle.machine.specs.Kinds as k
-use Rattle.machine.specs.Kinds.{register_at, fits_layout, fits_layout_of}
-use Rattle.machine.specs.Machine as mc
-use Rattle.machine.specs.Log.{Log, Possible, IsNotWrong}
-use Rattle.soundness.specs.Meaning.{Cells, IsOfClass, Means, FitsKind, FitsHeld, IsHeldIn, Holds}
-use Rattle.soundness.proofs.Lists.{both, negated, either_true, other_true, equal, equal_test, turned, got_set}
-use Rattle.soundness.proofs.KindLemmas.{refers_same, layout_same, bytes_same, leads_same, constant_same, sort_same}
-use Rattle.soundness.proofs.Keep.{forget_keeps, put_keeps, class_keeps, fact_keeps, slot_keeps, class_added, extend, extend_new}
+use Rattle.machine.specs.Kinds.{register_at, wrapped, bits_at, value_of, constant_value}
+use Rattle.machine.specs.Machine.{set_register}
+use Rattle.machine.specs.Log.{Log, Step, Possible, Keeps}
+use Rattle.soundness.specs.Meaning.{Cells, Guarded, IsReferenceTo, IsBelow, IsInteger, IsAddressOf, IsMember, Means, Holds}
+use Rattle.soundness.proofs.Lists.{both, equal}
+use Rattle.soundness.proofs.Keep.{log_keeps, known_within}
+use Rattle.soundness.proofs.SlotsKeep.{end_keeps}
+use Rattle.soundness.proofs.Edges.{wrapped_fits, wrapped_le}
+use Rattle.soundness.proofs.KindLemmas.{constant_passes, bits_are, integer_same}
 
--- a step is not wrong, and behind each possible answer the facts hold
-pub record Goes (m : Module) (slots : SlotTable) (next : FactSet) (action : Action) (after : Answer → Frame) : Type 0 where
-  pub allowed : IsNotWrong action
-  pub leads : (pools : List ℕ) (log : Log) (given : Answer) → Possible pools log action given → (cells : Cells) × Holds m slots cells next (after given).registers (after given).slots
+-- a step keeps the discipline, and behind each possible answer the facts hold
+pub record Goes (heap : Setup) (p : LaidOut) (table : SlotTable) (guarded : Guarded) (log : Log) (next : FactSet) (action : Action) (after : Answer → Frame) : Type 0 where
+  pub keeps : Keeps heap log action
+  pub leads : (given : Answer) → Possible heap log action given → (cells : Cells) × Holds heap p table guarded (record { asked = action; given = given } ∷ log) cells next (after given).registers (after given).slots
 
-pub goes_local : (m : Module) (slots : SlotTable) (next : FactSet) (action : Action) (after : Answer → Frame) → action ≡ Local
-    → (cells : Cells) × Holds m slots cells next (after answer.Done).registers (after answer.Done).slots → Goes m slots next action after
-goes_local m slots next action after e h = subst (λ a. Goes m slots next a after) (sym e) (record { allowed = tt; leads = leads }) where
-  leads : (pools : List ℕ) (log : Log) (given : Answer) → Possible pools log Local given → (cells : Cells) × Holds m slots cells next (after given).registers (after given).slots
-  leads pools log answer.Done p = h
-  leads pools log answer.Null p = absurd p
-  leads pools log (answer.Claimed at) p = absurd p
+-- a step without an effect on the heap
+pub goes_local : (heap : Setup) (p : LaidOut) (table : SlotTable) (guarded : Guarded) (log : Log) (next : FactSet) (action : Action) (after : Answer → Frame) → action ≡ Local
+    → (cells : Cells) × Holds heap p table guarded log cells next (after answer.Done).registers (after answer.Done).slots → Goes heap p table guarded log next action after
+goes_local heap p table guarded log next action after e h = subst (λ a. Goes heap p table guarded log next a after) (sym e) (record { keeps = tt; leads = leads }) where
+  leads : (given : Answer) → Possible heap log Local given → (cells : Cells) × Holds heap p table guarded (record { asked = Local; given = given } ∷ log) cells next (after given).registers (after given).slots
+  leads answer.Done q = (h.0, log_keeps heap p table guarded log h.0 next (after answer.Done).registers (after answer.Done).slots h.1 (record { asked = Local; given = answer.Done } ∷ log) (λ cell x. inr x) (λ cell x. x))
+  leads (answer.Number n) q = absurd q
+  leads answer.Null q = absurd q
+  leads (answer.Cell at) q = absurd q
 
-pub fits_set : (layout : ℕ) (v : Value) → fits_layout layout v ≡ true → k.is_set v ≡ true
-fits_set layout value.Unset e = absurd cc
-fits_set layout (value.Number n) e = absurd cc
-fits_set layout value.Null e = refl
-fits_set layout (value.Cell own at) e = refl
+-- each condition of a list
+abbrev pub AllHold : List (Rule × Bool) → Type 0
+AllHold [] = Unit {0}
+AllHold (condition ∷ rest) = (condition.1 ≡ true) × AllHold rest
 
-pub fits_reference : (layout : ℕ) (v : Value) → fits_layout layout v ≡ true → mc.is_reference_value v ≡ true
-fits_reference layout value.Unset e = absurd cc
-fits_reference layout (value.Number n) e = absurd cc
-fits_reference layout value.Null e = refl
-fits_reference layout (value.Cell own at) e = refl
+pub all_hold : (conditions : List (Rule × Bool)) → first_failing conditions ≡ None → AllHold conditions
+all_hold [] e = tt
+all_hold (condition ∷ rest) e = pick condition.1 refl e (all_hold rest) where
+  pick : (b : Bool) → condition.1 ≡ b → (if b then first_failing rest else Some condition.0) ≡ None → (first_failing rest ≡ None → AllHold rest) → (condition.1 ≡ true) × AllHold rest
+  pick true is e others = (is, others e)
+  pick false is e others = absurd cc
 
-pub null_fits : (layout : Option ℕ) → fits_layout_of layout value.Null ≡ true
-null_fits None = refl
-null_fits (Some layout) = refl
+-- of two tests one passes
+pub chosen : (a b c : Bool) → (a || b) ≡ true → (b ≡ true → c ≡ true) → (a || c) ≡ true
+chosen true b c e f = refl
+chosen false b c e f = f e
 
-module _ (m : Module) (f : Function) (slots : SlotTable) (cells : Cells) (facts : FactSet) (frame : Frame) (h : Holds m slots cells facts frame.registers frame.slots) where
-  -- a value that is known is set
-  pub known_set : (known : Known) (v : Value) → Means cells (length facts.classes) known v → o.is_known known ≡ true → k.is_set v ≡ true
-  known_set Nothing v means e = absurd cc
-  known_set (Number bits) v means e = ap k.is_set means.1
-  known_set (Cell c) v means e = ap k.is_set means.0 ∙ fits_set (class_at facts.classes c).layout (cells c) (h.classes c means.1)
+-- no name of a slot
+pub none_of : (slot : Option ℕ) → not (is_some slot) ≡ true → slot ≡ None
+none_of None e = refl
+none_of (Some s) e = absurd cc
 
-  pub typed : (written v : ℕ) → o.has_type m f written (operand.Local v) ≡ true → k.has_type f written v ≡ true
-  typed written v e = sym (sort_same written (slice_get f.sorts v)) ∙ e
+pub below_itself : (n m : ℕ) → m < suc n → IsBelow m (below_next n)
+below_itself n m lt = pick (nat_lt n 18446744073709551615) where
+  pick : (b : Bool) → IsBelow m (if b then Some (suc n) else None)
+  pick true = lt
+  pick false = tt
 
-  pub available : (v : ℕ) → slot_of slots v ≡ None → o.is_available slots facts (operand.Local v) ≡ true → o.is_known (known_at facts.values v) ≡ true
+module _ (heap : Setup) (p : LaidOut) (f : Function) (table : SlotTable) (guarded : Guarded) (log : Log) (cells : Cells) (facts : FactSet) (frame : Frame) (h : Holds heap p table guarded log cells facts frame.registers frame.slots) where
+  -- a value that has a name, or none
+  pub named : (name : Option ℕ) (new : Value) (next : FactSet) → ((v : ℕ) → name ≡ Some v → (more : Cells) × Holds heap p table guarded log more next (slice_set frame.registers v new) frame.slots) → (name ≡ None → next ≡ facts)
+      → (more : Cells) × Holds heap p table guarded log more next (set_register name new frame).registers (set_register name new frame).slots
+  named None new next some none = (cells, subst (λ x. Holds heap p table guarded log cells x frame.registers frame.slots) (sym (none refl)) h)
+  named (Some v) new next some none = some v refl
+
+  pub available : (v : ℕ) → slot_of table v ≡ None → o.is_available table facts (operand.Local v) ≡ true → o.is_known facts (known_at facts.values v) ≡ true
   available v none e = rw none at e
 
-  -- an operand that the rules let stand as a value is one
-  pub usable : (written : ℕ) (x : Operand) → o.is_available slots facts x ≡ true → o.has_type m f written x ≡ true → o.slot_named slots x ≡ None → k.is_usable m f slots frame.registers written x ≡ true
-  usable written (operand.Constant c) k1 k2 none = sym (constant_same m written c) ∙ k2
+  reference_plain : (layout : ℕ) (v : Value) → IsReferenceTo heap layout v → k.is_plain v ≡ true
+  reference_plain layout value.Unset r = absurd r
+  reference_plain layout (value.Number n) r = absurd r
+  reference_plain layout value.Null r = refl
+  reference_plain layout (value.Cell own at) r = refl
+  reference_plain layout (value.Address at) r = absurd r
+
+  plain_set : (v : Value) → k.is_plain v ≡ true → k.is_set v ≡ true
+  plain_set value.Unset e = absurd cc
+  plain_set (value.Number n) e = refl
+  plain_set value.Null e = refl
+  plain_set (value.Cell own at) e = refl
+  plain_set (value.Address at) e = absurd cc
+
+  -- a known value that fits a kind is plain
+  known_plain : (kind : TypeKind) (known : Known) (v : Value) → Means heap p guarded log cells (length facts.classes) frame.registers known v → o.is_known facts known ≡ true → o.known_fits kind known ≡ true → k.is_plain v ≡ true
+  known_plain kind Nothing v means is fits = absurd cc
+  known_plain kind (Number bits below) v means is fits = ap k.is_plain means.is
+  known_plain kind (Cell c l s) v means is fits = reference_plain l v means.refers
+  known_plain kind Null v means is fits = ap k.is_plain means
+  known_plain kind (Address base words) v means is fits = absurd cc
+  known_plain kind (GlobalAddress g) v means is fits = absurd means
+
+  address_set : (words : List Bool) (base v : Value) (layout : ℕ) → IsReferenceTo heap layout base → IsAddressOf p words base v → k.is_set v ≡ true
+  address_set words value.Unset v layout r a = absurd r
+  address_set words (value.Number n) v layout r a = absurd r
+  address_set words value.Null v layout r a = ap k.is_set a
+  address_set words (value.Cell own at) v layout r a = ap k.is_set a.1
+  address_set words (value.Address at) v layout r a = absurd r
+
+  -- a base that is available is a reference
+  pub base_is : (base : ℕ) (known : Known) → known_at facts.values base ≡ known → o.is_cell known ≡ true → (c : ℕ) × (layout : ℕ) × (stale : Bool) × (known ≡ Cell c layout stale)
+  base_is base Nothing is e = absurd cc
+  base_is base (Number bits below) is e = absurd cc
+  base_is base (Cell c l s) is e = (c, l, s, refl)
+  base_is base Null is e = absurd cc
+  base_is base (Address b w) is e = absurd cc
+  base_is base (GlobalAddress g) is e = absurd cc
+
+  -- a value that is known is set
+  pub known_set : (known : Known) (v : Value) → Means heap p guarded log cells (length facts.classes) frame.registers known v → o.is_known facts known ≡ true → k.is_set v ≡ true
+  known_set Nothing v means is = absurd cc
+  known_set (Number bits below) v means is = ap k.is_set means.is
+  known_set (Cell c l s) v means is = plain_set v (reference_plain l v means.refers)
+  known_set Null v means is = ap k.is_set means
+  known_set (Address base words) v means is =
+      let b = base_is base (known_at facts.values base) refl is in
+      address_set words.members (register_at frame.registers base) v b.1 (known_within heap p table guarded log cells facts frame.registers frame.slots h base b.0 b.1 b.2 b.3).refers means
+  known_set (GlobalAddress g) v means is = absurd means
+
+  constant_plain : (written : ℕ) (c : Constant) → o.constant_fits c (kind_of p.of_module written) ≡ true → k.is_plain (constant_value p.of_module written c) ≡ true
+  constant_plain written (constant.Number n) e = refl
+  constant_plain written (constant.Truth b) e = absurd cc
+  constant_plain written constant.Null e = refl
+
+  -- an operand that the rules let stand as a value may be used
+  pub usable : (written : ℕ) (x : Operand) → o.is_available table facts x ≡ true → o.is_value p.of_module f facts written x ≡ true → o.slot_named table x ≡ None → k.is_usable p.of_module f table frame.registers written x ≡ true
+  usable written (operand.Constant c) k1 k2 none =
+      let b = both (o.constant_fits c (kind_of p.of_module written)) true k2 in
+      rw (constant_passes p.of_module written c b.0, constant_plain written c b.0) refl
   usable written (operand.Local v) k1 k2 none =
-      let set = known_set (known_at facts.values v) (register_at frame.registers v) (h.values v) (available v none k1) in
-      rw (typed written v k2, none, set) refl
+      let b = both (has_type p.of_module f written v) (o.known_fits (kind_of p.of_module written) (known_at facts.values v)) k2 in
+      rw (b.0, none, known_plain (kind_of p.of_module written) (known_at facts.values v) (register_at frame.registers v) (h.values v) (available v none k1) b.1) refl
   usable written (operand.Global g) k1 k2 none = absurd cc
+  usable written (operand.CastGlobal a b c) k1 k2 none = absurd cc
 
-  -- ---- definitions
+  -- what is known of an operand holds of its value
+  pub operand_means : (written : ℕ) (x : Operand) → Means heap p guarded log cells (length facts.classes) frame.registers (o.known_of facts x) (value_of p.of_module frame.registers written x)
+  operand_means written (operand.Constant c) = tt
+  operand_means written (operand.Local v) = h.values v
+  operand_means written (operand.Global g) = tt
+  operand_means written (operand.CastGlobal a b c) = tt
 
-  pub define_keeps : (v : ℕ) (known : Known) (new : Value) → Means cells (length facts.classes) known new → Holds m slots cells (define v known facts) (slice_set frame.registers v new) frame.slots
-  define_keeps v known new means =
-      put_keeps m slots cells (forget v facts) (slice_set frame.registers v new) frame.slots v known new
-      (forget_keeps m slots cells facts frame.registers frame.slots v new h)
-      (λ lt. got_set frame.registers v new value.Unset (omega (arith, length-set frame.registers v new)))
-      means
+  -- ---- integers
 
-  pub define_new_keeps : (v : ℕ) (class : Class) (new : Value) → fits_layout class.layout new ≡ true
-      → (more : Cells) × Holds m slots more (define_new v class facts) (slice_set frame.registers v new) frame.slots
-  define_new_keeps v class new fits =
-      let next = length facts.classes in
-      let more = extend cells next new in
-      let rest = forget_keeps m slots cells facts frame.registers frame.slots v new h in
-      let grown = class_added m slots cells (forget v facts) (slice_set frame.registers v new) frame.slots class new fits rest in (
-        more,
-        put_keeps m slots more (record (forget v facts) { classes = facts.classes ++ class ∷ [] }) (slice_set frame.registers v new) frame.slots v (Cell next) new grown
-            (λ lt. got_set frame.registers v new value.Unset (omega (arith, length-set frame.registers v new)))
-            (sym (extend_new cells next new), omega (arith, Rattle.soundness.proofs.Lists.longer facts.classes class)),
-      )
+  number_known : (n : ℕ) (known : Known) (v : Value) → Means heap p guarded log cells (length facts.classes) frame.registers known v → o.is_known facts known ≡ true → o.known_fits (Bits n) known ≡ true
+      → IsInteger n (below_known known) v
+  number_known n Nothing v means is fits = absurd cc
+  number_known n (Number bits below) v means is fits = subst (λ b. IsInteger b below v) (sym (equal n bits fits)) means
+  number_known n (Cell c l s) v means is fits = absurd cc
+  number_known n Null v means is fits = absurd cc
+  number_known n (Address base words) v means is fits = absurd cc
+  number_known n (GlobalAddress g) v means is fits = absurd means
 
-  -- a value of which nothing is known, or that has no name
-  pub nothing_keeps : (name : Option ℕ) (new : Value) → (next : FactSet) → ((v : ℕ) → name ≡ Some v → (more : Cells) × Holds m slots more next (slice_set frame.registers v new) frame.slots) → (name ≡ None → next ≡ facts)
-      → (more : Cells) × Holds m slots more next (mc.set_register name new frame).registers (mc.set_register name new frame).slots
-  nothing_keeps None new next some none = (cells, subst (λ x. Holds m slots cells x frame.registers frame.slots) (sym (none refl)) h)
-  nothing_keeps (Some v) new next some none = some v refl
+  -- an operand that the rules let stand at an integer type is an integer of it
+  pub integer_is : (written bits : ℕ) (x : Operand) → kind_of p.of_module written ≡ Bits bits → o.is_available table facts x ≡ true → o.is_value p.of_module f facts written x ≡ true → o.slot_named table x ≡ None
+      → IsInteger bits (below_of facts x) (value_of p.of_module frame.registers written x)
+  integer_is written bits (operand.Constant (constant.Number n)) is k1 k2 none =
+      let b = bits_are p.of_module written bits is in
+      let le = wrapped_le (bits_at p.of_module written) n in
+      record { number = wrapped (bits_at p.of_module written) n; is = refl; fits = subst (λ m. wrapped (bits_at p.of_module written) n < 2 ^ m) b (wrapped_fits (bits_at p.of_module written) n); under = below_itself n (wrapped (bits_at p.of_module written) n) (omega (arith, le)) }
+  integer_is written bits (operand.Constant (constant.Truth b)) is k1 k2 none = absurd cc
+  integer_is written bits (operand.Constant constant.Null) is k1 k2 none = absurd (let x = rw is at k2 in cc)
+  integer_is written bits (operand.Local v) is k1 k2 none =
+      let b = both (has_type p.of_module f written v) (o.known_fits (kind_of p.of_module written) (known_at facts.values v)) k2 in
+      number_known bits (known_at facts.values v) (register_at frame.registers v) (h.values v) (available v none k1) (subst (λ x. o.known_fits x (known_at facts.values v) ≡ true) is b.1)
+  integer_is written bits (operand.Global g) is k1 k2 none = absurd cc
+  integer_is written bits (operand.CastGlobal a b c) is k1 k2 none = absurd cc
+
+  -- an integer kind is one of some bits
+  pub kind_bits : (x : TypeKind) → is_integer x ≡ true → (bits : ℕ) × (x ≡ Bits bits)
+  kind_bits NoValue e = absurd cc
+  kind_bits (Bits bits) e = (bits, refl)
+  kind_bits (Reference layout) e = absurd cc
+  kind_bits AnyReference e = absurd cc
+  kind_bits AddressKind e = absurd cc
+  kind_bits Other e = absurd cc
+
+  typed_too : (written : ℕ) (x : Operand) → k.is_usable p.of_module f table frame.registers written x ≡ true → k.is_typed p.of_module f table written x ≡ true
+  typed_too written x e = (both (k.is_typed p.of_module f table written x) (k.is_plain (value_of p.of_module frame.registers written x)) e).0
+
+  -- and may be used as a number
+  pub number_usable : (written bits : ℕ) (x : Operand) → kind_of p.of_module written ≡ Bits bits → o.is_available table facts x ≡ true → o.is_value p.of_module f facts written x ≡ true → o.slot_named table x ≡ None
+      → k.is_usable_number p.of_module f table frame.registers written x ≡ true
+  number_usable written bits x is k1 k2 none =
+      rw (sym (integer_same p.of_module written) ∙ ap is_integer is, typed_too written x (usable written x k1 k2 none), ap k.is_number (integer_is written bits x is k1 k2 none).is) refl
 
   -- ---- alloca
 
-  end_keeps : (s : ℕ) → Holds m slots cells (end_slot s facts) frame.registers frame.slots
-  end_keeps s = clear (drop_held (slot_at facts.slots s).holds facts) (dropped (slot_at facts.slots s).holds) where
-    dropped : (holds : Option ℕ) → Holds m slots cells (drop_held holds facts) frame.registers frame.slots
-    dropped None = h
-    dropped (Some c) = class_keeps m slots cells facts frame.registers frame.slots c _ refl h
-
-    clear : (g : FactSet) → Holds m slots cells g frame.registers frame.slots → Holds m slots cells (clear_slot s g) frame.registers frame.slots
-    clear g hold = fact_keeps m slots cells g frame.registers frame.slots s _ tt hold
-
-  pub alloca_goes : (result : Option ℕ) → Goes m slots (after_alloca_of slots result facts) Local (λ given. frame)
-  alloca_goes result = goes_local m slots (after_alloca_of slots result facts) Local (λ given. frame) refl (cells, by result) where
-    of_slot : (slot : Option ℕ) → Holds m slots cells (after_alloca slot facts) frame.registers frame.slots
+  pub alloca_goes : (result : Option ℕ) (held : ℕ) → Goes heap p table guarded log (after_op p table result (Alloca held) facts) Local (λ given. frame)
+  alloca_goes result held = goes_local heap p table guarded log _ Local (λ given. frame) refl (cells, by result) where
+    of_slot : (slot : Option ℕ) → Holds heap p table guarded log cells (after_alloca slot facts) frame.registers frame.slots
     of_slot None = h
-    of_slot (Some s) = end_keeps s
+    of_slot (Some s) = end_keeps heap p table guarded log cells facts frame.registers frame.slots h s
 
-    by : (result : Option ℕ) → Holds m slots cells (after_alloca_of slots result facts) frame.registers frame.slots
+    by : (result : Option ℕ) → Holds heap p table guarded log cells (after_op p table result (Alloca held) facts) frame.registers frame.slots
     by None = h
-    by (Some v) = of_slot (slot_of slots v)
+    by (Some v) = of_slot (slot_of table v)

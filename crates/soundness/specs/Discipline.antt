@@ -1,15 +1,34 @@
 -- What a certified function promises of its threads.
-use Rattle.std.specs.Prelude.{◌≡◌, ℕ, List, [], Some, slice_get}
+use Rattle.std.specs.Prelude.{◌≡◌, ◌<◌, ℕ, true, false, List, [], ◌∷◌, length, Option, Some, slice_get}
 use Rattle.ir_ast.specs.declared.function.Function.{Function}
-use Rattle.certificate.specs.declared.section.Section.{Section}
+use Rattle.pools.specs.Heap.{Setup}
 use Rattle.layout.specs.Layouts.{LaidOut}
-use Rattle.block_check.specs.Certified.{BlockCertified}
+use Rattle.certificate.specs.declared.section.Promise.{Promise}
+use Rattle.certificate.specs.declared.section.Section.{Section}
+use Rattle.facts.specs.Lines.{promised_below}
+use Rattle.certified.specs.Certified.{BlockCertified}
+use Rattle.certified.specs.Ways.{promises_in}
 use Rattle.machine.specs.declared.action.Answer.{Answer}
 use Rattle.machine.specs.Machine.{start}
+use Rattle.machine.specs.Start.{takes_reference, arguments_fit, argument_values}
 use Rattle.machine.specs.Log.{Safe}
+use Rattle.soundness.specs.Meaning.{IsBelow}
 
--- a thread that begins at a function whose entry block is certified is never wrong, for every heap and every list of possible answers
+-- each argument is below what is promised of its parameter
+abbrev pub MeetPromises : List (Option Promise) → List ℕ → Type 0
+MeetPromises [] arguments = Unit {0}
+MeetPromises (promise ∷ promises) [] = Unit {0}
+MeetPromises (promise ∷ promises) (argument ∷ arguments) = IsBelow argument (promised_below promise) × MeetPromises promises arguments
+
+-- a start of a function: it takes integers, and these fit their types and meet what is promised of the parameters
+pub record IsStart (program : LaidOut) (f : Function) (section : Option Section) (arguments : List ℕ) : Type 0 where
+  pub takes_integers : takes_reference program.of_module f ≡ false
+  pub fit : arguments_fit program.of_module f.parameters arguments ≡ true
+  pub meet : MeetPromises (promises_in section) arguments
+
+-- a thread that starts at a function all of whose blocks are certified is safe, over every heap of the program's layouts and for every list of possible answers
 abbrev pub CertifiedIsNeverWrong : Type 0
 CertifiedIsNeverWrong =
-    (program : LaidOut) (certs : List Section) (func : ℕ) (f : Function) (pools : List ℕ) (answers : List Answer) → slice_get program.of_module.functions func ≡ Some f → BlockCertified program certs func 0
-    → Safe program.of_module pools (start program.of_module (Some f) func) [] answers
+    (program : LaidOut) (certs : List Section) (func : ℕ) (f : Function) (heap : Setup) (arguments : List ℕ) (answers : List Answer) → slice_get program.of_module.functions func ≡ Some f
+    → heap.layouts ≡ program.layouts → ((block : ℕ) → block < length f.blocks → BlockCertified program certs func block) → IsStart program f (slice_get certs func) arguments
+    → Safe heap program (start program.of_module (Some f) func (argument_values arguments)) [] answers

@@ -1,9 +1,9 @@
-//! A thread of a certified function is never wrong.
+//! Why a thread of a certified function keeps the discipline.
 #![tactic(auto)]
 
-ghost use Rattle.soundness.specs.Discipline.{CertifiedIsNeverWrong};
+ghost use Rattle.soundness.specs.Edges.{ShownHolds};
 
-/// In every run of one thread that begins at a certified function, whatever possible answers it gets, it is never wrong.
-pub fn discipline_law()
-    ensures { CertifiedIsNeverWrong }
+/// What a block shows of its targets holds behind each way to one, when the phis there have taken their entries.
+pub fn edge_law()
+    ensures { ShownHolds }
 {}

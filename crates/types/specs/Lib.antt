@@ -1,2 +1,4 @@
 pub mod References
 pub mod RuntimeCall
+pub mod Elements
+pub mod ValueTypes

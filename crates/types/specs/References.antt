@@ -2,7 +2,7 @@
 use Rattle.std.specs.Prelude.{ℕ, Option, Some, None, slice_get}
 use Rattle.ir_ast.specs.declared.module.Module.{Module}
 use Rattle.ir_ast.specs.declared.ir_type.IrType.{IrType}
-use Rattle.ir_ast.specs.declared.ir_type.IrType.TheVariants.{Void, Integer, Pointer, Named}
+use Rattle.ir_ast.specs.declared.ir_type.IrType.TheVariants.{Void, Integer, Pointer, Array, EmptyStruct, Struct, Named}
 
 -- what a type leads to, if it is a pointer
 abbrev pub part_of_pointer : Option IrType → Option ℕ
@@ -10,6 +10,9 @@ part_of_pointer None = None
 part_of_pointer (Some Void) = None
 part_of_pointer (Some (Integer bits)) = None
 part_of_pointer (Some (Pointer part)) = Some part
+part_of_pointer (Some (Array length part)) = None
+part_of_pointer (Some EmptyStruct) = None
+part_of_pointer (Some (Struct first rest)) = None
 part_of_pointer (Some (Named name)) = None
 
 -- the type of what a pointer leads to
@@ -25,12 +28,15 @@ struct_in (Some layout) = layout
 abbrev pub struct_named : Module → (name : ℕ) → Option ℕ
 struct_named m name = struct_in (slice_get m.struct_of name)
 
--- the layout of the struct that a type is
+-- the layout of the named struct that a type is
 abbrev pub layout_of_struct : Module → Option IrType → Option ℕ
 layout_of_struct m None = None
 layout_of_struct m (Some Void) = None
 layout_of_struct m (Some (Integer bits)) = None
 layout_of_struct m (Some (Pointer part)) = None
+layout_of_struct m (Some (Array length part)) = None
+layout_of_struct m (Some EmptyStruct) = None
+layout_of_struct m (Some (Struct first rest)) = None
 layout_of_struct m (Some (Named name)) = struct_named m name
 
 -- the layout of the struct that a pointer leads to

@@ -24,7 +24,7 @@ pub fn is_reference(module: &Module, written: TypeId) -> Option<LayoutId>
     }
 }
 
-fn struct_named(module: &Module, name: usize) -> Option<LayoutId>
+pub(crate) fn struct_named(module: &Module, name: usize) -> Option<LayoutId>
     ensures { result ≡ struct_named «module».now name }
 {
     match module.struct_of.get(name) {

@@ -1,4 +1,3 @@
-use Rattle.std.proofs.Common.{◌≡◌, ap, ◌∙◌, subst, sym}
 use Rattle.certificate.proofs.Laws.{found, only, no_fault, no_cert, is_fault, only_fault}
 use Rattle.certificate.proofs.reader.read_cert.Goals as goal
 

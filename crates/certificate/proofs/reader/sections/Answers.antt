@@ -1,4 +1,4 @@
-use Rattle.std.proofs.Common.{◌≡◌, ◌+◌, ◌-◌, ◌∙◌, sym, rules, arith, Err}
+use Rattle.std.proofs.Common.{◌+◌, ◌-◌, ◌∙◌, sym, rules, arith}
 use Rattle.std.proofs.lemmas.Grind.{common_steps}
 use Rattle.certificate.specs.Input.{ended}
 use Rattle.certificate.specs.Text.{section, sections}

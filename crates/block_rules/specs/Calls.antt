@@ -1,0 +1,135 @@
+-- Calls of the runtime's functions: what they ask, and what is known behind them.
+use Rattle.std.specs.Prelude.{ℕ, Bool, true, false, not, ◌&&◌, if◌then◌else◌, List, [], ◌∷◌, length, nat_lt, Option, Some, None}
+use Rattle.std.specs.List.{list_all}
+use Rattle.ir_ast.specs.declared.function.Function.{Function}
+use Rattle.ir_ast.specs.declared.module.Module.{Module}
+use Rattle.ir_ast.specs.declared.op.Argument.{Argument}
+use Rattle.ir_ast.specs.declared.operand.Constant.{Constant}
+use Rattle.ir_ast.specs.declared.operand.Constant.TheVariants.{Number as Numeral}
+use Rattle.ir_ast.specs.declared.operand.Operand.{Operand}
+use Rattle.ir_ast.specs.declared.operand.Operand.TheVariants.{Constant as Written}
+use Rattle.ir_ast.specs.declared.runtime.Runtime.{Runtime}
+use Rattle.ir_ast.specs.declared.runtime.Runtime.TheVariants.{Alloc, GcRoot}
+use Rattle.shadow_stack.specs.Slots.{SlotTable, held_type}
+use Rattle.facts.specs.declared.known.Known.TheVariants.{Nothing}
+use Rattle.facts.specs.Facts.{FactSet, slot_at, define, define_new, root_slot}
+use Rattle.block_rules.specs.declared.rule.Rule.{Rule}
+use Rattle.block_rules.specs.declared.rule.Rule.TheVariants.{K1, K2, K3, K9, K10, K12, K18}
+use Rattle.block_rules.specs.declared.standing.Standing.{Standing}
+use Rattle.block_rules.specs.Operands.{slot_named, known_of, is_available, is_value, is_current, is_null, is_no_slot}
+use Rattle.block_rules.specs.Signature.{is_written_as}
+use Rattle.block_rules.specs.TypeKinds.{kind_of, is_reference}
+
+-- each argument of a call is available
+abbrev pub all_available : SlotTable → FactSet → List Argument → Bool
+all_available slots facts arguments = list_all (λ argument. is_available slots facts argument.operand) arguments
+
+-- each is a value of its written type
+abbrev pub all_values : Module → Function → FactSet → List Argument → Bool
+all_values m f facts arguments = list_all (λ argument. is_value m f facts argument.written argument.operand) arguments
+
+-- none is stale
+abbrev pub all_current : FactSet → List Argument → Bool
+all_current facts arguments = list_all (λ argument. is_current facts (known_of facts argument.operand)) arguments
+
+-- none is a slot
+abbrev pub no_slots : SlotTable → List Argument → Bool
+no_slots slots arguments = list_all (λ argument. is_no_slot slots argument.operand) arguments
+
+-- a slot of this type holds references
+abbrev pub holds_reference : Module → (held : Option ℕ) → Bool
+holds_reference m None = false
+holds_reference m (Some held) = is_reference (kind_of m held)
+
+-- K9: a gcroot stands in the head, names a reference slot that no gcroot named before, and its metadata is null
+abbrev pub is_unrooted : Module → SlotTable → FactSet → (slot : Option ℕ) → Bool
+is_unrooted m slots facts None = false
+is_unrooted m slots facts (Some s) = holds_reference m (held_type slots s) && not (slot_at facts.slots s).rooted
+
+-- a gcroot with these arguments is allowed
+abbrev pub may_root : Module → SlotTable → FactSet → (in_head : Bool) → List Argument → Bool
+may_root m slots facts in_head (place ∷ metadata ∷ []) = in_head && is_null metadata.operand && is_unrooted m slots facts (slot_named slots place.operand)
+may_root m slots facts in_head _ = false
+
+-- a constant is below a count
+abbrev pub numbers_one_of : (count : ℕ) → Constant → Bool
+numbers_one_of count (Numeral n) = nat_lt n count && nat_lt n 4294967296
+numbers_one_of count _ = false
+
+-- K2: a constant that numbers a layout
+abbrev pub numbers_layout : Module → Operand → Bool
+numbers_layout m (Written c) = numbers_one_of (length m.structs) c
+numbers_layout m _ = false
+
+-- K2: the argument of dg_alloc numbers a layout
+abbrev pub number_layouts : Module → List Argument → Bool
+number_layouts m arguments = list_all (λ argument. numbers_layout m argument.operand) arguments
+
+-- the conditions of a call of gcroot
+abbrev pub root_conditions : Module → Function → SlotTable → Standing → FactSet → (returned : ℕ) → List Argument → List (Rule × Bool)
+root_conditions m f slots here facts returned arguments =
+    (K1, all_available slots facts arguments)
+    ∷ (K2, all_values m f facts arguments && is_written_as m returned arguments GcRoot)
+    ∷ (K3, all_current facts arguments)
+    ∷ (K9, may_root m slots facts here.in_head arguments)
+    ∷ (K12, here.collected) ∷ []
+
+-- of dg_alloc
+abbrev pub alloc_conditions : Module → Function → SlotTable → Standing → FactSet → (returned : ℕ) → List Argument → List (Rule × Bool)
+alloc_conditions m f slots here facts returned arguments =
+    (K1, all_available slots facts arguments)
+    ∷ (K2, all_values m f facts arguments && is_written_as m returned arguments Alloc && number_layouts m arguments)
+    ∷ (K12, here.collected) ∷ []
+
+-- of a call that is refused: its operands are looked at before
+abbrev pub unknown_conditions : Module → Function → SlotTable → Standing → FactSet → List Argument → List (Rule × Bool)
+unknown_conditions m f slots here facts arguments =
+    (K1, all_available slots facts arguments)
+    ∷ (K2, all_values m f facts arguments)
+    ∷ (K3, all_current facts arguments)
+    ∷ (K10, no_slots slots arguments)
+    ∷ (K12, here.collected)
+    ∷ (K18, false) ∷ []
+
+-- of a call, by the function of the runtime that it is of
+abbrev pub call_conditions : Module → Function → SlotTable → Standing → FactSet → (returned : ℕ) → List Argument → (callee : Option Runtime) → List (Rule × Bool)
+call_conditions m f slots here facts returned arguments (Some Alloc) = alloc_conditions m f slots here facts returned arguments
+call_conditions m f slots here facts returned arguments (Some GcRoot) = root_conditions m f slots here facts returned arguments
+call_conditions m f slots here facts returned arguments _ = unknown_conditions m f slots here facts arguments
+
+-- a gcroot puts null in its slot
+abbrev pub after_root : (slot : Option ℕ) → FactSet → FactSet
+after_root None facts = facts
+after_root (Some s) facts = root_slot s facts
+
+-- the first argument of gcroot names the slot
+abbrev pub after_root_call : SlotTable → List Argument → FactSet → FactSet
+after_root_call slots [] facts = facts
+after_root_call slots (place ∷ rest) facts = after_root (slot_named slots place.operand) facts
+
+-- dg_alloc gives null or a fresh cell of the layout with this number, of 32 bits
+abbrev pub alloc_numbered : (v : ℕ) → Constant → FactSet → FactSet
+alloc_numbered v (Numeral n) facts =
+    if nat_lt n 4294967296 then define_new v n (record { nonnull = false; fresh = true }) facts else define v Nothing facts
+alloc_numbered v _ facts = define v Nothing facts
+
+-- by the argument
+abbrev pub alloc_layout : (v : ℕ) → Operand → FactSet → FactSet
+alloc_layout v (Written c) facts = alloc_numbered v c facts
+alloc_layout v _ facts = define v Nothing facts
+
+-- by the arguments
+abbrev pub after_alloc : (v : ℕ) → List Argument → FactSet → FactSet
+after_alloc v [] facts = define v Nothing facts
+after_alloc v (size ∷ rest) facts = alloc_layout v size.operand facts
+
+-- behind a call of dg_alloc, whose result may have no name
+abbrev pub after_alloc_call : (result : Option ℕ) → List Argument → FactSet → FactSet
+after_alloc_call None arguments facts = facts
+after_alloc_call (Some v) arguments facts = after_alloc v arguments facts
+
+-- behind a call
+abbrev pub after_call : SlotTable → (result : Option ℕ) → List Argument → (callee : Option Runtime) → FactSet → FactSet
+after_call slots result arguments (Some Alloc) facts = after_alloc_call result arguments facts
+after_call slots result arguments (Some GcRoot) facts = after_root_call slots arguments facts
+after_call slots result arguments _ facts = facts

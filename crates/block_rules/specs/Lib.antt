@@ -1,0 +1,11 @@
+pub mod TypeKinds
+pub mod Signature
+pub mod Bounds
+pub mod Operands
+pub mod Places
+pub mod Integers
+pub mod Casts
+pub mod Elements
+pub mod Calls
+pub mod Standing
+pub mod Rules

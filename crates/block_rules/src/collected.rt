@@ -1,0 +1,90 @@
+ghost use Rattle.std.specs.Prelude.{◌≡◌};
+ghost use Rattle.std.specs.List.{list_any};
+ghost use Rattle.block_rules.specs.Standing.{is_collected_type, moves_reference, instruction_moves, block_moves, function_moves, is_shadow_stack, keeps_shadow_stack};
+
+use crate::type_kind::TypeKind;
+use ir_ast::{Argument, Block, Function, Instr, Module, Op, Parameter, TypeId};
+use items::Items;
+
+/// Whether a function that moves references has a shadow stack.
+pub fn keeps_shadow_stack(module: &Module, function: &Function) -> bool
+    ensures { result ≡ keeps_shadow_stack «module».now function.now }
+{
+    is_shadow_stack(&function.collector) || !function_moves(module, function)
+}
+
+fn is_shadow_stack(collector: &Option<Items<u8>>) -> bool
+    ensures { result ≡ is_shadow_stack collector.now }
+{
+    match collector {
+        Some(text) => text.as_slice() == b"shadow-stack".as_slice(),
+        None => false,
+    }
+}
+
+fn function_moves(module: &Module, function: &Function) -> bool
+    ensures { result ≡ function_moves «module».now function.now }
+{
+    is_collected_type(module, function.returned)
+        || parameters_move(module, function.parameters.as_slice())
+        || blocks_move(module, function.blocks.as_slice())
+}
+
+fn is_collected_type(module: &Module, written: TypeId) -> bool
+    ensures { result ≡ is_collected_type «module».now written }
+{
+    TypeKind::of(module, written).may_be_reference()
+}
+
+fn parameters_move(module: &Module, parameters: &[Parameter]) -> bool
+    ensures { result ≡ list_any (λ parameter. is_collected_type «module».now parameter.written) parameters.now }
+{
+    parameters
+        .iter()
+        .any(|parameter| is_collected_type(module, parameter.written))
+}
+
+fn arguments_move(module: &Module, arguments: &[Argument]) -> bool
+    ensures { result ≡ list_any (λ argument. is_collected_type «module».now argument.written) arguments.now }
+{
+    arguments
+        .iter()
+        .any(|argument| is_collected_type(module, argument.written))
+}
+
+fn moves_reference(module: &Module, op: &Op) -> bool
+    ensures { result ≡ moves_reference «module».now op.now }
+{
+    match op {
+        Op::Load { loaded, .. } => is_collected_type(module, *loaded),
+        Op::Store { stored, .. } => is_collected_type(module, *stored),
+        Op::Select { written, .. } => is_collected_type(module, *written),
+        Op::Phi { written, .. } => is_collected_type(module, *written),
+        Op::Call {
+            returned,
+            arguments,
+            ..
+        } => is_collected_type(module, *returned) || arguments_move(module, arguments.as_slice()),
+        _ => false,
+    }
+}
+
+fn instructions_move(module: &Module, instructions: &[Instr]) -> bool
+    ensures { result ≡ list_any (instruction_moves «module».now) instructions.now }
+{
+    instructions
+        .iter()
+        .any(|instr| moves_reference(module, &instr.op))
+}
+
+fn block_moves(module: &Module, block: &Block) -> bool
+    ensures { result ≡ block_moves «module».now block.now }
+{
+    instructions_move(module, block.instructions.as_slice())
+}
+
+fn blocks_move(module: &Module, blocks: &[Block]) -> bool
+    ensures { result ≡ list_any (block_moves «module».now) blocks.now }
+{
+    blocks.iter().any(|block| block_moves(module, block))
+}

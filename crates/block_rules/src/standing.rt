@@ -1,0 +1,13 @@
+use certificate::Promise;
+
+/// Where an instruction stands.
+#[derive(Clone, Copy, Debug, PartialEq, Eq)]
+pub struct Standing {
+    pub in_entry: bool,
+    /// In the head of the entry block, where gcroot stands.
+    pub in_head: bool,
+    /// Not the first instruction of a function that moves references without a shadow stack.
+    pub collected: bool,
+    /// What the function promises of its result.
+    pub promised: Option<Promise>,
+}

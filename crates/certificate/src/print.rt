@@ -1,0 +1,336 @@
+//! The text of the lines of certificates.
+ghost use Rattle.std.specs.Prelude.{◌≡◌, ◌++◌, ◌∷◌, [], ◌<◌, ◌||◌, OnOk, IfOk, drop, slice_get};
+ghost use Rattle.std.specs.List.{list_all, flat_map};
+ghost use Rattle.std.specs.Option.{option_copied};
+ghost use Rattle.std.specs.Fmt.{decimal};
+ghost use Rattle.ir_tokens.specs.Bytes.{is_letter as letter, is_digit as digit};
+ghost use Rattle.certificate.specs.Print as spec;
+
+use crate::certs::Certs;
+use crate::section::{Age, Fact, Line};
+use ir_ast::{BlockId, FuncId, Function, Module, Names, SymbolId, ValueId};
+use pools::{LayoutId, WordSet};
+use std::alloc::{AllocError, Global};
+
+fn is_letter(byte: u8) -> bool
+    ensures { result ≡ letter byte }
+{
+    matches!(byte, b'a'..=b'z' | b'A'..=b'Z' | b'-' | b'$' | b'.' | b'_')
+}
+
+fn is_digit(byte: u8) -> bool
+    ensures { result ≡ digit byte }
+{
+    matches!(byte, b'0'..=b'9')
+}
+
+fn begins_plain(name: &[u8]) -> bool
+    ensures { result ≡ spec.begins_plain name.now }
+{
+    match name {
+        [first, ..] => is_letter(*first),
+        [] => false,
+    }
+}
+
+fn has_plain_bytes(name: &[u8]) -> bool
+    ensures { result ≡ list_all (λ byte. letter byte || digit byte) name.now }
+{
+    name.iter().all(|byte| is_letter(*byte) || is_digit(*byte))
+}
+
+/// Whether a name stands without quotes.
+fn is_plain(name: &[u8]) -> bool
+    ensures { result ≡ spec.is_plain name.now }
+{
+    begins_plain(name) && has_plain_bytes(name)
+}
+
+/// Whether a byte stands for itself between quotes.
+fn is_shown(byte: u8) -> bool
+    ensures { result ≡ spec.is_shown byte }
+{
+    byte >= 32 && byte <= 126 && byte != b'"' && byte != b'\\'
+}
+
+fn hexadecimal(digit: u8) -> u8
+    requires { digit < 16 }
+    ensures { result ≡ spec.hexadecimal digit }
+{
+    if digit < 10 { 48 + digit } else { 55 + digit }
+}
+
+fn put_quoted_byte(out: &mut Vec<u8>, byte: u8) -> Result<(), AllocError>
+    ensures { OnOk result (out.new.items ≡ out.old.items ++ spec.quoted_byte byte) }
+{
+    if is_shown(byte) {
+        out.extend_from_slice(&[byte])
+    } else {
+        out.extend_from_slice(&[b'\\', hexadecimal(byte / 16), hexadecimal(byte % 16)])
+    }
+}
+
+fn put_quoted(out: &mut Vec<u8>, name: &[u8]) -> Result<(), AllocError>
+    ensures { OnOk result (out.new.items ≡ out.old.items ++ flat_map spec.quoted_byte name.now) }
+{
+    for byte in name {
+        put_quoted_byte(out, *byte)?;
+    }
+    Ok(())
+}
+
+/// A name, in quotes where it is not plain.
+pub(crate) fn put_name(out: &mut Vec<u8>, name: &[u8]) -> Result<(), AllocError>
+    ensures { OnOk result (out.new.items ≡ out.old.items ++ spec.name_text name.now) }
+{
+    if is_plain(name) {
+        return out.extend_from_slice(name);
+    }
+    out.push(b'"')?;
+    put_quoted(out, name)?;
+    out.push(b'"')?;
+    Ok(())
+}
+
+fn name_at(names: &Names, number: usize) -> &[u8]
+    ensures { result.now ≡ spec.name_at names.now number }
+{
+    names.get(number).unwrap_or(&[])
+}
+
+/// A local name with its sign.
+pub(crate) fn put_local(
+    out: &mut Vec<u8>,
+    function: &Function,
+    value: ValueId,
+) -> Result<(), AllocError>
+    ensures { OnOk result (out.new.items ≡ out.old.items ++ spec.local_text function.now value) }
+{
+    out.push(b'%')?;
+    put_name(out, name_at(&function.locals, value.number() as usize))
+}
+
+/// A global name with its sign.
+pub(crate) fn put_global(
+    out: &mut Vec<u8>,
+    module: &Module,
+    symbol: SymbolId,
+) -> Result<(), AllocError>
+    ensures { OnOk result (out.new.items ≡ out.old.items ++ spec.global_text «module».now symbol) }
+{
+    out.push(b'@')?;
+    put_name(out, name_at(&module.symbols, symbol.number() as usize))
+}
+
+fn struct_name(module: &Module, layout: LayoutId) -> &[u8]
+    ensures { result.now ≡ spec.struct_name «module».now (slice_get «module».now.structs layout) }
+{
+    match module.structs.get(layout.number() as usize) {
+        Some(named) => name_at(&module.struct_names, named.name.number() as usize),
+        None => &[],
+    }
+}
+
+/// The name of a layout's type.
+pub(crate) fn put_layout(
+    out: &mut Vec<u8>,
+    module: &Module,
+    layout: LayoutId,
+) -> Result<(), AllocError>
+    ensures { OnOk result (out.new.items ≡ out.old.items ++ spec.layout_text «module».now layout) }
+{
+    put_name(out, struct_name(module, layout))
+}
+
+fn put_number(alloc: Global, out: &mut Vec<u8>, number: u64) -> Result<(), AllocError>
+    ensures { OnOk result (out.new.items ≡ out.old.items ++ decimal number) }
+{
+    let digits = number.to_string(alloc)?;
+    out.extend_from_slice(digits.as_bytes())
+}
+
+/// A word that may stand there.
+pub(crate) fn put_if(out: &mut Vec<u8>, stands: bool, word: &[u8]) -> Result<(), AllocError>
+    ensures { OnOk result (out.new.items ≡ out.old.items ++ spec.word_if stands word.now) }
+{
+    if stands {
+        out.extend_from_slice(word)
+    } else {
+        Ok(())
+    }
+}
+
+pub(crate) fn put_below(
+    alloc: Global,
+    out: &mut Vec<u8>,
+    below: Option<u64>,
+) -> Result<(), AllocError>
+    ensures { OnOk result (out.new.items ≡ out.old.items ++ spec.below_text below) }
+{
+    match below {
+        None => Ok(()),
+        Some(number) => {
+            out.extend_from_slice(b" below ")?;
+            put_number(alloc, out, number)
+        }
+    }
+}
+
+/// A word and a value, where there is one.
+fn put_value(
+    out: &mut Vec<u8>,
+    function: &Function,
+    word: &[u8],
+    value: Option<ValueId>,
+) -> Result<(), AllocError>
+    ensures { OnOk result (out.new.items ≡ out.old.items ++ spec.value_text function.now word.now value) }
+{
+    match value {
+        None => Ok(()),
+        Some(value) => {
+            out.extend_from_slice(word)?;
+            put_local(out, function, value)
+        }
+    }
+}
+
+fn put_age(out: &mut Vec<u8>, age: Age) -> Result<(), AllocError>
+    ensures { OnOk result (out.new.items ≡ out.old.items ++ spec.age_text age) }
+{
+    match age {
+        Age::Fresh => out.extend_from_slice(b" fresh"),
+        Age::Held => Ok(()),
+        Age::Stale => out.extend_from_slice(b" stale"),
+    }
+}
+
+fn put_listed(
+    alloc: Global,
+    out: &mut Vec<u8>,
+    words: &WordSet,
+    word: u32,
+) -> Result<(), AllocError>
+    ensures { OnOk result (out.new.items ≡ out.old.items ++ spec.listed_word words.now.members word) }
+{
+    if !words.has(word) {
+        return Ok(());
+    }
+    out.push(b',')?;
+    put_number(alloc, out, word as u64)
+}
+
+/// The words of a set, each behind a comma.
+fn commas_and_words(alloc: Global, words: &WordSet) -> Result<Vec<u8>, AllocError>
+    ensures { IfOk result (λ text. drop 1 text.items ≡ spec.words_text words.now.members) }
+{
+    let mut out = Vec::new(alloc);
+    for word in 0..64u32 {
+        put_listed(alloc, &mut out, words, word)?;
+    }
+    Ok(out)
+}
+
+/// The words of a set, with commas between.
+fn put_words(alloc: Global, out: &mut Vec<u8>, words: &WordSet) -> Result<(), AllocError>
+    ensures { OnOk result (out.new.items ≡ out.old.items ++ spec.words_text words.now.members) }
+{
+    let listed = commas_and_words(alloc, words)?;
+    out.extend_from_slice(listed.get(1..).unwrap_or(&[]))
+}
+
+fn put_fact(
+    alloc: Global,
+    out: &mut Vec<u8>,
+    module: &Module,
+    function: &Function,
+    fact: &Fact,
+) -> Result<(), AllocError>
+    ensures { OnOk result (out.new.items ≡ out.old.items ++ spec.fact_text «module».now function.now fact.now) }
+{
+    match fact {
+        Fact::Number { bits, below } => {
+            out.extend_from_slice(b" i")?;
+            put_number(alloc, out, *bits as u64)?;
+            put_below(alloc, out, *below)
+        }
+        Fact::Reference {
+            layout,
+            nonnull,
+            age,
+            same,
+        } => {
+            out.extend_from_slice(b" ref ")?;
+            put_layout(out, module, *layout)?;
+            put_if(out, *nonnull, b" nonnull")?;
+            put_age(out, *age)?;
+            put_value(out, function, b" same ", *same)
+        }
+        Fact::Address { base, words } => {
+            out.extend_from_slice(b" addr ")?;
+            put_local(out, function, *base)?;
+            out.push(b' ')?;
+            put_words(alloc, out, words)
+        }
+        Fact::GlobalAddress(symbol) => {
+            out.extend_from_slice(b" addr ")?;
+            put_global(out, module, *symbol)
+        }
+    }
+}
+
+/// A line without its end.
+pub(crate) fn put_line(
+    alloc: Global,
+    out: &mut Vec<u8>,
+    module: &Module,
+    function: &Function,
+    line: &Line,
+) -> Result<(), AllocError>
+    ensures { OnOk result (out.new.items ≡ out.old.items ++ spec.line_text «module».now function.now line.now) }
+{
+    match line {
+        Line::Value { value, fact } => {
+            put_local(out, function, *value)?;
+            put_fact(alloc, out, module, function, fact)
+        }
+        Line::Slot {
+            slot,
+            nonnull,
+            holds,
+        } => {
+            out.extend_from_slice(b"slot ")?;
+            put_local(out, function, *slot)?;
+            put_if(out, *nonnull, b" nonnull")?;
+            put_value(out, function, b" holds ", *holds)
+        }
+    }
+}
+
+fn line_at(certs: &Certs, function: FuncId, block: BlockId, place: usize) -> Option<&Line>
+    ensures { option_copied result ≡ spec.line_at (slice_get certs.now function) block place }
+{
+    let section = certs.section(function)?;
+    let lines = section.blocks.get(block.number() as usize)?;
+    lines.get(place)
+}
+
+/// The line at this place of a block's lines as the certificates' text writes it, without its end. The text is empty where
+/// there is no such line.
+pub fn print_line(
+    alloc: Global,
+    certs: &Certs,
+    module: &Module,
+    function: FuncId,
+    block: BlockId,
+    place: usize,
+) -> Result<Vec<u8>, AllocError>
+    ensures { IfOk result (λ text. text.items ≡ spec.line_shown certs.now «module».now function block place) }
+{
+    let mut out = Vec::new(alloc);
+    let body = module.functions.get(function.number() as usize);
+    let line = line_at(certs, function, block, place);
+    if let (Some(body), Some(line)) = (body, line) {
+        put_line(alloc, &mut out, module, body, line)?;
+    }
+    Ok(out)
+}

@@ -1,0 +1,6 @@
+pub mod Loops
+mod Sets
+mod Forgets
+mod Classes
+mod Stale
+mod Shows

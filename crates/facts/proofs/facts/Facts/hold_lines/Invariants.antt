@@ -1,0 +1,6 @@
+use Rattle.std.proofs.Common.{◌≡◌, drop}
+use Rattle.facts.specs.Lines.{hold_lines}
+use Rattle.facts.proofs.facts.Facts.hold_lines.Given as goal
+
+abbrev pub invariant-loop-line : goal.invariant-loop-line
+invariant-loop-line l = hold_lines l.table l.fn.lines l.initial.self ≡ hold_lines l.table (drop l.line-index l.fn.lines) l.self

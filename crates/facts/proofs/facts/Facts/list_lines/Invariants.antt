@@ -1,0 +1,6 @@
+use Rattle.std.proofs.Common.{◌≡◌, drop}
+use Rattle.facts.specs.Lines.{list_lines}
+use Rattle.facts.proofs.facts.Facts.list_lines.Given as goal
+
+abbrev pub invariant-loop-line : goal.invariant-loop-line
+invariant-loop-line l = list_lines l.table l.fn.lines l.initial.self ≡ list_lines l.table (drop l.line-index l.fn.lines) l.self

@@ -1,0 +1,64 @@
+-- When a line of a target is shown, in statements.
+use Rattle.std.specs.Prelude.{◌≡◌, ◌↔◌, ℕ, Bool, true, false, not, length, Option, Some, None}
+use Rattle.shadow_stack.specs.Slots.{SlotTable, slot_of}
+use Rattle.certificate.specs.declared.section.Age.{Age}
+use Rattle.certificate.specs.declared.section.Fact.{Fact}
+use Rattle.certificate.specs.declared.section.Fact.TheVariants as fact
+use Rattle.certificate.specs.declared.section.Line.{Line}
+use Rattle.certificate.specs.declared.section.Line.TheVariants as line
+use Rattle.facts.specs.Facts.{FactSet, known_at}
+use Rattle.facts.specs.Lines.{is_stale, is_fresh, shows_line}
+use Rattle.facts.specs.Statements.{IsNumber, IsBelow, RefersTo, IsCurrent, IsNonnull, IsFresh, IsSame, IsAddress, IsGlobal, SlotNonnull, SlotHolds, OfClass, Says}
+
+-- where this is asked it is so
+abbrev pub IfAsked : Bool → Type 0 → Type 0
+IfAsked true P = P
+IfAsked false P = Unit {0}
+
+-- what is named is so
+abbrev pub IfNamed : Option ℕ → (ℕ → Type 0) → Type 0
+IfNamed None P = Unit {0}
+IfNamed (Some x) P = P x
+
+-- what is named is there, and is so
+abbrev pub Named : Option ℕ → (ℕ → Type 0) → Type 0
+Named None P = ⊥
+Named (Some x) P = P x
+
+-- a value is a reference
+abbrev pub IsReference : FactSet → ℕ → Type 0
+IsReference f v = OfClass (λ c. Unit {0}) (known_at f.values v)
+
+-- the target lists v, and as the same each reference that it lists and each slot that is the same here
+abbrev pub ListsAll : FactSet → FactSet → ℕ → Type 0
+ListsAll here there v =
+    IsReference there v
+    × (((u : ℕ) → Says here (IsSame v u) → IsReference there u → Says there (IsSame v u))
+    × ((s : ℕ) → Says here (SlotHolds s v) → Says there (SlotHolds s v)))
+
+-- what a line asks of a reference is said: `ref L`, nonnull, not stale, fresh where the target lists all that is the same, and the same as another
+abbrev pub ReferenceShown : FactSet → FactSet → (v layout : ℕ) → (nonnull : Bool) → Age → (same : Option ℕ) → Type 0
+ReferenceShown here there v layout nonnull age same =
+    Says here (RefersTo v layout)
+    × (IfAsked nonnull (Says here (IsNonnull v))
+    × (IfAsked (not (is_stale age)) (Says here (IsCurrent v))
+    × (IfAsked (is_fresh age) (Says here (IsFresh v) × ListsAll here there v)
+    × IfNamed same (λ w. Says here (IsSame v w)))))
+
+-- what a line asks of a value is said
+abbrev pub FactShown : FactSet → FactSet → ℕ → Fact → Type 0
+FactShown here there v (fact.Number bits below) = Says here (IsNumber v bits) × IfNamed below (λ n. Says here (IsBelow v n))
+FactShown here there v (fact.Reference layout nonnull age same) = ReferenceShown here there v layout nonnull age same
+FactShown here there v (fact.Address base words) = Says here (IsAddress v base words.members)
+FactShown here there v (fact.GlobalAddress g) = Says here (IsGlobal v g)
+
+-- what a line asks is said; `there` is what the target begins with
+abbrev pub LineShown : SlotTable → FactSet → FactSet → Line → Type 0
+LineShown table here there (line.Value v fact) = FactShown here there v fact
+LineShown table here there (line.Slot slot nonnull holds) = Named (slot_of table slot) (λ s. IfAsked nonnull (Says here (SlotNonnull s)) × IfNamed holds (λ x. Says here (SlotHolds s x)))
+
+-- exactly the lines are shown of which all is said
+abbrev pub ShowsWhatIsSaid : Type 0
+ShowsWhatIsSaid =
+    (table : SlotTable) (here there : FactSet) (line : Line) → length here.values ≡ length there.values → length here.slots ≡ length there.slots
+    → (shows_line table here there line ≡ true) ↔ LineShown table here there line

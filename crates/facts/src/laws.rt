@@ -1,0 +1,28 @@
+//! What the changes of facts are as changes of a set of statements.
+ghost use Rattle.facts.specs.Shown.{ShowsWhatIsSaid};
+ghost use Rattle.facts.specs.Statements.{ForgetEndsNames, PublishEndsFresh, LearnAddsNonnull, SafepointEndsCurrent};
+
+/// A definition ends exactly the statements that name its value.
+pub fn forget_law()
+    ensures { ForgetEndsNames }
+{}
+
+/// A value that is published loses fresh with all that is the same, and nothing else changes.
+pub fn publish_law()
+    ensures { PublishEndsFresh }
+{}
+
+/// A value that is found to be no null is said to be none with all that is the same, and nothing else changes.
+pub fn learn_law()
+    ensures { LearnAddsNonnull }
+{}
+
+/// A safepoint ends exactly what says that a reference is current or fresh, or the same as another value or as what a slot holds.
+pub fn safepoint_law()
+    ensures { SafepointEndsCurrent }
+{}
+
+/// Exactly the lines are shown of which all is said.
+pub fn show_law()
+    ensures { ShowsWhatIsSaid }
+{}

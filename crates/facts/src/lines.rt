@@ -1,0 +1,283 @@
+//! What the lines of a block give where it begins.
+ghost use Rattle.std.specs.Prelude.{◌≡◌, length, map, OnOk};
+ghost use Rattle.facts.specs.Facts.{nothing_known, set_known};
+ghost use Rattle.facts.specs.Lines.{is_stale, is_fresh, list_value, list_slot, list_line, list_lines, move, join, join_known, join_values, tie_value, tie_fact, tie_line, tie_lines, hold_known, hold_value, hold_line, hold_lines, facts_of_lines, promised_below, promised_nonnull, promised_layout, receive_reference, receive};
+
+use crate::class_id::ClassId;
+use crate::facts::Facts;
+use crate::known::{Class, Given, Known, SlotFact};
+use certificate::{Age, Fact, Line, Promise};
+use ir_ast::ValueId;
+use pools::LayoutId;
+use shadow_stack::{SlotId, Slots};
+use std::alloc::{AllocError, Global};
+
+impl Facts {
+    /// What a block with these lines begins with, in place of what is known.
+    pub fn begin(&mut self, alloc: Global, table: &Slots, lines: &[Line]) -> Result<(), AllocError>
+        ensures { OnOk result (self.new ≡ facts_of_lines table.now (length self.old.values) (length self.old.slots) lines.now) }
+    {
+        self.clear(alloc)?;
+        self.list_lines(table, lines)?;
+        self.tie_lines(lines)?;
+        self.hold_lines(table, lines)
+    }
+
+    /// A parameter, or the result of a call, with what its type gives and what is promised of it.
+    pub fn receive(
+        &mut self,
+        v: ValueId,
+        given: Given,
+        promise: Option<Promise>,
+    ) -> Result<(), AllocError>
+        ensures { OnOk result (self.new ≡ receive v given promise self.old) }
+    {
+        match given {
+            Given::Nothing => self.define(v, Known::Nothing),
+            Given::Number(bits) => {
+                let below = promised_below(&promise);
+                self.define(v, Known::Number { bits, below })
+            }
+            Given::Reference(layout) => {
+                let nonnull = promised_nonnull(&promise);
+                self.receive_reference(v, Some(layout), nonnull)
+            }
+            Given::AnyReference => {
+                let layout = promised_layout(&promise);
+                let nonnull = promised_nonnull(&promise);
+                self.receive_reference(v, layout, nonnull)
+            }
+        }
+    }
+
+    fn receive_reference(
+        &mut self,
+        v: ValueId,
+        layout: Option<LayoutId>,
+        nonnull: bool,
+    ) -> Result<(), AllocError>
+        ensures { OnOk result (self.new ≡ receive_reference v layout nonnull self.old) }
+    {
+        match layout {
+            Some(layout) => self.define_new(
+                v,
+                layout,
+                Class {
+                    nonnull,
+                    fresh: false,
+                },
+            ),
+            None => self.define(v, Known::Nothing),
+        }
+    }
+
+    fn list_lines(&mut self, table: &Slots, lines: &[Line]) -> Result<(), AllocError>
+        ensures { OnOk result (self.new ≡ list_lines table.now lines.now self.old) }
+    {
+        for line in lines {
+            self.list_line(table, *line)?;
+        }
+        Ok(())
+    }
+
+    fn list_line(&mut self, table: &Slots, line: Line) -> Result<(), AllocError>
+        ensures { OnOk result (self.new ≡ list_line table.now line self.old) }
+    {
+        match line {
+            Line::Value { value, fact } => self.list_value(value, fact),
+            Line::Slot { slot, nonnull, .. } => self.list_slot(table.slot_of(slot), nonnull),
+        }
+    }
+
+    fn list_value(&mut self, v: ValueId, fact: Fact) -> Result<(), AllocError>
+        ensures { OnOk result (self.new ≡ list_value v fact self.old) }
+    {
+        match fact {
+            Fact::Number { bits, below } => self.set_known(v, Known::Number { bits, below }),
+            Fact::Reference {
+                layout,
+                nonnull,
+                age,
+                ..
+            } => {
+                let class = ClassId::new(v.number() as usize);
+                let stale = is_stale(age);
+                let fresh = is_fresh(age);
+                self.set_known(
+                    v,
+                    Known::Cell {
+                        class,
+                        layout,
+                        stale,
+                    },
+                )?;
+                self.set_class(class, Class { nonnull, fresh })
+            }
+            Fact::Address { base, words } => self.set_known(v, Known::Address { base, words }),
+            Fact::GlobalAddress(global) => self.set_known(v, Known::GlobalAddress(global)),
+        }
+    }
+
+    fn list_slot(&mut self, slot: Option<SlotId>, nonnull: bool) -> Result<(), AllocError>
+        ensures { OnOk result (self.new ≡ list_slot slot nonnull self.old) }
+    {
+        match slot {
+            Some(s) => self.set_slot(
+                s,
+                SlotFact {
+                    rooted: false,
+                    nonnull,
+                    holds: None,
+                },
+            ),
+            None => Ok(()),
+        }
+    }
+
+    fn tie_lines(&mut self, lines: &[Line]) -> Result<(), AllocError>
+        ensures { OnOk result (self.new ≡ tie_lines lines.now self.old) }
+    {
+        for line in lines {
+            self.tie_line(*line)?;
+        }
+        Ok(())
+    }
+
+    fn tie_line(&mut self, line: Line) -> Result<(), AllocError>
+        ensures { OnOk result (self.new ≡ tie_line line self.old) }
+    {
+        match line {
+            Line::Value { value, fact } => self.tie_fact(value, fact),
+            Line::Slot { .. } => Ok(()),
+        }
+    }
+
+    fn tie_fact(&mut self, v: ValueId, fact: Fact) -> Result<(), AllocError>
+        ensures { OnOk result (self.new ≡ tie_fact v fact self.old) }
+    {
+        match fact {
+            Fact::Reference { same, .. } => self.tie_value(v, same),
+            _ => Ok(()),
+        }
+    }
+
+    fn tie_value(&mut self, v: ValueId, same: Option<ValueId>) -> Result<(), AllocError>
+        ensures { OnOk result (self.new ≡ tie_value v same self.old) }
+    {
+        match same {
+            Some(w) => {
+                let known = self.known(v);
+                let other = self.known(w);
+                self.join_values(known, other)
+            }
+            None => Ok(()),
+        }
+    }
+
+    fn join_values(&mut self, known: Known, other: Known) -> Result<(), AllocError>
+        ensures { OnOk result (self.new ≡ join_values known other self.old) }
+    {
+        match known {
+            Known::Cell { class, .. } => self.join_known(class, other),
+            _ => Ok(()),
+        }
+    }
+
+    fn join_known(&mut self, from: ClassId, other: Known) -> Result<(), AllocError>
+        ensures { OnOk result (self.new ≡ join_known from other self.old) }
+    {
+        match other {
+            Known::Cell { class, .. } => self.join(from, class),
+            _ => Ok(()),
+        }
+    }
+
+    fn hold_lines(&mut self, table: &Slots, lines: &[Line]) -> Result<(), AllocError>
+        ensures { OnOk result (self.new ≡ hold_lines table.now lines.now self.old) }
+    {
+        for line in lines {
+            self.hold_line(table, *line)?;
+        }
+        Ok(())
+    }
+
+    fn hold_line(&mut self, table: &Slots, line: Line) -> Result<(), AllocError>
+        ensures { OnOk result (self.new ≡ hold_line table.now line self.old) }
+    {
+        match line {
+            Line::Slot { slot, holds, .. } => self.hold_value(table.slot_of(slot), holds),
+            Line::Value { .. } => Ok(()),
+        }
+    }
+
+    fn hold_value(&mut self, slot: Option<SlotId>, holds: Option<ValueId>) -> Result<(), AllocError>
+        ensures { OnOk result (self.new ≡ hold_value slot holds self.old) }
+    {
+        match (slot, holds) {
+            (Some(s), Some(x)) => {
+                let known = self.known(x);
+                self.hold_known(s, known)
+            }
+            _ => Ok(()),
+        }
+    }
+
+    fn hold_known(&mut self, s: SlotId, known: Known) -> Result<(), AllocError>
+        ensures { OnOk result (self.new ≡ hold_known s known self.old) }
+    {
+        match known {
+            Known::Cell { class, .. } => {
+                let slot = self.slot(s);
+                self.set_slot(
+                    s,
+                    SlotFact {
+                        holds: Some(class),
+                        ..slot
+                    },
+                )
+            }
+            _ => Ok(()),
+        }
+    }
+}
+
+/// Whether a reference is listed as stale.
+pub(crate) fn is_stale(age: Age) -> bool
+    ensures { result ≡ is_stale age }
+{
+    matches!(age, Age::Stale)
+}
+
+/// Whether a reference is listed as fresh.
+pub(crate) fn is_fresh(age: Age) -> bool
+    ensures { result ≡ is_fresh age }
+{
+    matches!(age, Age::Fresh)
+}
+
+fn promised_below(promise: &Option<Promise>) -> Option<u64>
+    ensures { result ≡ promised_below promise.now }
+{
+    match promise {
+        Some(promise) => promise.below,
+        None => None,
+    }
+}
+
+fn promised_nonnull(promise: &Option<Promise>) -> bool
+    ensures { result ≡ promised_nonnull promise.now }
+{
+    match promise {
+        Some(promise) => promise.nonnull,
+        None => false,
+    }
+}
+
+fn promised_layout(promise: &Option<Promise>) -> Option<LayoutId>
+    ensures { result ≡ promised_layout promise.now }
+{
+    match promise {
+        Some(promise) => promise.layout,
+        None => None,
+    }
+}

@@ -1,0 +1,194 @@
+//! Whether what is known shows the lines of a target.
+ghost use Rattle.std.specs.Prelude.{◌≡◌};
+ghost use Rattle.std.specs.List.{list_all, zip};
+ghost use Rattle.facts.specs.Lines.{implied, is_below, covers_value, covers_slot, covers, covers_known, is_fresh_in, is_same, is_alone, shows_reference, shows_number, shows_address, shows_global, shows_fact, holds_known, holds_value, shows_slot, shows_line};
+
+use crate::class_id::ClassId;
+use crate::facts::Facts;
+use crate::known::{Known, SlotFact};
+use crate::lines::{is_fresh, is_stale};
+use crate::rows;
+use certificate::{Age, Fact, Line};
+use ir_ast::{SymbolId, ValueId};
+use pools::{LayoutId, WordSet};
+use shadow_stack::{SlotId, Slots};
+
+/// What a line asks of a reference.
+#[derive(Clone, Copy)]
+struct Asked {
+    value: ValueId,
+    layout: LayoutId,
+    nonnull: bool,
+    age: Age,
+    same: Option<ValueId>,
+}
+
+impl Facts {
+    /// Whether a line of a target is shown; `there` is what the target begins with.
+    pub fn shows_line(&self, table: &Slots, there: &Facts, line: Line) -> bool
+        ensures { result ≡ shows_line table.now self.now there.now line }
+    {
+        match line {
+            Line::Value { value, fact } => self.shows_fact(there, value, fact),
+            Line::Slot {
+                slot,
+                nonnull,
+                holds,
+            } => self.shows_slot(table.slot_of(slot), nonnull, holds),
+        }
+    }
+
+    fn shows_fact(&self, there: &Facts, v: ValueId, fact: Fact) -> bool
+        ensures { result ≡ shows_fact self.now there.now v fact }
+    {
+        let known = self.known(v);
+        match fact {
+            Fact::Number { bits, below } => shows_number(bits, below, known),
+            Fact::Reference {
+                layout,
+                nonnull,
+                age,
+                same,
+            } => self.shows_reference(
+                there,
+                Asked {
+                    value: v,
+                    layout,
+                    nonnull,
+                    age,
+                    same,
+                },
+                known,
+            ),
+            Fact::Address { base, words } => shows_address(base, &words, known),
+            Fact::GlobalAddress(global) => shows_global(global, known),
+        }
+    }
+
+    fn shows_reference(&self, there: &Facts, asked: Asked, known: Known) -> bool
+        ensures { result ≡ shows_reference self.now there.now asked.value asked.layout asked.nonnull asked.age asked.same known }
+    {
+        match known {
+            Known::Cell {
+                class,
+                layout,
+                stale,
+            } => {
+                layout == asked.layout
+                    && implied(asked.nonnull, self.class(class).nonnull)
+                    && implied(!is_stale(asked.age), !stale)
+                    && implied(
+                        is_fresh(asked.age),
+                        self.is_fresh_in(there, class, asked.value),
+                    )
+                    && self.is_same(class, asked.same)
+            }
+            Known::Null => !asked.nonnull && !is_fresh(asked.age) && asked.same.is_none(),
+            _ => false,
+        }
+    }
+
+    fn is_fresh_in(&self, there: &Facts, c: ClassId, v: ValueId) -> bool
+        ensures { result ≡ is_fresh_in self.now there.now c v }
+    {
+        self.class(c).fresh && self.covers_known(there, c, there.known(v))
+    }
+
+    fn covers_known(&self, there: &Facts, c: ClassId, known: Known) -> bool
+        ensures { result ≡ covers_known self.now there.now c known }
+    {
+        match known {
+            Known::Cell { class, .. } => self.covers(there, c, class),
+            _ => false,
+        }
+    }
+
+    fn is_same(&self, c: ClassId, same: Option<ValueId>) -> bool
+        ensures { result ≡ is_same self.now.values c same }
+    {
+        match same {
+            Some(w) => rows::is_of(c, self.known(w)),
+            None => true,
+        }
+    }
+
+    fn shows_slot(&self, slot: Option<SlotId>, nonnull: bool, holds: Option<ValueId>) -> bool
+        ensures { result ≡ shows_slot self.now slot nonnull holds }
+    {
+        match slot {
+            Some(s) => {
+                let slot = self.slot(s);
+                let held = slot.holds;
+                implied(nonnull, self.slot_nonnull(slot)) && self.holds_value(held, holds)
+            }
+            None => false,
+        }
+    }
+
+    fn holds_value(&self, holds: Option<ClassId>, asked: Option<ValueId>) -> bool
+        ensures { result ≡ holds_value self.now.values holds asked }
+    {
+        match asked {
+            Some(x) => holds_known(holds, self.known(x)),
+            None => true,
+        }
+    }
+}
+
+fn implied(asked: bool, holds: bool) -> bool
+    ensures { result ≡ implied asked holds }
+{
+    holds || !asked
+}
+
+fn is_below(below: Option<u64>, asked: Option<u64>) -> bool
+    ensures { result ≡ is_below below asked }
+{
+    match (below, asked) {
+        (_, None) => true,
+        (None, Some(_)) => false,
+        (Some(known), Some(asked)) => known <= asked,
+    }
+}
+
+fn shows_number(bits: u32, below: Option<u64>, known: Known) -> bool
+    ensures { result ≡ shows_number bits below known }
+{
+    match known {
+        Known::Number {
+            bits: n,
+            below: known,
+        } => n == bits && is_below(known, below),
+        _ => false,
+    }
+}
+
+fn shows_address(base: ValueId, words: &WordSet, known: Known) -> bool
+    ensures { result ≡ shows_address base words.now.members known }
+{
+    match known {
+        Known::Address {
+            base: x,
+            words: known,
+        } => x == base && known.is_within(words),
+        _ => false,
+    }
+}
+
+fn shows_global(global: SymbolId, known: Known) -> bool
+    ensures { result ≡ shows_global global known }
+{
+    match known {
+        Known::GlobalAddress(other) => other == global,
+        _ => false,
+    }
+}
+
+fn holds_known(holds: Option<ClassId>, known: Known) -> bool
+    ensures { result ≡ holds_known holds known }
+{
+    match known {
+        Known::Cell { class, .. } => rows::holds_class(class, holds),
+        _ => false,
+    }
+}

@@ -1,0 +1,100 @@
+-- The next token: what it is, where it stands, and how it is refused.
+use Rattle.std.specs.Prelude.{ℕ, ◌-◌, ◌==◌, Bool, false, not, ◌||◌, if◌then◌else◌, List, [], ◌∷◌, length, take, drop, Option, Some, None}
+use Rattle.ir_tokens.specs.declared.token.Kind.{Kind}
+use Rattle.ir_tokens.specs.declared.token.Kind.TheVariants as k
+use Rattle.ir_tokens.specs.contracts.token.Kind.{the_type}
+use Rattle.ir_tokens.specs.declared.token.Token.{Token}
+use Rattle.ir_tokens.specs.Names.{name_of}
+use Rattle.ir_cursor.specs.declared.fault.Fault.{Fault}
+use Rattle.ir_cursor.specs.declared.fault.Fault.TheVariants.{BadByte, Unfinished, Unexpected, LeftOut}
+use Rattle.ir_cursor.specs.Place.{Place}
+use denote.Enum.Bare.{sameb}
+
+unfoldable pub same_kind : Kind → Kind → Bool
+same_kind = sameb the_type
+
+abbrev pub kind_first : List Token → Kind
+kind_first [] = k.End
+kind_first (t ∷ ts) = t.kind
+
+-- what the next token is
+unfoldable pub kind : Place → Kind
+kind c = kind_first c.rest
+
+-- the next token is of this kind
+unfoldable pub sees : Kind → Place → Bool
+sees k c = same_kind (kind c) k
+
+abbrev pub start_first : List Token → ℕ → ℕ
+start_first [] end = end
+start_first (t ∷ ts) end = t.start
+
+-- where the next token begins; behind the last token, where the text ends
+unfoldable pub start : Place → ℕ
+start c = start_first c.rest (length c.text)
+
+abbrev pub size_first : List Token → ℕ
+size_first [] = 0
+size_first (t ∷ ts) = t.length
+
+-- how many bytes spell the next token
+unfoldable pub size : Place → ℕ
+size c = size_first c.rest
+
+-- the bytes that spell the next token
+unfoldable pub spelling : Place → List ℕ
+spelling c = take (size c) (drop (start c) c.text)
+
+abbrev pub rest_of : List Token → List Token
+rest_of [] = []
+rest_of (t ∷ ts) = ts
+
+-- one token further on
+unfoldable pub next : Place → Place
+next c = record c { rest = rest_of c.rest }
+
+-- the fault where the text ends too early: a bad byte stands there, or the text is not finished
+abbrev pub end_fault : Option ℕ → ℕ → Fault
+end_fault None end = Unfinished end
+end_fault (Some bad) end = BadByte bad
+
+unfoldable pub at_end : Place → Fault
+at_end c = end_fault c.bad (length c.text)
+
+-- the fault of a token that begins a form that is left out
+unfoldable pub left_out : Place → Fault
+left_out c = LeftOut (start c) (size c)
+
+-- the fault of a token that no form goes on with: a word of the left-out forms is named, and so is one that
+-- begins a form that is not read yet
+unfoldable pub refused : Bool → Place → Fault
+refused unread c = if sees k.End c then at_end c else (if unread || sees k.LeftOut c then left_out c else Unexpected (start c))
+
+-- ---- names
+
+abbrev pub begins_quoted : List ℕ → Bool
+begins_quoted [] = false
+begins_quoted (byte ∷ bytes) = byte == 34
+
+-- the name that stands behind the sign `%` or `@`
+unfoldable pub name : Place → List ℕ
+name c = drop 1 (spelling c)
+
+-- it is written without quotes
+unfoldable pub is_plain : Place → Bool
+is_plain c = not (begins_quoted (name c))
+
+-- the name that stands before the `:` of a label
+unfoldable pub label : Place → List ℕ
+label c = take (size c - 1) (spelling c)
+
+unfoldable pub is_plain_label : Place → Bool
+is_plain_label c = not (begins_quoted (label c))
+
+abbrev pub spelled_first : List ℕ → List Token → List ℕ
+spelled_first text [] = []
+spelled_first text (t ∷ ts) = name_of text t
+
+-- what the next token spells, without its sign, its quotes and its escapes
+unfoldable pub spelled : Place → List ℕ
+spelled c = spelled_first c.text c.rest

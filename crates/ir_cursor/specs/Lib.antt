@@ -1,0 +1,6 @@
+pub mod Place
+pub mod View
+pub mod Cursor
+pub mod Number
+pub mod Table
+pub mod RuntimeNames

@@ -1,0 +1,43 @@
+-- Numbers as they are written.
+use Rattle.std.specs.Prelude.{ℕ, ◌+◌, ◌-◌, ◌*◌, ◌^◌, ◌==◌, nat_lt, nat_le, if◌then◌else◌, List, [], ◌∷◌, Option, Some, None, min, option_and_then}
+
+-- the number that digits spell behind those that spell n
+abbrev pub decimal_behind : ℕ → List ℕ → ℕ
+decimal_behind n [] = n
+decimal_behind n (digit ∷ digits) = decimal_behind (10 * n + (digit - 48)) digits
+
+-- the number that decimal digits spell
+unfoldable pub decimal : List ℕ → ℕ
+decimal digits = decimal_behind 0 digits
+
+-- a number below 2 to the 64
+abbrev pub small : ℕ → Option ℕ
+small n = if nat_lt n 18446744073709551616 then Some n else None
+
+-- the opposite of a number, which lies not below 0
+abbrev pub not_below_zero : ℕ → Option ℕ
+not_below_zero n = if n == 0 then Some 0 else None
+
+-- the number that a length spells, below 2 to the 64
+unfoldable pub natural : List ℕ → Option ℕ
+natural [] = small (decimal [])
+natural (byte ∷ digits) = if byte == 45 then option_and_then not_below_zero (small (decimal digits)) else small (decimal (byte ∷ digits))
+
+-- half of the numbers of so many bits, of which there are at most 64
+abbrev pub half_of : ℕ → ℕ
+half_of bits = 2 ^ (min bits 64 - 1)
+
+-- a number that has room in twice the half
+abbrev pub positive : ℕ → ℕ → Option ℕ
+positive half n = if nat_lt n (2 * half) then Some n else None
+
+-- the opposite of a number that has room in the half, counted down from twice the half
+abbrev pub negative : ℕ → ℕ → Option ℕ
+negative half n = if nat_le n half then Some (if n == 0 then 0 else 2 * half - n) else None
+
+-- the number that a constant spells, of so many bits; one that lies out of their range has none
+unfoldable pub constant : List ℕ → ℕ → Option ℕ
+constant [] bits = option_and_then (positive (half_of bits)) (small (decimal []))
+constant (byte ∷ digits) bits =
+    if byte == 45 then option_and_then (negative (half_of bits)) (small (decimal digits))
+    else option_and_then (positive (half_of bits)) (small (decimal (byte ∷ digits)))

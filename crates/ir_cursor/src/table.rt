@@ -1,0 +1,55 @@
+ghost use Rattle.std.specs.Prelude.{◌≡◌, IfOk, OnOk, slice_get, slice_set, length, ◌<◌};
+ghost use Rattle.ir_ast.specs.Names.{number_of, numbered};
+ghost use Rattle.ir_cursor.specs.Table as spec;
+ghost use Rattle.std.specs.Option.{option_copied};
+
+use ir_ast::Names;
+use items::Items;
+use std::alloc::{AllocError, Global};
+
+/// Names in the order in which they are mentioned first, and what each of them stands for so far.
+#[derive(Drop)]
+pub struct Table<S> {
+    pub names: Names,
+    pub sorts: Items<S>,
+}
+
+impl<S: Copy + Drop> Table<S> {
+    pub fn new(alloc: Global) -> Self
+        ensures { result ≡ spec.empty }
+    {
+        Table {
+            names: Names::new(alloc),
+            sorts: Items::new(alloc),
+        }
+    }
+
+    /// The number of a name. A new name is added, and stands for nothing so far.
+    pub fn mention(&mut self, alloc: Global, name: &[u8], nothing: S) -> Result<usize, AllocError>
+        ensures number { IfOk result (λ number. number ≡ number_of name.now self.old.names) }
+        ensures table { OnOk result (self.new ≡ spec.mentioned name.now nothing self.old) }
+    {
+        if let Some(number) = self.names.find(name) {
+            return Ok(number);
+        }
+        let number = self.names.number(alloc, name)?;
+        self.sorts.push(nothing)?;
+        Ok(number)
+    }
+
+    /// What a name stands for so far.
+    pub fn sort(&self, number: usize) -> Option<S>
+        ensures { result ≡ slice_get self.now.sorts number }
+    {
+        self.sorts.get(number).copied()
+    }
+
+    /// A name stands for this from now on.
+    pub fn define(&mut self, number: usize, sort: S)
+        ensures { self.new ≡ spec.defined number sort self.old }
+    {
+        if number < self.sorts.len() {
+            self.sorts.set(number, sort);
+        }
+    }
+}

@@ -1,0 +1,40 @@
+//! Where names are used, for names that may be defined further on.
+use ir_ast::{StructNameId, SymbolId, ValueId};
+
+/// A use of a struct's name.
+#[derive(Clone, Copy, Debug, PartialEq, Eq)]
+pub struct StructUse {
+    pub name: StructNameId,
+    /// Where the name stands.
+    pub start: u32,
+}
+
+/// What a local name has to stand for where it is used.
+#[derive(Clone, Copy, Debug, PartialEq, Eq)]
+pub enum Wanted {
+    Value,
+    Block,
+    /// A block other than the entry.
+    Target,
+}
+
+/// A use of a local name.
+#[derive(Clone, Copy, Debug, PartialEq, Eq)]
+pub struct LocalUse {
+    pub value: ValueId,
+    pub wanted: Wanted,
+    /// Where the name stands.
+    pub start: u32,
+}
+
+/// A use of a global name.
+#[derive(Clone, Copy, Debug, PartialEq, Eq)]
+pub struct SymbolUse {
+    pub symbol: SymbolId,
+    /// Whether a function is called here; otherwise a global is wanted.
+    pub is_call: bool,
+    /// Where the name stands.
+    pub start: u32,
+    /// How many bytes spell it, with its sign.
+    pub length: u32,
+}

@@ -1,0 +1,130 @@
+-- Instructions that end a block.
+use Rattle.std.specs.Prelude.{ℕ, Bool, true, false, not, List, [], Option}
+use Rattle.grammar.specs.Grammar.{pure, checked, refuse, look, ◌>>=◌, ◌>>◌}
+use Rattle.grammar.specs.Takes.{Takes, first_takes, second_takes}
+use Rattle.ir_tokens.specs.declared.token.Kind.{Kind}
+use Rattle.ir_tokens.specs.declared.token.Kind.TheVariants as k
+use Rattle.ir_ast.specs.declared.operand.Constant.{Constant}
+use Rattle.ir_ast.specs.declared.op.Case.{Case}
+use Rattle.ir_ast.specs.declared.op.Op.{Op}
+use Rattle.ir_ast.specs.declared.op.Op.TheVariants as op
+use Rattle.ir_cursor.specs.declared.fault.Fault.TheVariants.{DefinedTwice}
+use Rattle.ir_parts.specs.declared.input.Input.{Input}
+use Rattle.ir_parts.specs.declared.written.WrittenType.{WrittenType}
+use Rattle.ir_cursor.specs.Cursor.{kind, sees, start}
+use Rattle.ir_parts.specs.Input.{Form, unexpected, skip, expect, expect_takes}
+use Rattle.ir_parts.specs.Names.{target}
+use Rattle.ir_parts.specs.Written.{scalar, again, bits_of}
+use Rattle.ir_parts.specs.Operand.{operand, constant}
+use Rattle.ir_instructions.specs.declared.branches.Cases.{Cases}
+use Rattle.ir_instructions.specs.declared.case_values.CaseValue.{CaseValue}
+use Rattle.ir_instructions.specs.CaseValues.{value_of, is_among, with_value}
+use Rattle.ir_instructions.specs.Integers.{condition}
+use Rattle.ir_instructions.specs.Lists.{either, typed}
+use Rattle.ir_instructions.specs.ManyWith.{many_with}
+
+-- ---- br
+
+abbrev pub jump : Form Op
+jump = target >>= λ b. pure (op.Jump b)
+
+-- `br i1 V, label %a, label %b` behind its word
+unfoldable pub branch : Form Op
+branch = do
+  x ← condition
+  expect k.Comma
+  taken ← target
+  expect k.Comma
+  other ← target
+  pure (op.Branch x.written x.operand taken other)
+
+-- `br label %b`, or a branch
+unfoldable pub br : Form Op
+br = skip >> look (λ i. sees k.Label i.cursor) (either jump branch)
+
+-- ---- switch
+
+-- the constant of a case, behind cases of these values
+unfoldable pub case_constant : Option ℕ → List CaseValue → Form Constant
+case_constant bits seen = look (λ i. start i.cursor) (λ place. constant bits >>= λ x. checked (λ _. not (is_among (value_of x) seen)) (λ _. DefinedTwice place) >> pure x)
+
+abbrev pub case_target : Constant → Form Case
+case_target x = target >>= λ b. pure (record { constant = x; target = b })
+
+abbrev pub case_of : Constant → Form Case
+case_of x = expect k.Comma >> case_target x
+
+abbrev pub case_behind : Cases → Form Case
+case_behind c = case_constant (bits_of c.written) c.seen >>= case_of
+
+-- `T c, label %b`
+unfoldable pub case : Cases → Form Case
+case c = again c.written >> case_behind c
+
+case_of_takes : (x : Constant) → Takes (case_of x)
+case_of_takes x = first_takes (expect k.Comma) (λ _. case_target x) (expect_takes k.Comma (λ x. cc))
+
+case_behind_takes : (c : Cases) → Takes (case_behind c)
+case_behind_takes c = second_takes (case_constant (bits_of c.written) c.seen) case_of case_of_takes
+
+pub case_takes : (c : Cases) → Takes (case c)
+unfolding case
+case_takes c = second_takes (again c.written) (λ _. case_behind c) (λ _. case_behind_takes c)
+
+abbrev pub at_square : Cases → Input → Bool
+at_square c i = sees k.CloseSquare i.cursor
+
+abbrev pub behind_case : Cases → Case → Cases
+behind_case c x = record c { seen = with_value (value_of x.constant) c.seen }
+
+-- the cases of a switch of this type
+unfoldable pub all_cases : WrittenType → Form (List Case)
+all_cases w = many_with at_square case case_takes behind_case (record { written = w; seen = [] })
+
+-- `[ T c, label %b .. ]`
+unfoldable pub bracketed_cases : WrittenType → Form (List Case)
+bracketed_cases w = do
+  expect k.OpenSquare
+  xs ← all_cases w
+  expect k.CloseSquare
+  pure xs
+
+-- `switch T V, label %d [ T c, label %b .. ]`
+unfoldable pub switch : Form Op
+switch = do
+  skip
+  w ← scalar
+  x ← operand (bits_of w)
+  expect k.Comma
+  otherwise ← target
+  xs ← bracketed_cases w
+  pure (op.Switch w.id x otherwise xs)
+
+-- ---- ret
+
+abbrev pub returned_value : Form Op
+returned_value = typed >>= λ x. pure (op.Return x)
+
+-- `ret void` or `ret T V`
+unfoldable pub ret : Form Op
+ret = skip >> look (λ i. sees k.Void i.cursor) (either (skip >> pure op.ReturnVoid) returned_value)
+
+-- ---- by the word
+
+abbrev pub terminator_by : Kind → Form Op
+terminator_by k.Ret = ret
+terminator_by k.Br = br
+terminator_by k.Switch = switch
+terminator_by k.Unreachable = skip >> pure op.Unreachable
+terminator_by _ = refuse unexpected
+
+-- the instruction that ends a block
+unfoldable pub terminator : Form Op
+terminator = look (λ i. kind i.cursor) terminator_by
+
+abbrev pub ends_block : Kind → Bool
+ends_block k.Ret = true
+ends_block k.Br = true
+ends_block k.Switch = true
+ends_block k.Unreachable = true
+ends_block _ = false

@@ -1,0 +1,114 @@
+//! Instructions, and lists of them.
+ghost use Rattle.std.specs.Prelude.{◌≡◌};
+ghost use Rattle.ir_parts.specs.Input.{Reads};
+ghost use Rattle.ir_instructions.specs.Instructions as form;
+
+use crate::branches::{ends_block, terminator};
+use crate::calls::{call, void_call};
+use crate::following::{Following, many_with};
+use crate::integers::{compare, integer_op, select};
+use crate::memory::{alloca, bitcast, element, load, store};
+use crate::phis::phi;
+use crate::site::{Site, is_phi};
+use crate::starts::begins_unread_instruction;
+use ir_ast::{BlockId, Instr, Op, ValueId};
+use ir_cursor::Fault;
+use ir_parts::Input;
+use ir_tokens::Kind;
+use items::Items;
+use std::alloc::Global;
+
+/// An instruction behind the name of its value.
+#[tactic(auto, unfolding(crate::specs::Instructions::named_op))]
+fn named_op(alloc: Global, input: &mut Input<'_>, site: Site, value: ValueId) -> Result<Op, Fault>
+    ensures { Reads ((form.named_op site value).read input.old) result input.new }
+{
+    match input.kind() {
+        Kind::Alloca => alloca(alloc, input, value),
+        Kind::Bitcast => bitcast(alloc, input, value),
+        Kind::Load => load(alloc, input, value),
+        Kind::Getelementptr => element(alloc, input, site, value),
+        Kind::Icmp => compare(alloc, input, value),
+        Kind::Select => select(alloc, input, value),
+        Kind::Phi => phi(alloc, input, site, value),
+        Kind::Call => call(alloc, input, value),
+        _ => integer_op(alloc, input, value),
+    }
+}
+
+/// An instruction that does not end its block.
+#[tactic(auto, unfolding(crate::specs::Instructions::instruction))]
+fn instruction(alloc: Global, input: &mut Input<'_>, site: Site) -> Result<Instr, Fault>
+    ensures { Reads ((form.instruction site).read input.old) result input.new }
+{
+    match input.kind() {
+        Kind::LocalName => {
+            let value = input.new_value(alloc)?;
+            input.expect(Kind::Equals)?;
+            let op = named_op(alloc, input, site, value)?;
+            Ok(Instr {
+                result: Some(value),
+                op,
+            })
+        }
+        Kind::Call => {
+            let op = void_call(alloc, input)?;
+            Ok(Instr { result: None, op })
+        }
+        Kind::Store => {
+            let op = store(alloc, input)?;
+            Ok(Instr { result: None, op })
+        }
+        kind => Err(input.refuse(begins_unread_instruction(kind))),
+    }
+}
+
+impl Following for Site {
+    ghost use Rattle.ir_instructions.specs.Instructions.{placed, at_terminator};
+    ghost use Rattle.ir_instructions.specs.Sites.{behind};
+
+    type Item = Instr;
+
+    ghost form = { λ site. (placed site).read };
+
+    ghost ends = { at_terminator };
+
+    ghost next = { behind };
+
+    fn ends(&self, input: &Input<'_>) -> bool {
+        ends_block(input.kind())
+    }
+
+    fn read(&mut self, alloc: Global, input: &mut Input<'_>) -> Result<Instr, Fault> {
+        if self.place >= u32::MAX {
+            return Err(input.limit());
+        }
+        let read = instruction(alloc, input, *self)?;
+        self.place += 1;
+        self.is_behind_phis = self.is_behind_phis && is_phi(&read.op);
+        Ok(read)
+    }
+}
+
+/// The instructions of a block before the one that ends it.
+#[tactic(auto, unfolding(crate::specs::Instructions::body))]
+fn body(alloc: Global, input: &mut Input<'_>, block: BlockId) -> Result<Items<Instr>, Fault>
+    ensures { Reads ((form.body block).read input.old) result input.new }
+{
+    many_with(alloc, input, Site::first_of(block))
+}
+
+/// The instructions of a block; the last one ends it.
+#[tactic(auto, unfolding(crate::specs::Instructions::instructions))]
+pub fn instructions(
+    alloc: Global,
+    input: &mut Input<'_>,
+    block: BlockId,
+) -> Result<Items<Instr>, Fault>
+    ensures { Reads ((form.instructions block).read input.old) result input.new }
+{
+    let mut found = body(alloc, input, block)?;
+    let op = terminator(alloc, input)?;
+    found.push(Instr { result: None, op })?;
+    Ok(found)
+}

@@ -1,0 +1,19 @@
+//! The instructions of a module's text, and the blocks that they make.
+#![tactic(auto)]
+
+mod bodies;
+mod branches;
+mod calls;
+mod case_values;
+mod following;
+mod integers;
+mod lists;
+mod memory;
+mod phis;
+mod site;
+mod starts;
+
+pub use bodies::instructions;
+pub use following::{Following, many_with};
+pub use lists::separator;
+pub use starts::{begins_unread_instruction, decorates_part, is_decoration};

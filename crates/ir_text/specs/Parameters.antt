@@ -1,0 +1,78 @@
+-- Parameters of declared and of defined functions.
+use Rattle.std.specs.Prelude.{ℕ, not, List}
+use Rattle.grammar.specs.Grammar.{pure, checked, refuse, look, ◌>>=◌, ◌>>◌}
+use Rattle.grammar.specs.Takes.{Takes, TakesWhere, first_takes, look_takes}
+use Rattle.grammar.specs.Many.{many}
+use Rattle.ir_tokens.specs.declared.token.Kind.{Kind}
+use Rattle.ir_tokens.specs.declared.token.Kind.TheVariants as k
+use Rattle.ir_ast.specs.declared.function.Parameter.{Parameter}
+use Rattle.ir_parts.specs.declared.written.WrittenType.{WrittenType}
+use Rattle.ir_cursor.specs.Cursor.{kind, sees, left_out}
+use Rattle.ir_parts.specs.Input.{Form, unread, IsKind}
+use Rattle.ir_parts.specs.Names.{new_value, set_type}
+use Rattle.ir_parts.specs.Written.{any_type, any_type_takes, passed_type, passed_type_takes}
+use Rattle.ir_instructions.specs.Lists.{separator, at_round}
+use Rattle.ir_text.specs.Starts.{decorates_parameter}
+
+-- ---- declared functions
+
+-- names of parameters are not read yet
+abbrev pub type_of_parameter : WrittenType → Form ℕ
+type_of_parameter w = checked (λ i. not (sees k.LocalName i.cursor)) (λ i. left_out i.cursor) >> separator k.CloseRound >> pure w.id
+
+-- the type of a parameter of a declared function
+unfoldable pub declared_parameter : Form ℕ
+declared_parameter = any_type >>= type_of_parameter
+
+pub declared_parameter_takes : Takes declared_parameter
+unfolding declared_parameter
+declared_parameter_takes = first_takes any_type type_of_parameter any_type_takes
+
+-- the types of the parameters of a declared function
+unfoldable pub declared_parameters : Form (List ℕ)
+declared_parameters = many at_round declared_parameter declared_parameter_takes
+
+-- ---- defined functions
+
+abbrev pub parameter_type_by : Kind → Form WrittenType
+parameter_type_by k.Void = refuse (λ i. left_out i.cursor)
+parameter_type_by _ = passed_type
+
+-- the type of a parameter; no parameter has the type `void`
+unfoldable pub parameter_type : Form WrittenType
+parameter_type = look (λ i. kind i.cursor) parameter_type_by
+
+parameter_type_takes_by : (x : Kind) → TakesWhere (IsKind x) (parameter_type_by x)
+parameter_type_takes_by k.Void = λ i a o e h. absurd h
+parameter_type_takes_by _ = λ i a o e h. passed_type_takes i a o h
+
+parameter_type_takes : Takes parameter_type
+unfolding parameter_type
+parameter_type_takes = look_takes (λ i. kind i.cursor) parameter_type_by parameter_type_takes_by
+
+abbrev pub parameter_name_by : Kind → Form ℕ
+parameter_name_by k.LocalName = new_value
+parameter_name_by _ = refuse (unread decorates_parameter)
+
+-- the name of a parameter
+unfoldable pub parameter_name : Form ℕ
+parameter_name = look (λ i. kind i.cursor) parameter_name_by
+
+abbrev pub parameter_of : WrittenType → Form Parameter
+parameter_of w = do
+  value ← parameter_name
+  set_type value w.id
+  separator k.CloseRound
+  pure (record { written = w.id; value = value })
+
+-- `T %a`
+unfoldable pub parameter : Form Parameter
+parameter = parameter_type >>= parameter_of
+
+pub parameter_takes : Takes parameter
+unfolding parameter
+parameter_takes = first_takes parameter_type parameter_of parameter_type_takes
+
+-- the parameters of a defined function
+unfoldable pub parameters : Form (List Parameter)
+parameters = many at_round parameter parameter_takes

@@ -1,0 +1,74 @@
+//! The blocks of a function.
+ghost use Rattle.std.specs.Prelude.{◌≡◌, ◌<◌, IfOk};
+ghost use Rattle.ir_parts.specs.Input.{Reads};
+ghost use Rattle.ir_text.specs.Blocks as form;
+
+use crate::starts::begins_unread_block;
+use ir_ast::{Block, BlockId};
+use ir_cursor::Fault;
+use ir_instructions::{Following, instructions, many_with};
+use ir_parts::Input;
+use ir_tokens::Kind;
+use items::Items;
+use std::alloc::Global;
+
+/// How many blocks a function has at most.
+const BLOCK_LIMIT: u32 = 65535;
+
+/// A block behind its label.
+#[tactic(auto, unfolding(crate::specs::Blocks::block))]
+fn block(alloc: Global, input: &mut Input<'_>, number: BlockId) -> Result<Block, Fault>
+    ensures outcome { Reads ((form.block number).read input.old) result input.new }
+    ensures within { IfOk result (λ _. number < 65535) }
+{
+    match input.kind() {
+        Kind::LabelName => {
+            if number.number() >= BLOCK_LIMIT {
+                return Err(input.limit());
+            }
+            let label = input.new_label(alloc, number)?;
+            let instructions = instructions(alloc, input, number)?;
+            Ok(Block {
+                label,
+                instructions,
+            })
+        }
+        kind => Err(input.refuse(begins_unread_block(kind))),
+    }
+}
+
+/// The blocks of a function so far.
+#[derive(Clone, Copy, Debug, PartialEq, Eq)]
+pub struct Blocks {
+    pub count: u32,
+}
+
+impl Following for Blocks {
+    ghost use Rattle.ir_text.specs.Blocks.{further, at_close, behind_block};
+
+    type Item = Block;
+
+    ghost form = { λ b. (further b).read };
+
+    ghost ends = { at_close };
+
+    ghost next = { behind_block };
+
+    fn ends(&self, input: &Input<'_>) -> bool {
+        self.count > 0 && input.sees(Kind::CloseBrace)
+    }
+
+    fn read(&mut self, alloc: Global, input: &mut Input<'_>) -> Result<Block, Fault> {
+        let read = block(alloc, input, BlockId::new(self.count))?;
+        self.count += 1;
+        Ok(read)
+    }
+}
+
+/// The blocks of a function, of which there is one at least.
+#[tactic(auto, unfolding(crate::specs::Blocks::blocks))]
+pub fn all_blocks(alloc: Global, input: &mut Input<'_>) -> Result<Items<Block>, Fault>
+    ensures { Reads (form.blocks.read input.old) result input.new }
+{
+    many_with(alloc, input, Blocks { count: 0 })
+}

@@ -1,0 +1,103 @@
+//! Parameters of declared and of defined functions.
+ghost use Rattle.std.specs.Prelude.{◌≡◌};
+ghost use Rattle.ir_parts.specs.Input.{Reads};
+ghost use Rattle.ir_text.specs.Parameters as form;
+
+use crate::starts::decorates_parameter;
+use ir_ast::{Parameter, TypeId, ValueId};
+use ir_cursor::Fault;
+use ir_instructions::separator;
+use ir_parts::{Input, Listed, WrittenType};
+use ir_tokens::Kind;
+use std::alloc::Global;
+
+/// The type of a parameter of a declared function.
+#[tactic(auto, unfolding(crate::specs::Parameters::declared_parameter))]
+fn declared_parameter(alloc: Global, input: &mut Input<'_>) -> Result<TypeId, Fault>
+    ensures { Reads (form.declared_parameter.read input.old) result input.new }
+{
+    let written = input.any_type(alloc)?;
+    if input.sees(Kind::LocalName) {
+        return Err(input.left_out());
+    }
+    separator(input, Kind::CloseRound)?;
+    Ok(written.id)
+}
+
+/// The types of the parameters of a declared function.
+pub struct DeclaredParameters;
+
+impl Listed for DeclaredParameters {
+    ghost use Rattle.ir_instructions.specs.Lists.{at_round};
+    ghost use Rattle.ir_text.specs.Parameters.{declared_parameter};
+
+    type Item = TypeId;
+
+    ghost form = { declared_parameter.read };
+
+    ghost ends = { at_round };
+
+    fn ends(input: &Input<'_>) -> bool {
+        input.sees(Kind::CloseRound)
+    }
+
+    fn read(alloc: Global, input: &mut Input<'_>) -> Result<TypeId, Fault> {
+        declared_parameter(alloc, input)
+    }
+}
+
+/// The type of a parameter.
+#[tactic(auto, unfolding(crate::specs::Parameters::parameter_type))]
+fn parameter_type(alloc: Global, input: &mut Input<'_>) -> Result<WrittenType, Fault>
+    ensures { Reads (form.parameter_type.read input.old) result input.new }
+{
+    match input.kind() {
+        Kind::Void => Err(input.left_out()),
+        _ => input.passed_type(alloc),
+    }
+}
+
+/// The name of a parameter.
+#[tactic(auto, unfolding(crate::specs::Parameters::parameter_name))]
+fn parameter_name(alloc: Global, input: &mut Input<'_>) -> Result<ValueId, Fault>
+    ensures { Reads (form.parameter_name.read input.old) result input.new }
+{
+    match input.kind() {
+        Kind::LocalName => input.new_value(alloc),
+        kind => Err(input.refuse(decorates_parameter(kind))),
+    }
+}
+
+/// A parameter of a defined function.
+#[tactic(auto, unfolding(crate::specs::Parameters::parameter))]
+fn parameter(alloc: Global, input: &mut Input<'_>) -> Result<Parameter, Fault>
+    ensures { Reads (form.parameter.read input.old) result input.new }
+{
+    let written = parameter_type(alloc, input)?.id;
+    let value = parameter_name(alloc, input)?;
+    input.set_type(value, written);
+    separator(input, Kind::CloseRound)?;
+    Ok(Parameter { written, value })
+}
+
+/// The parameters of a defined function.
+pub struct DefinedParameters;
+
+impl Listed for DefinedParameters {
+    ghost use Rattle.ir_instructions.specs.Lists.{at_round};
+    ghost use Rattle.ir_text.specs.Parameters.{parameter};
+
+    type Item = Parameter;
+
+    ghost form = { parameter.read };
+
+    ghost ends = { at_round };
+
+    fn ends(input: &Input<'_>) -> bool {
+        input.sees(Kind::CloseRound)
+    }
+
+    fn read(alloc: Global, input: &mut Input<'_>) -> Result<Parameter, Fault> {
+        parameter(alloc, input)
+    }
+}

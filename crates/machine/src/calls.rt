@@ -1,0 +1,184 @@
+//! What calls of the runtime ask for.
+ghost use Rattle.std.specs.Prelude.{◌≡◌, slice_get};
+ghost use Rattle.std.specs.Option.{option_copied};
+ghost use Rattle.types.specs.RuntimeCall.{runtime_called};
+ghost use Rattle.machine.specs.Kinds.{slot_at_place};
+ghost use Rattle.machine.specs.Machine.{layout_of_call, root_of_call};
+ghost use Rattle.machine.specs.Asks.{are_gcroot_types, are_alloc_types, declare_of, declared_with, is_root_place, gcroot_action, layout_numbered, layout_named, alloc_of, alloc_action, call_action};
+
+use crate::action::{Action, only_if};
+use crate::kinds::{is_byte_pointer, is_integer_of, is_place_of_bytes, is_void};
+use crate::operands::{is_usable, slot_at_place};
+use crate::scene::Scene;
+use ir_ast::{Argument, Constant, Declare, Module, Operand, Runtime, SymbolId, SymbolSort, TypeId};
+use pools::LayoutId;
+use shadow_stack::SlotId;
+use types::runtime_called;
+
+fn are_gcroot_types(of_module: &Module, returned: TypeId, parameters: &[TypeId]) -> bool
+    ensures { result ≡ are_gcroot_types of_module.now returned parameters.now }
+{
+    match parameters {
+        [place, metadata] => {
+            is_void(of_module, returned)
+                && (is_place_of_bytes(of_module, *place) && is_byte_pointer(of_module, *metadata))
+        }
+        _ => false,
+    }
+}
+
+fn are_alloc_types(of_module: &Module, returned: TypeId, parameters: &[TypeId]) -> bool
+    ensures { result ≡ are_alloc_types of_module.now returned parameters.now }
+{
+    match parameters {
+        [layout] => {
+            is_byte_pointer(of_module, returned) && is_integer_of(of_module, 32, *layout)
+        }
+        _ => false,
+    }
+}
+
+/// The declaration of a global name.
+fn declare_of(of_module: &Module, callee: SymbolId) -> Option<&Declare>
+    ensures { option_copied result ≡ declare_of of_module.now callee }
+{
+    match of_module.sorts.get(callee.number() as usize) {
+        Some(SymbolSort::Declared(number)) => of_module.declares.get(number.number() as usize),
+        _ => None,
+    }
+}
+
+fn is_root_place(scene: &Scene<'_>, slot: Option<SlotId>) -> bool
+    ensures { result ≡ is_root_place scene.now.program.now.of_module scene.now.slots.now slot }
+{
+    match slot {
+        Some(slot) => scene.slots.is_reference(scene.of_module(), slot),
+        None => false,
+    }
+}
+
+fn gcroot_action(scene: &Scene<'_>, returned: TypeId, arguments: &[Argument]) -> Action
+    ensures { result ≡ gcroot_action scene.now.program.now.of_module scene.now.function.now scene.now.slots.now scene.now.registers.now returned arguments.now }
+{
+    match arguments {
+        [place, metadata] => only_if(
+            are_gcroot_types(
+                scene.of_module(),
+                returned,
+                &[place.written, metadata.written],
+            ) && (is_root_place(scene, slot_at_place(scene, place.written, &place.operand))
+                && is_usable(scene, metadata.written, &metadata.operand)),
+            Action::Local,
+        ),
+        _ => Action::Wrong,
+    }
+}
+
+/// The layout that an operand numbers: a constant of 32 bits.
+fn layout_named(of_module: &Module, operand: &Operand) -> Option<LayoutId>
+    ensures { result ≡ layout_named of_module.now operand.now }
+{
+    match operand {
+        Operand::Constant(Constant::Number(number)) => layout_numbered(of_module, *number),
+        _ => None,
+    }
+}
+
+fn layout_numbered(of_module: &Module, number: u64) -> Option<LayoutId>
+    ensures { result ≡ layout_numbered of_module.now number }
+{
+    if number < of_module.structs.len() as u64 && number < 4_294_967_296 {
+        Some(LayoutId::new(number as u32))
+    } else {
+        None
+    }
+}
+
+/// The layout that a call of dg_alloc numbers.
+pub fn layout_of_call(of_module: &Module, arguments: &[Argument]) -> Option<LayoutId>
+    ensures { result ≡ layout_of_call of_module.now arguments.now }
+{
+    match arguments {
+        [argument, ..] => layout_named(of_module, &argument.operand),
+        [] => None,
+    }
+}
+
+/// The slot that a call of gcroot names.
+pub fn root_of_call(scene: &Scene<'_>, arguments: &[Argument]) -> Option<SlotId>
+    ensures { result ≡ root_of_call scene.now.program.now.of_module scene.now.function.now scene.now.slots.now arguments.now }
+{
+    match arguments {
+        [argument, ..] => slot_at_place(scene, argument.written, &argument.operand),
+        [] => None,
+    }
+}
+
+fn alloc_of(layout: Option<LayoutId>) -> Action
+    ensures { result ≡ alloc_of layout }
+{
+    match layout {
+        Some(layout) => Action::Alloc(layout),
+        None => Action::Wrong,
+    }
+}
+
+fn alloc_action(of_module: &Module, returned: TypeId, arguments: &[Argument]) -> Action
+    ensures { result ≡ alloc_action of_module.now returned arguments.now }
+{
+    match arguments {
+        [layout] => only_if(
+            are_alloc_types(of_module, returned, &[layout.written]),
+            alloc_of(layout_named(of_module, &layout.operand)),
+        ),
+        _ => Action::Wrong,
+    }
+}
+
+/// Whether a name is declared as gcroot has to be.
+fn declares_gcroot(of_module: &Module, declare: Option<&Declare>) -> bool
+    ensures { result ≡ declared_with (are_gcroot_types of_module.now) (option_copied declare.entry) }
+{
+    match declare {
+        Some(declare) => {
+            are_gcroot_types(of_module, declare.returned, declare.parameters.as_slice())
+        }
+        None => false,
+    }
+}
+
+/// Whether a name is declared as dg_alloc has to be.
+fn declares_alloc(of_module: &Module, declare: Option<&Declare>) -> bool
+    ensures { result ≡ declared_with (are_alloc_types of_module.now) (option_copied declare.entry) }
+{
+    match declare {
+        Some(declare) => {
+            are_alloc_types(of_module, declare.returned, declare.parameters.as_slice())
+        }
+        None => false,
+    }
+}
+
+/// What a call asks for; no callee is known but the runtime's, declared and called with its types.
+pub fn call_action(
+    scene: &Scene<'_>,
+    returned: TypeId,
+    callee: SymbolId,
+    arguments: &[Argument],
+) -> Action
+    ensures { let m = scene.now.program.now.of_module in result ≡ call_action m scene.now.function.now scene.now.slots.now scene.now.registers.now returned arguments.now (declare_of m callee) (runtime_called m callee) }
+{
+    let of_module = scene.of_module();
+    let declare = declare_of(of_module, callee);
+    match runtime_called(of_module, callee) {
+        Some(Runtime::Alloc) => only_if(
+            declares_alloc(of_module, declare),
+            alloc_action(of_module, returned, arguments),
+        ),
+        Some(Runtime::GcRoot) => only_if(
+            declares_gcroot(of_module, declare),
+            gcroot_action(scene, returned, arguments),
+        ),
+        _ => Action::Wrong,
+    }
+}

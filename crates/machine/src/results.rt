@@ -1,0 +1,146 @@
+//! The values that instructions give.
+ghost use Rattle.std.specs.Prelude.{◌≡◌};
+ghost use Rattle.machine.specs.Kinds.{value_of, bits_at, number_in};
+ghost use Rattle.machine.specs.Integers.{resized};
+ghost use Rattle.machine.specs.Elements.{address_of};
+ghost use Rattle.machine.specs.Machine.{slot_value, read_at, loaded_from, arithmetic_value, are_equal, compared, selected, alloc_value};
+ghost use Rattle.ir_ast.specs.declared.op.Op.TheVariants as op;
+ghost use Rattle.machine.specs.declared.value.Value.TheVariants as value;
+
+use crate::action::Answer;
+use crate::elements::{kind_of_word, read_value};
+use crate::integers::{compares, compares_equal, computed, resized, truth};
+use crate::kinds::{bits_at, number_in};
+use crate::operands::value_of;
+use crate::scene::Scene;
+use crate::value::{Place, Value};
+use ir_ast::{Arithmetic, Comparison, Operand, Resize, TypeId};
+use layout::Program;
+use pools::LayoutId;
+use shadow_stack::SlotId;
+
+fn slot_value(slots: &[Value], slot: SlotId) -> Value
+    ensures { result ≡ slot_value slots.now slot }
+{
+    match slots.get(slot.number()) {
+        Some(value) => *value,
+        None => Value::Unset,
+    }
+}
+
+fn read_at(program: &Program, address: Option<Place>, answer: Answer) -> Value
+    ensures { result ≡ read_at program.now address answer }
+{
+    match &address {
+        Some(Place::Word { layout, word, .. }) => {
+            read_value(kind_of_word(program, *layout, *word), answer)
+        }
+        _ => Value::Unset,
+    }
+}
+
+/// What a load gives: what the slot holds, or what is read at the address.
+pub fn loaded_from(
+    program: &Program,
+    slots: &[Value],
+    slot: Option<SlotId>,
+    address: Option<Place>,
+    answer: Answer,
+) -> Value
+    ensures { result ≡ loaded_from program.now slots.now slot address answer }
+{
+    match slot {
+        Some(slot) => slot_value(slots, slot),
+        None => read_at(program, address, answer),
+    }
+}
+
+/// The address of a place.
+pub fn address_of(place: Option<Place>) -> Value
+    ensures { result ≡ address_of place }
+{
+    match place {
+        Some(place) => Value::Address(place),
+        None => Value::Unset,
+    }
+}
+
+/// What an integer instruction of two operands gives.
+pub fn arithmetic_value(
+    scene: &Scene<'_>,
+    kind: Arithmetic,
+    written: TypeId,
+    first: &Operand,
+    second: &Operand,
+) -> Value
+    ensures { result ≡ arithmetic_value scene.now.program.now.of_module scene.now.registers.now (op.Arithmetic kind written first.now second.now) }
+{
+    Value::Number(computed(
+        kind,
+        bits_at(scene.of_module(), written),
+        number_in(&value_of(scene, written, first)),
+        number_in(&value_of(scene, written, second)),
+    ))
+}
+
+/// What a change of an integer's width gives.
+pub fn resized_value(
+    scene: &Scene<'_>,
+    kind: Resize,
+    from: TypeId,
+    operand: &Operand,
+    to: TypeId,
+) -> Value
+    ensures { let m = scene.now.program.now.of_module in result ≡ value.Number (resized kind (bits_at m from) (bits_at m to) (number_in (value_of m scene.now.registers.now from operand.now))) }
+{
+    Value::Number(resized(
+        kind,
+        bits_at(scene.of_module(), from),
+        bits_at(scene.of_module(), to),
+        number_in(&value_of(scene, from, operand)),
+    ))
+}
+
+fn are_equal(first: Value, second: Value) -> bool
+    ensures { result ≡ are_equal first second }
+{
+    match (first, second) {
+        (Value::Null, Value::Null) => true,
+        (Value::Cell(_, at), Value::Cell(_, there)) => at.cell == there.cell,
+        _ => false,
+    }
+}
+
+/// What an icmp of operands of so many bits gives: of two integers, or else of references.
+pub fn compared(kind: Comparison, bits: u32, first: Value, second: Value) -> Value
+    ensures { result ≡ compared kind bits first second }
+{
+    match (first, second) {
+        (Value::Number(one), Value::Number(other)) => {
+            Value::Number(truth(compares(kind, bits, one, other)))
+        }
+        _ => Value::Number(truth(compares_equal(kind, are_equal(first, second)))),
+    }
+}
+
+/// What a select gives.
+pub fn selected(condition: Value, chosen: Value, other: Value) -> Value
+    ensures { result ≡ selected condition chosen other }
+{
+    if number_in(&condition) == 0 {
+        other
+    } else {
+        chosen
+    }
+}
+
+/// What an alloc of this layout gives.
+pub fn alloc_value(layout: Option<LayoutId>, answer: Answer) -> Value
+    ensures { result ≡ alloc_value layout answer }
+{
+    match (layout, answer) {
+        (_, Answer::Null) => Value::Null,
+        (Some(layout), Answer::Cell(at)) => Value::Cell(layout, at),
+        _ => Value::Unset,
+    }
+}

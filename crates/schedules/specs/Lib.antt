@@ -1,0 +1,11 @@
+pub mod Machine
+pub mod Moves
+pub mod Discipline
+pub mod ModuleRuns
+pub mod Broken
+pub mod Promises
+pub mod Soundness
+pub mod NextMoves
+pub mod Tries
+pub mod Ends
+pub mod RealThreads

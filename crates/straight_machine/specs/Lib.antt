@@ -1,0 +1,3 @@
+pub mod Kinds
+pub mod Machine
+pub mod Log

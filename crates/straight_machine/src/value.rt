@@ -1,0 +1,19 @@
+use pools::LayoutId;
+
+/// A cell, and the birth that its user knows. Real threads know no births: theirs are 0.
+#[derive(Clone, Copy, Debug, PartialEq, Eq)]
+pub struct Reference {
+    pub cell: u32,
+    pub birth: u64,
+}
+
+/// What a register or a slot holds.
+#[derive(Clone, Copy, Debug, PartialEq, Eq)]
+pub enum Value {
+    /// Nothing was put there.
+    Unset,
+    Number(u64),
+    Null,
+    /// A reference to a cell of this layout.
+    Cell(LayoutId, Reference),
+}
