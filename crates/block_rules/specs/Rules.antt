@@ -21,7 +21,7 @@ use Rattle.facts.specs.Lines.{implied, is_below}
 use Rattle.block_rules.specs.declared.rule.Rule.{Rule}
 use Rattle.block_rules.specs.declared.rule.Rule.TheVariants.{K1, K2, K3, K4, K5, K6, K8, K10, K11, K12, K14, K19}
 use Rattle.block_rules.specs.declared.standing.Standing.{Standing}
-use Rattle.block_rules.specs.Calls.{call_conditions, after_call}
+use Rattle.block_rules.specs.Calls.{no_slots, call_conditions, after_call}
 use Rattle.block_rules.specs.Casts.{may_cast, after_cast}
 use Rattle.block_rules.specs.Elements.{may_be_base, are_indices, may_lead, after_element}
 use Rattle.block_rules.specs.Integers.{below_of, arithmetic_below, define_number, may_resize, resized_below, may_compare, after_compare, known_layout, one_layout, may_choose, after_select}
@@ -124,18 +124,18 @@ op_conditions p f slots here facts result (Store stored value place_type place) 
     ∷ (K12, here.collected) ∷ []
 op_conditions p f slots here facts result (Element source base_type base indices) =
     (K1, is_available slots facts base && list_all (λ index. is_available slots facts index.operand) indices)
-    ∷ (K2, is_typed p.of_module f base_type base && may_be_base (known_of facts base) && are_indices p.of_module f facts indices)
+    ∷ (K2, is_typed p.of_module f base_type base && may_be_base (known_of facts base) && are_indices p.of_module f facts indices && no_slots slots indices)
     ∷ (K3, is_current facts (known_of facts base))
     ∷ (K5, may_lead p facts source indices (known_of facts base))
     ∷ (K10, is_no_slot slots base)
     ∷ (K12, here.collected) ∷ []
 op_conditions p f slots here facts result (Arithmetic kind written first second) =
     (K1, is_available slots facts first && is_available slots facts second)
-    ∷ (K2, is_value p.of_module f facts written first && is_value p.of_module f facts written second && is_integer (kind_of p.of_module written))
+    ∷ (K2, is_value p.of_module f facts written first && is_value p.of_module f facts written second && is_integer (kind_of p.of_module written) && is_no_slot slots first && is_no_slot slots second)
     ∷ (K12, here.collected) ∷ []
 op_conditions p f slots here facts result (Resize kind from operand to) =
     (K1, is_available slots facts operand)
-    ∷ (K2, is_value p.of_module f facts from operand && may_resize kind (kind_of p.of_module from) (kind_of p.of_module to))
+    ∷ (K2, is_value p.of_module f facts from operand && may_resize kind (kind_of p.of_module from) (kind_of p.of_module to) && is_no_slot slots operand)
     ∷ (K12, here.collected) ∷ []
 op_conditions p f slots here facts result (Compare kind written first second) =
     (K1, is_available slots facts first && is_available slots facts second)
@@ -149,7 +149,8 @@ op_conditions p f slots here facts result (Select condition_type condition writt
       K2,
       is_condition p.of_module f facts condition_type condition
           && is_value p.of_module f facts written chosen && is_value p.of_module f facts written other
-          && may_choose (kind_of p.of_module written) && one_layout (known_layout (known_of facts chosen)) (known_layout (known_of facts other)),
+          && may_choose (kind_of p.of_module written) && one_layout (known_layout (known_of facts chosen)) (known_layout (known_of facts other))
+          && is_no_slot slots condition,
     )
     ∷ (K3, is_current facts (known_of facts chosen) && is_current facts (known_of facts other))
     ∷ (K10, is_no_slot slots chosen && is_no_slot slots other)
@@ -162,11 +163,11 @@ op_conditions p f slots here facts result (Jump target) =
     (K2, names_target f target) ∷ (K12, here.collected) ∷ []
 op_conditions p f slots here facts result (Branch condition_type condition taken other) =
     (K1, is_available slots facts condition)
-    ∷ (K2, is_condition p.of_module f facts condition_type condition && names_target f taken && names_target f other)
+    ∷ (K2, is_condition p.of_module f facts condition_type condition && names_target f taken && names_target f other && is_no_slot slots condition)
     ∷ (K12, here.collected) ∷ []
 op_conditions p f slots here facts result (Switch written value otherwise cases) =
     (K1, is_available slots facts value)
-    ∷ (K2, is_value p.of_module f facts written value && is_integer (kind_of p.of_module written) && names_target f otherwise && are_cases p.of_module f written cases)
+    ∷ (K2, is_value p.of_module f facts written value && is_integer (kind_of p.of_module written) && names_target f otherwise && are_cases p.of_module f written cases && is_no_slot slots value)
     ∷ (K12, here.collected) ∷ []
 op_conditions p f slots here facts result Unreachable = (K12, here.collected) ∷ []
 op_conditions p f slots here facts result ReturnVoid =

@@ -174,7 +174,8 @@ fn all_current(facts: &Facts, arguments: &[Argument]) -> bool
         .all(|argument| is_operand_current(facts, &argument.operand))
 }
 
-fn no_slots(slots: &Slots, arguments: &[Argument]) -> bool
+/// Whether none of these is a slot.
+pub fn no_slots(slots: &Slots, arguments: &[Argument]) -> bool
     ensures { result ≡ no_slots slots.now arguments.now }
 {
     arguments

@@ -5,7 +5,7 @@ ghost use Rattle.ir_ast.specs.declared.op.Arithmetic.{Arithmetic};
 ghost use Rattle.block_rules.specs.Operands.{is_available};
 ghost use Rattle.block_rules.specs.Rules.{first_failing, is_condition, op_conditions, conditions};
 
-use crate::calls::call_refusal;
+use crate::calls::{call_refusal, no_slots};
 use crate::casts::may_cast;
 use crate::elements::{are_indices, may_be_base, may_lead};
 use crate::first_failing::first_failing;
@@ -246,7 +246,8 @@ fn element_refusal(
             Rule::K2,
             is_typed(scene, base_type, base)
                 && may_be_base(&known)
-                && are_indices(scene, facts, indices),
+                && are_indices(scene, facts, indices)
+                && no_slots(scene.slots, indices),
         ),
         (Rule::K3, is_operand_current(facts, base)),
         (Rule::K5, may_lead(scene, facts, source, indices, &known)),
@@ -274,7 +275,9 @@ fn arithmetic_refusal(
             Rule::K2,
             is_value(scene, facts, written, first)
                 && is_value(scene, facts, written, second)
-                && TypeKind::of(scene.module(), written).is_integer(),
+                && TypeKind::of(scene.module(), written).is_integer()
+                && is_no_slot(scene.slots, first)
+                && is_no_slot(scene.slots, second),
         ),
         (Rule::K12, here.collected),
     ])
@@ -300,7 +303,8 @@ fn resize_refusal(
                     kind,
                     TypeKind::of(scene.module(), from),
                     TypeKind::of(scene.module(), to),
-                ),
+                )
+                && is_no_slot(scene.slots, operand),
         ),
         (Rule::K12, here.collected),
     ])
@@ -374,7 +378,8 @@ fn select_refusal(
                 && is_value(scene, facts, written, chosen)
                 && is_value(scene, facts, written, other)
                 && may_choose(TypeKind::of(scene.module(), written))
-                && one_layout(known_layout(&known), known_layout(&known_other)),
+                && one_layout(known_layout(&known), known_layout(&known_other))
+                && is_no_slot(scene.slots, &condition.operand),
         ),
         (
             Rule::K3,
@@ -425,7 +430,8 @@ fn branch_refusal(
             Rule::K2,
             is_condition(scene, facts, condition)
                 && names_target(scene.function, taken)
-                && names_target(scene.function, other),
+                && names_target(scene.function, other)
+                && is_no_slot(scene.slots, &condition.operand),
         ),
         (Rule::K12, here.collected),
     ])
@@ -448,7 +454,8 @@ fn switch_refusal(
             is_value(scene, facts, value.written, &value.operand)
                 && TypeKind::of(scene.module(), value.written).is_integer()
                 && names_target(scene.function, otherwise)
-                && are_cases(scene, value.written, cases),
+                && are_cases(scene, value.written, cases)
+                && is_no_slot(scene.slots, &value.operand),
         ),
         (Rule::K12, here.collected),
     ])

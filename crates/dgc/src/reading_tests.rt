@@ -104,13 +104,13 @@ fn names_the_type_without_words(rt: HostRuntime) -> Result<(), Fail> {
     Ok(())
 }
 
-/// A text that was cut is a smaller module, or it has a fault of a cut text: a bad byte or an end where none can be, a
-/// word that is no form, or the name of an intrinsic that there is not.
+/// A text that was cut is a smaller module, or it has a fault of a cut text: a bad byte or an end where none can be, or at
+/// its end a word that is no form, or the name of an intrinsic that there is not.
 fn may_be_cut(alloc: Global, text: &[u8]) -> bool {
     match read(alloc, text) {
         Ok(module) => module.functions.len() <= 1,
         Err(ReadFault::BadByte(_) | ReadFault::Unfinished(_) | ReadFault::Unexpected(_)) => true,
-        Err(ReadFault::LeftOut { word, .. }) => word.as_slice().starts_with(b"@llvm."),
+        Err(ReadFault::LeftOut { word, .. }) => text.ends_with(word.as_slice()),
         Err(_) => false,
     }
 }

@@ -1,6 +1,6 @@
 -- Calls of the runtime.
-use Rattle.std.proofs.Common.{◌≡◌, ◌≢◌, ℕ, ◌<◌, zero, suc, List, [], ◌∷◌, length, refl, sym, ap, ◌∙◌, subst, arith, true, false, Bool, Option, Some, None, inl, inr, is_some, slice_set, slice_get, unwrap_or}
-use Rattle.std.specs.Prelude.{◌==◌, ◌||◌, ◌&&◌, ◌⊎◌, not, if◌then◌else◌, nat_lt}
+use Rattle.std.proofs.Common.{◌≡◌, ℕ, zero, suc, List, [], ◌∷◌, length, refl, sym, ap, ◌∙◌, subst, arith, true, false, Bool, Option, Some, None, inl, inr, is_some, slice_set, slice_get}
+use Rattle.std.specs.Prelude.{◌==◌, ◌&&◌, ◌⊎◌, if◌then◌else◌, nat_lt}
 use Rattle.std.specs.List.{list_all, zip}
 use Rattle.ir_ast.specs.declared.function.Function.{Function}
 use Rattle.ir_ast.specs.declared.items_of_module.Declare.{Declare}
@@ -8,7 +8,6 @@ use Rattle.ir_ast.specs.declared.items_of_module.SymbolSort.{SymbolSort}
 use Rattle.ir_ast.specs.declared.items_of_module.SymbolSort.TheVariants as symbol
 use Rattle.ir_ast.specs.declared.module.Module.{Module}
 use Rattle.ir_ast.specs.declared.op.Argument.{Argument}
-use Rattle.ir_ast.specs.declared.operand.Constant.{Constant}
 use Rattle.ir_ast.specs.declared.operand.Constant.TheVariants as constant
 use Rattle.ir_ast.specs.declared.operand.Operand.{Operand}
 use Rattle.ir_ast.specs.declared.operand.Operand.TheVariants as operand
@@ -19,19 +18,16 @@ use Rattle.layout.specs.Layouts.{LaidOut}
 use Rattle.types.specs.References.{referenced_layout}
 use Rattle.types.specs.RuntimeCall.{runtime_called, runtime_of_declare, runtime_of_sort}
 use Rattle.types.specs.ValueTypes.{has_type}
-use Rattle.shadow_stack.specs.Slots.{SlotTable, slot_of, held_type, is_reference_held}
-use Rattle.facts.specs.declared.known.Known.{Known}
-use Rattle.facts.specs.declared.known.Known.TheVariants.{Nothing, Number, Cell, Null, Address, GlobalAddress}
+use Rattle.shadow_stack.specs.Slots.{SlotTable, held_type, is_reference_held}
 use Rattle.facts.specs.Facts.{FactSet, known_at, define_new, root_slot}
-use Rattle.block_rules.specs.declared.rule.Rule.{Rule}
 use Rattle.block_rules.specs.declared.signature.RuntimeType.TheVariants as types
 use Rattle.block_rules.specs.declared.standing.Standing.{Standing}
 use Rattle.block_rules.specs.declared.type_kind.TypeKind.{TypeKind}
 use Rattle.block_rules.specs.declared.type_kind.TypeKind.TheVariants.{NoValue, Bits, Reference, AnyReference, Address as AddressKind, Other}
-use Rattle.block_rules.specs.Calls.{call_conditions, root_conditions, alloc_conditions, unknown_conditions, after_call, after_root, after_root_call, after_alloc, after_alloc_call, alloc_layout, alloc_numbered, may_root, is_unrooted, holds_reference, number_layouts, numbers_layout, all_values, all_available}
+use Rattle.block_rules.specs.Calls.{call_conditions, root_conditions, alloc_conditions, unknown_conditions, after_call, after_root, after_root_call, after_alloc_call, is_unrooted, holds_reference, number_layouts, numbers_layout, all_values}
 use Rattle.block_rules.specs.Operands as o
 use Rattle.block_rules.specs.Rules.{first_failing}
-use Rattle.block_rules.specs.Signature.{signature_of, is_runtime_type, is_of_type, is_argument_of, is_declared_as, is_written_as, callable, callable_declare, callable_sort, callee_of}
+use Rattle.block_rules.specs.Signature.{signature_of, is_runtime_type, is_of_type, is_declared_as, is_written_as, callable, callable_declare, callable_sort, callee_of}
 use Rattle.block_rules.specs.TypeKinds.{kind_of, is_reference, is_integer, layout_of_kind}
 use Rattle.machine.specs.declared.value.Reference.{Reference as Ref}
 use Rattle.machine.specs.declared.value.Value.{Value}
@@ -45,9 +41,9 @@ use Rattle.machine.specs.Asks as a
 use Rattle.machine.specs.Kinds as k
 use Rattle.machine.specs.Machine as mc
 use Rattle.machine.specs.Machine.{slot_value}
-use Rattle.machine.specs.Log.{Log, Step, Held, IsFresh, StaysFresh, Gives, Possible}
-use Rattle.soundness.specs.Meaning.{Cells, Guarded, IsReferenceTo, IsOwn, IsNullOrFresh, AreApart, FitsReference, FitsHeld, FitsSlot, Holds}
-use Rattle.soundness.proofs.Lists.{both, equal, equal_test, got}
+use Rattle.machine.specs.Log.{Log, Held, IsFresh, StaysFresh, Gives, Possible}
+use Rattle.soundness.specs.Meaning.{Cells, Guarded, IsOwn, IsNullOrFresh, AreApart, FitsReference, FitsHeld, FitsSlot, Holds}
+use Rattle.soundness.proofs.Lists.{both, equal, got}
 use Rattle.soundness.proofs.KindLemmas.{integer_same, layout_same, bits_same, void_same, bytes_same, place_bytes_same}
 use Rattle.soundness.proofs.Keep.{log_keeps, known_within}
 use Rattle.soundness.proofs.Change.{apart_turned, new_keeps}

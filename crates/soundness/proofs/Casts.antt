@@ -1,26 +1,24 @@
 -- Bitcasts.
-use Rattle.std.proofs.Common.{◌≡◌, ◌≢◌, ℕ, ◌<◌, ◌^◌, List, [], ◌∷◌, length, map, refl, sym, ap, ◌∙◌, subst, arith, true, false, Bool, Option, Some, None, is_some, slice_set, slice_get}
+use Rattle.std.proofs.Common.{◌≡◌, ◌≢◌, ℕ, ◌<◌, ◌^◌, length, map, refl, sym, ap, ◌∙◌, subst, arith, true, false, Bool, Option, Some, None, slice_set}
 use Rattle.std.specs.Prelude.{◌==◌, ◌||◌, ◌&&◌}
 use Rattle.ir_ast.specs.declared.function.Function.{Function}
 use Rattle.ir_ast.specs.declared.module.Module.{Module}
 use Rattle.ir_ast.specs.declared.op.Op.TheVariants.{Bitcast}
 use Rattle.ir_ast.specs.declared.operand.Constant.{Constant}
 use Rattle.ir_ast.specs.declared.operand.Constant.TheVariants as constant
-use Rattle.ir_ast.specs.declared.operand.Operand.{Operand}
 use Rattle.ir_ast.specs.declared.operand.Operand.TheVariants as operand
 use Rattle.pools.specs.Heap.{Setup}
 use Rattle.pools.specs.Layouts.{kind_of_word}
-use Rattle.pools.specs.WordSets.{has_word}
 use Rattle.pools.specs.declared.word_kind.WordKind.{WordKind}
 use Rattle.pools.specs.declared.word_kind.WordKind.TheVariants as word
 use Rattle.pools.specs.declared.word_set.WordSet.{WordSet}
 use Rattle.layout.specs.Layouts.{LaidOut}
 use Rattle.types.specs.References.{pointee, referenced_layout}
 use Rattle.types.specs.ValueTypes.{has_type}
-use Rattle.shadow_stack.specs.Slots.{SlotTable, slot_of, held_type, operand_slot}
+use Rattle.shadow_stack.specs.Slots.{SlotTable, slot_of, held_type}
 use Rattle.facts.specs.declared.known.Known.{Known}
 use Rattle.facts.specs.declared.known.Known.TheVariants.{Nothing, Number, Cell, Null, Address, GlobalAddress}
-use Rattle.facts.specs.Facts.{FactSet, known_at, slot_at, class_at, holds_class, off_base, values_without, forget, define}
+use Rattle.facts.specs.Facts.{FactSet, known_at, class_at, off_base, values_without, forget, define}
 use Rattle.block_rules.specs.declared.type_kind.TypeKind.{TypeKind}
 use Rattle.block_rules.specs.declared.type_kind.TypeKind.TheVariants.{NoValue, Bits, Reference, AnyReference, Address as AddressKind, Other}
 use Rattle.block_rules.specs.Casts as c
@@ -28,7 +26,6 @@ use Rattle.block_rules.specs.Operands as o
 use Rattle.block_rules.specs.Places.{define_held, first_layout, cell_words, wanted_by_load, holds_wanted, each_word}
 use Rattle.block_rules.specs.Rules.{after_op}
 use Rattle.block_rules.specs.TypeKinds.{kind_of, kind_at, place_kind, fits_layout, layout_of_kind, is_any_reference, may_be_reference}
-use Rattle.machine.specs.declared.value.Place.TheVariants as place
 use Rattle.machine.specs.declared.value.Value.{Value}
 use Rattle.machine.specs.declared.value.Value.TheVariants as value
 use Rattle.machine.specs.declared.frame.Frame.{Frame}

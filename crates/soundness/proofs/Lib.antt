@@ -14,3 +14,6 @@ pub mod Casts
 pub mod Moves
 pub mod Calls
 pub mod Sums
+pub mod CellWords
+pub mod Choices
+pub mod Members

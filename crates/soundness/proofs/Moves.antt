@@ -1,10 +1,9 @@
 -- Loads from slots, and stores to slots.
-use Rattle.std.proofs.Common.{◌≡◌, ◌≢◌, ℕ, ◌<◌, List, [], ◌∷◌, length, refl, sym, ap, ◌∙◌, subst, arith, true, false, Bool, Option, Some, None, slice_set, slice_get}
-use Rattle.std.specs.Prelude.{◌==◌, ◌||◌, ◌&&◌, not, is_some, if◌then◌else◌}
+use Rattle.std.proofs.Common.{◌≡◌, ◌≢◌, ℕ, ◌<◌, List, length, refl, sym, ap, ◌∙◌, subst, arith, true, false, Bool, Option, Some, None, slice_set}
+use Rattle.std.specs.Prelude.{◌==◌, ◌||◌, ◌&&◌, is_some}
 use Rattle.std.proofs.lemmas.List.{length-set}
 use Rattle.ir_ast.specs.declared.function.Function.{Function}
 use Rattle.ir_ast.specs.declared.op.Op.TheVariants.{Load, Store}
-use Rattle.ir_ast.specs.declared.operand.Constant.{Constant}
 use Rattle.ir_ast.specs.declared.operand.Constant.TheVariants as constant
 use Rattle.ir_ast.specs.declared.operand.Operand.{Operand}
 use Rattle.ir_ast.specs.declared.operand.Operand.TheVariants as operand
@@ -16,14 +15,13 @@ use Rattle.shadow_stack.specs.Slots.{SlotTable, slot_of, held_type}
 use Rattle.facts.specs.declared.known.Class.{Class}
 use Rattle.facts.specs.declared.known.Known.{Known}
 use Rattle.facts.specs.declared.known.Known.TheVariants.{Nothing, Number, Cell, Null, Address, GlobalAddress}
-use Rattle.facts.specs.declared.known.SlotFact.{SlotFact}
-use Rattle.facts.specs.Facts.{FactSet, known_at, slot_at, class_at, lost_class, holds_class, forget, set_known, add_class, learn_nonnull, load_held, load_slot, hold, clear_slot, store_slot}
+use Rattle.facts.specs.Facts.{FactSet, known_at, slot_at, class_at, lost_class, holds_class, forget, set_known, add_class, load_held, load_slot, hold, store_slot}
 use Rattle.block_rules.specs.declared.type_kind.TypeKind.{TypeKind}
 use Rattle.block_rules.specs.declared.type_kind.TypeKind.TheVariants.{NoValue, Bits, Reference, AnyReference, Address as AddressKind, Other}
 use Rattle.block_rules.specs.Operands as o
 use Rattle.block_rules.specs.Places as r
 use Rattle.block_rules.specs.Rules.{after_op}
-use Rattle.block_rules.specs.TypeKinds.{kind_of, is_integer, is_pointer, is_any_reference, layout_of_kind}
+use Rattle.block_rules.specs.TypeKinds.{kind_of, is_integer, is_any_reference, layout_of_kind}
 use Rattle.machine.specs.declared.value.Value.{Value}
 use Rattle.machine.specs.declared.value.Value.TheVariants as value
 use Rattle.machine.specs.declared.frame.Frame.{Frame}
@@ -36,10 +34,10 @@ use Rattle.machine.specs.Log.{Log}
 use Rattle.soundness.specs.Meaning.{Cells, Guarded, IsReferenceTo, IsOwn, IsInteger, IsMember, AreApart, Means, FitsReference, FitsHeld, FitsSlot, Holds}
 use Rattle.soundness.proofs.Lists.{both, either_true, other_true, equal, equal_test, turned, got_set, longer, at_end}
 use Rattle.soundness.proofs.KindLemmas.{integer_same, layout_same, bytes_same, bits_are}
-use Rattle.soundness.proofs.Keep.{Beside, forget_keeps, put_keeps, known_within, set_cell}
-use Rattle.soundness.proofs.Change.{apart_turned, extend, extend_old, extend_new, define_plain, learn_keeps, add_keeps}
+use Rattle.soundness.proofs.Keep.{forget_keeps, put_keeps}
+use Rattle.soundness.proofs.Change.{apart_turned, extend, extend_new, define_plain, learn_keeps, add_keeps}
 use Rattle.soundness.proofs.SlotsKeep.{Fits, slot_keeps, fact_keeps}
-use Rattle.soundness.proofs.Steps.{Goes, goes_local, usable, integer_is, available, kind_bits}
+use Rattle.soundness.proofs.Steps.{Goes, goes_local, usable, integer_is, available}
 
 -- a slot holds a class only while some value is of it
 abbrev pub HaveMembers : FactSet → Type 0

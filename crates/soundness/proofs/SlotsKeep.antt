@@ -14,7 +14,6 @@ use Rattle.machine.specs.Log.{Log}
 use Rattle.soundness.specs.Meaning.{Cells, Guarded, AreApart, FitsSlot, SlotMeans, Holds}
 use Rattle.std.specs.Prelude.{◌==◌}
 use Rattle.soundness.proofs.Lists.{at_set, at_set2, at_set_got, got, equal}
-use Rattle.soundness.proofs.Keep.{unequal}
 use Rattle.soundness.proofs.Change.{apart_turned, drop_keeps}
 
 -- what stands at a place, written there again

@@ -1,6 +1,6 @@
 -- The step of an instruction: it keeps the discipline, and what is known behind the instruction holds of what the step leaves. What operands are.
-use Rattle.std.proofs.Common.{◌≡◌, ◌≢◌, ℕ, zero, suc, ◌<◌, ◌^◌, List, [], ◌∷◌, length, refl, sym, ap, ◌∙◌, subst, arith, true, false, Bool, Option, Some, None, inl, inr, is_none, slice_set, slice_get}
-use Rattle.std.specs.Prelude.{◌==◌, ◌||◌, ◌&&◌, not, is_some, if◌then◌else◌, nat_lt}
+use Rattle.std.proofs.Common.{◌≡◌, ℕ, suc, ◌<◌, ◌^◌, List, [], ◌∷◌, length, refl, sym, ap, ◌∙◌, subst, arith, true, false, Bool, Option, Some, None, inr, slice_set}
+use Rattle.std.specs.Prelude.{◌||◌, not, is_some, if◌then◌else◌, nat_lt}
 use Rattle.ir_ast.specs.declared.function.Function.{Function}
 use Rattle.ir_ast.specs.declared.op.Op.TheVariants.{Alloca}
 use Rattle.ir_ast.specs.declared.operand.Constant.{Constant}
@@ -13,7 +13,7 @@ use Rattle.types.specs.ValueTypes.{has_type}
 use Rattle.shadow_stack.specs.Slots.{SlotTable, slot_of}
 use Rattle.facts.specs.declared.known.Known.{Known}
 use Rattle.facts.specs.declared.known.Known.TheVariants.{Nothing, Number, Cell, Null, Address, GlobalAddress}
-use Rattle.facts.specs.Facts.{FactSet, known_at, class_at}
+use Rattle.facts.specs.Facts.{FactSet, known_at}
 use Rattle.block_rules.specs.declared.rule.Rule.{Rule}
 use Rattle.block_rules.specs.declared.type_kind.TypeKind.{TypeKind}
 use Rattle.block_rules.specs.declared.type_kind.TypeKind.TheVariants.{NoValue, Bits, Reference, AnyReference, Address as AddressKind, Other}
@@ -22,7 +22,6 @@ use Rattle.block_rules.specs.Integers.{below_of, below_known}
 use Rattle.block_rules.specs.Operands as o
 use Rattle.block_rules.specs.Rules.{first_failing, after_op, after_alloca}
 use Rattle.block_rules.specs.TypeKinds.{kind_of, is_integer}
-use Rattle.machine.specs.declared.value.Place.TheVariants as place
 use Rattle.machine.specs.declared.value.Value.{Value}
 use Rattle.machine.specs.declared.value.Value.TheVariants as value
 use Rattle.machine.specs.declared.frame.Frame.{Frame}
@@ -33,8 +32,8 @@ use Rattle.machine.specs.declared.action.Answer.TheVariants as answer
 use Rattle.machine.specs.Kinds as k
 use Rattle.machine.specs.Kinds.{register_at, wrapped, bits_at, value_of, constant_value}
 use Rattle.machine.specs.Machine.{set_register}
-use Rattle.machine.specs.Log.{Log, Step, Possible, Keeps}
-use Rattle.soundness.specs.Meaning.{Cells, Guarded, IsReferenceTo, IsBelow, IsInteger, IsAddressOf, IsMember, Means, Holds}
+use Rattle.machine.specs.Log.{Log, Possible, Keeps}
+use Rattle.soundness.specs.Meaning.{Cells, Guarded, IsReferenceTo, IsBelow, IsInteger, IsAddressOf, Means, Holds}
 use Rattle.soundness.proofs.Lists.{both, equal}
 use Rattle.soundness.proofs.Keep.{log_keeps, known_within}
 use Rattle.soundness.proofs.SlotsKeep.{end_keeps}
