@@ -1,3 +1,3 @@
-pub mod Loops
-pub mod Follows
+mod Follows
+mod Leads
 pub mod Exact

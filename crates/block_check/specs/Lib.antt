@@ -1,7 +1,4 @@
-pub mod Facts
-pub mod TypeKinds
-pub mod Signature
-pub mod Operands
-pub mod Standing
-pub mod Rules
-pub mod Certified
+pub mod Subject
+pub mod Tables
+pub mod Decided
+pub mod Predecessors

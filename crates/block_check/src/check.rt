@@ -1,124 +1,223 @@
-ghost use Rattle.std.specs.Prelude.{◌≡◌, ◌==◌, ◌||◌, ◌<◌, ◌⊎◌, not, nat_lt, length, slice_get, Err, IfOk, IsOkUnless, MatchOption, MatchResult};
-ghost use Rattle.shadow_stack.specs.Slots.{slots_of};
-ghost use Rattle.block_check.specs.Certified.{given_at, IsCertified, BreaksAt, IsCertifiedIn, IsFirstRefusal, BlockCertified, FirstRefusal, IfRefused};
-ghost use Rattle.block_check.specs.Standing.{instructions_of, head_in, begins_collected, standing};
-ghost use Rattle.block_check.specs.declared.block_fault.BlockFault.TheVariants.{Refused, Memory};
+ghost use Rattle.std.specs.Prelude.{◌≡◌, ◌==◌, ◌||◌, ◌<◌, ◌⊎◌, not, nat_lt, length, slice_get, Err, Some, IfOk, IsOkUnless, MatchOption, MatchResult};
+ghost use Rattle.block_rules.specs.Standing.{head_in, begins_collected};
+ghost use Rattle.certified.specs.Certified.{IsCertified, BreaksAt, BlockCertified, FirstRefusal, IfRefused};
+ghost use Rattle.certified.specs.declared.block_fault.BlockFault.TheVariants.{Refused, Memory};
+ghost use Rattle.block_check.specs.Subject.{seen, IsReady};
+ghost use Rattle.certified.specs.Functions.{blocks_in, AreBlocksCertified, IsFunctionCertified, IsFirstInFunction, IsFunctionFault};
 
-use crate::block_fault::{BlockFault, Refusal};
-use crate::changes::advance;
-use crate::facts::Facts;
-use crate::rule::Rule;
-use crate::rules::refusal;
-use crate::scene::{Scene, Standing, head_of, keeps_shadow_stack};
-use certificate::Certs;
-use ir_ast::{BlockId, FuncId, Function, Instr, Module};
+use crate::breach::breach;
+use crate::given::begin_block;
+use crate::subject::{Subject, instructions_of};
+use crate::tables::Tables;
+use crate::ways::{Exit, Rooms};
+use block_rules::{Scene, Standing, advance, head_of, keeps_shadow_stack};
+use certificate::{Certs, Mark, Promise};
+use certified::{BlockFault, Breach, Refusal};
+use facts::Facts;
+use ir_ast::{BlockId, FuncId, Function, Module};
 use layout::Program;
-use shadow_stack::Slots;
 use std::alloc::{AllocError, Global};
 
-/// Whether a block keeps the rules. The slots of its function are found anew, in time linear in the function.
+/// Whether a block keeps the rules. What is found of its function is found anew, in time linear in the function.
 pub fn check_block(
     alloc: Global,
     program: &Program,
-    _certs: &Certs,
+    certs: &Certs,
     func: FuncId,
     block: BlockId,
 ) -> Result<(), BlockFault>
     requires func { func < length program.now.of_module.functions }
-    ensures answer { MatchResult result (λ _. BlockCertified program.now _certs.now func block) (λ fault. IfRefused fault (FirstRefusal program.now _certs.now func block)) }
-    ensures certified { BlockCertified program.now _certs.now func block → IsOkUnless result Memory }
-    ensures refused { (refusal : Refusal) → FirstRefusal program.now _certs.now func block refusal → (result ≡ Err (Refused refusal)) ⊎ (result ≡ Err Memory) }
+    ensures answer { MatchResult result (λ _. BlockCertified program.now certs.now func block) (λ fault. IfRefused fault (FirstRefusal program.now certs.now func block)) }
+    ensures certified { BlockCertified program.now certs.now func block → IsOkUnless result Memory }
+    ensures refused { (refusal : Refusal) → FirstRefusal program.now certs.now func block refusal → (result ≡ Err (Refused refusal)) ⊎ (result ≡ Err Memory) }
 {
-    answer(alloc, program.module(), func, block)
+    answer_block(alloc, program, certs, func, block)
 }
 
-fn answer(alloc: Global, module: &Module, func: FuncId, block: BlockId) -> Result<(), BlockFault>
-    requires func { func < length «module».now.functions }
-    ensures { MatchResult result (λ _. IsCertifiedIn «module».now (slice_get «module».now.functions func) block) (λ fault. IfRefused fault (IsFirstRefusal «module».now func block)) }
+/// Whether each block of a function keeps the rules; the first instruction in text order that breaks one is refused.
+pub fn check_function(
+    alloc: Global,
+    program: &Program,
+    certs: &Certs,
+    func: FuncId,
+) -> Result<(), BlockFault>
+    requires func { func < length program.now.of_module.functions }
+    ensures answer { MatchResult result (λ _. IsFunctionCertified program.now certs.now func) (IsFunctionFault program.now certs.now func (blocks_in program.now func)) }
+    ensures certified { IsFunctionCertified program.now certs.now func → IsOkUnless result Memory }
+    ensures refused { (refusal : Refusal) → IsFirstInFunction program.now certs.now func (blocks_in program.now func) refusal → (result ≡ Err (Refused refusal)) ⊎ (result ≡ Err Memory) }
 {
-    let function = &module.functions.as_slice()[func.number() as usize];
-    match first_break(alloc, module, function, block)? {
+    answer_function(alloc, program, certs, func)
+}
+
+fn answer_block(
+    alloc: Global,
+    program: &Program,
+    certs: &Certs,
+    func: FuncId,
+    block: BlockId,
+) -> Result<(), BlockFault>
+    requires { func < length program.now.of_module.functions }
+    ensures { MatchResult result (λ _. BlockCertified program.now certs.now func block) (λ fault. IfRefused fault (FirstRefusal program.now certs.now func block)) }
+{
+    let function = function_of(program.module(), func);
+    let tables = Tables::of(alloc, program.module(), function)?;
+    let scene = Scene {
+        program,
+        certs,
+        function,
+        slots: &tables.slots,
+    };
+    let subject = tables.subject(scene, func);
+    let mut facts = Facts::new(alloc, 0, 0)?;
+    let mut rooms = Rooms::new(alloc)?;
+    answer(alloc, &subject, &mut facts, &mut rooms, block)
+}
+
+fn answer_function(
+    alloc: Global,
+    program: &Program,
+    certs: &Certs,
+    func: FuncId,
+) -> Result<(), BlockFault>
+    requires { func < length program.now.of_module.functions }
+    ensures { MatchResult result (λ _. IsFunctionCertified program.now certs.now func) (IsFunctionFault program.now certs.now func (blocks_in program.now func)) }
+{
+    let function = function_of(program.module(), func);
+    // No memory holds more blocks than there are numbers for them.
+    let Ok(count) = u32::try_from(function.blocks.len()) else {
+        return Err(BlockFault::Memory);
+    };
+    let tables = Tables::of(alloc, program.module(), function)?;
+    let scene = Scene {
+        program,
+        certs,
+        function,
+        slots: &tables.slots,
+    };
+    let subject = tables.subject(scene, func);
+    let mut facts = Facts::new(alloc, 0, 0)?;
+    let mut rooms = Rooms::new(alloc)?;
+    match first_fault(alloc, &subject, &mut facts, &mut rooms, count) {
+        Some(fault) => Err(fault),
         None => Ok(()),
-        Some((instr, rule)) => Err(BlockFault::Refused(Refusal {
-            func,
+    }
+}
+
+fn function_of(module: &Module, func: FuncId) -> &Function
+    requires { func < length «module».now.functions }
+    ensures { slice_get «module».now.functions func ≡ Some result.now }
+{
+    &module.functions.as_slice()[func.number() as usize]
+}
+
+/// The first fault in the first `count` blocks, in text order.
+fn first_fault(
+    alloc: Global,
+    subject: &Subject,
+    facts: &mut Facts,
+    rooms: &mut Rooms,
+    count: u32,
+) -> Option<BlockFault>
+    requires { IsReady subject.now }
+    ensures { MatchOption result (AreBlocksCertified subject.now.scene.program.now subject.now.scene.certs.now subject.now.func count) (IsFunctionFault subject.now.scene.program.now subject.now.scene.certs.now subject.now.func count) }
+{
+    for number in 0..count {
+        if let Err(fault) = answer(alloc, subject, facts, rooms, BlockId::new(number)) {
+            return Some(fault);
+        }
+    }
+    None
+}
+
+fn answer(
+    alloc: Global,
+    subject: &Subject,
+    facts: &mut Facts,
+    rooms: &mut Rooms,
+    block: BlockId,
+) -> Result<(), BlockFault>
+    requires { IsReady subject.now }
+    ensures { MatchResult result (λ _. BlockCertified subject.now.scene.program.now subject.now.scene.certs.now subject.now.func block) (λ fault. IfRefused fault (FirstRefusal subject.now.scene.program.now subject.now.scene.certs.now subject.now.func block)) }
+{
+    match walk(alloc, subject, facts, rooms, block)? {
+        None => Ok(()),
+        Some((instr, broken)) => Err(BlockFault::Refused(Refusal {
+            func: subject.func,
             block,
             instr,
-            rule,
-            detail: None,
+            rule: broken.rule,
+            detail: broken.detail,
         })),
     }
 }
 
-/// The first place of a block that breaks a rule, with the rule.
-fn first_break(
+/// The first place of a block that breaks a rule, with what it breaks.
+fn walk(
     alloc: Global,
-    module: &Module,
-    function: &Function,
+    subject: &Subject,
+    facts: &mut Facts,
+    rooms: &mut Rooms,
     block: BlockId,
-) -> Result<Option<(usize, Rule)>, AllocError>
-    ensures { let slots = slots_of «module».now function.now in IfOk result (λ found. MatchOption found (IsCertified «module».now function.now slots block) (λ broken. BreaksAt «module».now function.now slots block broken.0 broken.1)) }
+) -> Result<Option<(usize, Breach)>, AllocError>
+    requires { IsReady subject.now }
+    ensures { IfOk result (λ found. MatchOption found (IsCertified (seen subject.now) block) (λ broken. BreaksAt (seen subject.now) block broken.0 broken.1)) }
 {
-    let slots = Slots::of(alloc, module, function)?;
-    let scene = Scene {
-        module,
-        function,
-        slots: &slots,
-    };
-    walk(alloc, &scene, block)
-}
-
-fn walk(alloc: Global, scene: &Scene, block: BlockId) -> Result<Option<(usize, Rule)>, AllocError>
-    ensures { IfOk result (λ found. MatchOption found (IsCertified scene.now.«module».now scene.now.function.now scene.now.slots.now block) (λ broken. BreaksAt scene.now.«module».now scene.now.function.now scene.now.slots.now block broken.0 broken.1)) }
-{
-    let instructions = instructions_of(scene.function, block);
-    let head = head_in(scene, block);
-    let begins = begins_collected(scene, block);
-    let mut facts = Facts::new(alloc, scene.function.locals.count(), scene.slots.count())?;
+    let instructions = instructions_of(subject.scene.function, block);
+    let head = head_in(subject, block);
+    let begins = begins_collected(subject, block);
+    begin_block(alloc, subject, facts, block)?;
     for (place, instr) in instructions.iter().enumerate() {
-        let here = standing(block, head, begins, place);
-        if let Some(rule) = refusal(scene, here, &facts, instr) {
-            return Ok(Some((place, rule)));
+        let here = standing(
+            block,
+            head,
+            begins,
+            subject.promised(),
+            subject.mark(),
+            place,
+        );
+        let exit = Exit { block, facts };
+        match breach(alloc, subject, rooms, here, &exit, instr)? {
+            Some(broken) => return Ok(Some((place, broken))),
+            None => advance(alloc, &subject.scene, facts, instr)?,
         }
-        advance(scene, &mut facts, instr)?;
     }
     Ok(None)
 }
 
-fn instructions_of(function: &Function, block: BlockId) -> &[Instr]
-    ensures { result.now ≡ instructions_of function.now block }
-{
-    match function.blocks.get(block.number() as usize) {
-        Some(block) => block.instructions.as_slice(),
-        None => &[],
-    }
-}
-
-fn head_in(scene: &Scene, block: BlockId) -> usize
-    ensures { result ≡ head_in scene.now.«module».now scene.now.function.now scene.now.slots.now block }
+fn head_in(subject: &Subject, block: BlockId) -> usize
+    ensures { result ≡ head_in subject.now.scene.program.now.of_module subject.now.scene.function.now subject.now.scene.slots.now block }
 {
     if block.number() == 0 {
         head_of(
-            scene.module,
-            scene.slots,
-            instructions_of(scene.function, block),
+            &subject.scene,
+            instructions_of(subject.scene.function, block),
         )
     } else {
         0
     }
 }
 
-fn begins_collected(scene: &Scene, block: BlockId) -> bool
-    ensures { result ≡ begins_collected scene.now.«module».now scene.now.function.now block }
+fn begins_collected(subject: &Subject, block: BlockId) -> bool
+    ensures { result ≡ begins_collected subject.now.scene.program.now.of_module subject.now.scene.function.now block }
 {
-    block.number() != 0 || keeps_shadow_stack(scene.module, scene.function)
+    block.number() != 0 || keeps_shadow_stack(subject.scene.module(), subject.scene.function)
 }
 
-fn standing(block: BlockId, head: usize, begins: bool, place: usize) -> Standing
-    ensures { result ≡ record { in_entry = block == 0; in_head = nat_lt place head; collected = not (place == 0) || begins } }
+fn standing(
+    block: BlockId,
+    head: usize,
+    begins: bool,
+    promised: Option<Promise>,
+    mark: Mark,
+    place: usize,
+) -> Standing
+    ensures { result ≡ record { in_entry = block == 0; in_head = nat_lt place head; collected = not (place == 0) || begins; promised = promised; mark = mark } }
 {
     Standing {
         in_entry: block.number() == 0,
         in_head: place < head,
         collected: place != 0 || begins,
+        promised,
+        mark,
     }
 }

@@ -1,19 +1,15 @@
-//! One block against its certificate: what is known at each place, and the rules that every instruction has to keep.
+//! One block, or each block of a function, against its certificate: the rules of every instruction, and what each way out shows.
 #![tactic(auto)]
 
-mod block_fault;
-mod changes;
+mod breach;
 mod check;
-mod class_id;
-mod facts;
-mod known;
-mod operands;
-mod rule;
-mod rules;
-mod scene;
-mod signature;
-mod type_kind;
+mod entries;
+mod given;
+mod phis;
+mod predecessors;
+mod subject;
+mod tables;
+mod ways;
 
-pub use block_fault::{BlockFault, Detail, Refusal};
-pub use check::check_block;
-pub use rule::Rule;
+pub use certified::{BlockFault, Breach, Detail, Refusal, Rule};
+pub use check::{check_block, check_function};

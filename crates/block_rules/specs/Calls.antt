@@ -1,22 +1,30 @@
--- Calls of the runtime's functions: what they ask, and what is known behind them.
-use Rattle.std.specs.Prelude.{ℕ, Bool, true, false, not, ◌&&◌, if◌then◌else◌, List, [], ◌∷◌, length, nat_lt, Option, Some, None}
-use Rattle.std.specs.List.{list_all}
+-- Calls: what they ask, and what is known behind them.
+use Rattle.std.specs.Prelude.{ℕ, ◌==◌, Bool, true, false, not, ◌&&◌, if◌then◌else◌, List, [], ◌∷◌, length, slice_get, nat_lt, Option, Some, None}
+use Rattle.std.specs.List.{list_all, zip}
 use Rattle.ir_ast.specs.declared.function.Function.{Function}
+use Rattle.ir_ast.specs.declared.function.Parameter.{Parameter}
 use Rattle.ir_ast.specs.declared.module.Module.{Module}
 use Rattle.ir_ast.specs.declared.op.Argument.{Argument}
 use Rattle.ir_ast.specs.declared.operand.Constant.{Constant}
 use Rattle.ir_ast.specs.declared.operand.Constant.TheVariants.{Number as Numeral}
 use Rattle.ir_ast.specs.declared.operand.Operand.{Operand}
 use Rattle.ir_ast.specs.declared.operand.Operand.TheVariants.{Constant as Written}
-use Rattle.ir_ast.specs.declared.runtime.Runtime.{Runtime}
-use Rattle.ir_ast.specs.declared.runtime.Runtime.TheVariants.{Alloc, GcRoot}
+use Rattle.ir_ast.specs.declared.runtime.Runtime.TheVariants.{Alloc, Safepoint, GcRoot}
 use Rattle.shadow_stack.specs.Slots.{SlotTable, held_type}
+use Rattle.certificate.specs.declared.section.Mark.{Mark}
+use Rattle.certificate.specs.declared.section.Mark.TheVariants as mark
+use Rattle.certificate.specs.declared.section.Promise.{Promise}
+use Rattle.certificate.specs.declared.section.Section.{Section}
 use Rattle.facts.specs.declared.known.Known.TheVariants.{Nothing}
-use Rattle.facts.specs.Facts.{FactSet, slot_at, define, define_new, root_slot}
+use Rattle.facts.specs.Facts.{FactSet, slot_at, define, define_new, root_slot, drop_fresh_of, make_stale}
+use Rattle.facts.specs.Lines.{receive}
+use Rattle.block_rules.specs.declared.callee.Callee.{Callee}
+use Rattle.block_rules.specs.declared.callee.Callee.TheVariants.{OfRuntime, OfModule}
 use Rattle.block_rules.specs.declared.rule.Rule.{Rule}
-use Rattle.block_rules.specs.declared.rule.Rule.TheVariants.{K1, K2, K3, K9, K10, K12, K18}
+use Rattle.block_rules.specs.declared.rule.Rule.TheVariants.{K1, K2, K3, K9, K10, K12, K13, K17, K18}
 use Rattle.block_rules.specs.declared.standing.Standing.{Standing}
 use Rattle.block_rules.specs.Operands.{slot_named, known_of, is_available, is_value, is_current, is_null, is_no_slot}
+use Rattle.block_rules.specs.Promises.{promises_in, promised_in, callee_mark, is_may, marks_agree, given_by, show_promises}
 use Rattle.block_rules.specs.Signature.{is_written_as}
 use Rattle.block_rules.specs.TypeKinds.{kind_of, is_reference}
 
@@ -81,6 +89,33 @@ alloc_conditions m f slots here facts returned arguments =
     ∷ (K2, all_values m f facts arguments && is_written_as m returned arguments Alloc && number_layouts m arguments)
     ∷ (K12, here.collected) ∷ []
 
+-- of dg_safepoint, which takes nothing
+abbrev pub safepoint_conditions : Module → Standing → (returned : ℕ) → List Argument → List (Rule × Bool)
+safepoint_conditions m here returned arguments =
+    (K2, is_written_as m returned arguments Safepoint)
+    ∷ (K12, here.collected)
+    ∷ (K17, is_may here.mark) ∷ []
+
+-- an argument is written with the type of its parameter
+abbrev pub is_written_for : Argument × Parameter → Bool
+is_written_for (argument, parameter) = argument.written == parameter.written
+
+-- K2: a call is written with the types of this function, if there is one
+abbrev pub is_written_with : (returned : ℕ) → List Argument → (called : Option Function) → Bool
+is_written_with returned arguments None = false
+is_written_with returned arguments (Some called) = (returned == called.returned) && list_all is_written_for (zip arguments called.parameters)
+
+-- of a function that the module defines, with its certificate
+abbrev pub defined_conditions : Module → Function → SlotTable → Standing → FactSet → (returned : ℕ) → List Argument → (called : Option Function) → (section : Option Section) → List (Rule × Bool)
+defined_conditions m f slots here facts returned arguments called section =
+    (K1, all_available slots facts arguments)
+    ∷ (K2, all_values m f facts arguments && is_written_with returned arguments called)
+    ∷ (K3, all_current facts arguments)
+    ∷ (K10, no_slots slots arguments)
+    ∷ (K12, here.collected)
+    ∷ (K13, show_promises facts arguments (promises_in section))
+    ∷ (K17, marks_agree here.mark (callee_mark section)) ∷ []
+
 -- of a call that is refused: its operands are looked at before
 abbrev pub unknown_conditions : Module → Function → SlotTable → Standing → FactSet → List Argument → List (Rule × Bool)
 unknown_conditions m f slots here facts arguments =
@@ -91,11 +126,14 @@ unknown_conditions m f slots here facts arguments =
     ∷ (K12, here.collected)
     ∷ (K18, false) ∷ []
 
--- of a call, by the function of the runtime that it is of
-abbrev pub call_conditions : Module → Function → SlotTable → Standing → FactSet → (returned : ℕ) → List Argument → (callee : Option Runtime) → List (Rule × Bool)
-call_conditions m f slots here facts returned arguments (Some Alloc) = alloc_conditions m f slots here facts returned arguments
-call_conditions m f slots here facts returned arguments (Some GcRoot) = root_conditions m f slots here facts returned arguments
-call_conditions m f slots here facts returned arguments _ = unknown_conditions m f slots here facts arguments
+-- of a call, by the function that it is of
+abbrev pub call_conditions : Module → (certs : List Section) → Function → SlotTable → Standing → FactSet → (returned : ℕ) → List Argument → Callee → List (Rule × Bool)
+call_conditions m certs f slots here facts returned arguments (OfRuntime Alloc) = alloc_conditions m f slots here facts returned arguments
+call_conditions m certs f slots here facts returned arguments (OfRuntime GcRoot) = root_conditions m f slots here facts returned arguments
+call_conditions m certs f slots here facts returned arguments (OfRuntime Safepoint) = safepoint_conditions m here returned arguments
+call_conditions m certs f slots here facts returned arguments (OfModule called) =
+    defined_conditions m f slots here facts returned arguments (slice_get m.functions called) (slice_get certs called)
+call_conditions m certs f slots here facts returned arguments _ = unknown_conditions m f slots here facts arguments
 
 -- a gcroot puts null in its slot
 abbrev pub after_root : (slot : Option ℕ) → FactSet → FactSet
@@ -128,8 +166,30 @@ abbrev pub after_alloc_call : (result : Option ℕ) → List Argument → FactSe
 after_alloc_call None arguments facts = facts
 after_alloc_call (Some v) arguments facts = after_alloc v arguments facts
 
+-- a callee may store its arguments where others find them: their classes are fresh no more
+abbrev pub drop_arguments : List Argument → FactSet → FactSet
+drop_arguments [] facts = facts
+drop_arguments (argument ∷ arguments) facts = drop_arguments arguments (drop_fresh_of (known_of facts argument.operand) facts)
+
+-- behind a function that is marked so
+abbrev pub after_mark : Mark → FactSet → FactSet
+after_mark mark.May facts = make_stale facts
+after_mark mark.None facts = facts
+
+-- the result, if it has a name, with what its type gives and what is promised of it
+abbrev pub receive_result : Module → (result : Option ℕ) → (returned : ℕ) → Option Promise → FactSet → FactSet
+receive_result m None returned promise facts = facts
+receive_result m (Some v) returned promise facts = receive v (given_by (kind_of m returned)) promise facts
+
+-- behind a call of a function that the module defines, with its certificate
+abbrev pub after_defined : Module → (result : Option ℕ) → (returned : ℕ) → List Argument → (section : Option Section) → FactSet → FactSet
+after_defined m result returned arguments section facts =
+    receive_result m result returned (promised_in section) (after_mark (callee_mark section) (drop_arguments arguments facts))
+
 -- behind a call
-abbrev pub after_call : SlotTable → (result : Option ℕ) → List Argument → (callee : Option Runtime) → FactSet → FactSet
-after_call slots result arguments (Some Alloc) facts = after_alloc_call result arguments facts
-after_call slots result arguments (Some GcRoot) facts = after_root_call slots arguments facts
-after_call slots result arguments _ facts = facts
+abbrev pub after_call : Module → (certs : List Section) → SlotTable → (result : Option ℕ) → (returned : ℕ) → List Argument → Callee → FactSet → FactSet
+after_call m certs slots result returned arguments (OfRuntime Alloc) facts = after_alloc_call result arguments facts
+after_call m certs slots result returned arguments (OfRuntime GcRoot) facts = after_root_call slots arguments facts
+after_call m certs slots result returned arguments (OfRuntime Safepoint) facts = make_stale facts
+after_call m certs slots result returned arguments (OfModule called) facts = after_defined m result returned arguments (slice_get certs called) facts
+after_call m certs slots result returned arguments _ facts = facts

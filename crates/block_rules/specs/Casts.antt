@@ -1,5 +1,5 @@
 -- Bitcasts: to which types they may lead, and what is known behind them.
-use Rattle.std.specs.Prelude.{ℕ, ◌==◌, Bool, true, false, ◌&&◌, ◌||◌, List, Option, Some, None}
+use Rattle.std.specs.Prelude.{ℕ, ◌==◌, Bool, true, false, ◌&&◌, ◌||◌, if◌then◌else◌, List, Option, Some, None}
 use Rattle.ir_ast.specs.declared.module.Module.{Module}
 use Rattle.ir_ast.specs.declared.operand.Constant.{Constant}
 use Rattle.ir_ast.specs.declared.operand.Constant.TheVariants.{Number as Numeral, Truth, Null as NullWritten}
@@ -87,13 +87,13 @@ cast_constant m v from to (Numeral n) facts = cast_number v n (kind_of m to) fac
 cast_constant m v from to (Truth b) facts = define v Nothing facts
 cast_constant m v from to NullWritten facts = define_held v (layout_of_null (kind_of m from) (kind_of m to)) false facts
 
--- a value under another name, but for an address whose base had this name; a slot is no value, and is only named anew
-abbrev pub cast_local : (v : ℕ) → Known → (slot : Option ℕ) → FactSet → FactSet
-cast_local v known None facts = define v (off_base v known) facts
-cast_local v known (Some s) facts = facts
+-- a value under another name, but for an address whose base had this name; what has this name already stays, and a slot is no value, and is only named anew
+abbrev pub cast_local : (v u : ℕ) → Known → (slot : Option ℕ) → FactSet → FactSet
+cast_local v u known None facts = if u == v then facts else define v (off_base v known) facts
+cast_local v u known (Some s) facts = facts
 
 -- behind a bitcast
 abbrev pub after_cast : Module → SlotTable → (v from to : ℕ) → Operand → FactSet → FactSet
 after_cast m slots v from to (Written c) facts = cast_constant m v from to c facts
-after_cast m slots v from to (Local u) facts = cast_local v (known_at facts.values u) (slot_of slots u) facts
+after_cast m slots v from to (Local u) facts = cast_local v u (known_at facts.values u) (slot_of slots u) facts
 after_cast m slots v from to _ facts = define v Nothing facts

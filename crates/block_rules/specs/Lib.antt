@@ -2,6 +2,8 @@ pub mod TypeKinds
 pub mod Signature
 pub mod Bounds
 pub mod Operands
+pub mod Promises
+pub mod RuntimeNames
 pub mod Places
 pub mod Integers
 pub mod Casts
@@ -9,3 +11,4 @@ pub mod Elements
 pub mod Calls
 pub mod Standing
 pub mod Rules
+pub mod Groups

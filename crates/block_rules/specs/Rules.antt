@@ -1,5 +1,5 @@
 -- The rules: when an instruction is allowed, and what is known behind it.
-use Rattle.std.specs.Prelude.{◌≡◌, ℕ, ◌==◌, Bool, true, false, not, ◌&&◌, ◌||◌, if◌then◌else◌, List, [], ◌∷◌, length, slice_get, nat_lt, Option, Some, None, is_some}
+use Rattle.std.specs.Prelude.{◌≡◌, ℕ, ◌==◌, Bool, false, not, ◌&&◌, ◌||◌, if◌then◌else◌, List, [], ◌∷◌, length, slice_get, nat_lt, Option, Some, None, is_some}
 use Rattle.std.specs.List.{list_all}
 use Rattle.ir_ast.specs.declared.function.Function.{Function}
 use Rattle.ir_ast.specs.declared.function.LocalSort.{LocalSort}
@@ -15,9 +15,8 @@ use Rattle.ir_ast.specs.declared.operand.Operand.TheVariants.{Constant as Writte
 use Rattle.layout.specs.Layouts.{LaidOut}
 use Rattle.types.specs.ValueTypes.{target_of}
 use Rattle.shadow_stack.specs.Slots.{SlotTable, slot_of, is_among}
-use Rattle.certificate.specs.declared.section.Promise.{Promise}
+use Rattle.certificate.specs.declared.section.Section.{Section}
 use Rattle.facts.specs.Facts.{FactSet, end_slot}
-use Rattle.facts.specs.Lines.{implied, is_below}
 use Rattle.block_rules.specs.declared.rule.Rule.{Rule}
 use Rattle.block_rules.specs.declared.rule.Rule.TheVariants.{K1, K2, K3, K4, K5, K6, K8, K10, K11, K12, K14, K19}
 use Rattle.block_rules.specs.declared.standing.Standing.{Standing}
@@ -25,10 +24,11 @@ use Rattle.block_rules.specs.Calls.{no_slots, call_conditions, after_call}
 use Rattle.block_rules.specs.Casts.{may_cast, after_cast}
 use Rattle.block_rules.specs.Elements.{may_be_base, are_indices, may_lead, after_element}
 use Rattle.block_rules.specs.Integers.{below_of, arithmetic_below, define_number, may_resize, resized_below, may_compare, after_compare, known_layout, one_layout, may_choose, after_select}
-use Rattle.block_rules.specs.Operands.{slot_named, known_of, is_available, constant_fits, is_typed, is_value, is_current, is_based, is_nonnull, is_no_slot}
+use Rattle.block_rules.specs.Operands.{slot_named, known_of, is_available, constant_fits, is_typed, is_value, is_current, is_based, is_no_slot}
 use Rattle.block_rules.specs.Places.{may_load, may_store, after_load, after_store}
+use Rattle.block_rules.specs.Promises.{keeps_promise}
 use Rattle.block_rules.specs.Signature.{callee_of}
-use Rattle.block_rules.specs.TypeKinds.{kind_of, is_integer, is_void, is_bits, may_be_reference}
+use Rattle.block_rules.specs.TypeKinds.{kind_of, is_integer, is_pointer, is_void, is_bits, may_be_reference}
 
 -- the number of the first condition that fails; each list of conditions is in the order of the numbers
 abbrev pub first_failing : List (Rule × Bool) → Option Rule
@@ -85,36 +85,23 @@ are_cases m f written cases = list_all (is_case m f written) cases
 abbrev pub is_condition : Module → Function → FactSet → (written : ℕ) → Operand → Bool
 is_condition m f facts written condition = is_bits 1 (kind_of m written) && is_value m f facts written condition
 
--- the layout that is promised is that of a reference
-abbrev pub is_promised : (promised layout : Option ℕ) → Bool
-is_promised None layout = true
-is_promised (Some promised) layout = one_layout (Some promised) layout
-
--- K14: what is promised of the result is shown of an operand
-abbrev pub keeps_promise : FactSet → Option Promise → Operand → Bool
-keeps_promise facts None operand = true
-keeps_promise facts (Some promise) operand =
-    is_promised promise.layout (known_layout (known_of facts operand))
-    && implied promise.nonnull (is_nonnull facts (known_of facts operand))
-    && is_below (below_of facts operand) promise.below
-
 -- the conditions of what an instruction does, in the order of their numbers; those of a phi's entries and of the ways out of a block stand with the blocks
-abbrev pub op_conditions : LaidOut → Function → SlotTable → Standing → FactSet → (result : Option ℕ) → Op → List (Rule × Bool)
-op_conditions p f slots here facts result (Alloca held) =
+abbrev pub op_conditions : LaidOut → (certs : List Section) → Function → SlotTable → Standing → FactSet → (result : Option ℕ) → Op → List (Rule × Bool)
+op_conditions p certs f slots here facts result (Alloca held) =
     (K8, may_hold p.of_module slots result held) ∷ (K11, here.in_entry) ∷ (K12, here.collected) ∷ []
-op_conditions p f slots here facts result (Bitcast from operand to) =
+op_conditions p certs f slots here facts result (Bitcast from operand to) =
     (K1, is_available slots facts operand)
     ∷ (K2, is_typed p.of_module f from operand)
     ∷ (K3, is_current facts (known_of facts operand))
     ∷ (K12, here.collected)
     ∷ (K19, may_cast p slots facts from to operand) ∷ []
-op_conditions p f slots here facts result (Load loaded place_type place) =
+op_conditions p certs f slots here facts result (Load loaded place_type place) =
     (K1, is_available slots facts place)
     ∷ (K2, is_typed p.of_module f place_type place && may_load p slots facts loaded place)
     ∷ (K3, is_current facts (known_of facts place))
     ∷ (K4, is_based facts place)
     ∷ (K12, here.collected) ∷ []
-op_conditions p f slots here facts result (Store stored value place_type place) =
+op_conditions p certs f slots here facts result (Store stored value place_type place) =
     (K1, is_available slots facts value && is_available slots facts place)
     ∷ (K2, is_value p.of_module f facts stored value && is_typed p.of_module f place_type place && may_store p slots facts stored (known_of facts value) place)
     ∷ (K3, is_current facts (known_of facts value) && is_current facts (known_of facts place))
@@ -122,28 +109,28 @@ op_conditions p f slots here facts result (Store stored value place_type place) 
     ∷ (K6, is_some (slot_named slots place) || not (may_be_reference (kind_of p.of_module stored)))
     ∷ (K10, is_no_slot slots value)
     ∷ (K12, here.collected) ∷ []
-op_conditions p f slots here facts result (Element source base_type base indices) =
+op_conditions p certs f slots here facts result (Element source base_type base indices) =
     (K1, is_available slots facts base && list_all (λ index. is_available slots facts index.operand) indices)
-    ∷ (K2, is_typed p.of_module f base_type base && may_be_base (known_of facts base) && are_indices p.of_module f facts indices && no_slots slots indices)
+    ∷ (K2, is_typed p.of_module f base_type base && is_pointer (kind_of p.of_module base_type) && may_be_base (known_of facts base) && are_indices p.of_module f facts indices && no_slots slots indices)
     ∷ (K3, is_current facts (known_of facts base))
     ∷ (K5, may_lead p facts source indices (known_of facts base))
     ∷ (K10, is_no_slot slots base)
     ∷ (K12, here.collected) ∷ []
-op_conditions p f slots here facts result (Arithmetic kind written first second) =
+op_conditions p certs f slots here facts result (Arithmetic kind written first second) =
     (K1, is_available slots facts first && is_available slots facts second)
     ∷ (K2, is_value p.of_module f facts written first && is_value p.of_module f facts written second && is_integer (kind_of p.of_module written) && is_no_slot slots first && is_no_slot slots second)
     ∷ (K12, here.collected) ∷ []
-op_conditions p f slots here facts result (Resize kind from operand to) =
+op_conditions p certs f slots here facts result (Resize kind from operand to) =
     (K1, is_available slots facts operand)
     ∷ (K2, is_value p.of_module f facts from operand && may_resize kind (kind_of p.of_module from) (kind_of p.of_module to) && is_no_slot slots operand)
     ∷ (K12, here.collected) ∷ []
-op_conditions p f slots here facts result (Compare kind written first second) =
+op_conditions p certs f slots here facts result (Compare kind written first second) =
     (K1, is_available slots facts first && is_available slots facts second)
     ∷ (K2, is_value p.of_module f facts written first && is_value p.of_module f facts written second && may_compare kind (kind_of p.of_module written))
     ∷ (K3, is_current facts (known_of facts first) && is_current facts (known_of facts second))
     ∷ (K10, is_no_slot slots first && is_no_slot slots second)
     ∷ (K12, here.collected) ∷ []
-op_conditions p f slots here facts result (Select condition_type condition written chosen other) =
+op_conditions p certs f slots here facts result (Select condition_type condition written chosen other) =
     (K1, is_available slots facts condition && is_available slots facts chosen && is_available slots facts other)
     ∷ (
       K2,
@@ -155,24 +142,24 @@ op_conditions p f slots here facts result (Select condition_type condition writt
     ∷ (K3, is_current facts (known_of facts chosen) && is_current facts (known_of facts other))
     ∷ (K10, is_no_slot slots chosen && is_no_slot slots other)
     ∷ (K12, here.collected) ∷ []
-op_conditions p f slots here facts result (Phi written incoming) =
+op_conditions p certs f slots here facts result (Phi written incoming) =
     (K2, may_choose (kind_of p.of_module written) && all_come_in p.of_module f slots written incoming) ∷ (K12, here.collected) ∷ []
-op_conditions p f slots here facts result (Call returned callee arguments) =
-    call_conditions p.of_module f slots here facts returned arguments (callee_of p.of_module callee (length arguments))
-op_conditions p f slots here facts result (Jump target) =
+op_conditions p certs f slots here facts result (Call returned callee arguments) =
+    call_conditions p.of_module certs f slots here facts returned arguments (callee_of p.of_module callee (length arguments))
+op_conditions p certs f slots here facts result (Jump target) =
     (K2, names_target f target) ∷ (K12, here.collected) ∷ []
-op_conditions p f slots here facts result (Branch condition_type condition taken other) =
+op_conditions p certs f slots here facts result (Branch condition_type condition taken other) =
     (K1, is_available slots facts condition)
     ∷ (K2, is_condition p.of_module f facts condition_type condition && names_target f taken && names_target f other && is_no_slot slots condition)
     ∷ (K12, here.collected) ∷ []
-op_conditions p f slots here facts result (Switch written value otherwise cases) =
+op_conditions p certs f slots here facts result (Switch written value otherwise cases) =
     (K1, is_available slots facts value)
     ∷ (K2, is_value p.of_module f facts written value && is_integer (kind_of p.of_module written) && names_target f otherwise && are_cases p.of_module f written cases && is_no_slot slots value)
     ∷ (K12, here.collected) ∷ []
-op_conditions p f slots here facts result Unreachable = (K12, here.collected) ∷ []
-op_conditions p f slots here facts result ReturnVoid =
+op_conditions p certs f slots here facts result Unreachable = (K12, here.collected) ∷ []
+op_conditions p certs f slots here facts result ReturnVoid =
     (K2, is_void (kind_of p.of_module f.returned)) ∷ (K12, here.collected) ∷ []
-op_conditions p f slots here facts result (Return argument) =
+op_conditions p certs f slots here facts result (Return argument) =
     (K1, is_available slots facts argument.operand)
     ∷ (K2, is_value p.of_module f facts argument.written argument.operand && (argument.written == f.returned))
     ∷ (K3, is_current facts (known_of facts argument.operand))
@@ -181,8 +168,8 @@ op_conditions p f slots here facts result (Return argument) =
     ∷ (K14, keeps_promise facts here.promised argument.operand) ∷ []
 
 -- the conditions of an instruction
-abbrev pub conditions : LaidOut → Function → SlotTable → Standing → FactSet → Instr → List (Rule × Bool)
-conditions p f slots here facts instr = op_conditions p f slots here facts instr.result instr.op
+abbrev pub conditions : LaidOut → (certs : List Section) → Function → SlotTable → Standing → FactSet → Instr → List (Rule × Bool)
+conditions p certs f slots here facts instr = op_conditions p certs f slots here facts instr.result instr.op
 
 -- an alloca gives a slot: what was known of it ends
 abbrev pub after_alloca : (slot : Option ℕ) → FactSet → FactSet
@@ -202,21 +189,21 @@ after_named p slots v (Select condition_type condition written chosen other) fac
 after_named p slots v _ facts = facts
 
 -- behind an instruction, by the name that it defines, if it does; a phi has its facts from the way in
-abbrev pub after_op : LaidOut → SlotTable → (result : Option ℕ) → Op → FactSet → FactSet
-after_op p slots result (Store stored value place_type place) facts = after_store (known_of facts value) (slot_named slots place) facts
-after_op p slots result (Call returned callee arguments) facts = after_call slots result arguments (callee_of p.of_module callee (length arguments)) facts
-after_op p slots None _ facts = facts
-after_op p slots (Some v) op facts = after_named p slots v op facts
+abbrev pub after_op : LaidOut → (certs : List Section) → SlotTable → (result : Option ℕ) → Op → FactSet → FactSet
+after_op p certs slots result (Store stored value place_type place) facts = after_store (known_of facts value) (slot_named slots place) facts
+after_op p certs slots result (Call returned callee arguments) facts = after_call p.of_module certs slots result returned arguments (callee_of p.of_module callee (length arguments)) facts
+after_op p certs slots None _ facts = facts
+after_op p certs slots (Some v) op facts = after_named p slots v op facts
 
 -- what is known behind an instruction
-abbrev pub after : LaidOut → SlotTable → FactSet → Instr → FactSet
-after p slots facts instr = after_op p slots instr.result instr.op facts
+abbrev pub after : LaidOut → (certs : List Section) → SlotTable → FactSet → Instr → FactSet
+after p certs slots facts instr = after_op p certs slots instr.result instr.op facts
 
 -- the rule relation: an instruction is allowed where each of its conditions holds, and leads to these facts
-pub record Allows (p : LaidOut) (f : Function) (slots : SlotTable) (here : Standing) (facts : FactSet) (instr : Instr) (next : FactSet) : Type 0 where
-  pub conditions_hold : first_failing (conditions p f slots here facts instr) ≡ None
-  pub facts_after : next ≡ after p slots facts instr
+pub record Allows (p : LaidOut) (certs : List Section) (f : Function) (slots : SlotTable) (here : Standing) (facts : FactSet) (instr : Instr) (next : FactSet) : Type 0 where
+  pub conditions_hold : first_failing (conditions p certs f slots here facts instr) ≡ None
+  pub facts_after : next ≡ after p certs slots facts instr
 
 -- an instruction is refused by the first of its conditions that fails
-abbrev pub Refuses : LaidOut → Function → SlotTable → Standing → FactSet → Instr → Rule → Type 0
-Refuses p f slots here facts instr rule = first_failing (conditions p f slots here facts instr) ≡ Some rule
+abbrev pub Refuses : LaidOut → (certs : List Section) → Function → SlotTable → Standing → FactSet → Instr → Rule → Type 0
+Refuses p certs f slots here facts instr rule = first_failing (conditions p certs f slots here facts instr) ≡ Some rule

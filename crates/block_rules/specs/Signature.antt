@@ -1,6 +1,7 @@
--- The functions of the runtime: their types, and which of them a call is of.
-use Rattle.std.specs.Prelude.{ℕ, ◌==◌, Bool, ◌&&◌, if◌then◌else◌, List, [], ◌∷◌, length, slice_get, Option, Some, None}
+-- The functions of the runtime, with their types, and which function a call is of.
+use Rattle.std.specs.Prelude.{ℕ, ◌==◌, Bool, not, ◌&&◌, if◌then◌else◌, List, [], ◌∷◌, length, slice_get, Option, Some, None}
 use Rattle.std.specs.List.{list_all, zip}
+use Rattle.ir_ast.specs.declared.function.Function.{Function}
 use Rattle.ir_ast.specs.declared.op.Argument.{Argument}
 use Rattle.ir_ast.specs.declared.items_of_module.Declare.{Declare}
 use Rattle.ir_ast.specs.declared.items_of_module.SymbolSort.{SymbolSort}
@@ -8,8 +9,11 @@ use Rattle.ir_ast.specs.declared.items_of_module.SymbolSort.TheVariants.{Unknown
 use Rattle.ir_ast.specs.declared.module.Module.{Module}
 use Rattle.ir_ast.specs.declared.runtime.Runtime.{Runtime}
 use Rattle.ir_ast.specs.declared.runtime.Runtime.TheVariants.{Alloc, Safepoint, GcRoot, GcRead, GcWrite}
+use Rattle.block_rules.specs.declared.callee.Callee.{Callee}
+use Rattle.block_rules.specs.declared.callee.Callee.TheVariants.{OfRuntime, OfModule, NoFunction}
 use Rattle.block_rules.specs.declared.signature.RuntimeType.{RuntimeType}
 use Rattle.block_rules.specs.declared.signature.RuntimeType.TheVariants.{Void, Number, Pointer, PointerToPointer}
+use Rattle.block_rules.specs.RuntimeNames.{names_runtime}
 use Rattle.block_rules.specs.TypeKinds.{kind_of, place_kind, is_void, is_bits, is_any_reference}
 
 -- a function's result and parameters
@@ -53,25 +57,31 @@ is_written_as m returned arguments runtime =
     let signature = signature_of runtime in
     is_runtime_type m returned signature.returned && list_all (is_argument_of m) (zip arguments signature.parameters)
 
--- the function of the runtime that a call of a declared name is of, if it is one that is declared with its types, and takes so many arguments
-abbrev pub callable : Module → (arguments : ℕ) → Declare → Option Runtime → Option Runtime
-callable m arguments declared None = None
+-- what a call of a declared name is of: a function of the runtime, if the name is declared with its types, and it takes so many arguments
+abbrev pub callable : Module → (arguments : ℕ) → Declare → Option Runtime → Callee
+callable m arguments declared None = NoFunction
 callable m arguments declared (Some runtime) =
-    if is_declared_as m declared runtime && (arguments == length (signature_of runtime).parameters) then Some runtime else None
+    if is_declared_as m declared runtime && (arguments == length (signature_of runtime).parameters) then OfRuntime runtime else NoFunction
 
 -- the same of a declared function, if there is one
-abbrev pub callable_declare : Module → (arguments : ℕ) → Option Declare → Option Runtime
-callable_declare m arguments None = None
+abbrev pub callable_declare : Module → (arguments : ℕ) → Option Declare → Callee
+callable_declare m arguments None = NoFunction
 callable_declare m arguments (Some declared) = callable m arguments declared declared.runtime
 
--- the same of what a name stands for: only a declared function is known
-abbrev pub callable_sort : Module → (arguments : ℕ) → Option SymbolSort → Option Runtime
-callable_sort m arguments None = None
-callable_sort m arguments (Some Unknown) = None
-callable_sort m arguments (Some (Global g)) = None
-callable_sort m arguments (Some (Declared d)) = callable_declare m arguments (slice_get m.declares d)
-callable_sort m arguments (Some (Defined f)) = None
+-- the same of a defined function, if there is one: it takes so many arguments, and its name is none of the runtime's
+abbrev pub callable_function : Module → (callee arguments number : ℕ) → Option Function → Callee
+callable_function m callee arguments number None = NoFunction
+callable_function m callee arguments number (Some function) =
+    if (arguments == length function.parameters) && not (names_runtime (slice_get m.symbols callee)) then OfModule number else NoFunction
 
--- the function of the runtime that a call is of
-abbrev pub callee_of : Module → (callee arguments : ℕ) → Option Runtime
-callee_of m callee arguments = callable_sort m arguments (slice_get m.sorts callee)
+-- the same of what a name stands for
+abbrev pub callable_sort : Module → (callee arguments : ℕ) → Option SymbolSort → Callee
+callable_sort m callee arguments None = NoFunction
+callable_sort m callee arguments (Some Unknown) = NoFunction
+callable_sort m callee arguments (Some (Global g)) = NoFunction
+callable_sort m callee arguments (Some (Declared d)) = callable_declare m arguments (slice_get m.declares d)
+callable_sort m callee arguments (Some (Defined f)) = callable_function m callee arguments f (slice_get m.functions f)
+
+-- the function that a call with so many arguments is of
+abbrev pub callee_of : Module → (callee arguments : ℕ) → Callee
+callee_of m callee arguments = callable_sort m callee arguments (slice_get m.sorts callee)

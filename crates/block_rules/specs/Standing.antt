@@ -1,4 +1,4 @@
--- Where an instruction stands: in the entry block, in its head, and whether its function may move references.
+-- Where an instruction stands: in the entry block, in its head, and whether its function may move references; and what its function's certificate says.
 use Rattle.std.specs.Prelude.{ℕ, ◌==◌, Bool, true, false, not, ◌&&◌, ◌||◌, List, [], ◌∷◌, length, slice_get, nat_lt, Option, Some, None, is_some}
 use Rattle.std.specs.List.{list_any, take_while}
 use Rattle.std.specs.Str.{bytes_eq}
@@ -14,6 +14,7 @@ use Rattle.ir_ast.specs.declared.runtime.Runtime.{Runtime}
 use Rattle.ir_ast.specs.declared.runtime.Runtime.TheVariants.{GcRoot}
 use Rattle.types.specs.RuntimeCall.{runtime_called}
 use Rattle.shadow_stack.specs.Slots.{SlotTable}
+use Rattle.certificate.specs.declared.section.Mark.{Mark}
 use Rattle.certificate.specs.declared.section.Promise.{Promise}
 use Rattle.block_rules.specs.declared.standing.Standing.{Standing}
 use Rattle.block_rules.specs.Operands.{slot_named}
@@ -106,11 +107,12 @@ head_in m f slots block = elim (block == 0) [ true ↦ head_of m f slots (instru
 abbrev pub begins_collected : Module → Function → (block : ℕ) → Bool
 begins_collected m f block = not (block == 0) || keeps_shadow_stack m f
 
--- where the instruction at a place of a block stands, in a function of whose result this is promised
-abbrev pub standing : Module → Function → SlotTable → (promised : Option Promise) → (block place : ℕ) → Standing
-standing m f slots promised block place = record {
+-- where the instruction at a place of a block stands, in a function of whose result this is promised, and which is marked so
+abbrev pub standing : Module → Function → SlotTable → (promised : Option Promise) → Mark → (block place : ℕ) → Standing
+standing m f slots promised mark block place = record {
   in_entry = block == 0;
   in_head = nat_lt place (head_in m f slots block);
   collected = not (place == 0) || begins_collected m f block;
   promised = promised;
+  mark = mark;
 }

@@ -1,22 +1,31 @@
-ghost use Rattle.std.specs.Prelude.{◌≡◌, OnOk, length};
+ghost use Rattle.std.specs.Prelude.{◌≡◌, OnOk, length, slice_get};
+ghost use Rattle.std.specs.List.{list_all, zip};
+ghost use Rattle.std.specs.Option.{option_copied};
 ghost use Rattle.block_rules.specs.Rules.{first_failing};
 ghost use Rattle.block_rules.specs.Signature.{callee_of};
-ghost use Rattle.block_rules.specs.Calls.{all_available, all_values, all_current, no_slots, holds_reference, is_unrooted, may_root, numbers_one_of, numbers_layout, number_layouts, root_conditions, alloc_conditions, unknown_conditions, call_conditions, after_root, after_root_call, alloc_numbered, alloc_layout, after_alloc, after_alloc_call, after_call};
+ghost use Rattle.block_rules.specs.Calls.{all_available, all_values, all_current, no_slots, holds_reference, is_unrooted, may_root, numbers_one_of, numbers_layout, number_layouts, root_conditions, alloc_conditions, safepoint_conditions, is_written_for, is_written_with, defined_conditions, unknown_conditions, call_conditions, after_root, after_root_call, alloc_numbered, alloc_layout, after_alloc, after_alloc_call, drop_arguments, after_mark, receive_result, after_defined, after_call};
 
+use crate::callee::Callee;
 use crate::first_failing::first_failing;
 use crate::operands::{
-    is_available, is_no_slot, is_null, is_operand_current, is_value, slot_named,
+    is_available, is_no_slot, is_null, is_operand_current, is_value, known_of, slot_named,
+};
+use crate::promises::{
+    callee_mark, given_by, is_may, marks_agree, promised_in, promises_in, show_promises,
 };
 use crate::rule::Rule;
 use crate::scene::Scene;
 use crate::signature::{callee_of, is_written_as};
 use crate::standing::Standing;
 use crate::type_kind::TypeKind;
+use certificate::{Mark, Promise, Section};
 use facts::{Class, Facts, Known};
-use ir_ast::{Argument, Constant, Module, Operand, Runtime, SymbolId, TypeId, ValueId};
+use ir_ast::{
+    Argument, Constant, FuncId, Module, Operand, Parameter, Runtime, SymbolId, TypeId, ValueId,
+};
 use pools::LayoutId;
 use shadow_stack::{SlotId, Slots};
-use std::alloc::AllocError;
+use std::alloc::{AllocError, Global};
 
 /// Layouts are numbered below this.
 const LAYOUT_NUMBERS: u64 = 1 << 32;
@@ -30,11 +39,22 @@ pub fn call_refusal(
     callee: SymbolId,
     arguments: &[Argument],
 ) -> Option<Rule>
-    ensures { result ≡ first_failing (call_conditions scene.now.program.now.of_module scene.now.function.now scene.now.slots.now here facts.now returned arguments.now (callee_of scene.now.program.now.of_module callee (length arguments.now))) }
+    ensures { result ≡ first_failing (call_conditions scene.now.program.now.of_module scene.now.certs.now scene.now.function.now scene.now.slots.now here facts.now returned arguments.now (callee_of scene.now.program.now.of_module callee (length arguments.now))) }
 {
-    match callee_of(scene.module(), callee, arguments.len()) {
-        Some(Runtime::GcRoot) => root_refusal(scene, here, facts, returned, arguments),
-        Some(Runtime::Alloc) => alloc_refusal(scene, here, facts, returned, arguments),
+    let callee = callee_of(scene.module(), callee, arguments.len());
+    match &callee {
+        Callee::OfRuntime(Runtime::GcRoot) => {
+            root_refusal(scene, here, facts, returned, arguments)
+        }
+        Callee::OfRuntime(Runtime::Alloc) => {
+            alloc_refusal(scene, here, facts, returned, arguments)
+        }
+        Callee::OfRuntime(Runtime::Safepoint) => {
+            safepoint_refusal(scene.module(), here, returned, arguments)
+        }
+        Callee::OfModule(called) => {
+            defined_refusal(scene, here, facts, returned, arguments, *called)
+        }
         _ => unknown_refusal(scene, here, facts, arguments),
     }
 }
@@ -80,6 +100,76 @@ fn alloc_refusal(
         ),
         (Rule::K12, here.collected),
     ])
+}
+
+fn safepoint_refusal(
+    module: &Module,
+    here: Standing,
+    returned: TypeId,
+    arguments: &[Argument],
+) -> Option<Rule>
+    ensures { result ≡ first_failing (safepoint_conditions «module».now here returned arguments.now) }
+{
+    first_failing(&[
+        (
+            Rule::K2,
+            is_written_as(module, returned, arguments, Runtime::Safepoint),
+        ),
+        (Rule::K12, here.collected),
+        (Rule::K17, is_may(here.mark)),
+    ])
+}
+
+fn defined_refusal(
+    scene: &Scene,
+    here: Standing,
+    facts: &Facts,
+    returned: TypeId,
+    arguments: &[Argument],
+    called: FuncId,
+) -> Option<Rule>
+    ensures { result ≡ first_failing (defined_conditions scene.now.program.now.of_module scene.now.function.now scene.now.slots.now here facts.now returned arguments.now (slice_get scene.now.program.now.of_module.functions called) (slice_get scene.now.certs.now called)) }
+{
+    let section = scene.certs.section(called);
+    first_failing(&[
+        (Rule::K1, all_available(scene.slots, facts, arguments)),
+        (
+            Rule::K2,
+            all_values(scene, facts, arguments)
+                && is_written_with(scene.module(), returned, arguments, called),
+        ),
+        (Rule::K3, all_current(facts, arguments)),
+        (Rule::K10, no_slots(scene.slots, arguments)),
+        (Rule::K12, here.collected),
+        (
+            Rule::K13,
+            show_promises(facts, arguments, promises_in(section)),
+        ),
+        (Rule::K17, marks_agree(here.mark, callee_mark(section))),
+    ])
+}
+
+fn is_written_with(
+    module: &Module,
+    returned: TypeId,
+    arguments: &[Argument],
+    called: FuncId,
+) -> bool
+    ensures { result ≡ is_written_with returned arguments.now (slice_get «module».now.functions called) }
+{
+    match module.functions.get(called.number() as usize) {
+        Some(called) => {
+            returned == called.returned && are_written_for(arguments, called.parameters.as_slice())
+        }
+        None => false,
+    }
+}
+
+fn are_written_for(arguments: &[Argument], parameters: &[Parameter]) -> bool
+    ensures { result ≡ list_all is_written_for (zip arguments.now parameters.now) }
+{
+    arguments.iter().zip(parameters.iter()).all(|(argument, parameter)| argument.written
+        == parameter.written)
 }
 
 fn unknown_refusal(
@@ -246,19 +336,84 @@ fn after_alloc_call(
     }
 }
 
-/// Goes on behind a call.
-pub fn after_call(
-    slots: &Slots,
+/// The classes of what a callee is given are fresh no more.
+fn drop_arguments(facts: &mut Facts, arguments: &[Argument])
+    ensures { facts.new ≡ drop_arguments arguments.now facts.old }
+{
+    for argument in arguments {
+        let known = known_of(facts, &argument.operand);
+        facts.drop_fresh_of(known);
+    }
+}
+
+fn after_mark(alloc: Global, facts: &mut Facts, mark: Mark) -> Result<(), AllocError>
+    ensures { OnOk result (facts.new ≡ after_mark mark facts.old) }
+{
+    match mark {
+        Mark::May => facts.make_stale(alloc),
+        Mark::None => Ok(()),
+    }
+}
+
+fn receive_result(
+    module: &Module,
     facts: &mut Facts,
     defined: Option<ValueId>,
-    arguments: &[Argument],
-    callee: Option<Runtime>,
+    returned: TypeId,
+    promise: Option<Promise>,
 ) -> Result<(), AllocError>
-    ensures { OnOk result (facts.new ≡ after_call slots.now defined arguments.now callee facts.old) }
+    ensures { OnOk result (facts.new ≡ receive_result «module».now defined returned promise facts.old) }
+{
+    match defined {
+        Some(v) => facts.receive(v, given_by(TypeKind::of(module, returned)), promise),
+        None => Ok(()),
+    }
+}
+
+fn after_defined(
+    alloc: Global,
+    module: &Module,
+    facts: &mut Facts,
+    defined: Option<ValueId>,
+    returned: TypeId,
+    arguments: &[Argument],
+    section: Option<&Section>,
+) -> Result<(), AllocError>
+    ensures { OnOk result (facts.new ≡ after_defined «module».now defined returned arguments.now (option_copied section.entry) facts.old) }
+{
+    drop_arguments(facts, arguments);
+    after_mark(alloc, facts, callee_mark(section))?;
+    receive_result(module, facts, defined, returned, promised_in(section))
+}
+
+/// Goes on behind a call.
+pub fn after_call(
+    alloc: Global,
+    scene: &Scene,
+    facts: &mut Facts,
+    defined: Option<ValueId>,
+    returned: TypeId,
+    arguments: &[Argument],
+    callee: &Callee,
+) -> Result<(), AllocError>
+    ensures { OnOk result (facts.new ≡ after_call scene.now.program.now.of_module scene.now.certs.now scene.now.slots.now defined returned arguments.now callee.now facts.old) }
 {
     match callee {
-        Some(Runtime::Alloc) => after_alloc_call(facts, defined, arguments),
-        Some(Runtime::GcRoot) => after_root_call(slots, facts, arguments),
+        Callee::OfRuntime(Runtime::Alloc) => after_alloc_call(facts, defined, arguments),
+        Callee::OfRuntime(Runtime::GcRoot) => after_root_call(scene.slots, facts, arguments),
+        Callee::OfRuntime(Runtime::Safepoint) => facts.make_stale(alloc),
+        Callee::OfModule(called) => {
+            let section = scene.certs.section(*called);
+            after_defined(
+                alloc,
+                scene.module(),
+                facts,
+                defined,
+                returned,
+                arguments,
+                section,
+            )
+        }
         _ => Ok(()),
     }
 }

@@ -159,16 +159,21 @@ fn is_on(v: ValueId, known: &Known) -> bool
 fn cast_local(
     facts: &mut Facts,
     v: ValueId,
+    u: ValueId,
     known: &Known,
     slot: Option<SlotId>,
 ) -> Result<(), AllocError>
-    ensures { OnOk result (facts.new ≡ cast_local v known.now slot facts.old) }
+    ensures { OnOk result (facts.new ≡ cast_local v u known.now slot facts.old) }
 {
     match slot {
         Some(_) => Ok(()),
         None => {
-            let known = off_base(v, known);
-            facts.define(v, known)
+            if u == v {
+                Ok(())
+            } else {
+                let known = off_base(v, known);
+                facts.define(v, known)
+            }
         }
     }
 }
@@ -188,7 +193,7 @@ pub fn after_cast(
         Operand::Constant(constant) => cast_constant(scene.module(), facts, v, from, to, *constant),
         Operand::Local(u) => {
             let known = facts.known(*u);
-            cast_local(facts, v, &known, scene.slots.slot_of(*u))
+            cast_local(facts, v, *u, &known, scene.slots.slot_of(*u))
         }
         _ => facts.define(v, Known::Nothing),
     }

@@ -1,4 +1,5 @@
-ghost use Rattle.std.specs.Prelude.{◌≡◌, OnOk};
+ghost use Rattle.std.specs.Prelude.{◌≡◌, OnOk, false};
+ghost use Rattle.block_rules.specs.Groups.{makes_value};
 ghost use Rattle.block_rules.specs.Rules.{after_alloca, after_named, after_op, after};
 
 use crate::calls::after_call;
@@ -14,11 +15,16 @@ use crate::signature::callee_of;
 use crate::type_kind::TypeKind;
 use facts::Facts;
 use ir_ast::{Instr, Op, ValueId};
-use std::alloc::AllocError;
+use std::alloc::{AllocError, Global};
 
 /// Goes on to what is known behind an instruction. Where memory is refused the facts are of no more use.
-pub fn advance(scene: &Scene, facts: &mut Facts, instr: &Instr) -> Result<(), AllocError>
-    ensures { OnOk result (facts.new ≡ after scene.now.program.now scene.now.slots.now facts.old instr.now) }
+pub fn advance(
+    alloc: Global,
+    scene: &Scene,
+    facts: &mut Facts,
+    instr: &Instr,
+) -> Result<(), AllocError>
+    ensures { OnOk result (facts.new ≡ after scene.now.program.now scene.now.certs.now scene.now.slots.now facts.old instr.now) }
 {
     match &instr.op {
         Op::Store { value, place, .. } => {
@@ -26,17 +32,20 @@ pub fn advance(scene: &Scene, facts: &mut Facts, instr: &Instr) -> Result<(), Al
             after_store(facts, &known, slot_named(scene.slots, place))
         }
         Op::Call {
+            returned,
             callee,
             arguments,
-            ..
         } => {
-            let runtime = callee_of(scene.module(), *callee, arguments.len());
+            let called = callee_of(scene.module(), *callee, arguments.len());
+            let arguments = arguments.as_slice();
             after_call(
-                scene.slots,
+                alloc,
+                scene,
                 facts,
                 instr.result,
-                arguments.as_slice(),
-                runtime,
+                *returned,
+                arguments,
+                &called,
             )
         }
         op => match instr.result {
@@ -46,24 +55,11 @@ pub fn advance(scene: &Scene, facts: &mut Facts, instr: &Instr) -> Result<(), Al
     }
 }
 
+/// The same by the name that an instruction defines.
 fn advance_named(scene: &Scene, facts: &mut Facts, v: ValueId, op: &Op) -> Result<(), AllocError>
     ensures { OnOk result (facts.new ≡ after_named scene.now.program.now scene.now.slots.now v op.now facts.old) }
 {
     match op {
-        Op::Alloca(_) => {
-            if let Some(s) = scene.slots.slot_of(v) {
-                facts.end_slot(s);
-            }
-            Ok(())
-        }
-        Op::Bitcast { from, operand, to } => after_cast(scene, facts, v, *from, *to, operand),
-        Op::Load { loaded, place, .. } => after_load(scene, facts, v, *loaded, place),
-        Op::Element {
-            source,
-            base,
-            indices,
-            ..
-        } => after_element(scene, facts, v, *source, base, indices.as_slice()),
         Op::Arithmetic {
             kind,
             written,
@@ -93,13 +89,34 @@ fn advance_named(scene: &Scene, facts: &mut Facts, v: ValueId, op: &Op) -> Resul
             chosen,
             other,
             ..
-        } => after_select(
-            facts,
-            v,
-            TypeKind::of(scene.module(), *written),
-            chosen,
-            other,
-        ),
+        } => {
+            let kind = TypeKind::of(scene.module(), *written);
+            after_select(facts, v, kind, chosen, other)
+        }
+        Op::Phi { .. } => Ok(()),
+        op => advance_place(scene, facts, v, op),
+    }
+}
+
+/// The same behind an instruction that does not make its value of others.
+fn advance_place(scene: &Scene, facts: &mut Facts, v: ValueId, op: &Op) -> Result<(), AllocError>
+    ensures { makes_value op.now ≡ false → OnOk result (facts.new ≡ after_named scene.now.program.now scene.now.slots.now v op.now facts.old) }
+{
+    match op {
+        Op::Alloca(_) => {
+            if let Some(s) = scene.slots.slot_of(v) {
+                facts.end_slot(s);
+            }
+            Ok(())
+        }
+        Op::Bitcast { from, operand, to } => after_cast(scene, facts, v, *from, *to, operand),
+        Op::Load { loaded, place, .. } => after_load(scene, facts, v, *loaded, place),
+        Op::Element {
+            source,
+            base,
+            indices,
+            ..
+        } => after_element(scene, facts, v, *source, base, indices.as_slice()),
         _ => Ok(()),
     }
 }

@@ -1,6 +1,7 @@
 //! The rules, row by row: what an instruction has to keep by what is known before it, and what is known behind it.
 #![tactic(auto)]
 
+mod callee;
 mod calls;
 mod casts;
 mod changes;
@@ -11,8 +12,10 @@ mod head;
 mod integers;
 mod operands;
 mod places;
+mod promises;
 mod refusals;
 mod rule;
+mod runtime_names;
 mod scene;
 mod signature;
 mod standing;
@@ -21,11 +24,13 @@ mod tests;
 mod type_kind;
 mod wanted;
 
+pub use callee::Callee;
 pub use changes::advance;
 pub use collected::keeps_shadow_stack;
 pub use head::head_of;
 pub use integers::below_next;
 pub use operands::known_of;
+pub use promises::{given_by, own_mark, promised_in, promises_in};
 pub use refusals::refusal;
 pub use rule::Rule;
 pub use scene::Scene;

@@ -1,7 +1,8 @@
-ghost use Rattle.std.specs.Prelude.{◌≡◌, None};
+ghost use Rattle.std.specs.Prelude.{◌≡◌, ◌||◌, None, true};
 ghost use Rattle.std.specs.List.{list_all};
 ghost use Rattle.facts.specs.Facts.{FactSet};
 ghost use Rattle.ir_ast.specs.declared.op.Arithmetic.{Arithmetic};
+ghost use Rattle.block_rules.specs.Groups.{makes_value, ends_block};
 ghost use Rattle.block_rules.specs.Operands.{is_available};
 ghost use Rattle.block_rules.specs.Rules.{first_failing, is_condition, op_conditions, conditions};
 
@@ -15,10 +16,11 @@ use crate::operands::{
     slot_named,
 };
 use crate::places::{may_load, may_store};
+use crate::promises::keeps_promise;
 use crate::rule::Rule;
 use crate::scene::Scene;
 use crate::standing::Standing;
-use crate::tests::{all_come_in, are_cases, keeps_promise, may_hold, names_target};
+use crate::tests::{all_come_in, are_cases, may_hold, names_target};
 use crate::type_kind::TypeKind;
 use facts::Facts;
 use ir_ast::{Argument, Case, Comparison, Incoming, Instr, Op, Operand, Resize, TypeId, ValueId};
@@ -26,14 +28,10 @@ use shadow_stack::Slots;
 
 /// The rule that an instruction breaks, if it breaks one; the ways in and out of a block are looked at elsewhere.
 pub fn refusal(scene: &Scene, here: Standing, facts: &Facts, instr: &Instr) -> Option<Rule>
-    ensures { result ≡ first_failing (conditions scene.now.program.now scene.now.function.now scene.now.slots.now here facts.now instr.now) }
+    ensures { result ≡ first_failing (conditions scene.now.program.now scene.now.certs.now scene.now.function.now scene.now.slots.now here facts.now instr.now) }
 {
     match &instr.op {
-        Op::Alloca(held) => first_failing(&[
-            (Rule::K8, may_hold(scene, instr.result, *held)),
-            (Rule::K11, here.in_entry),
-            (Rule::K12, here.collected),
-        ]),
+        Op::Alloca(held) => alloca_refusal(scene, here, instr.result, *held),
         Op::Bitcast { from, operand, to } => cast_refusal(scene, here, facts, *from, *to, operand),
         Op::Load {
             loaded,
@@ -60,6 +58,20 @@ pub fn refusal(scene: &Scene, here: Standing, facts: &Facts, instr: &Instr) -> O
             base,
             indices.as_slice(),
         ),
+        Op::Call {
+            returned,
+            callee,
+            arguments,
+        } => call_refusal(scene, here, facts, *returned, *callee, arguments.as_slice()),
+        _ => value_refusal(scene, here, facts, instr),
+    }
+}
+
+/// The same of one that makes a value of others, or that ends a block.
+fn value_refusal(scene: &Scene, here: Standing, facts: &Facts, instr: &Instr) -> Option<Rule>
+    ensures { (makes_value instr.now.op || ends_block instr.now.op) ≡ true → result ≡ first_failing (conditions scene.now.program.now scene.now.certs.now scene.now.function.now scene.now.slots.now here facts.now instr.now) }
+{
+    match &instr.op {
         Op::Arithmetic {
             written,
             first,
@@ -92,11 +104,15 @@ pub fn refusal(scene: &Scene, here: Standing, facts: &Facts, instr: &Instr) -> O
             select_refusal(scene, here, facts, &condition, *written, chosen, other)
         }
         Op::Phi { written, incoming } => { phi_refusal(scene, here, *written, incoming.as_slice()) }
-        Op::Call {
-            returned,
-            callee,
-            arguments,
-        } => call_refusal(scene, here, facts, *returned, *callee, arguments.as_slice()),
+        _ => end_refusal(scene, here, facts, instr),
+    }
+}
+
+/// The same of one that ends a block.
+fn end_refusal(scene: &Scene, here: Standing, facts: &Facts, instr: &Instr) -> Option<Rule>
+    ensures { ends_block instr.now.op ≡ true → result ≡ first_failing (conditions scene.now.program.now scene.now.certs.now scene.now.function.now scene.now.slots.now here facts.now instr.now) }
+{
+    match &instr.op {
         Op::Jump(target) => first_failing(&[
             (Rule::K2, names_target(scene.function, *target)),
             (Rule::K12, here.collected),
@@ -126,15 +142,25 @@ pub fn refusal(scene: &Scene, here: Standing, facts: &Facts, instr: &Instr) -> O
             switch_refusal(scene, here, facts, &value, *otherwise, cases.as_slice())
         }
         Op::Unreachable => first_failing(&[(Rule::K12, here.collected)]),
-        Op::ReturnVoid => first_failing(&[
-            (
-                Rule::K2,
-                TypeKind::of(scene.module(), scene.function.returned).is_void(),
-            ),
-            (Rule::K12, here.collected),
-        ]),
+        Op::ReturnVoid => return_void_refusal(scene, here),
         Op::Return(argument) => return_refusal(scene, here, facts, argument),
+        _ => None,
     }
+}
+
+fn alloca_refusal(
+    scene: &Scene,
+    here: Standing,
+    defined: Option<ValueId>,
+    held: TypeId,
+) -> Option<Rule>
+    ensures { (facts : FactSet) → result ≡ first_failing (op_conditions scene.now.program.now scene.now.certs.now scene.now.function.now scene.now.slots.now here facts defined (Op.Alloca held)) }
+{
+    first_failing(&[
+        (Rule::K8, may_hold(scene, defined, held)),
+        (Rule::K11, here.in_entry),
+        (Rule::K12, here.collected),
+    ])
 }
 
 fn cast_refusal(
@@ -145,7 +171,7 @@ fn cast_refusal(
     to: TypeId,
     operand: &Operand,
 ) -> Option<Rule>
-    ensures { result ≡ first_failing (op_conditions scene.now.program.now scene.now.function.now scene.now.slots.now here facts.now None (Op.Bitcast from operand.now to)) }
+    ensures { result ≡ first_failing (op_conditions scene.now.program.now scene.now.certs.now scene.now.function.now scene.now.slots.now here facts.now None (Op.Bitcast from operand.now to)) }
 {
     first_failing(&[
         (Rule::K1, is_available(scene.slots, facts, operand)),
@@ -164,7 +190,7 @@ fn load_refusal(
     place_type: TypeId,
     place: &Operand,
 ) -> Option<Rule>
-    ensures { result ≡ first_failing (op_conditions scene.now.program.now scene.now.function.now scene.now.slots.now here facts.now None (Op.Load loaded place_type place.now)) }
+    ensures { result ≡ first_failing (op_conditions scene.now.program.now scene.now.certs.now scene.now.function.now scene.now.slots.now here facts.now None (Op.Load loaded place_type place.now)) }
 {
     first_failing(&[
         (Rule::K1, is_available(scene.slots, facts, place)),
@@ -187,7 +213,7 @@ fn store_refusal(
     place_type: TypeId,
     place: &Operand,
 ) -> Option<Rule>
-    ensures { result ≡ first_failing (op_conditions scene.now.program.now scene.now.function.now scene.now.slots.now here facts.now None (Op.Store stored value.now place_type place.now)) }
+    ensures { result ≡ first_failing (op_conditions scene.now.program.now scene.now.certs.now scene.now.function.now scene.now.slots.now here facts.now None (Op.Store stored value.now place_type place.now)) }
 {
     let known = known_of(facts, value);
     first_failing(&[
@@ -233,7 +259,7 @@ fn element_refusal(
     base: &Operand,
     indices: &[Argument],
 ) -> Option<Rule>
-    ensures { result ≡ first_failing (op_conditions scene.now.program.now scene.now.function.now scene.now.slots.now here facts.now None (Op.Element source base_type base.now indices.now)) }
+    ensures { result ≡ first_failing (op_conditions scene.now.program.now scene.now.certs.now scene.now.function.now scene.now.slots.now here facts.now None (Op.Element source base_type base.now indices.now)) }
 {
     let known = known_of(facts, base);
     first_failing(&[
@@ -245,6 +271,7 @@ fn element_refusal(
         (
             Rule::K2,
             is_typed(scene, base_type, base)
+                && TypeKind::of(scene.module(), base_type).is_pointer()
                 && may_be_base(&known)
                 && are_indices(scene, facts, indices)
                 && no_slots(scene.slots, indices),
@@ -264,7 +291,7 @@ fn arithmetic_refusal(
     first: &Operand,
     second: &Operand,
 ) -> Option<Rule>
-    ensures { (kind : Arithmetic) → result ≡ first_failing (op_conditions scene.now.program.now scene.now.function.now scene.now.slots.now here facts.now None (Op.Arithmetic kind written first.now second.now)) }
+    ensures { (kind : Arithmetic) → result ≡ first_failing (op_conditions scene.now.program.now scene.now.certs.now scene.now.function.now scene.now.slots.now here facts.now None (Op.Arithmetic kind written first.now second.now)) }
 {
     first_failing(&[
         (
@@ -292,7 +319,7 @@ fn resize_refusal(
     operand: &Operand,
     to: TypeId,
 ) -> Option<Rule>
-    ensures { result ≡ first_failing (op_conditions scene.now.program.now scene.now.function.now scene.now.slots.now here facts.now None (Op.Resize kind from operand.now to)) }
+    ensures { result ≡ first_failing (op_conditions scene.now.program.now scene.now.certs.now scene.now.function.now scene.now.slots.now here facts.now None (Op.Resize kind from operand.now to)) }
 {
     first_failing(&[
         (Rule::K1, is_available(scene.slots, facts, operand)),
@@ -319,7 +346,7 @@ fn compare_refusal(
     first: &Operand,
     second: &Operand,
 ) -> Option<Rule>
-    ensures { result ≡ first_failing (op_conditions scene.now.program.now scene.now.function.now scene.now.slots.now here facts.now None (Op.Compare kind written first.now second.now)) }
+    ensures { result ≡ first_failing (op_conditions scene.now.program.now scene.now.certs.now scene.now.function.now scene.now.slots.now here facts.now None (Op.Compare kind written first.now second.now)) }
 {
     first_failing(&[
         (
@@ -361,7 +388,7 @@ fn select_refusal(
     chosen: &Operand,
     other: &Operand,
 ) -> Option<Rule>
-    ensures { result ≡ first_failing (op_conditions scene.now.program.now scene.now.function.now scene.now.slots.now here facts.now None (Op.Select condition.now.written condition.now.operand written chosen.now other.now)) }
+    ensures { result ≡ first_failing (op_conditions scene.now.program.now scene.now.certs.now scene.now.function.now scene.now.slots.now here facts.now None (Op.Select condition.now.written condition.now.operand written chosen.now other.now)) }
 {
     let known = known_of(facts, chosen);
     let known_other = known_of(facts, other);
@@ -399,7 +426,7 @@ fn phi_refusal(
     written: TypeId,
     incoming: &[Incoming],
 ) -> Option<Rule>
-    ensures { (facts : FactSet) → result ≡ first_failing (op_conditions scene.now.program.now scene.now.function.now scene.now.slots.now here facts None (Op.Phi written incoming.now)) }
+    ensures { (facts : FactSet) → result ≡ first_failing (op_conditions scene.now.program.now scene.now.certs.now scene.now.function.now scene.now.slots.now here facts None (Op.Phi written incoming.now)) }
 {
     first_failing(&[
         (
@@ -419,7 +446,7 @@ fn branch_refusal(
     taken: ValueId,
     other: ValueId,
 ) -> Option<Rule>
-    ensures { result ≡ first_failing (op_conditions scene.now.program.now scene.now.function.now scene.now.slots.now here facts.now None (Op.Branch condition.now.written condition.now.operand taken other)) }
+    ensures { result ≡ first_failing (op_conditions scene.now.program.now scene.now.certs.now scene.now.function.now scene.now.slots.now here facts.now None (Op.Branch condition.now.written condition.now.operand taken other)) }
 {
     first_failing(&[
         (
@@ -445,7 +472,7 @@ fn switch_refusal(
     otherwise: ValueId,
     cases: &[Case],
 ) -> Option<Rule>
-    ensures { result ≡ first_failing (op_conditions scene.now.program.now scene.now.function.now scene.now.slots.now here facts.now None (Op.Switch value.now.written value.now.operand otherwise cases.now)) }
+    ensures { result ≡ first_failing (op_conditions scene.now.program.now scene.now.certs.now scene.now.function.now scene.now.slots.now here facts.now None (Op.Switch value.now.written value.now.operand otherwise cases.now)) }
 {
     first_failing(&[
         (Rule::K1, is_available(scene.slots, facts, &value.operand)),
@@ -461,8 +488,20 @@ fn switch_refusal(
     ])
 }
 
+fn return_void_refusal(scene: &Scene, here: Standing) -> Option<Rule>
+    ensures { (facts : FactSet) → result ≡ first_failing (op_conditions scene.now.program.now scene.now.certs.now scene.now.function.now scene.now.slots.now here facts None Op.ReturnVoid) }
+{
+    first_failing(&[
+        (
+            Rule::K2,
+            TypeKind::of(scene.module(), scene.function.returned).is_void(),
+        ),
+        (Rule::K12, here.collected),
+    ])
+}
+
 fn return_refusal(scene: &Scene, here: Standing, facts: &Facts, argument: &Argument) -> Option<Rule>
-    ensures { result ≡ first_failing (op_conditions scene.now.program.now scene.now.function.now scene.now.slots.now here facts.now None (Op.Return argument.now)) }
+    ensures { result ≡ first_failing (op_conditions scene.now.program.now scene.now.certs.now scene.now.function.now scene.now.slots.now here facts.now None (Op.Return argument.now)) }
 {
     let operand = &argument.operand;
     first_failing(&[

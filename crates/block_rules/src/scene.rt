@@ -1,5 +1,6 @@
 ghost use Rattle.std.specs.Prelude.{◌≡◌};
 
+use certificate::Certs;
 use ir_ast::{Function, Module};
 use layout::Program;
 use shadow_stack::Slots;
@@ -8,6 +9,8 @@ use shadow_stack::Slots;
 #[derive(Clone, Copy)]
 pub struct Scene<'a> {
     pub program: &'a Program,
+    /// Those of all functions that the module defines.
+    pub certs: &'a Certs,
     pub function: &'a Function,
     pub slots: &'a Slots,
 }

@@ -1,9 +1,11 @@
-ghost use Rattle.std.specs.Prelude.{◌≡◌, ◌==◌, ◌&&◌, length};
+ghost use Rattle.std.specs.Prelude.{◌≡◌, ◌==◌, ◌&&◌, length, slice_get};
 ghost use Rattle.std.specs.List.{list_all, zip};
-ghost use Rattle.block_rules.specs.Signature.{signature_of, is_runtime_type, is_of_type, is_argument_of, is_declared_as, is_written_as, callable, callable_declare, callee_of};
+ghost use Rattle.block_rules.specs.Signature.{signature_of, is_runtime_type, is_of_type, is_argument_of, is_declared_as, is_written_as, callable, callable_function, callee_of};
 
+use crate::callee::Callee;
+use crate::runtime_names::names_runtime;
 use crate::type_kind::TypeKind;
-use ir_ast::{Argument, Declare, Module, Runtime, SymbolId, SymbolSort, TypeId};
+use ir_ast::{Argument, Declare, FuncId, Module, Runtime, SymbolId, SymbolSort, TypeId};
 
 /// The types of the runtime's functions.
 #[derive(Clone, Copy, Debug, PartialEq, Eq)]
@@ -96,28 +98,41 @@ fn are_arguments_of(module: &Module, arguments: &[Argument], parameters: &[Runti
     ))
 }
 
-/// The function of the runtime that a call with so many arguments is of.
-pub fn callee_of(module: &Module, callee: SymbolId, arguments: usize) -> Option<Runtime>
+/// The function that a call with so many arguments is of.
+pub fn callee_of(module: &Module, callee: SymbolId, arguments: usize) -> Callee
     ensures { result ≡ callee_of «module».now callee arguments }
 {
     match module.sorts.get(callee.number() as usize) {
         Some(SymbolSort::Declared(declare)) => {
             match module.declares.get(declare.number() as usize) {
                 Some(declared) => callable(module, arguments, declared),
-                None => None,
+                None => Callee::NoFunction,
             }
         }
-        _ => None,
+        Some(SymbolSort::Defined(number)) => callable_function(module, callee, arguments, *number),
+        _ => Callee::NoFunction,
     }
 }
 
-fn callable(module: &Module, arguments: usize, declared: &Declare) -> Option<Runtime>
+fn callable(module: &Module, arguments: usize, declared: &Declare) -> Callee
     ensures { result ≡ callable «module».now arguments declared.now declared.now.runtime }
 {
     match declared.runtime {
         Some(runtime)
             if is_declared_as(module, declared, runtime)
-                && arguments == parameters_of(runtime).len() => { Some(runtime) }
-        _ => None,
+                && arguments == parameters_of(runtime).len() => { Callee::OfRuntime(runtime) }
+        _ => Callee::NoFunction,
+    }
+}
+
+fn callable_function(module: &Module, callee: SymbolId, arguments: usize, number: FuncId) -> Callee
+    ensures { result ≡ callable_function «module».now callee arguments number (slice_get «module».now.functions number) }
+{
+    match module.functions.get(number.number() as usize) {
+        Some(function)
+            if arguments == function.parameters.len() && !names_runtime(module, callee) => {
+            Callee::OfModule(number)
+        }
+        _ => Callee::NoFunction,
     }
 }

@@ -1,4 +1,4 @@
-use certificate::Promise;
+use certificate::{Mark, Promise};
 
 /// Where an instruction stands.
 #[derive(Clone, Copy, Debug, PartialEq, Eq)]
@@ -10,4 +10,6 @@ pub struct Standing {
     pub collected: bool,
     /// What the function promises of its result.
     pub promised: Option<Promise>,
+    /// Whether the function may reach a safepoint.
+    pub mark: Mark,
 }

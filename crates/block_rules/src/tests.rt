@@ -1,15 +1,10 @@
 ghost use Rattle.std.specs.Prelude.{◌≡◌, slice_get};
-ghost use Rattle.facts.specs.Lines.{implied, is_below};
-ghost use Rattle.block_rules.specs.Rules.{names_root, gives_root, may_hold, is_entry, may_come_in, all_come_in, is_target, names_target, is_case, are_cases, is_promised, keeps_promise};
+ghost use Rattle.block_rules.specs.Rules.{names_root, gives_root, may_hold, is_entry, may_come_in, all_come_in, is_target, names_target, is_case, are_cases};
 
-use crate::integers::{below_of, known_layout, one_layout};
-use crate::operands::{constant_fits, is_nonnull, known_of};
+use crate::operands::constant_fits;
 use crate::scene::Scene;
 use crate::type_kind::TypeKind;
-use certificate::Promise;
-use facts::Facts;
 use ir_ast::{BlockId, Case, Function, Incoming, LocalSort, Operand, TypeId, ValueId};
-use pools::LayoutId;
 use shadow_stack::{SlotId, Slots};
 use types::target_of;
 
@@ -98,46 +93,4 @@ pub fn are_cases(scene: &Scene, written: TypeId, cases: &[Case]) -> bool
     ensures { result ≡ are_cases scene.now.program.now.of_module scene.now.function.now written cases.now }
 {
     cases.iter().all(|case| is_case(scene, written, *case))
-}
-
-fn implied(asked: bool, holds: bool) -> bool
-    ensures { result ≡ implied asked holds }
-{
-    holds || !asked
-}
-
-fn is_below(below: Option<u64>, asked: Option<u64>) -> bool
-    ensures { result ≡ is_below below asked }
-{
-    match (below, asked) {
-        (_, None) => true,
-        (Some(below), Some(asked)) => below <= asked,
-        (None, Some(_)) => false,
-    }
-}
-
-fn is_promised(promised: Option<LayoutId>, layout: Option<LayoutId>) -> bool
-    ensures { result ≡ is_promised promised layout }
-{
-    match promised {
-        Some(promised) => one_layout(Some(promised), layout),
-        None => true,
-    }
-}
-
-/// Whether what is promised of the result is shown of an operand.
-pub fn keeps_promise(facts: &Facts, promise: Option<Promise>, operand: &Operand) -> bool
-    ensures { result ≡ keeps_promise facts.now promise operand.now }
-{
-    let known = known_of(facts, operand);
-    let layout = known_layout(&known);
-    let nonnull = is_nonnull(facts, &known);
-    match promise {
-        Some(promise) => {
-            is_promised(promise.layout, layout)
-                && implied(promise.nonnull, nonnull)
-                && is_below(below_of(facts, operand), promise.below)
-        }
-        None => true,
-    }
 }

@@ -4,3 +4,14 @@ pub mod NamesLemmas
 pub mod Laws
 pub mod ListedWords
 pub mod Zipped
+pub mod SlotRoots
+pub mod Between
+pub mod WordSets
+pub mod PrintedWords
+pub mod PrintedSets
+pub mod PrintedNames
+pub mod PrintedLines
+pub mod PrintedPromises
+pub mod PrintedBlocks
+pub mod PrintedCerts
+pub mod ReadFits

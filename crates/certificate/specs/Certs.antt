@@ -1,6 +1,5 @@
 -- Certificates by the numbers of their functions.
-use Rattle.std.specs.Prelude.{◌≡◌, ℕ, List, length, Option, Some, None, slice_get}
-use Rattle.ir_ast.specs.declared.module.Module.{Module}
+use Rattle.std.specs.Prelude.{ℕ, List, Option, Some, None, slice_get}
 use Rattle.certificate.specs.declared.section.Mark.{Mark}
 use Rattle.certificate.specs.declared.section.Section.{Section}
 
@@ -12,7 +11,3 @@ mark_in (Some section) = Some section.mark
 -- how a function is marked, if it has a certificate
 abbrev pub mark_of : List Section → (function : ℕ) → Option Mark
 mark_of sections function = mark_in (slice_get sections function)
-
--- there is one certificate for each defined function
-abbrev pub Fits : List Section → Module → Type 0
-Fits sections m = length sections ≡ length m.functions

@@ -1,4 +1,6 @@
 pub mod Certs
+pub mod Roots
+pub mod Fits
 pub mod Words
 pub mod Numbers
 pub mod Names
@@ -10,5 +12,6 @@ pub mod Falls
 pub mod Forms
 pub mod Lines
 pub mod Print
+pub mod Named
 pub mod Ends
 pub mod Text

@@ -1,5 +1,6 @@
 -- What the words of a certificate name.
 use Rattle.std.specs.Prelude.{ℕ, ◌^◌, nat_le, ◌==◌, if◌then◌else◌, List, [], ◌∷◌, Option, Some, None, length, slice_get}
+use Rattle.ir_ast.specs.LocalKeys.{key_of_name, key_of_digits}
 use Rattle.ir_ast.specs.Names.{place_of}
 use Rattle.ir_ast.specs.declared.function.Function.{Function}
 use Rattle.ir_ast.specs.declared.function.LocalSort.{LocalSort}
@@ -19,10 +20,13 @@ use Rattle.certificate.specs.declared.naming.Naming.TheVariants.{NoName, Unknown
 use Rattle.certificate.specs.declared.naming.Sigil.{Sigil}
 use Rattle.certificate.specs.declared.naming.Sigil.TheVariants as sigil
 
--- the name that a name of the IR with this sign spells
+-- by what a name of the IR with this sign is looked up: a local name by its key, and so is the number of a value or a block
+-- that has no name
 abbrev pub name_by : Sigil → Kind → Text → Option Text
 name_by sigil.Global k.GlobalName name = Some name
-name_by sigil.Local k.LocalName name = Some name
+name_by sigil.Local k.LocalName name = Some (key_of_name name)
+name_by sigil.Local k.LocalNumber digits = Some (key_of_digits digits)
+name_by sigil.Layout k.LocalName name = Some name
 name_by sign kind name = None
 
 -- the name where the IR reads the word as one token
@@ -73,7 +77,7 @@ value_by _ _ = Unknown
 abbrev pub value_at : Function → Option ℕ → Naming
 value_at f place = value_by place (local_at f place)
 
--- the value of this name
+-- the value of this key
 abbrev pub value_named : Function → Option Text → Naming
 value_named f None = NoName
 value_named f (Some name) = value_at f (place_of name f.locals)
@@ -87,7 +91,7 @@ abbrev pub block_by : Option LocalSort → Naming
 block_by (Some (local.Block block)) = Named block
 block_by _ = Unknown
 
--- the block of this name
+-- the block of this key
 abbrev pub block_named : Function → Option Text → Naming
 block_named f None = NoName
 block_named f (Some name) = block_by (local_at f (place_of name f.locals))
@@ -115,4 +119,4 @@ layout_named m (Some name) = layout_by (struct_at m (place_of name m.struct_name
 
 -- the layout whose type's name, without its sign, a word is
 abbrev pub layout_of_word : Module → (word : Text) → Naming
-layout_of_word m word = layout_named m (name_in sigil.Local (37 ∷ word))
+layout_of_word m word = layout_named m (name_in sigil.Layout (37 ∷ word))

@@ -3,6 +3,7 @@ use Rattle.std.specs.Prelude.{ℕ, ◌+◌, ◌==◌, nat_le, nat_lt, Bool, fals
 use Prim.Native.Nat.{◌/◌, ◌%◌}
 use Rattle.std.specs.List.{list_all, flat_map, join_by, range_with_len, zip}
 use Rattle.std.specs.Fmt.{decimal}
+use Rattle.ir_ast.specs.KeyNames.{is_number_key, name_of_key}
 use Rattle.ir_ast.specs.declared.block.Block.{Block}
 use Rattle.ir_ast.specs.declared.function.Function.{Function}
 use Rattle.ir_ast.specs.declared.function.Parameter.{Parameter}
@@ -33,9 +34,9 @@ begins_plain (first ∷ rest) = is_letter first
 abbrev pub is_plain : Text → Bool
 is_plain name = begins_plain name && list_all (λ byte. is_letter byte || is_digit byte) name
 
--- from the blank to ~, but for the quote and the backslash
+-- from ! to ~, but for the quote and the backslash; words stand apart by blanks, so a name shows none
 abbrev pub is_shown : ℕ → Bool
-is_shown byte = nat_le 32 byte && nat_le byte 126 && not (byte == 34) && not (byte == 92)
+is_shown byte = nat_le 33 byte && nat_le byte 126 && not (byte == 34) && not (byte == 92)
 
 -- a hexadecimal digit
 abbrev pub hexadecimal : ℕ → ℕ
@@ -53,9 +54,13 @@ name_text name = if is_plain name then name else 34 ∷ (flat_map quoted_byte na
 abbrev pub name_at : List Text → (number : ℕ) → Text
 name_at names number = unwrap_or (slice_get names number) []
 
+-- what has this key: the number of a value or a block without a name as it is, and otherwise the name
+abbrev pub key_text : Text → Text
+key_text key = if is_number_key key then key else name_text (name_of_key key)
+
 -- a local name with its sign
 abbrev pub local_text : Function → (value : ℕ) → Text
-local_text f value = 37 ∷ name_text (name_at f.locals value)
+local_text f value = 37 ∷ key_text (name_at f.locals value)
 
 -- a global name with its sign
 abbrev pub global_text : Module → (symbol : ℕ) → Text

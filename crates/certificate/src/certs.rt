@@ -1,7 +1,9 @@
-ghost use Rattle.std.specs.Prelude.{◌≡◌, ◌↔◌, IsTrue, length, slice_get};
+ghost use Rattle.std.specs.Prelude.{◌≡◌, slice_get};
 ghost use Rattle.std.specs.Option.{option_copied};
-ghost use Rattle.certificate.specs.Certs.{mark_of, Fits};
+ghost use Rattle.certificate.specs.Certs.{mark_of};
+ghost use Rattle.certificate.specs.Fits as spec;
 
+use crate::fits::sections_fit;
 use crate::section::{Mark, Section};
 use ir_ast::{FuncId, Module};
 use items::Items;
@@ -52,10 +54,12 @@ impl Certs {
         Some(section.mark)
     }
 
-    /// Whether these are certificates of this module: one for each of its defined functions.
+    /// Whether these are certificates of this module. It takes no memory: of each block the lines are compared with one
+    /// another, and for each slot the function's instructions are gone over once for each bitcast behind each gcroot call.
     pub fn fits(&self, module: &Module) -> bool
-        ensures { IsTrue result ↔ Fits self.now «module».now }
+        ensures { result ≡ spec.fits «module».now self.now }
     {
         self.sections.len() == module.functions.len()
+            && sections_fit(module, module.functions.as_slice(), self.sections())
     }
 }

@@ -6,6 +6,7 @@ mod draft;
 mod facts;
 mod family;
 mod fault;
+mod fits;
 mod forms;
 mod input;
 mod naming;
@@ -15,6 +16,7 @@ mod print;
 mod print_sections;
 mod promises;
 mod reader;
+mod roots;
 mod section;
 mod words;
 

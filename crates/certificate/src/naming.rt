@@ -1,9 +1,10 @@
 //! What the words of a certificate name.
 ghost use Rattle.std.specs.Prelude.{◌≡◌, ◌≤◌, ◌^◌, Some, ◌∷◌, length, IfOk};
 ghost use Rattle.certificate.specs.Names as spec;
+ghost use Rattle.ir_ast.specs.LocalKeys as keys;
 ghost use Rattle.ir_tokens.specs.Names.{name_of};
 
-use ir_ast::{Function, LocalSort, Module, SymbolSort};
+use ir_ast::{Function, LocalSort, Module, SymbolSort, key_of_digits, marked, needs_mark};
 use ir_tokens::{Kind, TEXT_LIMIT, Token, read_tokens, unescaped};
 use items::Items;
 use std::alloc::{AllocError, Global};
@@ -24,8 +25,28 @@ pub enum Naming {
 pub enum Sigil {
     /// `@`.
     Global,
-    /// `%`.
+    /// `%`, before the name or the number of a value or a block.
     Local,
+    /// `%`, before the name of a type.
+    Layout,
+}
+
+/// The key of a local name.
+fn key_of_name(alloc: Global, name: Items<u8>) -> Result<Items<u8>, AllocError>
+    ensures { IfOk result (λ key. key ≡ keys.key_of_name name) }
+{
+    if needs_mark(name.as_slice()) {
+        Ok(Items::from_vec(marked(alloc, name.as_slice())?))
+    } else {
+        Ok(name)
+    }
+}
+
+/// The key of the number of a value or a block without a name.
+fn key_of_number(alloc: Global, digits: &[u8]) -> Result<Items<u8>, AllocError>
+    ensures { IfOk result (λ key. key ≡ keys.key_of_digits digits.now) }
+{
+    Items::from_slice(alloc, key_of_digits(digits))
 }
 
 fn name_of_token(
@@ -38,7 +59,15 @@ fn name_of_token(
 {
     match (sign, token.kind) {
         (Sigil::Global, Kind::GlobalName) => Ok(Some(unescaped(alloc, word, token)?)),
-        (Sigil::Local, Kind::LocalName) => Ok(Some(unescaped(alloc, word, token)?)),
+        (Sigil::Layout, Kind::LocalName) => Ok(Some(unescaped(alloc, word, token)?)),
+        (Sigil::Local, Kind::LocalName) => {
+            let name = unescaped(alloc, word, token)?;
+            Ok(Some(key_of_name(alloc, name)?))
+        }
+        (Sigil::Local, Kind::LocalNumber) => {
+            let digits = unescaped(alloc, word, token)?;
+            Ok(Some(key_of_number(alloc, digits.as_slice())?))
+        }
         _ => Ok(None),
     }
 }
@@ -67,7 +96,7 @@ fn name_of_tokens(
     }
 }
 
-/// The name with this sign that a word is.
+/// The name with this sign that a word is, as it is looked up.
 fn name_in(alloc: Global, sign: Sigil, word: &[u8]) -> Result<Option<Items<u8>>, AllocError>
     ensures { IfOk result (λ name. name ≡ spec.name_in sign word.now) }
 {
@@ -100,10 +129,10 @@ pub fn function_of_word(alloc: Global, module: &Module, word: &[u8]) -> Result<N
     }
 }
 
-fn value_named(function: &Function, name: &[u8]) -> Naming
-    ensures { result ≡ spec.value_named function.now (Some name.now) }
+fn value_named(function: &Function, key: &[u8]) -> Naming
+    ensures { result ≡ spec.value_named function.now (Some key.now) }
 {
-    match function.locals.find(name) {
+    match function.locals.find(key) {
         None => Naming::Unknown,
         Some(value) => match function.sorts.get(value) {
             Some(LocalSort::Value(_)) => Naming::Named(value as u32),
@@ -119,14 +148,14 @@ pub fn value_of_word(alloc: Global, function: &Function, word: &[u8]) -> Result<
 {
     match name_in(alloc, Sigil::Local, word)? {
         None => Ok(Naming::NoName),
-        Some(name) => Ok(value_named(function, name.as_slice())),
+        Some(key) => Ok(value_named(function, key.as_slice())),
     }
 }
 
-fn block_named(function: &Function, name: &[u8]) -> Naming
-    ensures { result ≡ spec.block_named function.now (Some name.now) }
+fn block_named(function: &Function, key: &[u8]) -> Naming
+    ensures { result ≡ spec.block_named function.now (Some key.now) }
 {
-    match function.locals.find(name) {
+    match function.locals.find(key) {
         None => Naming::Unknown,
         Some(label) => match function.sorts.get(label) {
             Some(LocalSort::Block(block)) => Naming::Named(block.number()),
@@ -141,7 +170,7 @@ pub fn block_of_word(alloc: Global, function: &Function, word: &[u8]) -> Result<
 {
     match name_in(alloc, Sigil::Local, word)? {
         None => Ok(Naming::NoName),
-        Some(name) => Ok(block_named(function, name.as_slice())),
+        Some(key) => Ok(block_named(function, key.as_slice())),
     }
 }
 
@@ -172,7 +201,7 @@ pub fn layout_of_word(alloc: Global, module: &Module, word: &[u8]) -> Result<Nam
     ensures { IfOk result (λ naming. naming ≡ spec.layout_of_word «module».now word.now) }
 {
     let text = with_sign(alloc, word)?;
-    match name_in(alloc, Sigil::Local, text.as_slice())? {
+    match name_in(alloc, Sigil::Layout, text.as_slice())? {
         None => Ok(Naming::NoName),
         Some(name) => Ok(layout_named(module, name.as_slice())),
     }

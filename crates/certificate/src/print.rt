@@ -8,7 +8,9 @@ ghost use Rattle.certificate.specs.Print as spec;
 
 use crate::certs::Certs;
 use crate::section::{Age, Fact, Line};
-use ir_ast::{BlockId, FuncId, Function, Module, Names, SymbolId, ValueId};
+use ir_ast::{
+    BlockId, FuncId, Function, Module, Names, SymbolId, ValueId, is_number_key, name_of_key,
+};
 use pools::{LayoutId, WordSet};
 use std::alloc::{AllocError, Global};
 
@@ -50,7 +52,7 @@ fn is_plain(name: &[u8]) -> bool
 fn is_shown(byte: u8) -> bool
     ensures { result ≡ spec.is_shown byte }
 {
-    byte >= 32 && byte <= 126 && byte != b'"' && byte != b'\\'
+    byte >= 33 && byte <= 126 && byte != b'"' && byte != b'\\'
 }
 
 fn hexadecimal(digit: u8) -> u8
@@ -98,6 +100,17 @@ fn name_at(names: &Names, number: usize) -> &[u8]
     names.get(number).unwrap_or(&[])
 }
 
+/// What has this key: a number as it is, and otherwise the name.
+fn put_key(out: &mut Vec<u8>, key: &[u8]) -> Result<(), AllocError>
+    ensures { OnOk result (out.new.items ≡ out.old.items ++ spec.key_text key.now) }
+{
+    if is_number_key(key) {
+        out.extend_from_slice(key)
+    } else {
+        put_name(out, name_of_key(key))
+    }
+}
+
 /// A local name with its sign.
 pub(crate) fn put_local(
     out: &mut Vec<u8>,
@@ -107,7 +120,7 @@ pub(crate) fn put_local(
     ensures { OnOk result (out.new.items ≡ out.old.items ++ spec.local_text function.now value) }
 {
     out.push(b'%')?;
-    put_name(out, name_at(&function.locals, value.number() as usize))
+    put_key(out, name_at(&function.locals, value.number() as usize))
 }
 
 /// A global name with its sign.

@@ -1,6 +1,9 @@
 //! The text of certificates.
-ghost use Rattle.std.specs.Prelude.{◌≡◌, ◌++◌, OnOk, IfOk, drop};
+ghost use Rattle.std.specs.Prelude.{◌≡◌, ◌++◌, true, OnOk, IfOk, drop};
+ghost use Rattle.certificate.specs.Fits.{fits};
+ghost use Rattle.certificate.specs.Named.{IsNamed};
 ghost use Rattle.certificate.specs.Print as spec;
+ghost use Rattle.certificate.specs.Text.{IsCert};
 
 use crate::certs::Certs;
 use crate::print::{put_below, put_global, put_if, put_layout, put_line, put_local};
@@ -210,7 +213,9 @@ fn put_sections(
 /// The text of certificates: sections in the module's order, parameters and blocks in their function's, lines as they
 /// were given.
 pub fn print_cert(alloc: Global, certs: &Certs, module: &Module) -> Result<Vec<u8>, AllocError>
-    ensures { IfOk result (λ text. text.items ≡ spec.cert_text certs.now «module».now) }
+    ensures text { IfOk result (λ text. text.items ≡ spec.cert_text certs.now «module».now) }
+    // Of certificates that fit it is a text of them, where the module's names are plain and each leads back to what it names.
+    ensures same { IsNamed «module».now → fits «module».now certs.now ≡ true → IfOk result (λ text. IsCert text.items «module».now certs.now) }
 {
     let mut out = Vec::new(alloc);
     out.extend_from_slice(b"cert 1\n")?;

@@ -1,7 +1,8 @@
 //! The reader of certificates.
-ghost use Rattle.std.specs.Prelude.{◌≡◌, ◌≢◌, ◌+◌, List, None, map, slice_get, IfOk, IfErr, Ok, Err};
+ghost use Rattle.std.specs.Prelude.{◌≡◌, ◌≢◌, ◌+◌, List, None, true, map, slice_get, IfOk, IfErr, Ok, Err};
 ghost use Rattle.certificate.specs.Drafts as drafts;
 ghost use Rattle.certificate.specs.Drafts.{is_in};
+ghost use Rattle.certificate.specs.Fits.{fits};
 ghost use Rattle.certificate.specs.Input.{Reads, start_of};
 ghost use Rattle.certificate.specs.Text as text;
 ghost use Rattle.certificate.specs.Text.{IsCert, IsFault};
@@ -397,6 +398,8 @@ fn placed(bytes: &[u8], found: Found) -> CertFault
 pub fn read_cert(alloc: Global, bytes: &[u8], module: &Module) -> Result<Certs, CertFault>
     // What is read is a text of these certificates.
     ensures found { IfOk result (λ certs. IsCert bytes.now «module».now certs) }
+    // They are certificates of the module.
+    ensures fits { IfOk result (λ certs. fits «module».now certs ≡ true) }
     // What is a text of some certificates is read, unless memory runs out.
     ensures only { (certs : List ASection) → IsCert bytes.now «module».now certs → Gives fault.Memory result (Ok certs) }
     // What is refused is refused for its first fault.

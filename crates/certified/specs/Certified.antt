@@ -11,6 +11,7 @@ use Rattle.facts.specs.Facts.{FactSet}
 use Rattle.block_rules.specs.declared.rule.Rule.{Rule}
 use Rattle.block_rules.specs.declared.rule.Rule.TheVariants.{K15, K16}
 use Rattle.block_rules.specs.declared.standing.Standing.{Standing}
+use Rattle.block_rules.specs.Promises.{promised_in, own_mark}
 use Rattle.block_rules.specs.Rules.{first_failing, conditions, after}
 use Rattle.block_rules.specs.Standing.{instructions_of, standing}
 use Rattle.certified.specs.declared.block_fault.BlockFault.{BlockFault}
@@ -18,11 +19,11 @@ use Rattle.certified.specs.declared.block_fault.BlockFault.TheVariants.{Refused,
 use Rattle.certified.specs.declared.block_fault.Breach.{Breach}
 use Rattle.certified.specs.declared.block_fault.Detail.{Detail}
 use Rattle.certified.specs.declared.block_fault.Refusal.{Refusal}
-use Rattle.certified.specs.Ways.{Scene, given_at, promised_in, ways, unshown_on, are_entries}
+use Rattle.certified.specs.Ways.{Scene, given_at, ways, unshown_on, are_entries}
 
 -- where the instruction at a place of a block stands
 abbrev pub stands : Scene → (block place : ℕ) → Standing
-stands s block place = standing s.program.of_module s.function s.slots (promised_in s.section) block place
+stands s block place = standing s.program.of_module s.function s.slots (promised_in s.section) (own_mark s.section) block place
 
 -- K16, at a phi
 abbrev pub entry_conditions : Function → (block : ℕ) → Op → List (Rule × Bool)
@@ -31,7 +32,7 @@ entry_conditions f block _ = []
 
 -- the first rule that an instruction of a block fails by what is known before it
 abbrev pub failing : Scene → (block : ℕ) → Standing → FactSet → Instr → Option Rule
-failing s block here facts instr = first_failing (conditions s.program s.function s.slots here facts instr ++ entry_conditions s.function block instr.op)
+failing s block here facts instr = first_failing (conditions s.program s.certs s.function s.slots here facts instr ++ entry_conditions s.function block instr.op)
 
 -- a fact of a target is not shown
 abbrev pub unshown : Option Detail → Option Breach
@@ -50,7 +51,7 @@ breach s block here facts instr = breach_of (failing s block here facts instr) (
 -- an instruction of a block keeps the rules, and leads to these facts
 pub record Passes (s : Scene) (block : ℕ) (here : Standing) (facts : FactSet) (instr : Instr) (next : FactSet) : Type 0 where
   pub keeps : breach s block here facts instr ≡ None
-  pub facts_after : next ≡ after s.program s.slots facts instr
+  pub facts_after : next ≡ after s.program s.certs s.slots facts instr
 
 -- there is a list of fact sets, from before these instructions to behind them, each next one by the rules; the first of them stands at this place of the block
 abbrev pub Follows : Scene → (block place : ℕ) → FactSet → List Instr → FactSet → Type 0
@@ -74,29 +75,29 @@ BreaksAt s block place broken =
     × Follows s block 0 (given_at s block) (take place (instructions_of s.function block)) before
     × BreaksRule s block place before (slice_get (instructions_of s.function block) place) broken
 
--- a function of a program, with its slots and its certificate
-abbrev pub scene_of : LaidOut → Function → Option Section → Scene
-scene_of program f section = record { program = program; function = f; slots = slots_of program.of_module f; section = section }
+-- a function of a program, with its slots and its certificate, among the certificates of all
+abbrev pub scene_of : LaidOut → (certs : List Section) → Function → Option Section → Scene
+scene_of program certs f section = record { program = program; certs = certs; function = f; slots = slots_of program.of_module f; section = section }
 
 -- a block of a function of the program is certified; a function that there is not has no such block
-abbrev pub IsCertifiedIn : LaidOut → Option Section → Option Function → (block : ℕ) → Type 0
-IsCertifiedIn program section None block = ⊥
-IsCertifiedIn program section (Some f) block = IsCertified (scene_of program f section) block
+abbrev pub IsCertifiedIn : LaidOut → (certs : List Section) → Option Section → Option Function → (block : ℕ) → Type 0
+IsCertifiedIn program certs section None block = ⊥
+IsCertifiedIn program certs section (Some f) block = IsCertified (scene_of program certs f section) block
 
 -- a block of a function of the program breaks a rule at a place
-abbrev pub BreaksIn : LaidOut → Option Section → Option Function → (block place : ℕ) → Breach → Type 0
-BreaksIn program section None block place broken = ⊥
-BreaksIn program section (Some f) block place broken = BreaksAt (scene_of program f section) block place broken
+abbrev pub BreaksIn : LaidOut → (certs : List Section) → Option Section → Option Function → (block place : ℕ) → Breach → Type 0
+BreaksIn program certs section None block place broken = ⊥
+BreaksIn program certs section (Some f) block place broken = BreaksAt (scene_of program certs f section) block place broken
 
 -- a block of the program is certified
 abbrev pub BlockCertified : LaidOut → List Section → (func block : ℕ) → Type 0
-BlockCertified program certs func block = IsCertifiedIn program (slice_get certs func) (slice_get program.of_module.functions func) block
+BlockCertified program certs func block = IsCertifiedIn program certs (slice_get certs func) (slice_get program.of_module.functions func) block
 
 -- this is the first refusal of a block of the program: the place where it breaks, and what it breaks there
 pub record FirstRefusal (program : LaidOut) (certs : List Section) (func block : ℕ) (refusal : Refusal) : Type 0 where
   pub of_func : refusal.func ≡ func
   pub of_block : refusal.block ≡ block
-  pub breaks : BreaksIn program (slice_get certs func) (slice_get program.of_module.functions func) block refusal.instr (record { rule = refusal.rule; detail = refusal.detail })
+  pub breaks : BreaksIn program certs (slice_get certs func) (slice_get program.of_module.functions func) block refusal.instr (record { rule = refusal.rule; detail = refusal.detail })
 
 -- this holds of a refusal, if the fault is one
 abbrev pub IfRefused : BlockFault → (Refusal → Type 0) → Type 0

@@ -1,7 +1,6 @@
 -- The ways out of a block: where they lead, what they show, and which lines of their targets are not shown.
-use Rattle.std.specs.Prelude.{◌≡◌, ℕ, ◌==◌, Bool, true, false, not, ◌&&◌, ◌||◌, if◌then◌else◌, List, [], ◌∷◌, ◌++◌, map, length, position, slice_get, Option, Some, None}
-use Rattle.std.specs.List.{list_all, list_any, take_while, range_with_len}
-use Rattle.ir_ast.specs.declared.block.Block.{Block}
+use Rattle.std.specs.Prelude.{ℕ, ◌==◌, Bool, true, false, not, ◌&&◌, ◌||◌, if◌then◌else◌, List, [], ◌∷◌, ◌++◌, map, length, position, slice_get, Option, Some, None}
+use Rattle.std.specs.List.{list_all, list_any, range_with_len}
 use Rattle.ir_ast.specs.declared.function.Function.{Function}
 use Rattle.ir_ast.specs.declared.function.Parameter.{Parameter}
 use Rattle.ir_ast.specs.declared.instr.Instr.{Instr}
@@ -21,7 +20,6 @@ use Rattle.certificate.specs.declared.section.Promise.{Promise}
 use Rattle.certificate.specs.declared.section.Section.{Section}
 use Rattle.facts.specs.declared.known.Entry.{Entry}
 use Rattle.facts.specs.declared.known.Given.{Given}
-use Rattle.facts.specs.declared.known.Given.TheVariants as given
 use Rattle.facts.specs.declared.known.Known.{Known}
 use Rattle.facts.specs.declared.known.Known.TheVariants.{Nothing, Number, Null}
 use Rattle.facts.specs.Facts.{FactSet, test_at, learn_test, after_phis}
@@ -30,13 +28,15 @@ use Rattle.block_rules.specs.declared.type_kind.TypeKind.{TypeKind}
 use Rattle.block_rules.specs.declared.type_kind.TypeKind.TheVariants as kind
 use Rattle.block_rules.specs.Bounds.{below_next}
 use Rattle.block_rules.specs.Operands.{known_of}
+use Rattle.block_rules.specs.Promises.{promises_in, given_by}
 use Rattle.block_rules.specs.Standing.{instructions_of}
 use Rattle.block_rules.specs.TypeKinds.{kind_of}
 use Rattle.certified.specs.declared.block_fault.Detail.{Detail}
 
--- a function of a program, with its slots and its certificate
+-- a function of a program, with its slots and its certificate, among the certificates of all
 pub record Scene : Type 0 where
   pub program : LaidOut
+  pub certs : List Section
   pub function : Function
   pub slots : SlotTable
   pub section : Option Section
@@ -47,23 +47,6 @@ pub record Scene : Type 0 where
 abbrev pub lines_in : Option Section → (block : ℕ) → List Line
 lines_in None block = []
 lines_in (Some section) block = elim (slice_get section.blocks block) [ None ↦ [] | Some lines ↦ lines ]
-
--- what is promised of each parameter
-abbrev pub promises_in : Option Section → List (Option Promise)
-promises_in None = []
-promises_in (Some section) = section.parameters
-
--- what is promised of the result
-abbrev pub promised_in : Option Section → Option Promise
-promised_in None = None
-promised_in (Some section) = section.result
-
--- what a type says of a parameter
-abbrev pub given_by : TypeKind → Given
-given_by (kind.Bits bits) = given.Number bits
-given_by (kind.Reference layout) = given.Reference layout
-given_by kind.AnyReference = given.AnyReference
-given_by _ = given.Nothing
 
 -- the parameters, each with what its type says and what is promised of it
 abbrev pub parameters_given : Module → List Parameter → List (Option Promise) → List (ℕ × Given × Option Promise)

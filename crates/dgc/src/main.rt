@@ -1,10 +1,11 @@
 //! `dgc`, the program: reads the command line and the files, does the command, and ends with its status.
 #![tactic(auto)]
 
-mod check;
-mod command_line;
+#[cfg(test)]
+mod calling_tests;
+#[cfg(test)]
+mod checking_tests;
 mod failure;
-mod line_reader;
 mod name;
 #[cfg(test)]
 mod reading_tests;
@@ -13,9 +14,8 @@ mod report;
 mod tests;
 mod work;
 
-use command_line::{Line, LineFault};
+use command_line::{Line, LineFault, line};
 use failure::Failure;
-use line_reader::line;
 use report::{STATUS_USAGE, STATUS_YES};
 use std::process::ExitCode;
 use std::{env, fs};

@@ -2,6 +2,7 @@
 ghost use Rattle.std.specs.Prelude.{◌≡◌};
 ghost use Rattle.dgc.specs.Name.{begins_plain, has_plain_bytes, is_name_byte, is_name_start, is_plain, is_shown};
 
+use ir_ast::{is_number_key, name_of_key};
 use std::io;
 use std::io::Write;
 
@@ -69,5 +70,14 @@ pub fn write_name<W: Write>(out: &mut W, name: &[u8]) -> io::Result<()> {
         out.write_all(name)
     } else {
         write_quoted(out, name)
+    }
+}
+
+/// Writes the name of a value or a block by its key: digits as they are where it has no name.
+pub fn write_local<W: Write>(out: &mut W, key: &[u8]) -> io::Result<()> {
+    if is_number_key(key) {
+        out.write_all(key)
+    } else {
+        write_name(out, name_of_key(key))
     }
 }

@@ -4,13 +4,14 @@ ghost use Rattle.std.specs.Prelude.{◌≡◌, IfOk};
 ghost use Rattle.std.specs.Option.{option_copied};
 ghost use Rattle.dgc.specs.Report.{name_of_block, name_of_function, name_of_struct};
 
-use crate::name::write_name;
-use block_check::Refusal;
-use certificate::CertFault;
+use crate::name::{write_local, write_name};
+use certificate::{CertFault, Certs, print_line};
 use ir_ast::{BlockId, FuncId, Module};
 use ir_text::ReadFault;
 use ir_tokens::Position;
 use layout::LayoutFault;
+use module_check::{Detail, Refusal};
+use std::alloc::{AllocError, Global};
 use std::io;
 use std::io::Write;
 
@@ -37,7 +38,7 @@ fn name_of_function(of_module: &Module, number: usize) -> Option<&[u8]>
     of_module.symbols.get(function.symbol.number() as usize)
 }
 
-/// The name of a block of a function, if there is that block.
+/// The key of the name of a block of a function, if there is that block.
 fn name_of_block(of_module: &Module, func: FuncId, block: BlockId) -> Option<&[u8]>
     ensures { option_copied result ≡ name_of_block of_module.now func block }
 {
@@ -64,6 +65,13 @@ fn name_of_struct(of_module: &Module, number: usize) -> Option<&[u8]>
 fn write_found_name<W: Write>(out: &mut W, name: Option<&[u8]>) -> io::Result<()> {
     match name {
         Some(name) => write_name(out, name),
+        None => Ok(()),
+    }
+}
+
+fn write_found_local<W: Write>(out: &mut W, key: Option<&[u8]>) -> io::Result<()> {
+    match key {
+        Some(key) => write_local(out, key),
         None => Ok(()),
     }
 }
@@ -106,9 +114,44 @@ pub fn accepted<W: Write>(out: &mut W, functions: usize) -> io::Result<u8>
     Ok(STATUS_YES)
 }
 
+/// The target of a way out and the line of its certificate that is not shown on it, as they stand behind a rule:
+/// ` %loop %p ref Node nonnull`.
+fn write_detail<W: Write>(
+    out: &mut W,
+    of_module: &Module,
+    func: FuncId,
+    detail: Detail,
+    line: &[u8],
+) -> io::Result<()> {
+    write!(out, " %")?;
+    write_found_local(out, name_of_block(of_module, func, detail.target))?;
+    write!(out, " ")?;
+    out.write_all(line)
+}
+
+/// The line of a certificate that a refusal names, as the certificates' text writes it; none is empty.
+pub fn line_of_refusal(
+    alloc: Global,
+    of_module: &Module,
+    certs: &Certs,
+    refusal: &Refusal,
+) -> Result<Vec<u8>, AllocError> {
+    match refusal.detail {
+        Some(Detail { target, line }) => {
+            print_line(alloc, certs, of_module, refusal.func, target, line)
+        }
+        None => Ok(Vec::new(alloc)),
+    }
+}
+
 /// The first refused instruction, by its function, its block and its place there, and the rule that it breaks:
-/// `no @f %b 3 K6`.
-pub fn refused<W: Write>(out: &mut W, of_module: &Module, refusal: &Refusal) -> io::Result<u8>
+/// `no @f %b 3 K6`. Behind K15 stand the target and its line that is not shown.
+pub fn refused<W: Write>(
+    out: &mut W,
+    of_module: &Module,
+    refusal: &Refusal,
+    line: &[u8],
+) -> io::Result<u8>
     ensures { IfOk result (λ status. status ≡ STATUS_NO) }
 {
     let Refusal {
@@ -116,13 +159,17 @@ pub fn refused<W: Write>(out: &mut W, of_module: &Module, refusal: &Refusal) -> 
         block,
         instr,
         rule,
-        ..
+        detail,
     } = *refusal;
     write!(out, "no @")?;
     write_found_name(out, name_of_function(of_module, func.number() as usize))?;
     write!(out, " %")?;
-    write_found_name(out, name_of_block(of_module, func, block))?;
-    writeln!(out, " {instr} {rule}")?;
+    write_found_local(out, name_of_block(of_module, func, block))?;
+    write!(out, " {instr} {rule}")?;
+    if let Some(detail) = detail {
+        write_detail(out, of_module, func, detail, line)?;
+    }
+    writeln!(out, "")?;
     Ok(STATUS_NO)
 }
 
@@ -153,6 +200,7 @@ pub fn no_module<W: Write>(err: &mut W, fault: &ReadFault) -> io::Result<u8> {
         ReadFault::OutOfRange(place) => at_place(err, "L6", *place),
         ReadFault::LeftOut { place, word } => left_out(err, *place, word.as_slice()),
         ReadFault::Limit(place) => at_place(err, "L8", *place),
+        ReadFault::WrongNumber(place) => at_place(err, "L9", *place),
         ReadFault::Memory => memory(err),
     }
 }
@@ -167,7 +215,7 @@ fn missing_block<W: Write>(
     write!(err, "error C5 @")?;
     write_found_name(err, name_of_function(of_module, function))?;
     write!(err, " %")?;
-    write_found_name(err, name_of_block_at(of_module, function, block))?;
+    write_found_local(err, name_of_block_at(of_module, function, block))?;
     writeln!(err, "")?;
     Ok(STATUS_UNREADABLE)
 }

@@ -1,7 +1,7 @@
 //! Whole commands, from the bytes of the files to the printed lines and the status.
-use crate::command_line::Line;
 use crate::report::{STATUS_NO, STATUS_UNREADABLE, STATUS_USAGE, STATUS_YES};
 use crate::work::work;
+use command_line::Line;
 use std::alloc::{AllocError, Global};
 use std::io;
 use std::io::Write;

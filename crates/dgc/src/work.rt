@@ -1,22 +1,36 @@
 //! The commands, from the bytes of their files to the printed lines and the status.
-use crate::check::{NotAccepted, Verdict, check};
-use crate::command_line::Line;
 use crate::report;
 use crate::report::STATUS_USAGE;
 use certificate::{Certs, read_cert};
+use command_line::Line;
 use ir_ast::Module;
 use ir_text::read;
+use module_check::{NotAccepted, Refusal, Verdict, check};
 use std::alloc::Global;
 use std::io;
 use std::io::Write;
 
+fn report_refusal<O: Write, E: Write>(
+    alloc: Global,
+    answer: &NotAccepted,
+    refusal: &Refusal,
+    out: &mut O,
+    err: &mut E,
+) -> io::Result<u8> {
+    match report::line_of_refusal(alloc, &answer.of_module, &answer.certs, refusal) {
+        Ok(line) => report::refused(out, &answer.of_module, refusal, line.as_slice()),
+        Err(_) => report::memory(err),
+    }
+}
+
 fn report_verdict<O: Write, E: Write>(
+    alloc: Global,
     answer: &NotAccepted,
     out: &mut O,
     err: &mut E,
 ) -> io::Result<u8> {
     match answer.verdict {
-        Verdict::Refused(refusal) => report::refused(out, &answer.of_module, &refusal),
+        Verdict::Refused(refusal) => report_refusal(alloc, answer, &refusal, out, err),
         Verdict::Layout(fault) => report::no_layouts(err, &answer.of_module, fault),
         Verdict::Memory => report::memory(err),
     }
@@ -30,8 +44,8 @@ fn check_certs<O: Write, E: Write>(
     err: &mut E,
 ) -> io::Result<u8> {
     match check(alloc, of_module, certs) {
-        Ok(functions) => report::accepted(out, functions),
-        Err(answer) => report_verdict(&answer, out, err),
+        Ok(accepted) => report::accepted(out, accepted.program().module().functions.len()),
+        Err(answer) => report_verdict(alloc, &answer, out, err),
     }
 }
 

@@ -66,6 +66,10 @@ held_nonnull classes (Some c) = (class_at classes c).nonnull
 abbrev pub slot_nonnull : List Class → SlotFact → Bool
 slot_nonnull classes slot = slot.nonnull || held_nonnull classes slot.holds
 
+-- this slot holds this class
+abbrev pub holds : ℕ → SlotFact → Bool
+holds c slot = holds_class c slot.holds
+
 -- a slot that holds this class holds it no more; it stays nonnull where the class is
 abbrev pub let_go : (c : ℕ) → (nonnull : Bool) → SlotFact → SlotFact
 let_go c nonnull slot = if holds_class c slot.holds then record slot { nonnull = slot.nonnull || nonnull; holds = None } else slot

@@ -1,11 +1,11 @@
-ghost use Rattle.std.specs.Prelude.{◌≡◌, ◌∷◌, [], ◌++◌, map, length, slice_set, true, IfOk, OnOk, OnErr};
-ghost use Rattle.std.specs.List.{list_any, enumerate_from, zip};
+ghost use Rattle.std.specs.Prelude.{◌≡◌, length, IfOk, OnOk, OnErr};
 ghost use Rattle.facts.specs.Facts.{FactSet, known_at, slot_at, class_at, test_at, nothing_known, forget, define, define_new, define_test, set_known, add_class, set_class, drop_fresh, drop_fresh_of, learn_nonnull, set_slot, clear_slot, end_slot, root_slot, hold, store_slot, load_held, load_slot, make_stale, slots_of_class, slot_nonnull};
 ghost use Rattle.facts.specs.Lines.{join, covers};
 
 use crate::class_id::ClassId;
 use crate::known::{Class, Known, SlotFact, Test};
 use crate::rows;
+use crate::values::Values;
 use ir_ast::ValueId;
 use pools::LayoutId;
 use shadow_stack::SlotId;
@@ -15,10 +15,8 @@ use std::marker::Model;
 /// What is known at a place of a function. A value names its class, and what is known of a class stands there once.
 #[derive(Drop)]
 pub struct Facts {
-    values: Vec<Known>,
+    values: Values,
     slots: Vec<SlotFact>,
-    classes: Vec<Class>,
-    tests: Vec<Option<Test>>,
 }
 
 impl Model for Facts {
@@ -26,7 +24,7 @@ impl Model for Facts {
 
     ghost Value = { FactSet };
 
-    ghost view = { λ facts. record { values = facts.values.items; slots = facts.slots.items; classes = facts.classes.items; tests = facts.tests.items } };
+    ghost view = { λ facts. record { values = facts.values.values; slots = facts.slots.items; classes = facts.values.classes; tests = facts.values.tests } };
 }
 
 impl Facts {
@@ -34,26 +32,16 @@ impl Facts {
     pub fn new(alloc: Global, values: usize, slots: usize) -> Result<Self, AllocError>
         ensures { IfOk result (λ facts. facts ≡ nothing_known values slots) }
     {
-        let known = rows::nothing_known(alloc, values)?;
+        let values = Values::new(alloc, values)?;
         let slots = rows::open_slots(alloc, slots)?;
-        let classes = rows::lost_classes(alloc, values)?;
-        let tests = rows::no_tests(alloc, values)?;
-        Ok(Facts {
-            values: known,
-            slots,
-            classes,
-            tests,
-        })
+        Ok(Facts { values, slots })
     }
 
     /// What is known of a value.
     pub fn known(&self, v: ValueId) -> Known
         ensures { result ≡ known_at self.now.values v }
     {
-        match self.values.get(v.number() as usize) {
-            Some(known) => *known,
-            None => Known::Nothing,
-        }
+        self.values.known(v)
     }
 
     /// What is known of a slot.
@@ -70,27 +58,23 @@ impl Facts {
     pub fn class(&self, c: ClassId) -> Class
         ensures { result ≡ class_at self.now.classes c }
     {
-        rows::class_at(&self.classes, c)
+        self.values.class(c)
     }
 
     /// The comparison that gave a value.
     pub fn test(&self, v: ValueId) -> Option<Test>
         ensures { result ≡ test_at self.now.tests v }
     {
-        match self.tests.get(v.number() as usize) {
-            Some(test) => *test,
-            None => None,
-        }
+        self.values.test(v)
     }
 
     /// Nothing is known any more.
-    pub fn clear(&mut self, alloc: Global) -> Result<(), AllocError>
+    pub fn clear(&mut self, _alloc: Global) -> Result<(), AllocError>
         ensures ok { OnOk result (self.new ≡ nothing_known (length self.old.values) (length self.old.slots)) }
         ensures err { OnErr result (self.new ≡ self.old) }
     {
-        let values = self.values.len();
-        let slots = self.slots.len();
-        *self = Facts::new(alloc, values, slots)?;
+        self.values.clear();
+        rows::open_each(&mut self.slots);
         Ok(())
     }
 
@@ -99,16 +83,27 @@ impl Facts {
         ensures ok { OnOk result (self.new ≡ other.now) }
         ensures err { OnErr result (self.new ≡ self.old) }
     {
-        let values = Vec::from_slice(alloc, &other.values)?;
-        let slots = Vec::from_slice(alloc, &other.slots)?;
-        let classes = Vec::from_slice(alloc, &other.classes)?;
-        let tests = Vec::from_slice(alloc, &other.tests)?;
-        *self = Facts {
-            values,
-            slots,
-            classes,
-            tests,
-        };
+        let values = other.values.count();
+        let slots = other.slots.len();
+        if self.values.count() == values && self.slots.len() == slots {
+            self.copy(alloc, other)
+        } else {
+            let mut fresh = Facts::new(alloc, values, slots)?;
+            fresh.copy(alloc, other)?;
+            *self = fresh;
+            Ok(())
+        }
+    }
+
+    /// What is known elsewhere of as many values and slots.
+    fn copy(&mut self, alloc: Global, other: &Facts) -> Result<(), AllocError>
+        requires values { length self.old.values ≡ length other.now.values }
+        requires slots { length self.old.slots ≡ length other.now.slots }
+        ensures ok { OnOk result (self.new ≡ other.now) }
+        ensures err { OnErr result (self.new ≡ self.old) }
+    {
+        self.values.set_from(alloc, &other.values)?;
+        self.slots.copy_from_slice(&other.slots);
         Ok(())
     }
 
@@ -117,10 +112,7 @@ impl Facts {
         ensures { self.new ≡ forget v self.old }
     {
         let known = self.known(v);
-        rows::off_bases(&mut self.values, v);
-        self.put_known(v, Known::Nothing);
-        rows::off_tests(&mut self.tests, v);
-        self.set_test(v, None);
+        self.values.forget(v);
         if let Known::Cell { class, .. } = known {
             self.let_go(class);
         }
@@ -164,8 +156,7 @@ impl Facts {
             below: None,
         };
         self.define(v, truth)?;
-        self.set_test(v, rows::off_test(v, Some(test)));
-        Ok(())
+        self.values.set_test(v, rows::off_test(v, Some(test)))
     }
 
     /// What is stored goes where others may find it: its class is fresh no more.
@@ -248,7 +239,7 @@ impl Facts {
                 self.learn_nonnull(class, nonnull)
             }
             None => {
-                let class = ClassId::new(self.classes.len());
+                let class = self.next_class();
                 self.set_known(
                     v,
                     Known::Cell {
@@ -267,15 +258,12 @@ impl Facts {
     }
 
     /// A safepoint: each reference is stale, and the slots hold what nobody else is known to name.
-    pub fn make_stale(&mut self, alloc: Global) -> Result<(), AllocError>
+    pub fn make_stale(&mut self, _alloc: Global) -> Result<(), AllocError>
         ensures ok { OnOk result (self.new ≡ make_stale self.old) }
         ensures err { OnErr result (self.new ≡ self.old) }
     {
-        let values = rows::all_stale(alloc, &self.values)?;
-        let classes = rows::stale_classes(alloc, &self.classes, &self.values)?;
-        rows::end_holds(&mut self.slots, &self.classes);
-        self.values = values;
-        self.classes = classes;
+        rows::end_holds(&mut self.slots, &self.values);
+        self.values.make_stale();
         Ok(())
     }
 
@@ -284,17 +272,7 @@ impl Facts {
         ensures ok { OnOk result (self.new ≡ set_known v known self.old) }
         ensures err { OnErr result (self.new ≡ self.old) }
     {
-        self.put_known(v, known);
-        Ok(())
-    }
-
-    fn put_known(&mut self, v: ValueId, known: Known)
-        ensures { self.new ≡ set_known v known self.old }
-    {
-        let at = v.number() as usize;
-        if at < self.values.len() {
-            self.values[at] = known;
-        }
+        self.values.set_known(v, known)
     }
 
     /// A class is not null where this holds.
@@ -310,14 +288,7 @@ impl Facts {
     pub(crate) fn drop_fresh(&mut self, c: ClassId)
         ensures { self.new ≡ drop_fresh c self.old }
     {
-        let class = self.class(c);
-        self.put_class(
-            c,
-            Class {
-                fresh: false,
-                ..class
-            },
-        );
+        self.values.drop_fresh(c);
     }
 
     /// A class more.
@@ -325,31 +296,20 @@ impl Facts {
         ensures ok { OnOk result (self.new ≡ add_class class self.old) }
         ensures err { OnErr result (self.new ≡ self.old) }
     {
-        self.classes.push(class)?;
-        Ok(())
+        self.values.add_class(class)
     }
 
     /// The number of the class that is made next.
     pub(crate) fn next_class(&self) -> ClassId
         ensures { result ≡ length self.now.classes }
     {
-        ClassId::new(self.classes.len())
+        self.values.next_class()
     }
 
     pub(crate) fn set_class(&mut self, c: ClassId, class: Class) -> Result<(), AllocError>
         ensures { OnOk result (self.new ≡ set_class c class self.old) }
     {
-        self.put_class(c, class);
-        Ok(())
-    }
-
-    fn put_class(&mut self, c: ClassId, class: Class)
-        ensures { self.new ≡ set_class c class self.old }
-    {
-        let at = c.number();
-        if at < self.classes.len() {
-            self.classes[at] = class;
-        }
+        self.values.set_class(c, class)
     }
 
     pub(crate) fn set_slot(&mut self, s: SlotId, slot: SlotFact) -> Result<(), AllocError>
@@ -383,20 +343,14 @@ impl Facts {
         )
     }
 
-    fn set_test(&mut self, v: ValueId, test: Option<Test>)
-        ensures { self.new ≡ record self.old { tests = slice_set self.old.tests v test } }
-    {
-        let at = v.number() as usize;
-        if at < self.tests.len() {
-            self.tests[at] = test;
-        }
-    }
-
     /// The slots hold the class of a value that was forgotten on only while another value is of it.
     fn let_go(&mut self, c: ClassId)
         ensures { self.new ≡ record self.old { slots = slots_of_class c self.old.values self.old.classes self.old.slots } }
     {
-        if !rows::any_of(&self.values, c) {
+        if !rows::any_holds(&self.slots, c) {
+            return;
+        }
+        if !self.values.any_of(c) {
             let nonnull = self.class(c).nonnull;
             rows::let_go_each(&mut self.slots, c, nonnull);
         }
@@ -406,7 +360,7 @@ impl Facts {
     pub fn slot_nonnull(&self, slot: SlotFact) -> bool
         ensures { result ≡ slot_nonnull self.now.classes slot }
     {
-        rows::slot_nonnull(&self.classes, slot)
+        rows::slot_nonnull(&self.values, slot)
     }
 
     /// Two classes are one.
@@ -415,7 +369,7 @@ impl Facts {
     {
         let one = self.class(from);
         let other = self.class(to);
-        rows::move_each(&mut self.values, from, to);
+        self.values.move_class(from, to);
         self.set_class(
             to,
             Class {
@@ -429,7 +383,7 @@ impl Facts {
     pub(crate) fn covers(&self, there: &Facts, c: ClassId, d: ClassId) -> bool
         ensures { result ≡ covers self.now there.now c d }
     {
-        rows::covers_values(&self.values, &there.values, c, d)
+        self.values.covers(&there.values, c, d)
             && rows::covers_slots(&self.slots, &there.slots, c, d)
     }
 }

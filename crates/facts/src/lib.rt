@@ -7,8 +7,12 @@ mod facts;
 mod known;
 mod laws;
 mod lines;
+mod row;
 mod rows;
+mod sheet;
 mod shown;
+mod sweeps;
+mod values;
 
 pub use class_id::ClassId;
 pub use facts::Facts;

@@ -1,22 +1,14 @@
 //! What changes in whole rows of facts.
-ghost use Rattle.std.specs.Prelude.{◌≡◌, map, replicate, None, IfOk};
-ghost use Rattle.facts.specs.declared.known.Known.TheVariants.{Nothing};
-ghost use Rattle.std.specs.List.{list_any, list_all, enumerate_from, zip};
-ghost use Rattle.facts.specs.Facts.{open_slot, lost_class, class_at, is_of, let_go, is_on, off_base, off_test, slot_nonnull, held_nonnull, stale_of, stale_class, end_hold, holds_class};
+ghost use Rattle.std.specs.Prelude.{◌≡◌, map, length, replicate, IfOk};
+ghost use Rattle.std.specs.List.{list_any, list_all, zip};
+ghost use Rattle.facts.specs.Facts.{open_slot, class_at, is_of, holds, let_go, is_on, off_base, off_test, slot_nonnull, held_nonnull, stale_of, end_hold, holds_class};
 ghost use Rattle.facts.specs.Lines.{moved, move, covers_value, covers_slot};
 
 use crate::class_id::ClassId;
 use crate::known::{Class, Known, SlotFact, Test};
+use crate::values::Values;
 use ir_ast::ValueId;
 use std::alloc::{AllocError, Global};
-
-/// Nothing is known of so many values.
-pub fn nothing_known(alloc: Global, count: usize) -> Result<Vec<Known>, AllocError>
-    ensures { IfOk result (λ rows. rows.items ≡ replicate count Nothing) }
-{
-    let rows = vec![in alloc; Known::Nothing; count]?;
-    Ok(rows)
-}
 
 /// Nothing is known of so many slots.
 pub fn open_slots(alloc: Global, count: usize) -> Result<Vec<SlotFact>, AllocError>
@@ -30,20 +22,15 @@ pub fn open_slots(alloc: Global, count: usize) -> Result<Vec<SlotFact>, AllocErr
     Ok(rows)
 }
 
-/// Nothing is known of so many classes.
-pub fn lost_classes(alloc: Global, count: usize) -> Result<Vec<Class>, AllocError>
-    ensures { IfOk result (λ rows. rows.items ≡ replicate count lost_class) }
+/// Nothing is known of these slots.
+pub fn open_each(slots: &mut [SlotFact])
+    ensures { slots.new ≡ replicate (length slots.old) open_slot }
 {
-    let rows = vec![in alloc; Class::lost(); count]?;
-    Ok(rows)
-}
-
-/// So many values are no comparisons.
-pub fn no_tests(alloc: Global, count: usize) -> Result<Vec<Option<Test>>, AllocError>
-    ensures { IfOk result (λ rows. rows.items ≡ replicate count None) }
-{
-    let rows = vec![in alloc; None; count]?;
-    Ok(rows)
+    slots.fill(SlotFact {
+        rooted: false,
+        nonnull: false,
+        holds: None,
+    });
 }
 
 /// What is known of a class.
@@ -66,11 +53,17 @@ pub fn is_of(c: ClassId, known: Known) -> bool
     }
 }
 
-/// Whether some value is of this class.
-pub fn any_of(values: &[Known], c: ClassId) -> bool
-    ensures { result ≡ list_any (is_of c) values.now }
+/// Whether some slot holds this class.
+pub fn any_holds(slots: &[SlotFact], c: ClassId) -> bool
+    ensures { result ≡ list_any (holds c) slots.now }
 {
-    values.iter().any(|known| is_of(c, *known))
+    slots.iter().any(|slot| holds(c, *slot))
+}
+
+fn holds(c: ClassId, slot: SlotFact) -> bool
+    ensures { result ≡ holds c slot }
+{
+    holds_class(c, slot.holds)
 }
 
 /// No slot holds the class.
@@ -95,16 +88,8 @@ fn let_go(c: ClassId, nonnull: bool, slot: SlotFact) -> SlotFact
     }
 }
 
-/// No address has this base.
-pub fn off_bases(values: &mut [Known], v: ValueId)
-    ensures { values.new ≡ map (off_base v) values.old }
-{
-    for known in values.iter_mut() {
-        *known = off_base(v, *known);
-    }
-}
-
-fn off_base(v: ValueId, known: Known) -> Known
+/// What is known of a value, unless it is an address with this base.
+pub fn off_base(v: ValueId, known: Known) -> Known
     ensures { result ≡ off_base v known }
 {
     let on = is_on(v, &known);
@@ -120,15 +105,6 @@ fn is_on(v: ValueId, known: &Known) -> bool
     }
 }
 
-/// No comparison is of this value.
-pub fn off_tests(tests: &mut [Option<Test>], v: ValueId)
-    ensures { tests.new ≡ map (off_test v) tests.old }
-{
-    for test in tests.iter_mut() {
-        *test = off_test(v, *test);
-    }
-}
-
 /// The comparison, unless it is of this value.
 pub fn off_test(v: ValueId, test: Option<Test>) -> Option<Test>
     ensures { result ≡ off_test v test }
@@ -140,18 +116,18 @@ pub fn off_test(v: ValueId, test: Option<Test>) -> Option<Test>
 }
 
 /// No slot holds a class.
-pub fn end_holds(slots: &mut [SlotFact], classes: &[Class])
-    ensures { slots.new ≡ map (end_hold classes.now) slots.old }
+pub fn end_holds(slots: &mut [SlotFact], values: &Values)
+    ensures { slots.new ≡ map (end_hold values.now.classes) slots.old }
 {
     for slot in slots.iter_mut() {
-        *slot = end_hold(classes, *slot);
+        *slot = end_hold(values, *slot);
     }
 }
 
-fn end_hold(classes: &[Class], slot: SlotFact) -> SlotFact
-    ensures { result ≡ end_hold classes.now slot }
+fn end_hold(values: &Values, slot: SlotFact) -> SlotFact
+    ensures { result ≡ end_hold values.now.classes slot }
 {
-    let nonnull = slot.nonnull || held_nonnull(classes, slot.holds);
+    let nonnull = slot.nonnull || held_nonnull(values, slot.holds);
     SlotFact {
         nonnull,
         holds: None,
@@ -160,33 +136,23 @@ fn end_hold(classes: &[Class], slot: SlotFact) -> SlotFact
 }
 
 /// Whether what a slot holds is not null.
-pub fn slot_nonnull(classes: &[Class], slot: SlotFact) -> bool
-    ensures { result ≡ slot_nonnull classes.now slot }
+pub fn slot_nonnull(values: &Values, slot: SlotFact) -> bool
+    ensures { result ≡ slot_nonnull values.now.classes slot }
 {
-    slot.nonnull || held_nonnull(classes, slot.holds)
+    slot.nonnull || held_nonnull(values, slot.holds)
 }
 
-fn held_nonnull(classes: &[Class], holds: Option<ClassId>) -> bool
-    ensures { result ≡ held_nonnull classes.now holds }
+fn held_nonnull(values: &Values, holds: Option<ClassId>) -> bool
+    ensures { result ≡ held_nonnull values.now.classes holds }
 {
     match holds {
-        Some(c) => class_at(classes, c).nonnull,
+        Some(c) => values.class(c).nonnull,
         None => false,
     }
 }
 
-/// Each reference is stale.
-pub fn all_stale(alloc: Global, values: &[Known]) -> Result<Vec<Known>, AllocError>
-    ensures { IfOk result (λ stale. stale.items ≡ map stale_of (enumerate_from 0 values.now)) }
-{
-    values
-        .iter()
-        .enumerate()
-        .map(|(v, known)| stale_of(v, *known))
-        .collect(alloc)
-}
-
-fn stale_of(v: usize, known: Known) -> Known
+/// A reference is stale, and of the class that its value has for itself.
+pub fn stale_of(v: usize, known: Known) -> Known
     ensures { result ≡ stale_of (v, known) }
 {
     match known {
@@ -199,43 +165,8 @@ fn stale_of(v: usize, known: Known) -> Known
     }
 }
 
-/// The classes that values have for themselves, once they are stale.
-pub fn stale_classes(
-    alloc: Global,
-    classes: &[Class],
-    values: &[Known],
-) -> Result<Vec<Class>, AllocError>
-    ensures { IfOk result (λ stale. stale.items ≡ map (stale_class classes.now) (zip classes.now values.now)) }
-{
-    classes
-        .iter()
-        .zip(values.iter())
-        .map(|(own, known)| stale_class(classes, *own, *known))
-        .collect(alloc)
-}
-
-fn stale_class(classes: &[Class], own: Class, known: Known) -> Class
-    ensures { result ≡ stale_class classes.now (own, known) }
-{
-    match known {
-        Known::Cell { class, .. } => Class {
-            nonnull: class_at(classes, class).nonnull,
-            fresh: false,
-        },
-        _ => own,
-    }
-}
-
-/// The references of one class are of another.
-pub fn move_each(values: &mut [Known], from: ClassId, to: ClassId)
-    ensures { values.new ≡ map (move from to) values.old }
-{
-    for known in values.iter_mut() {
-        *known = move_known(from, to, *known);
-    }
-}
-
-fn move_known(from: ClassId, to: ClassId, known: Known) -> Known
+/// A reference of one class is of another.
+pub fn move_known(from: ClassId, to: ClassId, known: Known) -> Known
     ensures { result ≡ move from to known }
 {
     match known {
@@ -268,16 +199,8 @@ pub fn holds_class(c: ClassId, holds: Option<ClassId>) -> bool
     }
 }
 
-/// Whether all values of a class here are listed there as of another.
-pub fn covers_values(here: &[Known], there: &[Known], c: ClassId, d: ClassId) -> bool
-    ensures { result ≡ list_all (covers_value c d) (zip here.now there.now) }
-{
-    here.iter()
-        .zip(there.iter())
-        .all(|(here, there)| covers_value(c, d, *here, *there))
-}
-
-fn covers_value(c: ClassId, d: ClassId, here: Known, there: Known) -> bool
+/// Whether a value of a class here is listed there as of another, if as a reference.
+pub fn covers_value(c: ClassId, d: ClassId, here: Known, there: Known) -> bool
     ensures { result ≡ covers_value c d (here, there) }
 {
     match there {

@@ -1,2 +1,4 @@
 pub mod Names
 pub mod Types
+pub mod LocalKeys
+pub mod KeyNames

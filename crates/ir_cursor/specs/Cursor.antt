@@ -1,10 +1,11 @@
 -- The next token: what it is, where it stands, and how it is refused.
-use Rattle.std.specs.Prelude.{ℕ, ◌-◌, ◌==◌, Bool, false, not, ◌||◌, if◌then◌else◌, List, [], ◌∷◌, length, take, drop, Option, Some, None}
+use Rattle.std.specs.Prelude.{ℕ, Bool, true, false, ◌||◌, if◌then◌else◌, List, [], ◌∷◌, length, take, drop, Option, Some, None}
 use Rattle.ir_tokens.specs.declared.token.Kind.{Kind}
 use Rattle.ir_tokens.specs.declared.token.Kind.TheVariants as k
 use Rattle.ir_tokens.specs.contracts.token.Kind.{the_type}
 use Rattle.ir_tokens.specs.declared.token.Token.{Token}
 use Rattle.ir_tokens.specs.Names.{name_of}
+use Rattle.ir_ast.specs.LocalKeys.{key_of_name, key_of_digits}
 use Rattle.ir_cursor.specs.declared.fault.Fault.{Fault}
 use Rattle.ir_cursor.specs.declared.fault.Fault.TheVariants.{BadByte, Unfinished, Unexpected, LeftOut}
 use Rattle.ir_cursor.specs.Place.{Place}
@@ -17,9 +18,25 @@ abbrev pub kind_first : List Token → Kind
 kind_first [] = k.End
 kind_first (t ∷ ts) = t.kind
 
+abbrev pub rest_of : List Token → List Token
+rest_of [] = []
+rest_of (t ∷ ts) = ts
+
 -- what the next token is
 unfoldable pub kind : Place → Kind
 kind c = kind_first c.rest
+
+-- what the token behind the next one is
+unfoldable pub kind_behind : Place → Kind
+kind_behind c = kind_first (rest_of c.rest)
+
+abbrev pub begins_first : List Token → Bool
+begins_first [] = false
+begins_first (t ∷ ts) = t.begins_line
+
+-- the next token is the first one on its line
+unfoldable pub begins_line : Place → Bool
+begins_line c = begins_first c.rest
 
 -- the next token is of this kind
 unfoldable pub sees : Kind → Place → Bool
@@ -45,10 +62,6 @@ size c = size_first c.rest
 unfoldable pub spelling : Place → List ℕ
 spelling c = take (size c) (drop (start c) c.text)
 
-abbrev pub rest_of : List Token → List Token
-rest_of [] = []
-rest_of (t ∷ ts) = ts
-
 -- one token further on
 unfoldable pub next : Place → Place
 next c = record c { rest = rest_of c.rest }
@@ -72,24 +85,9 @@ refused unread c = if sees k.End c then at_end c else (if unread || sees k.LeftO
 
 -- ---- names
 
-abbrev pub begins_quoted : List ℕ → Bool
-begins_quoted [] = false
-begins_quoted (byte ∷ bytes) = byte == 34
-
--- the name that stands behind the sign `%` or `@`
+-- what stands behind the first byte that spells the next token
 unfoldable pub name : Place → List ℕ
 name c = drop 1 (spelling c)
-
--- it is written without quotes
-unfoldable pub is_plain : Place → Bool
-is_plain c = not (begins_quoted (name c))
-
--- the name that stands before the `:` of a label
-unfoldable pub label : Place → List ℕ
-label c = take (size c - 1) (spelling c)
-
-unfoldable pub is_plain_label : Place → Bool
-is_plain_label c = not (begins_quoted (label c))
 
 abbrev pub spelled_first : List ℕ → List Token → List ℕ
 spelled_first text [] = []
@@ -98,3 +96,13 @@ spelled_first text (t ∷ ts) = name_of text t
 -- what the next token spells, without its sign, its quotes and its escapes
 unfoldable pub spelled : Place → List ℕ
 spelled c = spelled_first c.text c.rest
+
+-- a number in place of a local name
+abbrev pub is_local_number : Kind → Bool
+is_local_number k.LocalNumber = true
+is_local_number k.LabelNumber = true
+is_local_number _ = false
+
+-- the key of the next token as a local name
+unfoldable pub local_key : Place → List ℕ
+local_key c = if is_local_number (kind c) then key_of_digits (spelled c) else key_of_name (spelled c)

@@ -1,9 +1,10 @@
 //! A place among the tokens of a text.
-ghost use Rattle.std.specs.Prelude.{◌≡◌, ◌≢◌, true, false, ◌<◌, ◌^◌, length, take, drop, is_some, IfOk};
+ghost use Rattle.std.specs.Prelude.{◌≡◌, ◌≢◌, true, false, ◌<◌, ◌^◌, length, take, drop, is_some, IfOk, IfSome};
 ghost use Rattle.ir_cursor.specs.Cursor as spec;
 
 use crate::fault::Fault;
-use ir_tokens::{Kind, Token, unescaped};
+use ir_ast::{key_of_digits, marked, needs_mark};
+use ir_tokens::{Kind, Token, plain_name, unescaped};
 use items::Items;
 use std::alloc::{AllocError, Global};
 use std::marker::Model;
@@ -89,6 +90,28 @@ impl<'a> Cursor<'a> {
         match self.rest {
             [token, ..] => token.kind,
             [] => Kind::End,
+        }
+    }
+
+    /// What the token behind the next one is.
+    #[tactic(auto, unfolding(crate::specs::Cursor::kind_behind))]
+    pub fn kind_behind(&self) -> Kind
+        ensures { result ≡ spec.kind_behind self.now }
+    {
+        match self.rest {
+            [_, token, ..] => token.kind,
+            _ => Kind::End,
+        }
+    }
+
+    /// Whether the next token is the first one on its line.
+    #[tactic(auto, unfolding(crate::specs::Cursor::begins_line))]
+    pub fn begins_line(&self) -> bool
+        ensures { result ≡ spec.begins_line self.now }
+    {
+        match self.rest {
+            [token, ..] => token.begins_line,
+            [] => false,
         }
     }
 
@@ -186,15 +209,15 @@ impl<'a> Cursor<'a> {
     }
 }
 
-/// Whether a name is written in quotes.
-fn begins_quoted(name: &[u8]) -> bool
-    ensures { result ≡ spec.begins_quoted name.now }
+/// Whether the token is a number in place of a local name.
+fn is_local_number(kind: Kind) -> bool
+    ensures { result ≡ spec.is_local_number kind }
 {
-    matches!(name, [b'"', ..])
+    matches!(kind, Kind::LocalNumber | Kind::LabelNumber)
 }
 
 impl<'a> Cursor<'a> {
-    /// The next token's name, behind its sign.
+    /// What stands behind the first byte that spells the next token.
     #[tactic(auto, unfolding(crate::specs::Cursor::name))]
     pub fn name(&self) -> &[u8]
         ensures { result.now ≡ spec.name self.now }
@@ -202,28 +225,15 @@ impl<'a> Cursor<'a> {
         behind(self.spelling(), 1)
     }
 
-    /// Whether the next token's name, behind its sign, is written without quotes.
-    #[tactic(auto, unfolding(crate::specs::Cursor::is_plain))]
-    pub fn is_plain(&self) -> bool
-        ensures { result ≡ spec.is_plain self.now }
+    /// What the next token spells, without its sign and its quotes, where it has no escapes.
+    #[tactic(auto, unfolding(crate::specs::Cursor::spelled))]
+    pub fn borrowed(&self) -> Option<&[u8]>
+        ensures { IfSome result (λ name. name.now ≡ spec.spelled self.now) }
     {
-        !begins_quoted(self.name())
-    }
-
-    /// The next token's name, before the `:` of a label.
-    #[tactic(auto, unfolding(crate::specs::Cursor::label))]
-    pub fn label(&self) -> &[u8]
-        ensures { result.now ≡ spec.label self.now }
-    {
-        front(self.spelling(), self.size().saturating_sub(1) as usize)
-    }
-
-    /// Whether the next token's name, before the `:` of a label, is written without quotes.
-    #[tactic(auto, unfolding(crate::specs::Cursor::is_plain_label))]
-    pub fn is_plain_label(&self) -> bool
-        ensures { result ≡ spec.is_plain_label self.now }
-    {
-        !begins_quoted(self.label())
+        match self.rest {
+            [token, ..] => plain_name(self.text, *token),
+            [] => None,
+        }
     }
 
     /// What the next token spells, without its sign, its quotes and its escapes.
@@ -234,6 +244,40 @@ impl<'a> Cursor<'a> {
         match self.rest {
             [token, ..] => unescaped(alloc, self.text, *token),
             [] => Ok(Items::new(alloc)),
+        }
+    }
+
+    /// The key of the next token as a local name, where the text has it as it is.
+    #[tactic(auto, unfolding(crate::specs::Cursor::local_key))]
+    pub fn borrowed_key(&self) -> Option<&[u8]>
+        ensures { IfSome result (λ key. key.now ≡ spec.local_key self.now) }
+    {
+        match self.borrowed() {
+            Some(name) => {
+                if is_local_number(self.kind()) {
+                    Some(key_of_digits(name))
+                } else if needs_mark(name) {
+                    None
+                } else {
+                    Some(name)
+                }
+            }
+            None => None,
+        }
+    }
+
+    /// The key of the next token as a local name.
+    #[tactic(auto, unfolding(crate::specs::Cursor::local_key))]
+    pub fn local_key(&self, alloc: Global) -> Result<Vec<u8>, AllocError>
+        ensures { IfOk result (λ key. key.items ≡ spec.local_key self.now) }
+    {
+        let name = self.spelled(alloc)?;
+        if is_local_number(self.kind()) {
+            Vec::from_slice(alloc, key_of_digits(name.as_slice()))
+        } else if needs_mark(name.as_slice()) {
+            marked(alloc, name.as_slice())
+        } else {
+            Vec::from_slice(alloc, name.as_slice())
         }
     }
 }

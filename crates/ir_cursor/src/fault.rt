@@ -20,6 +20,8 @@ pub enum Fault {
     LeftOut { start: u32, length: u32 },
     /// More than a limit allows.
     Limit(u32),
+    /// The number that stands in place of a name is not the next one.
+    WrongNumber(u32),
 }
 
 impl From<AllocError> for Fault {

@@ -1,7 +1,7 @@
 -- Instructions that end a block.
 use Rattle.std.specs.Prelude.{ℕ, Bool, true, false, not, List, [], Option}
 use Rattle.grammar.specs.Grammar.{pure, checked, refuse, look, ◌>>=◌, ◌>>◌}
-use Rattle.grammar.specs.Takes.{Takes, first_takes, second_takes}
+use Rattle.grammar.specs.Takes.{Takes, TakesWhere, first_takes, first_takes_where, second_takes, look_takes}
 use Rattle.ir_tokens.specs.declared.token.Kind.{Kind}
 use Rattle.ir_tokens.specs.declared.token.Kind.TheVariants as k
 use Rattle.ir_ast.specs.declared.operand.Constant.{Constant}
@@ -12,7 +12,7 @@ use Rattle.ir_cursor.specs.declared.fault.Fault.TheVariants.{DefinedTwice}
 use Rattle.ir_parts.specs.declared.input.Input.{Input}
 use Rattle.ir_parts.specs.declared.written.WrittenType.{WrittenType}
 use Rattle.ir_cursor.specs.Cursor.{kind, sees, start}
-use Rattle.ir_parts.specs.Input.{Form, unexpected, skip, expect, expect_takes}
+use Rattle.ir_parts.specs.Input.{Form, unexpected, skip, skip_takes, expect, expect_takes, IsKind}
 use Rattle.ir_parts.specs.Names.{target}
 use Rattle.ir_parts.specs.Written.{scalar, again, bits_of}
 use Rattle.ir_parts.specs.Operand.{operand, constant}
@@ -20,7 +20,8 @@ use Rattle.ir_instructions.specs.declared.branches.Cases.{Cases}
 use Rattle.ir_instructions.specs.declared.case_values.CaseValue.{CaseValue}
 use Rattle.ir_instructions.specs.CaseValues.{value_of, is_among, with_value}
 use Rattle.ir_instructions.specs.Integers.{condition}
-use Rattle.ir_instructions.specs.Lists.{either, typed}
+use Rattle.ir_instructions.specs.Lists.{typed}
+use Rattle.ir_instructions.specs.Decorations.{either}
 use Rattle.ir_instructions.specs.ManyWith.{many_with}
 
 -- ---- br
@@ -38,9 +39,12 @@ branch = do
   other ← target
   pure (op.Branch x.written x.operand taken other)
 
+abbrev pub br_behind : Form Op
+br_behind = look (λ i. sees k.Label i.cursor) (either jump branch)
+
 -- `br label %b`, or a branch
 unfoldable pub br : Form Op
-br = skip >> look (λ i. sees k.Label i.cursor) (either jump branch)
+br = skip >> br_behind
 
 -- ---- switch
 
@@ -89,10 +93,8 @@ bracketed_cases w = do
   expect k.CloseSquare
   pure xs
 
--- `switch T V, label %d [ T c, label %b .. ]`
-unfoldable pub switch : Form Op
-switch = do
-  skip
+abbrev pub switch_behind : Form Op
+switch_behind = do
   w ← scalar
   x ← operand (bits_of w)
   expect k.Comma
@@ -100,14 +102,21 @@ switch = do
   xs ← bracketed_cases w
   pure (op.Switch w.id x otherwise xs)
 
+-- `switch T V, label %d [ T c, label %b .. ]`
+unfoldable pub switch : Form Op
+switch = skip >> switch_behind
+
 -- ---- ret
 
 abbrev pub returned_value : Form Op
 returned_value = typed >>= λ x. pure (op.Return x)
 
+abbrev pub ret_behind : Form Op
+ret_behind = look (λ i. sees k.Void i.cursor) (either (skip >> pure op.ReturnVoid) returned_value)
+
 -- `ret void` or `ret T V`
 unfoldable pub ret : Form Op
-ret = skip >> look (λ i. sees k.Void i.cursor) (either (skip >> pure op.ReturnVoid) returned_value)
+ret = skip >> ret_behind
 
 -- ---- by the word
 
@@ -121,6 +130,29 @@ terminator_by _ = refuse unexpected
 -- the instruction that ends a block
 unfoldable pub terminator : Form Op
 terminator = look (λ i. kind i.cursor) terminator_by
+
+ret_takes : TakesWhere (IsKind k.Ret) ret
+unfolding ret
+ret_takes = first_takes_where (IsKind k.Ret) skip (λ _. ret_behind) (skip_takes k.Ret (λ x. cc))
+
+br_takes : TakesWhere (IsKind k.Br) br
+unfolding br
+br_takes = first_takes_where (IsKind k.Br) skip (λ _. br_behind) (skip_takes k.Br (λ x. cc))
+
+switch_takes : TakesWhere (IsKind k.Switch) switch
+unfolding switch
+switch_takes = first_takes_where (IsKind k.Switch) skip (λ _. switch_behind) (skip_takes k.Switch (λ x. cc))
+
+terminator_takes_by : (x : Kind) → TakesWhere (IsKind x) (terminator_by x)
+terminator_takes_by k.Ret = ret_takes
+terminator_takes_by k.Br = br_takes
+terminator_takes_by k.Switch = switch_takes
+terminator_takes_by k.Unreachable = first_takes_where (IsKind k.Unreachable) skip (λ _. pure op.Unreachable) (skip_takes k.Unreachable (λ x. cc))
+terminator_takes_by _ = λ i a o e h. absurd h
+
+pub terminator_takes : Takes terminator
+unfolding terminator
+terminator_takes = look_takes (λ i. kind i.cursor) terminator_by terminator_takes_by
 
 abbrev pub ends_block : Kind → Bool
 ends_block k.Ret = true

@@ -1,16 +1,19 @@
 -- Calls.
-use Rattle.std.specs.Prelude.{ℕ, Bool, true, false, not, ◌||◌}
-use Rattle.grammar.specs.Grammar.{pure, checked, refuse, look, ◌>>=◌, ◌>>◌}
+use Rattle.std.specs.Prelude.{ℕ, Some, None}
+use Rattle.grammar.specs.Grammar.{pure, refuse, look, ◌>>=◌, ◌>>◌}
 use Rattle.ir_tokens.specs.declared.token.Kind.{Kind}
 use Rattle.ir_tokens.specs.declared.token.Kind.TheVariants as k
 use Rattle.ir_ast.specs.declared.ir_type.IrType.TheVariants as type
+use Rattle.ir_ast.specs.declared.instr.Instr.{Instr}
 use Rattle.ir_ast.specs.declared.op.Op.{Op}
 use Rattle.ir_ast.specs.declared.op.Op.TheVariants as op
-use Rattle.ir_cursor.specs.Cursor.{kind, left_out}
-use Rattle.ir_parts.specs.Input.{Form, unread, skip, expect}
-use Rattle.ir_parts.specs.Names.{set_type, callee}
+use Rattle.ir_cursor.specs.Cursor.{kind}
+use Rattle.ir_parts.specs.Input.{Form, unread, skip, expect, sees_a}
+use Rattle.ir_parts.specs.Names.{set_type, callee, unnamed_value}
 use Rattle.ir_parts.specs.Written.{scalar, intern}
-use Rattle.ir_instructions.specs.Starts.{is_decoration, is_indirect_callee}
+use Rattle.ir_instructions.specs.Starts.{is_indirect_callee}
+use Rattle.ir_instructions.specs.Decorations.{decorations, trailed}
+use Rattle.ir_instructions.specs.declared.decorating.Spot.TheVariants as spot
 use Rattle.ir_instructions.specs.Lists.{arguments}
 
 abbrev pub called_by : Kind → Form ℕ
@@ -28,39 +31,64 @@ call_behind returned = do
   expect k.OpenRound
   xs ← arguments
   expect k.CloseRound
+  decorations spot.Call
   pure (op.Call returned f xs)
 
--- decorations are not read yet
-abbrev pub no_decoration : Form (Unit {0})
-no_decoration = checked (λ i. not (is_decoration (kind i.cursor))) (λ i. left_out i.cursor)
-
--- `call T @f(T V, ..)`, whose value is a T
-unfoldable pub call : ℕ → Form Op
-call value = do
-  skip
-  no_decoration
+-- `T @f(T V, ..)` behind the word, whose value is a T
+abbrev pub typed_call : ℕ → Form Op
+typed_call value = do
   returned ← scalar
   x ← call_behind returned.id
   set_type value returned.id
   pure x
 
--- calls whose value has no name
-abbrev pub begins_typed_call : Kind → Bool
-begins_typed_call k.IntegerType = true
-begins_typed_call k.LocalName = true
-begins_typed_call k.LocalNumber = true
-begins_typed_call k.OpenSquare = true
-begins_typed_call k.OpenBrace = true
-begins_typed_call k.Less = true
-begins_typed_call _ = false
+-- `call T @f(T V, ..)`, whose value has a name
+unfoldable pub call : ℕ → Form Op
+call value = do
+  skip
+  decorations spot.Result
+  typed_call value
 
-abbrev pub begins_unnamed_call : Kind → Bool
-begins_unnamed_call x = is_decoration x || begins_typed_call x
+-- ---- calls without the name of a value
 
-abbrev pub void_call_by : Kind → Form Op
-void_call_by k.Void = skip >> intern type.Void >>= call_behind
-void_call_by _ = refuse (unread begins_unnamed_call)
+-- an instruction with this value, and the decorations behind it
+abbrev pub valued : ℕ → Op → Form Instr
+valued value op = trailed op >>= λ x. pure (record { result = Some value; op = x })
 
--- `call void @f(T V, ..)`
+-- an instruction without a value, and the decorations behind it
+abbrev pub unnamed : Op → Form Instr
+unnamed op = trailed op >>= λ x. pure (record { result = None; op = x })
+
+-- `void @f(T V, ..)` behind the word
 unfoldable pub void_call : Form Op
-void_call = skip >> look (λ i. kind i.cursor) void_call_by
+void_call = skip >> intern type.Void >>= call_behind
+
+abbrev pub valued_call : ℕ → Form Instr
+valued_call value = typed_call value >>= valued value
+
+-- a call whose value takes the next number
+unfoldable pub numbered_call : Form Instr
+numbered_call = unnamed_value >>= valued_call
+
+abbrev pub call_by : Kind → Form Instr
+call_by k.Void = void_call >>= unnamed
+call_by _ = numbered_call
+
+abbrev pub call_statement_behind : Form Instr
+call_statement_behind = decorations spot.Result >> look (λ i. kind i.cursor) call_by
+
+-- `call T @f(T V, ..)`, where T may be `void`
+unfoldable pub call_statement : Form Instr
+call_statement = skip >> call_statement_behind
+
+-- ---- words before a call
+
+abbrev pub sees_call : Form (Unit {0})
+sees_call = skip >> sees_a k.Call
+
+-- `tail` or `notail` before a call
+unfoldable pub tail_call : ℕ → Form Op
+tail_call value = sees_call >> call value
+
+unfoldable pub tail_call_statement : Form Instr
+tail_call_statement = sees_call >> call_statement

@@ -1,6 +1,6 @@
 -- Instructions of integers, and select.
-use Rattle.std.specs.Prelude.{ℕ, Bool, true, false, not, ◌&&◌, Option, Some, None}
-use Rattle.grammar.specs.Grammar.{pure, checked, refuse, look, ◌>>=◌, ◌>>◌}
+use Rattle.std.specs.Prelude.{ℕ, Bool, true, false, Option, Some, None}
+use Rattle.grammar.specs.Grammar.{pure, refuse, look, ◌>>=◌, ◌>>◌}
 use Rattle.ir_tokens.specs.declared.token.Kind.{Kind}
 use Rattle.ir_tokens.specs.declared.token.Kind.TheVariants as k
 use Rattle.ir_ast.specs.declared.ir_type.IrType.TheVariants as type
@@ -15,14 +15,14 @@ use Rattle.ir_ast.specs.declared.op.Op.{Op}
 use Rattle.ir_ast.specs.declared.op.Op.TheVariants as op
 use Rattle.ir_parts.specs.declared.written.Base.TheVariants.{Integer}
 use Rattle.ir_parts.specs.declared.written.WrittenType.{WrittenType}
-use Rattle.ir_cursor.specs.Cursor.{kind, left_out}
-use Rattle.ir_parts.specs.Input.{Form, unexpected, unread, skip, expect}
+use Rattle.ir_cursor.specs.Cursor.{kind}
+use Rattle.ir_parts.specs.Input.{Form, unexpected, skip, expect}
 use Rattle.ir_parts.specs.Names.{set_type}
 use Rattle.ir_parts.specs.Written.{scalar, intern, again, bits_of}
 use Rattle.ir_parts.specs.Operand.{operand}
 use Rattle.ir_instructions.specs.declared.integers.TwoOperands.{TwoOperands}
 use Rattle.ir_instructions.specs.Lists.{typed}
-use Rattle.ir_instructions.specs.Starts.{begins_unread_value, is_flag}
+use Rattle.ir_instructions.specs.Decorations.{flags}
 
 -- `T V, W`
 unfoldable pub pair : Form TwoOperands
@@ -61,15 +61,11 @@ may_wrap a.Sub = true
 may_wrap a.Mul = true
 may_wrap _ = false
 
--- flags are not read yet
-abbrev pub no_flag : Arithmetic → Form (Unit {0})
-no_flag x = checked (λ i. not (may_wrap x && is_flag (kind i.cursor))) (λ i. left_out i.cursor)
-
 -- `add T V, W`, and so for the other five
 unfoldable pub arithmetic : Arithmetic → ℕ → Form Op
 arithmetic x value = do
   skip
-  no_flag x
+  flags (may_wrap x)
   p ← pair
   set_type value p.written
   pure (op.Arithmetic x p.written p.first p.second)
@@ -151,7 +147,7 @@ select value = do
 -- ---- by the word
 
 abbrev pub resize_by : ℕ → Option Resize → Form Op
-resize_by value None = refuse (unread begins_unread_value)
+resize_by value None = refuse unexpected
 resize_by value (Some x) = resize x value
 
 unfoldable pub resized : ℕ → Form Op

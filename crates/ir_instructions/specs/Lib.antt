@@ -1,5 +1,6 @@
 pub mod ManyWith
 pub mod Starts
+pub mod Decorations
 pub mod Lists
 pub mod Sites
 pub mod Memory

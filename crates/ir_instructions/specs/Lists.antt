@@ -1,5 +1,5 @@
 -- Lists of parts, with commas between them.
-use Rattle.std.specs.Prelude.{Bool, true, false, not, List}
+use Rattle.std.specs.Prelude.{Bool, true, false, not, ◌&&◌, ◌||◌, List}
 use Rattle.grammar.specs.Grammar.{pure, checked, look, ◌>>=◌, ◌>>◌}
 use Rattle.grammar.specs.Takes.{Takes, first_takes}
 use Rattle.grammar.specs.Many.{many}
@@ -8,22 +8,21 @@ use Rattle.ir_tokens.specs.declared.token.Kind.TheVariants as k
 use Rattle.ir_ast.specs.declared.op.Argument.{Argument}
 use Rattle.ir_parts.specs.declared.input.Input.{Input}
 use Rattle.ir_parts.specs.declared.written.WrittenType.{WrittenType}
-use Rattle.ir_cursor.specs.Cursor.{sees, left_out}
-use Rattle.ir_parts.specs.Input.{Form, unexpected, unread, skip, expect, expect_takes, sees_a}
+use Rattle.ir_cursor.specs.Cursor.{kind_behind, sees}
+use Rattle.ir_parts.specs.Input.{Form, unexpected, expect, expect_takes}
 use Rattle.ir_parts.specs.Written.{scalar, bits_of, scalar_takes}
 use Rattle.ir_parts.specs.Operand.{operand}
-use Rattle.ir_instructions.specs.Starts.{decorates_part}
-
-abbrev pub either : {A : Type 0} → Form A → Form A → Bool → Form A
-either a b true = a
-either a b false = b
+use Rattle.ir_instructions.specs.Decorations.{either, decorations}
+use Rattle.ir_instructions.specs.ManyWith.{many_with}
+use Rattle.ir_instructions.specs.declared.decorating.Spot.TheVariants as spot
+use Rattle.ir_instructions.specs.declared.lists.IndexList.{IndexList}
 
 -- the next token is not of this kind
 abbrev pub sees_no : Kind → Form (Unit {0})
 sees_no wanted = checked (λ i. not (sees wanted i.cursor)) unexpected
 
 abbrev pub comma : Kind → Form (Unit {0})
-comma close = checked (λ i. sees k.Comma i.cursor) (unread decorates_part) >> skip >> sees_no close
+comma close = expect k.Comma >> sees_no close
 
 -- nothing before the list's end, or else a comma with a further part behind it
 unfoldable pub separator : Kind → Form (Unit {0})
@@ -34,6 +33,7 @@ at_round i = sees k.CloseRound i.cursor
 
 abbrev pub argument_of : WrittenType → Form Argument
 argument_of w = do
+  decorations spot.Argument
   x ← operand (bits_of w)
   separator k.CloseRound
   pure (record { written = w.id; operand = x })
@@ -52,17 +52,9 @@ arguments = many at_round argument argument_takes
 
 -- ---- lists without an end of their own
 
--- metadata behind a comma is not read yet
-abbrev pub no_metadata : Form (Unit {0})
-no_metadata = checked (λ i. not (sees k.MetadataName i.cursor)) (λ i. left_out i.cursor)
-
--- a comma before a further part
-unfoldable pub further : Form (Unit {0})
-further = expect k.Comma >> no_metadata
-
-pub further_takes : Takes further
-unfolding further
-further_takes = first_takes (expect k.Comma) (λ _. no_metadata) (expect_takes k.Comma (λ x. cc))
+abbrev pub is_metadata : Kind → Bool
+is_metadata k.MetadataName = true
+is_metadata _ = false
 
 -- `T V`
 unfoldable pub typed : Form Argument
@@ -73,15 +65,25 @@ typed = do
 
 -- `, T V`
 unfoldable pub index : Form Argument
-index = further >> typed
+index = expect k.Comma >> typed
 
-pub index_takes : Takes index
+abbrev pub any_index : IndexList → Form Argument
+any_index s = index
+
+pub index_takes : (s : IndexList) → Takes (any_index s)
 unfolding index
-index_takes = first_takes further (λ _. typed) further_takes
+index_takes s = first_takes (expect k.Comma) (λ _. typed) (expect_takes k.Comma (λ x. cc))
 
+-- no further part of the list stands here; metadata is none
 abbrev pub at_no_comma : Input → Bool
-at_no_comma i = not (sees k.Comma i.cursor)
+at_no_comma i = not (sees k.Comma i.cursor) || is_metadata (kind_behind i.cursor)
+
+abbrev pub ends_indices : IndexList → Input → Bool
+ends_indices s i = s.is_further && at_no_comma i
+
+abbrev pub behind_index : IndexList → Argument → IndexList
+behind_index s x = record s { is_further = true }
 
 -- the indices of a getelementptr, of which there is one at least
 unfoldable pub indices : Form (List Argument)
-indices = sees_a k.Comma >> many at_no_comma index index_takes
+indices = many_with ends_indices any_index index_takes behind_index (record { is_further = false })

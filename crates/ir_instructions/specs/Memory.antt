@@ -1,18 +1,18 @@
 -- Instructions of slots and places.
-use Rattle.std.specs.Prelude.{ℕ, not, None}
-use Rattle.grammar.specs.Grammar.{pure, checked, ◌>>=◌, ◌>>◌}
+use Rattle.std.specs.Prelude.{ℕ, None}
+use Rattle.grammar.specs.Grammar.{pure, ◌>>=◌, ◌>>◌}
 use Rattle.ir_tokens.specs.declared.token.Kind.TheVariants as k
 use Rattle.ir_ast.specs.declared.ir_type.IrType.TheVariants as type
 use Rattle.ir_ast.specs.declared.op.Argument.{Argument}
 use Rattle.ir_ast.specs.declared.op.Op.{Op}
 use Rattle.ir_ast.specs.declared.op.Op.TheVariants as op
 use Rattle.ir_parts.specs.declared.written.WrittenType.{WrittenType}
-use Rattle.ir_cursor.specs.Cursor.{sees, left_out}
 use Rattle.ir_parts.specs.Input.{Form, skip, expect}
 use Rattle.ir_parts.specs.Names.{set_type, set_element}
 use Rattle.ir_parts.specs.Written.{any_type, scalar, intern, pointer_again, bits_of}
 use Rattle.ir_parts.specs.Operand.{operand}
 use Rattle.ir_instructions.specs.declared.site.Site.{Site}
+use Rattle.ir_instructions.specs.Decorations.{optional}
 use Rattle.ir_instructions.specs.Lists.{typed, indices}
 
 -- `alloca T`, whose value is a pointer to T
@@ -45,6 +45,7 @@ place_of held = do
 unfoldable pub load : ℕ → Form Op
 load value = do
   skip
+  optional k.Volatile
   loaded ← scalar
   expect k.Comma
   place ← place_of loaded
@@ -59,13 +60,16 @@ stored_behind = do
   place ← place_of stored
   pure (op.Store stored.id value place.written place.operand)
 
+abbrev pub stored_here : Form Op
+stored_here = optional k.Volatile >> stored_behind
+
 -- `store T V, T* W`
 unfoldable pub store : Form Op
-store = skip >> stored_behind
+store = skip >> stored_here
 
--- the type of which a part is taken; `inbounds` is not read yet
+-- the type of which a part is taken
 unfoldable pub source : Form WrittenType
-source = checked (λ i. not (sees k.Inbounds i.cursor)) (λ i. left_out i.cursor) >> any_type
+source = optional k.Inbounds >> any_type
 
 -- `getelementptr T, T* V, T W, ..`
 unfoldable pub element : Site → ℕ → Form Op

@@ -13,12 +13,12 @@ use Rattle.ir_parts.specs.Written.{scalar, bits_of}
 use Rattle.ir_parts.specs.Operand.{operand}
 use Rattle.ir_instructions.specs.declared.phis.Entries.{Entries}
 use Rattle.ir_instructions.specs.declared.site.Site.{Site}
-use Rattle.ir_instructions.specs.Lists.{further, at_no_comma}
+use Rattle.ir_instructions.specs.Lists.{at_no_comma}
 use Rattle.ir_instructions.specs.ManyWith.{many_with}
 
 -- behind the first entry a comma stands before each
 unfoldable pub separated : Bool → Form (Unit {0})
-separated true = further
+separated true = expect k.Comma
 separated false = pure tt
 
 abbrev pub incoming_behind : Option ℕ → Form Incoming

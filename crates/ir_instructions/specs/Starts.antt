@@ -1,38 +1,17 @@
--- Kinds of tokens with which forms begin that are not read yet.
+-- Kinds of tokens with which forms begin that are left out, and of decorations.
 use Rattle.std.specs.Prelude.{Bool, true, false}
 use Rattle.ir_tokens.specs.declared.token.Kind.{Kind}
 use Rattle.ir_tokens.specs.declared.token.Kind.TheVariants as k
 
--- words before a type or a kind of item, which decorate it
-abbrev pub is_decoration : Kind → Bool
-is_decoration k.LowercaseWord = true
-is_decoration k.External = true
-is_decoration k.ExternWeak = true
-is_decoration _ = false
-
--- what stands behind a parameter's or an argument's parts, and decorates it
-abbrev pub decorates_part : Kind → Bool
-decorates_part k.LowercaseWord = true
-decorates_part k.AttributeGroup = true
-decorates_part k.Align = true
-decorates_part k.MetadataName = true
-decorates_part _ = false
-
--- values without a name, and decorations behind an instruction
-abbrev pub begins_unread_instruction : Kind → Bool
-begins_unread_instruction k.LocalNumber = true
-begins_unread_instruction k.Tail = true
-begins_unread_instruction k.Notail = true
-begins_unread_instruction k.Comma = true
-begins_unread_instruction k.AttributeGroup = true
-begins_unread_instruction k.LowercaseWord = true
-begins_unread_instruction _ = false
-
--- decorations before a call
-abbrev pub begins_unread_value : Kind → Bool
-begins_unread_value k.Tail = true
-begins_unread_value k.Notail = true
-begins_unread_value _ = false
+-- any type, also one that is left out
+abbrev pub begins_any_type : Kind → Bool
+begins_any_type k.IntegerType = true
+begins_any_type k.LocalName = true
+begins_any_type k.LocalNumber = true
+begins_any_type k.OpenSquare = true
+begins_any_type k.OpenBrace = true
+begins_any_type k.Less = true
+begins_any_type _ = false
 
 -- what is called in place of a function by its name
 abbrev pub is_indirect_callee : Kind → Bool

@@ -4,13 +4,13 @@ ghost use Rattle.ir_parts.specs.Input.{Reads};
 ghost use Rattle.ir_instructions.specs.Instructions as form;
 
 use crate::branches::{ends_block, terminator};
-use crate::calls::{call, void_call};
+use crate::calls::{call, call_statement, tail_call, tail_call_statement, unnamed, valued};
+use crate::decorating::trailed;
 use crate::following::{Following, many_with};
 use crate::integers::{compare, integer_op, select};
 use crate::memory::{alloca, bitcast, element, load, store};
 use crate::phis::phi;
 use crate::site::{Site, is_phi};
-use crate::starts::begins_unread_instruction;
 use ir_ast::{BlockId, Instr, Op, ValueId};
 use ir_cursor::Fault;
 use ir_parts::Input;
@@ -32,8 +32,18 @@ fn named_op(alloc: Global, input: &mut Input<'_>, site: Site, value: ValueId) ->
         Kind::Select => select(alloc, input, value),
         Kind::Phi => phi(alloc, input, site, value),
         Kind::Call => call(alloc, input, value),
+        Kind::Tail | Kind::Notail => tail_call(alloc, input, value),
         _ => integer_op(alloc, input, value),
     }
+}
+
+/// What stands behind the name of a value.
+fn named(alloc: Global, input: &mut Input<'_>, site: Site, value: ValueId) -> Result<Instr, Fault>
+    ensures { Reads ((form.named_behind site value).read input.old) result input.new }
+{
+    input.expect(Kind::Equals)?;
+    let op = named_op(alloc, input, site, value)?;
+    valued(alloc, input, value, op)
 }
 
 /// An instruction that does not end its block.
@@ -44,22 +54,19 @@ fn instruction(alloc: Global, input: &mut Input<'_>, site: Site) -> Result<Instr
     match input.kind() {
         Kind::LocalName => {
             let value = input.new_value(alloc)?;
-            input.expect(Kind::Equals)?;
-            let op = named_op(alloc, input, site, value)?;
-            Ok(Instr {
-                result: Some(value),
-                op,
-            })
+            named(alloc, input, site, value)
         }
-        Kind::Call => {
-            let op = void_call(alloc, input)?;
-            Ok(Instr { result: None, op })
+        Kind::LocalNumber => {
+            let value = input.numbered_value(alloc)?;
+            named(alloc, input, site, value)
         }
+        Kind::Call => call_statement(alloc, input),
+        Kind::Tail | Kind::Notail => tail_call_statement(alloc, input),
         Kind::Store => {
             let op = store(alloc, input)?;
-            Ok(Instr { result: None, op })
+            unnamed(alloc, input, op)
         }
-        kind => Err(input.refuse(begins_unread_instruction(kind))),
+        _ => Err(input.refuse(false)),
     }
 }
 
@@ -109,6 +116,7 @@ pub fn instructions(
 {
     let mut found = body(alloc, input, block)?;
     let op = terminator(alloc, input)?;
+    let op = trailed(alloc, input, op)?;
     found.push(Instr { result: None, op })?;
     Ok(found)
 }

@@ -72,7 +72,7 @@ pub struct Cases {
 fn case(alloc: Global, input: &mut Input<'_>, cases: &Cases) -> Result<Case, Fault>
     ensures { Reads ((form.case cases.now).read input.old) result input.new }
 {
-    input.again(&cases.written)?;
+    input.again(alloc, &cases.written)?;
     let constant = case_constant(input, bits_of(&cases.written), &cases.seen)?;
     input.expect(Kind::Comma)?;
     let target = input.target(alloc)?;

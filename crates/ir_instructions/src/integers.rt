@@ -3,8 +3,8 @@ ghost use Rattle.std.specs.Prelude.{◌≡◌};
 ghost use Rattle.ir_parts.specs.Input.{Reads};
 ghost use Rattle.ir_instructions.specs.Integers as form;
 
+use crate::decorating::flags;
 use crate::lists::typed;
-use crate::starts::{begins_unread_value, is_flag};
 use ir_ast::{Argument, Arithmetic, Comparison, IrType, Op, Operand, Resize, TypeId, ValueId};
 use ir_cursor::Fault;
 use ir_parts::{Base, Input, ROOM, WrittenType, bits_of};
@@ -43,7 +43,7 @@ fn typed_pair(alloc: Global, input: &mut Input<'_>) -> Result<TwoOperands, Fault
     let written = input.scalar(alloc)?;
     let first = input.operand(alloc, bits_of(&written))?;
     input.expect(Kind::Comma)?;
-    input.again(&written)?;
+    input.again(alloc, &written)?;
     let second = input.operand(alloc, bits_of(&written))?;
     Ok(TwoOperands {
         written: written.id,
@@ -83,9 +83,7 @@ fn arithmetic(
     ensures { Reads ((form.arithmetic kind value).read input.old) result input.new }
 {
     input.skip();
-    if may_wrap(kind) && is_flag(input.kind()) {
-        return Err(input.left_out());
-    }
+    flags(alloc, input, may_wrap(kind))?;
     let pair = pair(alloc, input)?;
     input.set_type(value, pair.written);
     Ok(Op::Arithmetic {
@@ -192,7 +190,7 @@ pub fn condition(alloc: Global, input: &mut Input<'_>) -> Result<Argument, Fault
     ensures { Reads (form.condition.read input.old) result input.new }
 {
     let written = input.intern(IrType::Integer(1))?;
-    input.again(&bit_type(written))?;
+    input.again(alloc, &bit_type(written))?;
     let operand = input.operand(alloc, Some(1))?;
     Ok(Argument { written, operand })
 }
@@ -222,7 +220,7 @@ fn resized(alloc: Global, input: &mut Input<'_>, value: ValueId) -> Result<Op, F
 {
     match resize_of(input.kind()) {
         Some(kind) => resize(alloc, input, kind, value),
-        None => Err(input.refuse(begins_unread_value(input.kind()))),
+        None => Err(input.refuse(false)),
     }
 }
 

@@ -5,6 +5,7 @@ mod bodies;
 mod branches;
 mod calls;
 mod case_values;
+mod decorating;
 mod following;
 mod integers;
 mod lists;
@@ -14,6 +15,6 @@ mod site;
 mod starts;
 
 pub use bodies::instructions;
+pub use decorating::{Spot, Trail, any_token, decorations, optional, trailing};
 pub use following::{Following, many_with};
 pub use lists::separator;
-pub use starts::{begins_unread_instruction, decorates_part, is_decoration};

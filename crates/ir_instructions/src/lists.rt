@@ -3,10 +3,11 @@ ghost use Rattle.std.specs.Prelude.{◌≡◌};
 ghost use Rattle.ir_parts.specs.Input.{Reads};
 ghost use Rattle.ir_instructions.specs.Lists as form;
 
-use crate::starts::decorates_part;
+use crate::decorating::{Spot, decorations};
+use crate::following::{Following, many_with};
 use ir_ast::Argument;
 use ir_cursor::Fault;
-use ir_parts::{Input, Listed, bits_of, many};
+use ir_parts::{Input, Listed, bits_of};
 use ir_tokens::Kind;
 use items::Items;
 use std::alloc::Global;
@@ -19,10 +20,7 @@ pub fn separator(input: &mut Input<'_>, close: Kind) -> Result<(), Fault>
     if input.sees(close) {
         return Ok(());
     }
-    if !input.sees(Kind::Comma) {
-        return Err(input.refuse(decorates_part(input.kind())));
-    }
-    input.skip();
+    input.expect(Kind::Comma)?;
     if input.sees(close) {
         return Err(input.refuse(false));
     }
@@ -35,6 +33,7 @@ fn argument(alloc: Global, input: &mut Input<'_>) -> Result<Argument, Fault>
     ensures { Reads (form.argument.read input.old) result input.new }
 {
     let written = input.scalar(alloc)?;
+    decorations(alloc, input, Spot::Argument)?;
     let operand = input.operand(alloc, bits_of(&written))?;
     separator(input, Kind::CloseRound)?;
     Ok(Argument {
@@ -64,16 +63,11 @@ impl Listed for Arguments {
     }
 }
 
-/// A comma before a further part of a list that has no end of its own.
-#[tactic(auto, unfolding(crate::specs::Lists::further))]
-pub fn further(input: &mut Input<'_>) -> Result<(), Fault>
-    ensures { Reads (form.further.read input.old) result input.new }
+/// Whether no further part stands here of a list that has no end of its own; metadata is none.
+pub fn at_no_comma(input: &Input<'_>) -> bool
+    ensures { result ≡ form.at_no_comma input.now }
 {
-    input.expect(Kind::Comma)?;
-    if input.sees(Kind::MetadataName) {
-        return Err(input.left_out());
-    }
-    Ok(())
+    !input.sees(Kind::Comma) || matches!(input.cursor.kind_behind(), Kind::MetadataName)
 }
 
 /// A value with its type.
@@ -94,28 +88,36 @@ pub fn typed(alloc: Global, input: &mut Input<'_>) -> Result<Argument, Fault>
 fn index(alloc: Global, input: &mut Input<'_>) -> Result<Argument, Fault>
     ensures { Reads (form.index.read input.old) result input.new }
 {
-    further(input)?;
+    input.expect(Kind::Comma)?;
     typed(alloc, input)
 }
 
-/// The indices of a getelementptr.
-pub struct IndexList;
+/// The indices of a getelementptr so far.
+#[derive(Clone, Copy, Debug, PartialEq, Eq)]
+pub struct IndexList {
+    /// Whether there is one.
+    pub is_further: bool,
+}
 
-impl Listed for IndexList {
-    ghost use Rattle.ir_instructions.specs.Lists.{index, at_no_comma};
+impl Following for IndexList {
+    ghost use Rattle.ir_instructions.specs.Lists.{any_index, ends_indices, behind_index};
 
     type Item = Argument;
 
-    ghost form = { index.read };
+    ghost form = { λ s. (any_index s).read };
 
-    ghost ends = { at_no_comma };
+    ghost ends = { ends_indices };
 
-    fn ends(input: &Input<'_>) -> bool {
-        !input.sees(Kind::Comma)
+    ghost next = { behind_index };
+
+    fn ends(&self, input: &Input<'_>) -> bool {
+        self.is_further && at_no_comma(input)
     }
 
-    fn read(alloc: Global, input: &mut Input<'_>) -> Result<Argument, Fault> {
-        index(alloc, input)
+    fn read(&mut self, alloc: Global, input: &mut Input<'_>) -> Result<Argument, Fault> {
+        let read = index(alloc, input)?;
+        self.is_further = true;
+        Ok(read)
     }
 }
 
@@ -124,8 +126,5 @@ impl Listed for IndexList {
 pub fn indices(alloc: Global, input: &mut Input<'_>) -> Result<Items<Argument>, Fault>
     ensures { Reads (form.indices.read input.old) result input.new }
 {
-    if !input.sees(Kind::Comma) {
-        return Err(input.refuse(false));
-    }
-    many::<IndexList>(alloc, input)
+    many_with(alloc, input, IndexList { is_further: false })
 }

@@ -3,6 +3,7 @@ ghost use Rattle.std.specs.Prelude.{◌≡◌};
 ghost use Rattle.ir_parts.specs.Input.{Reads};
 ghost use Rattle.ir_instructions.specs.Memory as form;
 
+use crate::decorating::optional;
 use crate::lists::{indices, typed};
 use crate::site::Site;
 use ir_ast::{Argument, IrType, Op, ValueId};
@@ -43,7 +44,7 @@ pub fn bitcast(alloc: Global, input: &mut Input<'_>, value: ValueId) -> Result<O
 fn place_of(alloc: Global, input: &mut Input<'_>, held: &WrittenType) -> Result<Argument, Fault>
     ensures { Reads ((form.place_of held.now).read input.old) result input.new }
 {
-    let written = input.pointer_again(held)?;
+    let written = input.pointer_again(alloc, held)?;
     let operand = input.operand(alloc, None)?;
     Ok(Argument { written, operand })
 }
@@ -53,6 +54,7 @@ pub fn load(alloc: Global, input: &mut Input<'_>, value: ValueId) -> Result<Op, 
     ensures { Reads ((form.load value).read input.old) result input.new }
 {
     input.skip();
+    optional(input, Kind::Volatile);
     let loaded = input.scalar(alloc)?;
     input.expect(Kind::Comma)?;
     let place = place_of(alloc, input, &loaded)?;
@@ -69,6 +71,7 @@ pub fn store(alloc: Global, input: &mut Input<'_>) -> Result<Op, Fault>
     ensures { Reads (form.store.read input.old) result input.new }
 {
     input.skip();
+    optional(input, Kind::Volatile);
     let stored = input.scalar(alloc)?;
     let value = input.operand(alloc, bits_of(&stored))?;
     input.expect(Kind::Comma)?;
@@ -86,9 +89,7 @@ pub fn store(alloc: Global, input: &mut Input<'_>) -> Result<Op, Fault>
 fn source(alloc: Global, input: &mut Input<'_>) -> Result<WrittenType, Fault>
     ensures { Reads (form.source.read input.old) result input.new }
 {
-    if input.sees(Kind::Inbounds) {
-        return Err(input.left_out());
-    }
+    optional(input, Kind::Inbounds);
     input.any_type(alloc)
 }
 

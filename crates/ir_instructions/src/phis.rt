@@ -4,7 +4,7 @@ ghost use Rattle.ir_parts.specs.Input.{Reads};
 ghost use Rattle.ir_instructions.specs.Phis as form;
 
 use crate::following::{Following, many_with};
-use crate::lists::further;
+use crate::lists::at_no_comma;
 use crate::site::Site;
 use ir_ast::{Incoming, Op, ValueId};
 use ir_cursor::Fault;
@@ -19,7 +19,7 @@ fn separated(input: &mut Input<'_>, is_further: bool) -> Result<(), Fault>
     ensures { Reads ((form.separated is_further).read input.old) result input.new }
 {
     if is_further {
-        further(input)?;
+        input.expect(Kind::Comma)?;
     }
     Ok(())
 }
@@ -67,7 +67,7 @@ impl Following for Entries {
     ghost next = { behind_entry };
 
     fn ends(&self, input: &Input<'_>) -> bool {
-        self.is_further && !input.sees(Kind::Comma)
+        self.is_further && at_no_comma(input)
     }
 
     fn read(&mut self, alloc: Global, input: &mut Input<'_>) -> Result<Incoming, Fault> {

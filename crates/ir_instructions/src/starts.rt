@@ -1,49 +1,22 @@
-//! Kinds of tokens with which forms begin that are not read yet.
+//! Kinds of tokens with which forms begin that are left out, and of decorations.
 ghost use Rattle.std.specs.Prelude.{◌≡◌};
 ghost use Rattle.ir_instructions.specs.Starts as spec;
 
 use ir_tokens::Kind;
 
-/// Words before a type or a kind of item, which decorate it.
-pub fn is_decoration(kind: Kind) -> bool
-    ensures { result ≡ spec.is_decoration kind }
+/// Whether a type begins with a token of this kind, also one that is left out.
+pub fn begins_any_type(kind: Kind) -> bool
+    ensures { result ≡ spec.begins_any_type kind }
 {
     matches!(
         kind,
-        Kind::LowercaseWord | Kind::External | Kind::ExternWeak
+        Kind::IntegerType
+            | Kind::LocalName
+            | Kind::LocalNumber
+            | Kind::OpenSquare
+            | Kind::OpenBrace
+            | Kind::Less
     )
-}
-
-/// What stands behind a parameter's or an argument's parts, and decorates it.
-pub fn decorates_part(kind: Kind) -> bool
-    ensures { result ≡ spec.decorates_part kind }
-{
-    matches!(
-        kind,
-        Kind::LowercaseWord | Kind::AttributeGroup | Kind::Align | Kind::MetadataName
-    )
-}
-
-/// Values without a name, and decorations behind an instruction.
-pub fn begins_unread_instruction(kind: Kind) -> bool
-    ensures { result ≡ spec.begins_unread_instruction kind }
-{
-    matches!(
-        kind,
-        Kind::LocalNumber
-            | Kind::Tail
-            | Kind::Notail
-            | Kind::Comma
-            | Kind::AttributeGroup
-            | Kind::LowercaseWord
-    )
-}
-
-/// Decorations before a call.
-pub fn begins_unread_value(kind: Kind) -> bool
-    ensures { result ≡ spec.begins_unread_value kind }
-{
-    matches!(kind, Kind::Tail | Kind::Notail)
 }
 
 /// What is called in place of a function by its name.

@@ -2,7 +2,7 @@
 use Rattle.std.specs.Prelude.{◌≡◌, ◌≢◌, ℕ, ◌<◌, ◌≤◌, Bool, true, false, List, [], ◌∷◌, length, None, Result, refl}
 use Rattle.std.proofs.Common.{arith, sym, ◌∙◌, rules}
 use Rattle.grammar.specs.Outcome as outcome
-use Rattle.grammar.specs.Grammar.{Grammar, step, checked, ◌>>◌}
+use Rattle.grammar.specs.Grammar.{Grammar, step, checked, ◌>>=◌, ◌>>◌}
 use Rattle.grammar.specs.Takes.{Takes, TakesWhere, step_takes, checked_takes}
 use Rattle.ir_tokens.specs.declared.token.Kind.{Kind}
 use Rattle.ir_tokens.specs.declared.token.Kind.TheVariants as k
@@ -42,6 +42,7 @@ start_of place = record {
   locals = empty;
   local_uses = [];
   values = 0;
+  unnamed = 0;
   missing = None;
   structs = [];
   globals = [];
@@ -125,3 +126,11 @@ skip_takes wanted ne = advance_takes wanted ne (λ _. tt) advanced advanced_fall
 
 pub expect_takes : (wanted : Kind) → wanted ≢ k.End → Takes (expect wanted)
 expect_takes wanted ne = checked_takes (λ i. sees wanted i.cursor) unexpected skip (λ i a o e h. skip_takes wanted ne i a o (sees_is wanted i e) h)
+
+-- behind a form that keeps what holds of the state, a form takes what it takes
+pub keeps_takes : {A B : Type 0} (P : Input → Type 0) (c : Form A) (g : A → Form B) → ((i : Input) (a : A) (o : Input) → c.says i a o → P i → P o)
+    → ((a : A) → TakesWhere P (g a)) → TakesWhere P (c >>= g)
+keeps_takes P c g keeps takes i b o p h =
+    let x = c.moves i h.0 h.1 h.2 in
+    let y = takes h.0 h.1 b o (keeps i h.0 h.1 h.2 p) h.3 in
+    omega (arith, x, y)

@@ -1,6 +1,6 @@
 -- Names: where they are defined, and where they are used. One that is used may be defined further on.
-use Rattle.std.specs.Prelude.{◌≡◌, ℕ, ◌+◌, ◌≤◌, Bool, true, false, not, nat_lt, List, [], ◌∷◌, ◌++◌, ◌==◌, length, Option, Some, None, slice_get, option_and_then, option_map, find, refl}
-use Rattle.std.proofs.Common.{arith, ◌∙◌}
+use Rattle.std.specs.Prelude.{◌≡◌, ◌≢◌, ℕ, ◌+◌, ◌≤◌, Bool, true, false, not, nat_lt, List, [], ◌∷◌, ◌++◌, ◌==◌, length, Option, Some, None, slice_get, option_and_then, option_map, find, refl}
+use Rattle.std.proofs.Common.{arith, ap, sym, ◌∙◌}
 use Rattle.grammar.specs.Grammar.{step, checked, refuse, look, ◌>>◌}
 use Rattle.grammar.specs.Takes.{TakesWhere, Stays, stays_takes}
 use Rattle.ir_tokens.specs.declared.token.Kind.{Kind}
@@ -10,22 +10,20 @@ use Rattle.ir_ast.specs.declared.items_of_module.SymbolSort.{SymbolSort}
 use Rattle.ir_ast.specs.declared.items_of_module.SymbolSort.TheVariants as symbol
 use Rattle.ir_ast.specs.declared.function.LocalSort.{LocalSort}
 use Rattle.ir_ast.specs.declared.function.LocalSort.TheVariants as local
-use Rattle.ir_cursor.specs.declared.fault.Fault.TheVariants.{DefinedTwice}
+use Rattle.ir_cursor.specs.declared.fault.Fault.TheVariants.{DefinedTwice, WrongNumber}
+use Rattle.ir_cursor.specs.Number.{decimal, small}
+use Rattle.std.specs.Fmt as text
 use Rattle.ir_parts.specs.declared.input.Input.{Input}
 use Rattle.ir_cursor.specs.declared.uses.LocalUse.{LocalUse}
 use Rattle.ir_cursor.specs.declared.uses.Wanted.{Wanted}
 use Rattle.ir_cursor.specs.declared.uses.Wanted.TheVariants as wants
-use Rattle.ir_cursor.specs.Cursor.{kind, next, start, size, spelled, name, is_plain, label, is_plain_label, left_out}
-use Rattle.ir_parts.specs.Input.{Form, left, limit, unread, expect, advanced, advanced_falls, sees_a, next_falls, advance_takes, IsKind}
+use Rattle.ir_cursor.specs.Cursor.{kind, next, start, size, spelled, local_key, left_out}
+use Rattle.ir_parts.specs.Input.{Form, left, limit, unexpected, expect, advanced, advanced_falls, sees_a, next_falls, advance_takes, keeps_takes, IsKind}
 use Rattle.ir_cursor.specs.RuntimeNames.{is_intrinsic, is_left_out}
 use Rattle.ir_cursor.specs.declared.table.Table.{Table}
 use Rattle.ir_cursor.specs.Table.{mentioned, defined}
 
 -- ---- rules
-
--- names in quotes are not read yet
-abbrev pub plain : Form (Unit {0})
-plain = checked (λ i. is_plain i.cursor) (λ i. left_out i.cursor)
 
 -- numbers have 32 bits
 abbrev pub has_number : (Input → ℕ) → Form (Unit {0})
@@ -35,6 +33,45 @@ has_number number = checked (λ i. nat_lt (number i) 4294967296) limit
 abbrev pub is_new : (Input → Bool) → Form (Unit {0})
 is_new is_defined = checked (λ i. not (is_defined i)) (λ i. DefinedTwice (start i.cursor))
 
+-- ---- numbers in place of names
+
+abbrev pub with_number_taken : Input → Input
+with_number_taken i = record i { unnamed = i.unnamed + 1 }
+
+pub with_number_taken_falls : (i : Input) → left (with_number_taken i) ≤ left i
+unfolding left
+with_number_taken_falls i = omega arith
+
+abbrev pub has_further_number : Form (Unit {0})
+has_further_number = checked (λ i. nat_lt i.unnamed 4294967295) limit
+
+-- the next number of the function is taken; numbers have 32 bits
+unfoldable pub take_number : Form (Unit {0})
+take_number = has_further_number >> step (λ _. tt) with_number_taken with_number_taken_falls
+
+abbrev pub is_at : ℕ → Option ℕ → Bool
+is_at wanted None = false
+is_at wanted (Some place) = place == wanted
+
+-- the number that the next token spells is the next one
+abbrev pub is_written_next : Input → Bool
+is_written_next i = is_at i.unnamed (small (decimal (spelled i.cursor)))
+
+abbrev pub is_next : Form (Unit {0})
+is_next = checked is_written_next (λ i. WrongNumber (start i.cursor))
+
+-- a number that is written is the next one, and is taken
+unfoldable pub next_number : Form (Unit {0})
+next_number = is_next >> take_number
+
+next_number_keeps : (i : Input) (a : Unit {0}) (o : Input) (x : Kind) → next_number.says i a o → IsKind x i → IsKind x o
+unfolding next_number take_number
+next_number_keeps i a o x h is =
+    let written = ap (λ (j : Input). kind j.cursor) h.2.1 in
+    let further = ap (λ (j : Input). kind j.cursor) h.3.2.1 in
+    let taken = ap (λ (j : Input). kind j.cursor) h.3.3.1 in
+    sym taken ∙ sym further ∙ sym written ∙ is
+
 -- ---- names of structs
 
 abbrev pub is_struct : Option (Option ℕ) → Bool
@@ -43,11 +80,11 @@ is_struct (Some None) = false
 is_struct (Some (Some layout)) = true
 
 abbrev pub struct_number : Input → ℕ
-struct_number i = number_of (name i.cursor) i.struct_names.names
+struct_number i = number_of (spelled i.cursor) i.struct_names.names
 
 abbrev pub with_struct_use : Input → Input
 with_struct_use i = record (advanced i) {
-  struct_names = mentioned (name i.cursor) None i.struct_names;
+  struct_names = mentioned (spelled i.cursor) None i.struct_names;
   struct_uses = i.struct_uses ++ record { name = struct_number i; start = start i.cursor } ∷ [];
 }
 
@@ -56,18 +93,18 @@ unfolding left
 with_struct_use_falls i = next_falls i
 
 abbrev pub struct_name_rules : Form (Unit {0})
-struct_name_rules = plain >> has_number struct_number
+struct_name_rules = has_number struct_number
 
 -- a struct's name in a type
 unfoldable pub struct_name : Form ℕ
 struct_name = struct_name_rules >> step struct_number with_struct_use with_struct_use_falls
 
 abbrev pub is_known_struct : Input → Bool
-is_known_struct i = is_struct (slice_get (mentioned (name i.cursor) None i.struct_names).sorts (struct_number i))
+is_known_struct i = is_struct (slice_get (mentioned (spelled i.cursor) None i.struct_names).sorts (struct_number i))
 
 abbrev pub with_struct : Input → Input
 with_struct i = record (advanced i) {
-  struct_names = defined (struct_number i) (Some (length i.structs)) (mentioned (name i.cursor) None i.struct_names);
+  struct_names = defined (struct_number i) (Some (length i.structs)) (mentioned (spelled i.cursor) None i.struct_names);
 }
 
 pub with_struct_falls : (i : Input) → left (with_struct i) ≤ left i
@@ -75,7 +112,7 @@ unfolding left
 with_struct_falls i = next_falls i
 
 abbrev pub new_struct_rules : Form (Unit {0})
-new_struct_rules = plain >> has_number struct_number >> has_number (λ i. length i.structs) >> is_new is_known_struct
+new_struct_rules = has_number struct_number >> has_number (λ i. length i.structs) >> is_new is_known_struct
 
 -- the name of the struct that comes next in text order
 unfoldable pub new_struct : Form ℕ
@@ -98,24 +135,24 @@ is_function (Some (symbol.Declared d)) = true
 is_function (Some (symbol.Defined f)) = true
 
 abbrev pub symbol_number : Input → ℕ
-symbol_number i = number_of (name i.cursor) i.symbols.names
+symbol_number i = number_of (spelled i.cursor) i.symbols.names
 
 -- intrinsics other than the three are left out
 abbrev pub not_left_out : Form (Unit {0})
-not_left_out = checked (λ i. not (is_left_out (name i.cursor))) (λ i. left_out i.cursor)
+not_left_out = checked (λ i. not (is_left_out (spelled i.cursor))) (λ i. left_out i.cursor)
 
 abbrev pub is_known_symbol : Input → Bool
-is_known_symbol i = is_symbol (slice_get (mentioned (name i.cursor) symbol.Unknown i.symbols).sorts (symbol_number i))
+is_known_symbol i = is_symbol (slice_get (mentioned (spelled i.cursor) symbol.Unknown i.symbols).sorts (symbol_number i))
 
 abbrev pub with_symbol : SymbolSort → Input → Input
-with_symbol sort i = record (advanced i) { symbols = defined (symbol_number i) sort (mentioned (name i.cursor) symbol.Unknown i.symbols) }
+with_symbol sort i = record (advanced i) { symbols = defined (symbol_number i) sort (mentioned (spelled i.cursor) symbol.Unknown i.symbols) }
 
 pub with_symbol_falls : (sort : SymbolSort) (i : Input) → left (with_symbol sort i) ≤ left i
 unfolding left
 with_symbol_falls sort i = next_falls i
 
 abbrev pub new_symbol_rules : Form (Unit {0})
-new_symbol_rules = plain >> not_left_out >> has_number symbol_number >> is_new is_known_symbol
+new_symbol_rules = not_left_out >> has_number symbol_number >> is_new is_known_symbol
 
 -- a global name that is defined here, as this
 unfoldable pub new_symbol : SymbolSort → Form ℕ
@@ -123,7 +160,7 @@ new_symbol sort = new_symbol_rules >> step symbol_number (with_symbol sort) (wit
 
 abbrev pub with_symbol_use : Bool → Input → Input
 with_symbol_use is_call i = record (advanced i) {
-  symbols = mentioned (name i.cursor) symbol.Unknown i.symbols;
+  symbols = mentioned (spelled i.cursor) symbol.Unknown i.symbols;
   symbol_uses = i.symbol_uses ++ record { symbol = symbol_number i; is_call = is_call; start = start i.cursor; length = size i.cursor } ∷ [];
 }
 
@@ -137,11 +174,11 @@ used_symbol is_call = has_number symbol_number >> step symbol_number (with_symbo
 
 -- the name of a function that is called
 unfoldable pub callee : Form ℕ
-callee = plain >> not_left_out >> used_symbol true
+callee = not_left_out >> used_symbol true
 
 -- what the next token's global name stands for so far
 abbrev pub sort_of_symbol : Input → Option SymbolSort
-sort_of_symbol i = option_and_then (slice_get i.symbols.sorts) (place_of (name i.cursor) i.symbols.names)
+sort_of_symbol i = option_and_then (slice_get i.symbols.sorts) (place_of (spelled i.cursor) i.symbols.names)
 
 -- functions are no operands
 abbrev pub no_function : Form (Unit {0})
@@ -149,7 +186,7 @@ no_function = checked (λ i. not (is_function (sort_of_symbol i))) (λ i. left_o
 
 -- the name of a global as an operand
 unfoldable pub used_global : Form ℕ
-used_global = plain >> checked (λ i. not (is_intrinsic (name i.cursor))) (λ i. left_out i.cursor) >> no_function >> used_symbol false
+used_global = checked (λ i. not (is_intrinsic (spelled i.cursor))) (λ i. left_out i.cursor) >> no_function >> used_symbol false
 
 -- ---- local names
 
@@ -161,11 +198,11 @@ is_local (Some (local.Element block place)) = true
 is_local (Some (local.Block b)) = true
 
 abbrev pub local_number : Input → ℕ
-local_number i = number_of (name i.cursor) i.locals.names
+local_number i = number_of (local_key i.cursor) i.locals.names
 
 abbrev pub with_local_use : Wanted → Input → Input
 with_local_use wanted i = record (advanced i) {
-  locals = mentioned (name i.cursor) local.Unknown i.locals;
+  locals = mentioned (local_key i.cursor) local.Unknown i.locals;
   local_uses = i.local_uses ++ record { value = local_number i; wanted = wanted; start = start i.cursor } ∷ [];
 }
 
@@ -175,20 +212,16 @@ with_local_use_falls wanted i = next_falls i
 
 -- a local name that has to stand for this
 unfoldable pub used_local : Wanted → Form ℕ
-used_local wanted = plain >> has_number local_number >> step local_number (with_local_use wanted) (with_local_use_falls wanted)
+used_local wanted = has_number local_number >> step local_number (with_local_use wanted) (with_local_use_falls wanted)
 
--- a local name as an operand
+-- a local name or number as an operand
 abbrev pub used_value : Form ℕ
 used_value = used_local wants.Value
 
--- blocks without a written name
-abbrev pub begins_unread_label : Kind → Bool
-begins_unread_label k.LocalNumber = true
-begins_unread_label _ = false
-
 abbrev pub used_label_by : Wanted → Kind → Form ℕ
 used_label_by wanted k.LocalName = used_local wanted
-used_label_by wanted _ = refuse (unread begins_unread_label)
+used_label_by wanted k.LocalNumber = used_local wanted
+used_label_by wanted _ = refuse unexpected
 
 -- `%b`, the name of a block
 unfoldable pub used_label : Wanted → Form ℕ
@@ -203,22 +236,46 @@ unfoldable pub target : Form ℕ
 target = expect k.Label >> used_label wants.Target
 
 abbrev pub is_known_local : Input → Bool
-is_known_local i = is_local (slice_get (mentioned (name i.cursor) local.Unknown i.locals).sorts (local_number i))
+is_known_local i = is_local (slice_get (mentioned (local_key i.cursor) local.Unknown i.locals).sorts (local_number i))
 
 abbrev pub with_value : Input → Input
-with_value i = record (advanced i) { locals = mentioned (name i.cursor) local.Unknown i.locals; values = i.values + 1 }
+with_value i = record (advanced i) { locals = mentioned (local_key i.cursor) local.Unknown i.locals; values = i.values + 1 }
 
 pub with_value_falls : (i : Input) → left (with_value i) ≤ left i
 unfolding left
 with_value_falls i = next_falls i
 
 -- a function defines at most a million values
+abbrev pub has_value_room : Form (Unit {0})
+has_value_room = checked (λ i. nat_lt i.values 1000000) limit
+
 abbrev pub new_value_rules : Form (Unit {0})
-new_value_rules = plain >> has_number local_number >> is_new is_known_local >> checked (λ i. nat_lt i.values 1000000) limit
+new_value_rules = has_number local_number >> is_new is_known_local >> has_value_room
 
 -- the name of a value that is defined here
 unfoldable pub new_value : Form ℕ
 new_value = new_value_rules >> step local_number with_value with_value_falls
+
+-- the number of a value that is defined here
+unfoldable pub numbered_value : Form ℕ
+numbered_value = next_number >> new_value
+
+abbrev pub key_number : List ℕ → Input → ℕ
+key_number key i = number_of key i.locals.names
+
+abbrev pub with_unwritten_value : List ℕ → Input → Input
+with_unwritten_value key i = record i { locals = mentioned key local.Unknown i.locals; values = i.values + 1 }
+
+pub with_unwritten_value_falls : (key : List ℕ) (i : Input) → left (with_unwritten_value key i) ≤ left i
+unfolding left
+with_unwritten_value_falls key i = omega arith
+
+abbrev pub value_of_key : List ℕ → Form ℕ
+value_of_key key = has_number (key_number key) >> has_value_room >> step (key_number key) (with_unwritten_value key) (with_unwritten_value_falls key)
+
+-- a value for which no name is written: it has the next number
+unfoldable pub unnamed_value : Form ℕ
+unnamed_value = look (λ i. text.decimal i.unnamed) (λ key. take_number >> value_of_key key)
 
 abbrev pub with_sort : ℕ → LocalSort → Input → Input
 with_sort value sort i = record i { locals = defined value sort i.locals }
@@ -239,23 +296,37 @@ set_type value shown = set_sort value (local.Value shown)
 abbrev pub set_element : ℕ → ℕ → ℕ → Form (Unit {0})
 set_element value block place = set_sort value (local.Element block place)
 
-abbrev pub label_number : Input → ℕ
-label_number i = number_of (label i.cursor) i.locals.names
-
-abbrev pub is_known_label : Input → Bool
-is_known_label i = is_local (slice_get (mentioned (label i.cursor) local.Unknown i.locals).sorts (label_number i))
-
 abbrev pub with_label : ℕ → Input → Input
-with_label block i = record (advanced i) { locals = defined (label_number i) (local.Block block) (mentioned (label i.cursor) local.Unknown i.locals) }
+with_label block i = record (advanced i) { locals = defined (local_number i) (local.Block block) (mentioned (local_key i.cursor) local.Unknown i.locals) }
 
 pub with_label_falls : (block : ℕ) (i : Input) → left (with_label block i) ≤ left i
 unfolding left
 with_label_falls block i = next_falls i
 
+abbrev pub label_rules : Form (Unit {0})
+label_rules = has_number local_number >> is_new is_known_local
+
 -- the label of the block with this number
 unfoldable pub new_label : ℕ → Form ℕ
-new_label block = checked (λ i. is_plain_label i.cursor) (λ i. left_out i.cursor) >> has_number label_number >> is_new is_known_label
-    >> step label_number (with_label block) (with_label_falls block)
+new_label block = label_rules >> step local_number (with_label block) (with_label_falls block)
+
+-- the number of the block with this number in text order, as its label
+unfoldable pub numbered_label : ℕ → Form ℕ
+numbered_label block = next_number >> new_label block
+
+abbrev pub with_unwritten_label : List ℕ → ℕ → Input → Input
+with_unwritten_label key block i = record i { locals = defined (key_number key i) (local.Block block) (mentioned key local.Unknown i.locals) }
+
+pub with_unwritten_label_falls : (key : List ℕ) (block : ℕ) (i : Input) → left (with_unwritten_label key block i) ≤ left i
+unfolding left
+with_unwritten_label_falls key block i = omega arith
+
+abbrev pub label_of_key : ℕ → List ℕ → Form ℕ
+label_of_key block key = has_number (key_number key) >> step (key_number key) (with_unwritten_label key block) (with_unwritten_label_falls key block)
+
+-- the label of a block for which none is written: it has the next number
+unfoldable pub unnamed_label : ℕ → Form ℕ
+unnamed_label block = look (λ i. text.decimal i.unnamed) (λ key. take_number >> label_of_key block key)
 
 -- text in quotes
 unfoldable pub quoted : Form (List ℕ)
@@ -291,7 +362,7 @@ unfolding left
 struct_use_left i = refl
 
 struct_name_stays : Stays struct_name_rules
-struct_name_stays i a o h = h.2.1 ∙ h.3.1
+struct_name_stays i a o h = h.1
 
 pub struct_name_takes : TakesWhere (IsKind k.LocalName) struct_name
 unfolding struct_name
@@ -303,7 +374,7 @@ unfolding left
 new_struct_left i = refl
 
 new_struct_stays : Stays new_struct_rules
-new_struct_stays i a o h = h.2.2.2.1 ∙ h.2.2.3.1 ∙ h.2.3.1 ∙ h.3.1
+new_struct_stays i a o h = h.2.2.1 ∙ h.2.3.1 ∙ h.3.1
 
 pub new_struct_takes : TakesWhere (IsKind k.LocalName) new_struct
 unfolding new_struct
@@ -315,7 +386,7 @@ unfolding left
 new_symbol_left sort i = refl
 
 new_symbol_stays : Stays new_symbol_rules
-new_symbol_stays i a o h = h.2.2.2.1 ∙ h.2.2.3.1 ∙ h.2.3.1 ∙ h.3.1
+new_symbol_stays i a o h = h.2.2.1 ∙ h.2.3.1 ∙ h.3.1
 
 pub new_symbol_takes : (sort : SymbolSort) → TakesWhere (IsKind k.GlobalName) (new_symbol sort)
 unfolding new_symbol
@@ -327,9 +398,35 @@ unfolding left
 new_value_left i = refl
 
 new_value_stays : Stays new_value_rules
-new_value_stays i a o h = h.2.2.2.1 ∙ h.2.2.3.1 ∙ h.2.3.1 ∙ h.3.1
+new_value_stays i a o h = h.2.2.1 ∙ h.2.3.1 ∙ h.3.1
+
+any_value_takes : (x : Kind) → x ≢ k.End → TakesWhere (IsKind x) new_value
+unfolding new_value
+any_value_takes x ne = stays_takes (IsKind x) new_value_rules (step local_number with_value with_value_falls) new_value_stays
+    (advance_takes x ne local_number with_value with_value_falls new_value_left)
 
 pub new_value_takes : TakesWhere (IsKind k.LocalName) new_value
-unfolding new_value
-new_value_takes = stays_takes (IsKind k.LocalName) new_value_rules (step local_number with_value with_value_falls) new_value_stays
-    (advance_takes k.LocalName (λ x. cc) local_number with_value with_value_falls new_value_left)
+new_value_takes = any_value_takes k.LocalName (λ x. cc)
+
+pub numbered_value_takes : TakesWhere (IsKind k.LocalNumber) numbered_value
+unfolding numbered_value
+numbered_value_takes = keeps_takes (IsKind k.LocalNumber) next_number (λ _. new_value) (λ i a o h is. next_number_keeps i a o k.LocalNumber h is) (λ _. any_value_takes k.LocalNumber (λ x. cc))
+
+label_left : (block : ℕ) (i : Input) → left (with_label block i) ≡ length (next i.cursor).rest
+unfolding left
+label_left block i = refl
+
+label_stays : Stays label_rules
+label_stays i a o h = h.2.1 ∙ h.3.1
+
+any_label_takes : (x : Kind) → x ≢ k.End → (block : ℕ) → TakesWhere (IsKind x) (new_label block)
+unfolding new_label
+any_label_takes x ne block = stays_takes (IsKind x) label_rules (step local_number (with_label block) (with_label_falls block)) label_stays
+    (advance_takes x ne local_number (with_label block) (with_label_falls block) (label_left block))
+
+pub new_label_takes : (block : ℕ) → TakesWhere (IsKind k.LabelName) (new_label block)
+new_label_takes = any_label_takes k.LabelName (λ x. cc)
+
+pub numbered_label_takes : (block : ℕ) → TakesWhere (IsKind k.LabelNumber) (numbered_label block)
+unfolding numbered_label
+numbered_label_takes block = keeps_takes (IsKind k.LabelNumber) next_number (λ _. new_label block) (λ i a o h is. next_number_keeps i a o k.LabelNumber h is) (λ _. any_label_takes k.LabelNumber (λ x. cc) block)

@@ -16,7 +16,7 @@ use Rattle.ir_parts.specs.Names.{used_value, used_global}
 use Rattle.ir_parts.specs.declared.written.WrittenType.{WrittenType}
 use Rattle.ir_parts.specs.Written.{pointer_type}
 
--- constant expressions, aggregates, unnamed values and decorations
+-- constant expressions and aggregates
 abbrev pub begins_unread_operand : Kind → Bool
 begins_unread_operand k.Bitcast = true
 begins_unread_operand k.Getelementptr = true
@@ -31,9 +31,6 @@ begins_unread_operand k.Sext = true
 begins_unread_operand k.Trunc = true
 begins_unread_operand k.Icmp = true
 begins_unread_operand k.Select = true
-begins_unread_operand k.LocalNumber = true
-begins_unread_operand k.LowercaseWord = true
-begins_unread_operand k.Align = true
 begins_unread_operand k.OpenBrace = true
 begins_unread_operand k.OpenSquare = true
 begins_unread_operand k.Less = true
@@ -76,6 +73,7 @@ constant bits = look (λ i. kind i.cursor) (constant_by bits)
 -- operands other than globals
 abbrev pub begins_other_operand : Kind → Bool
 begins_other_operand k.LocalName = true
+begins_other_operand k.LocalNumber = true
 begins_other_operand k.Number = true
 begins_other_operand k.True = true
 begins_other_operand k.False = true
@@ -112,6 +110,7 @@ cast = skip >> cast_behind
 
 abbrev pub operand_by : Option ℕ → Kind → Form Operand
 operand_by bits k.LocalName = used_value >>= λ value. pure (o.Local value)
+operand_by bits k.LocalNumber = used_value >>= λ value. pure (o.Local value)
 operand_by bits k.GlobalName = used_global >>= λ symbol. pure (o.Global symbol)
 operand_by bits k.Bitcast = cast
 operand_by bits _ = constant bits >>= λ x. pure (o.Constant x)

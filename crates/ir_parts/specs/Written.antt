@@ -16,10 +16,10 @@ use Rattle.ir_parts.specs.declared.input.Input.{Input}
 use Rattle.ir_parts.specs.declared.written.Base.{Base}
 use Rattle.ir_parts.specs.declared.written.Base.TheVariants.{Integer, Named, Aggregate}
 use Rattle.ir_parts.specs.declared.written.WrittenType.{WrittenType}
-use Rattle.ir_cursor.specs.Cursor.{kind, sees, start, name, spelling, left_out}
+use Rattle.ir_cursor.specs.Cursor.{kind, sees, start, name, spelled, spelling, left_out}
 use Rattle.ir_cursor.specs.Number.{decimal, natural}
 use Rattle.ir_parts.specs.Input.{Form, left, limit, unexpected, unread, advanced, advanced_falls, advanced_left, advance_takes, skip, skip_takes, sees_a, expect, IsKind}
-use Rattle.ir_parts.specs.Names.{has_number, plain, struct_name, struct_name_takes}
+use Rattle.ir_parts.specs.Names.{has_number, is_at, struct_name, struct_name_takes}
 
 -- ---- the table of types
 
@@ -66,12 +66,11 @@ begins_type k.OpenSquare = true
 begins_type k.OpenBrace = true
 begins_type _ = false
 
--- numbered types, vectors, packed structs and lists of any length; `volatile` before a type
+-- numbered types, vectors, packed structs and lists of any length
 abbrev pub begins_unread_type : Kind → Bool
 begins_unread_type k.LocalNumber = true
 begins_unread_type k.Less = true
 begins_unread_type k.Dots = true
-begins_unread_type k.Volatile = true
 begins_unread_type _ = false
 
 -- a type without a star, where so many levels more there might be
@@ -306,17 +305,13 @@ sees_type wanted = checked (λ i. sees wanted i.cursor) (unread begins_unread_ty
 unfoldable pub integer_again : ℕ → Form (Unit {0})
 integer_again bits = sees_type k.IntegerType >> has_bits >> checked (λ i. bits_at i == bits) unexpected >> skip
 
-abbrev pub is_at : ℕ → Option ℕ → Bool
-is_at wanted None = false
-is_at wanted (Some place) = place == wanted
-
 -- the next token's name is the one with this number
 unfoldable pub is_named : ℕ → Input → Bool
-is_named wanted i = is_at wanted (place_of (name i.cursor) i.struct_names.names)
+is_named wanted i = is_at wanted (place_of (spelled i.cursor) i.struct_names.names)
 
 -- the name of a struct again
 unfoldable pub name_again : ℕ → Form (Unit {0})
-name_again wanted = sees_type k.LocalName >> plain >> checked (is_named wanted) unexpected >> skip
+name_again wanted = sees_type k.LocalName >> checked (is_named wanted) unexpected >> skip
 
 -- the length of an array again
 unfoldable pub length_again : ℕ → Form (Unit {0})

@@ -4,17 +4,12 @@ ghost use Rattle.ir_parts.specs.Input.{Reads, left};
 ghost use Rattle.ir_parts.specs.Written as form;
 
 use crate::input::Input;
+use crate::names::is_at;
 use crate::written::{ROOM, WrittenType, begins_unread_type};
 use ir_ast::{IrType, StructNameId, TypeId};
 use ir_cursor::{Fault, decimal, natural};
 use ir_tokens::Kind;
-
-/// Whether a name has this place.
-fn is_at(wanted: usize, place: Option<usize>) -> bool
-    ensures { result ≡ form.is_at wanted place }
-{
-    place == Some(wanted)
-}
+use std::alloc::Global;
 
 impl<'a> Input<'a> {
     /// The next token begins a type, as a token of this kind does.
@@ -47,14 +42,11 @@ impl<'a> Input<'a> {
 
     /// The name of a struct again.
     #[tactic(auto, unfolding(crate::specs::Written::name_again, crate::specs::Written::is_named))]
-    fn name_again(&mut self, wanted: StructNameId) -> Result<(), Fault>
+    fn name_again(&mut self, alloc: Global, wanted: StructNameId) -> Result<(), Fault>
         ensures { Reads ((form.name_again wanted).read self.old) result self.new }
     {
         self.sees_type(Kind::LocalName)?;
-        if !self.cursor.is_plain() {
-            return Err(self.left_out());
-        }
-        let place = self.struct_names.names.find(self.cursor.name());
+        let place = self.struct_names.find_next(alloc, &self.cursor)?;
         if !is_at(wanted.number() as usize, place) {
             return Err(self.refuse(false));
         }
@@ -83,30 +75,30 @@ impl<'a> Input<'a> {
     /// The type with this place again, which has at most so many levels.
     #[cycle(mentions)]
     #[tactic(auto, unfolding(crate::specs::Written::again_within))]
-    fn again_within(&mut self, levels: u32, id: TypeId) -> Result<(), Fault>
+    fn again_within(&mut self, alloc: Global, levels: u32, id: TypeId) -> Result<(), Fault>
         ensures { Reads ((form.again_within levels id).read self.old) result self.new }
     {
         if levels == 0 {
             return Err(self.refuse(false));
         }
-        self.again_by(levels - 1, id)?;
+        self.again_by(alloc, levels - 1, id)?;
         self.no_parameters()
     }
 
     /// The type with this place again, whose parts have at most so many levels.
     #[cycle(mentions)]
-    fn again_by(&mut self, levels: u32, id: TypeId) -> Result<(), Fault>
+    fn again_by(&mut self, alloc: Global, levels: u32, id: TypeId) -> Result<(), Fault>
         ensures { Reads ((form.again_over (form.again_within levels) id).read self.old) result self.new }
     {
         let shown = self.types.get(id);
         match &shown {
             Some(IrType::Integer(bits)) => self.integer_again(*bits),
-            Some(IrType::Named(wanted)) => self.name_again(*wanted),
+            Some(IrType::Named(wanted)) => self.name_again(alloc, *wanted),
             Some(IrType::Pointer(pointee)) => {
-                self.again_within(levels, *pointee)?;
+                self.again_within(alloc, levels, *pointee)?;
                 self.expect(Kind::Star)
             }
-            Some(IrType::Array { length, part }) => self.array_again(levels, *length, *part),
+            Some(IrType::Array { length, part }) => self.array_again(alloc, levels, *length, *part),
             Some(IrType::EmptyStruct) => {
                 self.sees_type(Kind::OpenBrace)?;
                 self.skip();
@@ -115,8 +107,8 @@ impl<'a> Input<'a> {
             Some(IrType::Struct { first, rest }) => {
                 self.sees_type(Kind::OpenBrace)?;
                 self.skip();
-                self.again_within(levels, *first)?;
-                self.fields_again(levels, *rest)
+                self.again_within(alloc, levels, *first)?;
+                self.fields_again(alloc, levels, *rest)
             }
             _ => Err(self.refuse(false)),
         }
@@ -124,20 +116,26 @@ impl<'a> Input<'a> {
 
     /// An array of so many of a part again, which has at most so many levels.
     #[cycle(mentions)]
-    fn array_again(&mut self, levels: u32, length: u64, part: TypeId) -> Result<(), Fault>
+    fn array_again(
+        &mut self,
+        alloc: Global,
+        levels: u32,
+        length: u64,
+        part: TypeId,
+    ) -> Result<(), Fault>
         ensures { Reads ((form.array_again (form.again_within levels) length part).read self.old) result self.new }
     {
         self.sees_type(Kind::OpenSquare)?;
         self.skip();
         self.length_again(length)?;
         self.expect(Kind::X)?;
-        self.again_within(levels, part)?;
+        self.again_within(alloc, levels, part)?;
         self.expect(Kind::CloseSquare)
     }
 
     /// The fields of this struct again, behind others, up to the brace that closes.
     #[cycle(mentions)]
-    fn fields_again(&mut self, levels: u32, rest: TypeId) -> Result<(), Fault>
+    fn fields_again(&mut self, alloc: Global, levels: u32, rest: TypeId) -> Result<(), Fault>
         ensures { Reads ((form.all_fields_again (form.again_within levels) rest).read self.old) result self.new }
     {
         let mut rest = rest;
@@ -151,7 +149,7 @@ impl<'a> Input<'a> {
                     },
                 ) => {
                     self.expect(Kind::Comma)?;
-                    self.again_within(levels, *first)?;
+                    self.again_within(alloc, levels, *first)?;
                     rest = *behind;
                 }
                 _ => return self.expect(Kind::CloseBrace),
@@ -162,10 +160,10 @@ impl<'a> Input<'a> {
 
     /// A second mention of a type.
     #[tactic(auto, unfolding(crate::specs::Written::again))]
-    pub fn again(&mut self, written: &WrittenType) -> Result<(), Fault>
+    pub fn again(&mut self, alloc: Global, written: &WrittenType) -> Result<(), Fault>
         ensures { Reads ((form.again written.now).read self.old) result self.new }
     {
-        self.again_within(ROOM + 1, written.id)
+        self.again_within(alloc, ROOM + 1, written.id)
     }
 
     /// A star, where so many levels more there might be.
@@ -184,10 +182,10 @@ impl<'a> Input<'a> {
 
     /// The type of pointers to a type that is mentioned here again. Answers its place.
     #[tactic(auto, unfolding(crate::specs::Written::pointer_again))]
-    pub fn pointer_again(&mut self, written: &WrittenType) -> Result<TypeId, Fault>
+    pub fn pointer_again(&mut self, alloc: Global, written: &WrittenType) -> Result<TypeId, Fault>
         ensures { Reads ((form.pointer_again written.now).read self.old) result self.new }
     {
-        self.again(written)?;
+        self.again(alloc, written)?;
         self.further_star(written.room)?;
         self.intern(IrType::Pointer(written.id))
     }

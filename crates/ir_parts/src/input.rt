@@ -29,6 +29,8 @@ pub struct Input<'a> {
     pub local_uses: Items<LocalUse>,
     /// How many values this function defined so far.
     pub values: usize,
+    /// How many values and blocks of this function have numbers in place of names so far.
+    pub unnamed: u32,
     /// The first use of a local name that its function does not define as a value, in the functions before this one.
     pub missing: Option<u32>,
     pub structs: Items<StructType>,
@@ -52,6 +54,7 @@ impl<'a> Input<'a> {
             locals: Table::new(alloc),
             local_uses: Items::new(alloc),
             values: 0,
+            unnamed: 0,
             missing: None,
             structs: Items::new(alloc),
             globals: Items::new(alloc),

@@ -1,15 +1,19 @@
 //! Names: where they are defined, and where they are used.
-ghost use Rattle.std.specs.Prelude.{◌≡◌, Ok, Err, if◌then◌else◌, nat_lt};
+ghost use Rattle.std.specs.Prelude.{◌≡◌, Ok, Err, if◌then◌else◌, nat_lt, IfOk};
 ghost use Rattle.ir_parts.specs.Input.{Reads};
 ghost use Rattle.ir_parts.specs.Names as form;
 
 use crate::input::Input;
-use ir_ast::{BlockId, LocalSort, StructNameId, SymbolId, SymbolSort, TypeId, ValueId};
-use ir_cursor::{Fault, LocalUse, StructUse, SymbolUse, Table, Wanted, is_intrinsic, is_left_out};
+use ir_ast::{
+    BlockId, LocalSort, StructNameId, SymbolId, SymbolSort, TypeId, ValueId, key_of_number,
+};
+use ir_cursor::{
+    Fault, LocalUse, StructUse, SymbolUse, Table, Wanted, decimal, is_intrinsic, is_left_out,
+};
 use ir_tokens::Kind;
 use items::Items;
 use pools::LayoutId;
-use std::alloc::Global;
+use std::alloc::{AllocError, Global};
 
 /// A number of 32 bits, or else this fault.
 pub fn numbered(number: usize, fault: Fault) -> Result<u32, Fault>
@@ -19,6 +23,23 @@ pub fn numbered(number: usize, fault: Fault) -> Result<u32, Fault>
         Ok(number as u32)
     } else {
         Err(fault)
+    }
+}
+
+/// Whether this is the place.
+pub fn is_at(wanted: usize, place: Option<usize>) -> bool
+    ensures { result ≡ form.is_at wanted place }
+{
+    place == Some(wanted)
+}
+
+/// Whether a number that is written is this one.
+fn is_number(next: u32, written: Option<u64>) -> bool
+    ensures { result ≡ form.is_at next written }
+{
+    match written {
+        Some(number) => number == next as u64,
+        None => false,
     }
 }
 
@@ -43,13 +64,6 @@ fn is_function(sort: Option<SymbolSort>) -> bool
     matches!(sort, Some(SymbolSort::Declared(_) | SymbolSort::Defined(_)))
 }
 
-/// Kinds of tokens with which the name of a block begins that is not read yet.
-fn begins_unread_label(kind: Kind) -> bool
-    ensures { result ≡ form.begins_unread_label kind }
-{
-    matches!(kind, Kind::LocalNumber)
-}
-
 fn is_local(sort: Option<LocalSort>) -> bool
     ensures { result ≡ form.is_local sort }
 {
@@ -65,11 +79,8 @@ impl<'a> Input<'a> {
     pub fn struct_name(&mut self, alloc: Global) -> Result<StructNameId, Fault>
         ensures { Reads (form.struct_name.read self.old) result self.new }
     {
-        if !self.cursor.is_plain() {
-            return Err(self.left_out());
-        }
         let start = self.cursor.start();
-        let number = self.struct_names.mention(alloc, self.cursor.name(), None)?;
+        let number = self.struct_names.mention_next(alloc, &self.cursor, None)?;
         let name = StructNameId::new(numbered(number, self.limit())?);
         self.struct_uses.push(StructUse { name, start })?;
         self.cursor.skip();
@@ -81,10 +92,7 @@ impl<'a> Input<'a> {
     pub fn new_struct(&mut self, alloc: Global) -> Result<StructNameId, Fault>
         ensures { Reads (form.new_struct.read self.old) result self.new }
     {
-        if !self.cursor.is_plain() {
-            return Err(self.left_out());
-        }
-        let number = self.struct_names.mention(alloc, self.cursor.name(), None)?;
+        let number = self.struct_names.mention_next(alloc, &self.cursor, None)?;
         let name = StructNameId::new(numbered(number, self.limit())?);
         let layout = LayoutId::new(numbered(self.structs.len(), self.limit())?);
         if is_struct(self.struct_names.sort(number)) {
@@ -100,15 +108,13 @@ impl<'a> Input<'a> {
     pub fn new_symbol(&mut self, alloc: Global, sort: SymbolSort) -> Result<SymbolId, Fault>
         ensures { Reads ((form.new_symbol sort).read self.old) result self.new }
     {
-        if !self.cursor.is_plain() {
-            return Err(self.left_out());
-        }
-        if is_left_out(self.cursor.name()) {
+        let name = self.cursor.spelled(alloc)?;
+        if is_left_out(name.as_slice()) {
             return Err(self.left_out());
         }
         let number = self
             .symbols
-            .mention(alloc, self.cursor.name(), SymbolSort::Unknown)?;
+            .mention_next(alloc, &self.cursor, SymbolSort::Unknown)?;
         let symbol = SymbolId::new(numbered(number, self.limit())?);
         if is_symbol(self.symbols.sort(number)) {
             return Err(Fault::DefinedTwice(self.cursor.start()));
@@ -123,10 +129,8 @@ impl<'a> Input<'a> {
     pub fn callee(&mut self, alloc: Global) -> Result<SymbolId, Fault>
         ensures { Reads (form.callee.read self.old) result self.new }
     {
-        if !self.cursor.is_plain() {
-            return Err(self.left_out());
-        }
-        if is_left_out(self.cursor.name()) {
+        let name = self.cursor.spelled(alloc)?;
+        if is_left_out(name.as_slice()) {
             return Err(self.left_out());
         }
         self.used_symbol(alloc, true)
@@ -137,24 +141,24 @@ impl<'a> Input<'a> {
     pub fn used_global(&mut self, alloc: Global) -> Result<SymbolId, Fault>
         ensures { Reads (form.used_global.read self.old) result self.new }
     {
-        if !self.cursor.is_plain() {
+        let name = self.cursor.spelled(alloc)?;
+        if is_intrinsic(name.as_slice()) {
             return Err(self.left_out());
         }
-        if is_intrinsic(self.cursor.name()) {
-            return Err(self.left_out());
-        }
-        if is_function(self.symbol_sort()) {
+        if is_function(self.symbol_sort(alloc)?) {
             return Err(self.left_out());
         }
         self.used_symbol(alloc, false)
     }
 
     /// What the next token's global name stands for so far.
-    fn symbol_sort(&self) -> Option<SymbolSort>
-        ensures { result ≡ form.sort_of_symbol self.now }
+    fn symbol_sort(&self, alloc: Global) -> Result<Option<SymbolSort>, AllocError>
+        ensures { IfOk result (λ sort. sort ≡ form.sort_of_symbol self.now) }
     {
-        let number = self.symbols.names.find(self.cursor.name())?;
-        self.symbols.sort(number)
+        match self.symbols.find_next(alloc, &self.cursor)? {
+            Some(number) => Ok(self.symbols.sort(number)),
+            None => Ok(None),
+        }
     }
 
     /// A use of a global name.
@@ -166,7 +170,7 @@ impl<'a> Input<'a> {
         let length = self.cursor.size();
         let number = self
             .symbols
-            .mention(alloc, self.cursor.name(), SymbolSort::Unknown)?;
+            .mention_next(alloc, &self.cursor, SymbolSort::Unknown)?;
         let symbol = SymbolId::new(numbered(number, self.limit())?);
         self.symbol_uses.push(SymbolUse {
             symbol,
@@ -183,13 +187,10 @@ impl<'a> Input<'a> {
     fn used_local(&mut self, alloc: Global, wanted: Wanted) -> Result<ValueId, Fault>
         ensures { Reads ((form.used_local wanted).read self.old) result self.new }
     {
-        if !self.cursor.is_plain() {
-            return Err(self.left_out());
-        }
         let start = self.cursor.start();
         let number = self
             .locals
-            .mention(alloc, self.cursor.name(), LocalSort::Unknown)?;
+            .mention_local(alloc, &self.cursor, LocalSort::Unknown)?;
         let value = ValueId::new(numbered(number, self.limit())?);
         let used = LocalUse {
             value,
@@ -214,8 +215,8 @@ impl<'a> Input<'a> {
         ensures { Reads ((form.used_label wanted).read self.old) result self.new }
     {
         match self.kind() {
-            Kind::LocalName => self.used_local(alloc, wanted),
-            kind => Err(self.refuse(begins_unread_label(kind))),
+            Kind::LocalName | Kind::LocalNumber => self.used_local(alloc, wanted),
+            _ => Err(self.refuse(false)),
         }
     }
 
@@ -240,12 +241,9 @@ impl<'a> Input<'a> {
     pub fn new_value(&mut self, alloc: Global) -> Result<ValueId, Fault>
         ensures { Reads (form.new_value.read self.old) result self.new }
     {
-        if !self.cursor.is_plain() {
-            return Err(self.left_out());
-        }
         let number = self
             .locals
-            .mention(alloc, self.cursor.name(), LocalSort::Unknown)?;
+            .mention_local(alloc, &self.cursor, LocalSort::Unknown)?;
         let value = ValueId::new(numbered(number, self.limit())?);
         if is_local(self.locals.sort(number)) {
             return Err(Fault::DefinedTwice(self.cursor.start()));
@@ -278,18 +276,102 @@ impl<'a> Input<'a> {
     pub fn new_label(&mut self, alloc: Global, block: BlockId) -> Result<ValueId, Fault>
         ensures { Reads ((form.new_label block).read self.old) result self.new }
     {
-        if !self.cursor.is_plain_label() {
-            return Err(self.left_out());
-        }
         let number = self
             .locals
-            .mention(alloc, self.cursor.label(), LocalSort::Unknown)?;
+            .mention_local(alloc, &self.cursor, LocalSort::Unknown)?;
         let label = ValueId::new(numbered(number, self.limit())?);
         if is_local(self.locals.sort(number)) {
             return Err(Fault::DefinedTwice(self.cursor.start()));
         }
         self.locals.define(number, LocalSort::Block(block));
         self.cursor.skip();
+        Ok(label)
+    }
+
+    /// A number of the function is taken.
+    #[tactic(auto, unfolding(crate::specs::Names::take_number))]
+    pub fn take_number(&mut self) -> Result<(), Fault>
+        ensures { Reads (form.take_number.read self.old) result self.new }
+    {
+        if self.unnamed >= u32::MAX {
+            return Err(self.limit());
+        }
+        self.unnamed += 1;
+        Ok(())
+    }
+
+    /// Whether the number that is written is the next one.
+    fn is_next(&self, alloc: Global) -> Result<bool, AllocError>
+        ensures { IfOk result (λ next. next ≡ form.is_written_next self.now) }
+    {
+        match self.cursor.borrowed() {
+            Some(digits) => Ok(is_number(self.unnamed, decimal(digits))),
+            None => {
+                let digits = self.cursor.spelled(alloc)?;
+                Ok(is_number(self.unnamed, decimal(digits.as_slice())))
+            }
+        }
+    }
+
+    /// The number that is written is the next one, and is taken.
+    #[tactic(auto, unfolding(crate::specs::Names::next_number))]
+    pub fn next_number(&mut self, alloc: Global) -> Result<(), Fault>
+        ensures { Reads (form.next_number.read self.old) result self.new }
+    {
+        if !self.is_next(alloc)? {
+            return Err(Fault::WrongNumber(self.cursor.start()));
+        }
+        self.take_number()
+    }
+
+    /// The number of a value that is defined here.
+    #[tactic(auto, unfolding(crate::specs::Names::numbered_value))]
+    pub fn numbered_value(&mut self, alloc: Global) -> Result<ValueId, Fault>
+        ensures { Reads (form.numbered_value.read self.old) result self.new }
+    {
+        self.next_number(alloc)?;
+        self.new_value(alloc)
+    }
+
+    /// A value for which no name is written.
+    #[tactic(auto, unfolding(crate::specs::Names::unnamed_value))]
+    pub fn unnamed_value(&mut self, alloc: Global) -> Result<ValueId, Fault>
+        ensures { Reads (form.unnamed_value.read self.old) result self.new }
+    {
+        let key = key_of_number(alloc, self.unnamed)?;
+        self.take_number()?;
+        let number = self
+            .locals
+            .mention(alloc, key.as_slice(), LocalSort::Unknown)?;
+        let value = ValueId::new(numbered(number, self.limit())?);
+        if self.values >= 1000000 {
+            return Err(self.limit());
+        }
+        self.values += 1;
+        Ok(value)
+    }
+
+    /// The number of a block as its label.
+    #[tactic(auto, unfolding(crate::specs::Names::numbered_label))]
+    pub fn numbered_label(&mut self, alloc: Global, block: BlockId) -> Result<ValueId, Fault>
+        ensures { Reads ((form.numbered_label block).read self.old) result self.new }
+    {
+        self.next_number(alloc)?;
+        self.new_label(alloc, block)
+    }
+
+    /// The label of a block for which none is written.
+    #[tactic(auto, unfolding(crate::specs::Names::unnamed_label))]
+    pub fn unnamed_label(&mut self, alloc: Global, block: BlockId) -> Result<ValueId, Fault>
+        ensures { Reads ((form.unnamed_label block).read self.old) result self.new }
+    {
+        let key = key_of_number(alloc, self.unnamed)?;
+        self.take_number()?;
+        let number = self
+            .locals
+            .mention(alloc, key.as_slice(), LocalSort::Unknown)?;
+        let label = ValueId::new(numbered(number, self.limit())?);
+        self.locals.define(number, LocalSort::Block(block));
         Ok(label)
     }
 

@@ -28,9 +28,6 @@ pub fn begins_unread_operand(kind: Kind) -> bool
             | Kind::Trunc
             | Kind::Icmp
             | Kind::Select
-            | Kind::LocalNumber
-            | Kind::LowercaseWord
-            | Kind::Align
             | Kind::OpenBrace
             | Kind::OpenSquare
             | Kind::Less
@@ -65,6 +62,7 @@ fn begins_other_operand(kind: Kind) -> bool
         || matches!(
             kind,
             Kind::LocalName
+                | Kind::LocalNumber
                 | Kind::Number
                 | Kind::True
                 | Kind::False
@@ -148,7 +146,7 @@ impl<'a> Input<'a> {
         ensures { Reads ((form.operand bits).read self.old) result self.new }
     {
         match self.kind() {
-            Kind::LocalName => Ok(Operand::Local(self.used_value(alloc)?)),
+            Kind::LocalName | Kind::LocalNumber => Ok(Operand::Local(self.used_value(alloc)?)),
             Kind::GlobalName => Ok(Operand::Global(self.used_global(alloc)?)),
             Kind::Bitcast => self.cast(alloc),
             _ => Ok(Operand::Constant(self.constant(bits)?)),

@@ -49,10 +49,7 @@ pub fn begins_type(kind: Kind) -> bool
 pub fn begins_unread_type(kind: Kind) -> bool
     ensures { result ≡ form.begins_unread_type kind }
 {
-    matches!(
-        kind,
-        Kind::LocalNumber | Kind::Less | Kind::Dots | Kind::Volatile
-    )
+    matches!(kind, Kind::LocalNumber | Kind::Less | Kind::Dots)
 }
 
 /// Whether a value of this type is one word: an integer or a pointer.

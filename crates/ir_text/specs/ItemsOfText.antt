@@ -18,18 +18,21 @@ use Rattle.ir_ast.specs.declared.items_of_module.StructType.{StructType}
 use Rattle.ir_ast.specs.declared.items_of_module.Global.{Global}
 use Rattle.ir_ast.specs.declared.items_of_module.Declare.{Declare}
 use Rattle.ir_parts.specs.declared.input.Input.{Input}
-use Rattle.ir_cursor.specs.Cursor.{kind, sees, name, left_out, at_end}
+use Rattle.ir_cursor.specs.Cursor.{kind, sees, spelled, left_out, at_end}
 use Rattle.ir_parts.specs.Input.{Form, left, limit, unexpected, unread, skip, expect, IsKind, skip_takes}
 use Rattle.ir_cursor.specs.RuntimeNames.{runtime_of}
 use Rattle.ir_parts.specs.Names.{new_struct, new_struct_takes, new_symbol, new_symbol_takes, quoted, first_missing}
 use Rattle.ir_cursor.specs.Table.{empty}
-use Rattle.ir_parts.specs.Written.{any_type, held_type, passed_type, intern, struct_body, bits_of}
+use Rattle.ir_parts.specs.Written.{any_type, held_type, passed_type, intern, no_parameters, struct_body, bits_of}
 use Rattle.ir_parts.specs.Operand.{constant, begins_unread_operand}
-use Rattle.ir_text.specs.Starts.{begins_unread_item, decorates_function}
-use Rattle.ir_instructions.specs.Lists.{either}
-use Rattle.ir_instructions.specs.Starts.{is_decoration}
+use Rattle.ir_text.specs.Starts.{begins_unread_item, is_external}
+use Rattle.ir_instructions.specs.Decorations.{either, decorations, trailing}
+use Rattle.ir_instructions.specs.declared.decorating.Spot.{Spot}
+use Rattle.ir_instructions.specs.declared.decorating.Spot.TheVariants as spot
+use Rattle.ir_instructions.specs.declared.decorating.Trail.TheVariants as trail
 use Rattle.ir_text.specs.Parameters.{declared_parameters, parameters}
 use Rattle.ir_text.specs.Blocks.{blocks}
+use Rattle.ir_text.specs.Lines.{source_name, source_name_takes, target_line, target_line_takes, group, group_takes, comdat, comdat_takes, metadata_line, metadata_line_takes}
 
 -- ---- struct types
 
@@ -86,11 +89,11 @@ initial bits = checked (λ i. is_initial bits (kind i.cursor)) (unread begins_un
 abbrev pub is_constant_by : Kind → Form Bool
 is_constant_by k.Global = skip >> pure false
 is_constant_by k.Constant = skip >> pure true
-is_constant_by _ = refuse (unread is_decoration)
+is_constant_by _ = refuse (unread is_external)
 
--- `global` or `constant`
+-- `global` or `constant`, with what decorates the global
 unfoldable pub is_constant : Form Bool
-is_constant = look (λ i. kind i.cursor) is_constant_by
+is_constant = decorations spot.Global >> look (λ i. kind i.cursor) is_constant_by
 
 abbrev pub with_global : Global → Input → Input
 with_global g i = record i { globals = i.globals ++ g ∷ [] }
@@ -108,6 +111,7 @@ global_behind s = do
   is_fixed ← is_constant
   w ← held_type
   x ← initial (bits_of w)
+  trailing trail.Memory
   add_global (record { symbol = s; is_constant = is_fixed; held = w.id; initial = x })
 
 abbrev pub below : ℕ → (Input → ℕ) → Form (Unit {0})
@@ -120,18 +124,36 @@ global_name = look (λ i. length i.globals) (λ n. new_symbol (symbol.Global n))
 unfoldable pub global : Form (Unit {0})
 global = below 4096 (λ i. length i.globals) >> global_name >>= global_behind
 
+-- ---- the end of a function's head
+
+abbrev pub collector_name : Form (Option (List ℕ))
+collector_name = skip >> quoted >>= λ text. pure (Some text)
+
+-- `gc "name"`, if it is there
+unfoldable pub collector : Form (Option (List ℕ))
+collector = look (λ i. sees k.Gc i.cursor) (either collector_name (pure None))
+
+-- what decorates a function behind its parameters, with the collector's name
+unfoldable pub head_end : Spot → Form (Option (List ℕ))
+head_end s = do
+  decorations s
+  c ← collector
+  decorations s
+  pure c
+
 -- ---- declared functions
 
+-- `void`, which begins no function type
+abbrev pub void_result : Form ℕ
+void_result = skip >> no_parameters >> intern type.Void
+
 abbrev pub declared_result_by : Kind → Form ℕ
-declared_result_by k.Void = skip >> intern type.Void
-declared_result_by k.LowercaseWord = refuse (λ i. left_out i.cursor)
-declared_result_by k.External = refuse (λ i. left_out i.cursor)
-declared_result_by k.ExternWeak = refuse (λ i. left_out i.cursor)
+declared_result_by k.Void = void_result
 declared_result_by _ = any_type >>= λ w. pure w.id
 
--- `void`, or a type
+-- `void`, or a type, with what decorates the function
 unfoldable pub declared_result : Form ℕ
-declared_result = look (λ i. kind i.cursor) declared_result_by
+declared_result = decorations spot.Result >> look (λ i. kind i.cursor) declared_result_by
 
 abbrev pub function_name_by : SymbolSort → Kind → Form ℕ
 function_name_by sort k.GlobalName = new_symbol sort
@@ -142,7 +164,7 @@ unfoldable pub function_name : SymbolSort → Form ℕ
 function_name sort = look (λ i. kind i.cursor) (function_name_by sort)
 
 abbrev pub with_declare : Declare → Input → Input
-with_declare d i = record i { declares = i.declares ++ d ∷ [] }
+with_declare d i = record i { declares = i.declares ++ d ∷ []; unnamed = 0 }
 
 pub with_declare_falls : (d : Declare) (i : Input) → left (with_declare d i) ≤ left i
 unfolding left
@@ -157,10 +179,11 @@ declare_behind number returned runtime = do
   expect k.OpenRound
   ps ← declared_parameters
   expect k.CloseRound
+  head_end spot.Declared
   add_declare (record { symbol = s; runtime = runtime; returned = returned; parameters = ps })
 
 abbrev pub declare_parts : ℕ → Form (Unit {0})
-declare_parts number = declared_result >>= λ returned. look (λ i. runtime_of (name i.cursor)) (declare_behind number returned)
+declare_parts number = declared_result >>= λ returned. look (λ i. runtime_of (spelled i.cursor)) (declare_behind number returned)
 
 abbrev pub declare_numbered : ℕ → Form (Unit {0})
 declare_numbered number = skip >> declare_parts number
@@ -172,29 +195,19 @@ declaration = below 65535 (λ i. length i.declares) >> look (λ i. length i.decl
 -- ---- defined functions
 
 abbrev pub defined_result_by : Kind → Form ℕ
-defined_result_by k.Void = skip >> intern type.Void
-defined_result_by k.LowercaseWord = refuse (λ i. left_out i.cursor)
-defined_result_by k.External = refuse (λ i. left_out i.cursor)
-defined_result_by k.ExternWeak = refuse (λ i. left_out i.cursor)
+defined_result_by k.Void = void_result
 defined_result_by _ = passed_type >>= λ w. pure w.id
 
--- `void`, or a type that a defined function may give
+-- `void`, or a type that a defined function may give, with what decorates the function
 unfoldable pub defined_result : Form ℕ
-defined_result = look (λ i. kind i.cursor) defined_result_by
+defined_result = decorations spot.Result >> look (λ i. kind i.cursor) defined_result_by
 
 abbrev pub open_body_by : Kind → Form (Unit {0})
 open_body_by k.OpenBrace = skip
-open_body_by _ = refuse (unread decorates_function)
+open_body_by _ = refuse unexpected
 
 unfoldable pub open_body : Form (Unit {0})
 open_body = look (λ i. kind i.cursor) open_body_by
-
-abbrev pub collector_name : Form (Option (List ℕ))
-collector_name = skip >> quoted >>= λ text. pure (Some text)
-
--- `gc "name"`, if it is there
-unfoldable pub collector : Form (Option (List ℕ))
-collector = look (λ i. sees k.Gc i.cursor) (either collector_name (pure None))
 
 abbrev pub earlier : Option ℕ → Option ℕ → Option ℕ
 earlier None further = further
@@ -218,6 +231,7 @@ with_function h bs i = record i {
   locals = empty;
   local_uses = [];
   values = 0;
+  unnamed = 0;
   missing = earlier i.missing (first_missing i.locals i.local_uses);
 }
 
@@ -234,7 +248,7 @@ head_behind number returned = do
   expect k.OpenRound
   ps ← parameters
   expect k.CloseRound
-  c ← collector
+  c ← head_end spot.Defined
   pure (record { symbol = s; returned = returned; parameters = ps; collector = c })
 
 abbrev pub head_result : ℕ → Form FunctionHead
@@ -265,6 +279,13 @@ item_by k.LocalName = struct_type
 item_by k.GlobalName = global
 item_by k.Declare = declaration
 item_by k.Define = definition
+item_by k.SourceFilename = source_name
+item_by k.Target = target_line
+item_by k.Attributes = group
+item_by k.Word = comdat
+item_by k.Exclamation = metadata_line
+item_by k.MetadataName = metadata_line
+item_by k.MetadataNumber = metadata_line
 item_by _ = refuse (unread begins_unread_item)
 
 -- an item
@@ -310,6 +331,13 @@ item_takes_by k.LocalName = struct_type_takes
 item_takes_by k.GlobalName = global_takes
 item_takes_by k.Declare = declaration_takes
 item_takes_by k.Define = definition_takes
+item_takes_by k.SourceFilename = source_name_takes
+item_takes_by k.Target = target_line_takes
+item_takes_by k.Attributes = group_takes
+item_takes_by k.Word = comdat_takes
+item_takes_by k.Exclamation = metadata_line_takes k.Exclamation (λ x. cc)
+item_takes_by k.MetadataName = metadata_line_takes k.MetadataName (λ x. cc)
+item_takes_by k.MetadataNumber = metadata_line_takes k.MetadataNumber (λ x. cc)
 item_takes_by _ = λ i a o e h. absurd h
 
 pub item_takes : Takes item

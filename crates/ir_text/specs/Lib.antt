@@ -1,4 +1,5 @@
 pub mod Starts
+pub mod Lines
 pub mod Parameters
 pub mod Blocks
 pub mod ItemsOfText

@@ -1,26 +1,39 @@
 -- Parameters of declared and of defined functions.
-use Rattle.std.specs.Prelude.{ℕ, not, List}
-use Rattle.grammar.specs.Grammar.{pure, checked, refuse, look, ◌>>=◌, ◌>>◌}
+use Rattle.std.specs.Prelude.{ℕ, List}
+use Rattle.grammar.specs.Grammar.{pure, refuse, look, ◌>>=◌, ◌>>◌}
 use Rattle.grammar.specs.Takes.{Takes, TakesWhere, first_takes, look_takes}
 use Rattle.grammar.specs.Many.{many}
 use Rattle.ir_tokens.specs.declared.token.Kind.{Kind}
 use Rattle.ir_tokens.specs.declared.token.Kind.TheVariants as k
 use Rattle.ir_ast.specs.declared.function.Parameter.{Parameter}
 use Rattle.ir_parts.specs.declared.written.WrittenType.{WrittenType}
-use Rattle.ir_cursor.specs.Cursor.{kind, sees, left_out}
-use Rattle.ir_parts.specs.Input.{Form, unread, IsKind}
-use Rattle.ir_parts.specs.Names.{new_value, set_type}
+use Rattle.ir_cursor.specs.Cursor.{kind, left_out}
+use Rattle.ir_parts.specs.Input.{Form, unexpected, skip, IsKind}
+use Rattle.ir_parts.specs.Names.{new_value, numbered_value, unnamed_value, next_number, take_number, set_type}
 use Rattle.ir_parts.specs.Written.{any_type, any_type_takes, passed_type, passed_type_takes}
+use Rattle.ir_instructions.specs.Decorations.{decorations}
+use Rattle.ir_instructions.specs.declared.decorating.Spot.TheVariants as spot
 use Rattle.ir_instructions.specs.Lists.{separator, at_round}
-use Rattle.ir_text.specs.Starts.{decorates_parameter}
 
 -- ---- declared functions
 
--- names of parameters are not read yet
-abbrev pub type_of_parameter : WrittenType → Form ℕ
-type_of_parameter w = checked (λ i. not (sees k.LocalName i.cursor)) (λ i. left_out i.cursor) >> separator k.CloseRound >> pure w.id
+abbrev pub declared_name_by : Kind → Form (Unit {0})
+declared_name_by k.LocalName = skip
+declared_name_by k.LocalNumber = next_number >> skip
+declared_name_by _ = take_number
 
--- the type of a parameter of a declared function
+-- the name of a parameter that is declared; a number has to be the next one
+unfoldable pub declared_name : Form (Unit {0})
+declared_name = look (λ i. kind i.cursor) declared_name_by
+
+abbrev pub type_of_parameter : WrittenType → Form ℕ
+type_of_parameter w = do
+  decorations spot.Parameter
+  declared_name
+  separator k.CloseRound
+  pure w.id
+
+-- the type of a parameter of a declared function, whose name is left aside
 unfoldable pub declared_parameter : Form ℕ
 declared_parameter = any_type >>= type_of_parameter
 
@@ -52,14 +65,18 @@ parameter_type_takes = look_takes (λ i. kind i.cursor) parameter_type_by parame
 
 abbrev pub parameter_name_by : Kind → Form ℕ
 parameter_name_by k.LocalName = new_value
-parameter_name_by _ = refuse (unread decorates_parameter)
+parameter_name_by k.LocalNumber = numbered_value
+parameter_name_by k.Comma = unnamed_value
+parameter_name_by k.CloseRound = unnamed_value
+parameter_name_by _ = refuse unexpected
 
--- the name of a parameter
+-- the name of a parameter, or its number, which may be left out
 unfoldable pub parameter_name : Form ℕ
 parameter_name = look (λ i. kind i.cursor) parameter_name_by
 
 abbrev pub parameter_of : WrittenType → Form Parameter
 parameter_of w = do
+  decorations spot.Parameter
   value ← parameter_name
   set_type value w.id
   separator k.CloseRound

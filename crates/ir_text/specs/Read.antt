@@ -39,6 +39,7 @@ located bytes (fault.NotDefined place) = shown.NotDefined (position_of bytes pla
 located bytes (fault.OutOfRange place) = shown.OutOfRange (position_of bytes place)
 located bytes (fault.LeftOut start length) = shown.LeftOut (position_of bytes start) (front length (behind start bytes))
 located bytes (fault.Limit place) = shown.Limit (position_of bytes place)
+located bytes (fault.WrongNumber place) = shown.WrongNumber (position_of bytes place)
 
 -- the tables that the whole reading made
 abbrev pub module_of : Input → Module

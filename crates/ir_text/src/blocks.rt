@@ -3,8 +3,7 @@ ghost use Rattle.std.specs.Prelude.{◌≡◌, ◌<◌, IfOk};
 ghost use Rattle.ir_parts.specs.Input.{Reads};
 ghost use Rattle.ir_text.specs.Blocks as form;
 
-use crate::starts::begins_unread_block;
-use ir_ast::{Block, BlockId};
+use ir_ast::{Block, BlockId, ValueId};
 use ir_cursor::Fault;
 use ir_instructions::{Following, instructions, many_with};
 use ir_parts::Input;
@@ -15,26 +14,34 @@ use std::alloc::Global;
 /// How many blocks a function has at most.
 const BLOCK_LIMIT: u32 = 65535;
 
-/// A block behind its label.
+/// The label of a block, or its number among the names, which may be left out.
+#[tactic(auto, unfolding(crate::specs::Blocks::block_label))]
+fn block_label(alloc: Global, input: &mut Input<'_>, number: BlockId) -> Result<ValueId, Fault>
+    ensures outcome { Reads ((form.block_label number).read input.old) result input.new }
+    ensures within { IfOk result (λ _. number < 65535) }
+{
+    if number.number() >= BLOCK_LIMIT {
+        return Err(input.limit());
+    }
+    match input.kind() {
+        Kind::LabelName => input.new_label(alloc, number),
+        Kind::LabelNumber => input.numbered_label(alloc, number),
+        _ => input.unnamed_label(alloc, number),
+    }
+}
+
+/// A block: its label, and its instructions.
 #[tactic(auto, unfolding(crate::specs::Blocks::block))]
 fn block(alloc: Global, input: &mut Input<'_>, number: BlockId) -> Result<Block, Fault>
     ensures outcome { Reads ((form.block number).read input.old) result input.new }
     ensures within { IfOk result (λ _. number < 65535) }
 {
-    match input.kind() {
-        Kind::LabelName => {
-            if number.number() >= BLOCK_LIMIT {
-                return Err(input.limit());
-            }
-            let label = input.new_label(alloc, number)?;
-            let instructions = instructions(alloc, input, number)?;
-            Ok(Block {
-                label,
-                instructions,
-            })
-        }
-        kind => Err(input.refuse(begins_unread_block(kind))),
-    }
+    let label = block_label(alloc, input, number)?;
+    let instructions = instructions(alloc, input, number)?;
+    Ok(Block {
+        label,
+        instructions,
+    })
 }
 
 /// The blocks of a function so far.

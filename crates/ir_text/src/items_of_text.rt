@@ -4,15 +4,16 @@ ghost use Rattle.ir_parts.specs.Input.{Reads};
 ghost use Rattle.ir_text.specs.ItemsOfText as form;
 
 use crate::blocks::all_blocks;
+use crate::lines::{comdat, group, metadata_line, source_name, target_line};
 use crate::parameters::{DeclaredParameters, DefinedParameters};
-use crate::starts::{begins_unread_item, decorates_function};
+use crate::starts::{begins_unread_item, is_external};
 use ir_ast as ast;
 use ir_ast::{
     Block, Constant, Declare, DeclareId, FuncId, Function, GlobalId, IrType, Parameter, StructType,
     SymbolId, SymbolSort, TypeId,
 };
 use ir_cursor::{Fault, Table, runtime_of};
-use ir_instructions::is_decoration;
+use ir_instructions::{Spot, Trail, decorations, trailing};
 use ir_parts::{Input, Listed, begins_unread_operand, bits_of, first_missing, many};
 use ir_tokens::Kind;
 use items::Items;
@@ -73,11 +74,12 @@ fn initial(input: &mut Input<'_>, bits: Option<u32>) -> Result<Constant, Fault>
     input.constant(bits)
 }
 
-/// `global` or `constant`. Answers whether it is `constant`.
+/// `global` or `constant`, with what decorates the global. Answers whether it is `constant`.
 #[tactic(auto, unfolding(crate::specs::ItemsOfText::is_constant))]
-fn is_constant(input: &mut Input<'_>) -> Result<bool, Fault>
+fn is_constant(alloc: Global, input: &mut Input<'_>) -> Result<bool, Fault>
     ensures { Reads (form.is_constant.read input.old) result input.new }
 {
+    decorations(alloc, input, Spot::Global)?;
     match input.kind() {
         Kind::Global => {
             input.skip();
@@ -87,7 +89,7 @@ fn is_constant(input: &mut Input<'_>) -> Result<bool, Fault>
             input.skip();
             Ok(true)
         }
-        kind => Err(input.refuse(is_decoration(kind))),
+        kind => Err(input.refuse(is_external(kind))),
     }
 }
 
@@ -102,9 +104,10 @@ fn global(alloc: Global, input: &mut Input<'_>) -> Result<(), Fault>
     let number = GlobalId::new(input.globals.len() as u32);
     let symbol = input.new_symbol(alloc, SymbolSort::Global(number))?;
     input.expect(Kind::Equals)?;
-    let is_constant = is_constant(input)?;
+    let is_constant = is_constant(alloc, input)?;
     let written = input.held_type(alloc)?;
     let initial = initial(input, bits_of(&written))?;
+    trailing(alloc, input, Trail::Memory)?;
     input.globals.push(ast::Global {
         symbol,
         is_constant,
@@ -116,32 +119,35 @@ fn global(alloc: Global, input: &mut Input<'_>) -> Result<(), Fault>
 
 // ---- functions
 
-/// `void`, or a type.
+/// `void`, which begins no function type.
+fn void_result(input: &mut Input<'_>) -> Result<TypeId, Fault>
+    ensures { Reads (form.void_result.read input.old) result input.new }
+{
+    input.skip();
+    input.no_parameters()?;
+    input.intern(IrType::Void)
+}
+
+/// `void`, or a type, with what decorates the function.
 #[tactic(auto, unfolding(crate::specs::ItemsOfText::declared_result))]
 fn declared_result(alloc: Global, input: &mut Input<'_>) -> Result<TypeId, Fault>
     ensures { Reads (form.declared_result.read input.old) result input.new }
 {
+    decorations(alloc, input, Spot::Result)?;
     match input.kind() {
-        Kind::Void => {
-            input.skip();
-            input.intern(IrType::Void)
-        }
-        Kind::LowercaseWord | Kind::External | Kind::ExternWeak => Err(input.left_out()),
+        Kind::Void => void_result(input),
         _ => Ok(input.any_type(alloc)?.id),
     }
 }
 
-/// `void`, or a type that a defined function may give.
+/// `void`, or a type that a defined function may give, with what decorates the function.
 #[tactic(auto, unfolding(crate::specs::ItemsOfText::defined_result))]
 fn defined_result(alloc: Global, input: &mut Input<'_>) -> Result<TypeId, Fault>
     ensures { Reads (form.defined_result.read input.old) result input.new }
 {
+    decorations(alloc, input, Spot::Result)?;
     match input.kind() {
-        Kind::Void => {
-            input.skip();
-            input.intern(IrType::Void)
-        }
-        Kind::LowercaseWord | Kind::External | Kind::ExternWeak => Err(input.left_out()),
+        Kind::Void => void_result(input),
         _ => Ok(input.passed_type(alloc)?.id),
     }
 }
@@ -168,11 +174,14 @@ fn declaration(alloc: Global, input: &mut Input<'_>) -> Result<(), Fault>
     let number = DeclareId::new(input.declares.len() as u32);
     input.skip();
     let returned = declared_result(alloc, input)?;
-    let runtime = runtime_of(input.cursor.name());
+    let name = input.cursor.spelled(alloc)?;
+    let runtime = runtime_of(name.as_slice());
     let symbol = function_name(alloc, input, SymbolSort::Declared(number))?;
     input.expect(Kind::OpenRound)?;
     let parameters = many::<DeclaredParameters>(alloc, input)?;
     input.expect(Kind::CloseRound)?;
+    head_end(alloc, input, Spot::Declared)?;
+    input.unnamed = 0;
     input.declares.push(Declare {
         symbol,
         runtime,
@@ -192,7 +201,7 @@ fn open_body(input: &mut Input<'_>) -> Result<(), Fault>
             input.skip();
             Ok(())
         }
-        kind => Err(input.refuse(decorates_function(kind))),
+        _ => Err(input.refuse(false)),
     }
 }
 
@@ -206,6 +215,17 @@ fn collector(alloc: Global, input: &mut Input<'_>) -> Result<Option<Items<u8>>, 
     }
     input.skip();
     Ok(Some(input.quoted(alloc)?))
+}
+
+/// What decorates a function behind its parameters. Answers the collector's name.
+#[tactic(auto, unfolding(crate::specs::ItemsOfText::head_end))]
+fn head_end(alloc: Global, input: &mut Input<'_>, spot: Spot) -> Result<Option<Items<u8>>, Fault>
+    ensures { Reads ((form.head_end spot).read input.old) result input.new }
+{
+    decorations(alloc, input, spot)?;
+    let collector = collector(alloc, input)?;
+    decorations(alloc, input, spot)?;
+    Ok(collector)
 }
 
 /// The head of a defined function.
@@ -228,7 +248,7 @@ fn head(alloc: Global, input: &mut Input<'_>, number: FuncId) -> Result<Function
     input.expect(Kind::OpenRound)?;
     let parameters = many::<DefinedParameters>(alloc, input)?;
     input.expect(Kind::CloseRound)?;
-    let collector = collector(alloc, input)?;
+    let collector = head_end(alloc, input, Spot::Defined)?;
     Ok(FunctionHead {
         symbol,
         returned,
@@ -253,6 +273,7 @@ fn end_function(
     let locals = mem::replace(&mut input.locals, Table::new(alloc));
     input.local_uses.clear();
     input.values = 0;
+    input.unnamed = 0;
     input.functions.push(Function {
         symbol: head.symbol,
         returned: head.returned,
@@ -291,6 +312,13 @@ fn item(alloc: Global, input: &mut Input<'_>) -> Result<(), Fault>
         Kind::GlobalName => global(alloc, input),
         Kind::Declare => declaration(alloc, input),
         Kind::Define => definition(alloc, input),
+        Kind::SourceFilename => source_name(input),
+        Kind::Target => target_line(input),
+        Kind::Attributes => group(alloc, input),
+        Kind::Word => comdat(input),
+        Kind::Exclamation | Kind::MetadataName | Kind::MetadataNumber => metadata_line(
+            alloc, input,
+        ),
         kind => Err(input.refuse(begins_unread_item(kind))),
     }
 }

@@ -4,6 +4,7 @@
 mod blocks;
 mod items_of_text;
 mod late;
+mod lines;
 mod parameters;
 mod read_fault;
 mod reader;

@@ -3,23 +3,40 @@ ghost use Rattle.std.specs.Prelude.{◌≡◌};
 ghost use Rattle.ir_parts.specs.Input.{Reads};
 ghost use Rattle.ir_text.specs.Parameters as form;
 
-use crate::starts::decorates_parameter;
 use ir_ast::{Parameter, TypeId, ValueId};
 use ir_cursor::Fault;
-use ir_instructions::separator;
+use ir_instructions::{Spot, decorations, separator};
 use ir_parts::{Input, Listed, WrittenType};
 use ir_tokens::Kind;
 use std::alloc::Global;
 
-/// The type of a parameter of a declared function.
+/// The name of a parameter that is declared.
+#[tactic(auto, unfolding(crate::specs::Parameters::declared_name))]
+fn declared_name(alloc: Global, input: &mut Input<'_>) -> Result<(), Fault>
+    ensures { Reads (form.declared_name.read input.old) result input.new }
+{
+    match input.kind() {
+        Kind::LocalName => {
+            input.skip();
+            Ok(())
+        }
+        Kind::LocalNumber => {
+            input.next_number(alloc)?;
+            input.skip();
+            Ok(())
+        }
+        _ => input.take_number(),
+    }
+}
+
+/// The type of a parameter of a declared function, whose name is left aside.
 #[tactic(auto, unfolding(crate::specs::Parameters::declared_parameter))]
 fn declared_parameter(alloc: Global, input: &mut Input<'_>) -> Result<TypeId, Fault>
     ensures { Reads (form.declared_parameter.read input.old) result input.new }
 {
     let written = input.any_type(alloc)?;
-    if input.sees(Kind::LocalName) {
-        return Err(input.left_out());
-    }
+    decorations(alloc, input, Spot::Parameter)?;
+    declared_name(alloc, input)?;
     separator(input, Kind::CloseRound)?;
     Ok(written.id)
 }
@@ -57,14 +74,16 @@ fn parameter_type(alloc: Global, input: &mut Input<'_>) -> Result<WrittenType, F
     }
 }
 
-/// The name of a parameter.
+/// The name of a parameter, or its number, which may be left out.
 #[tactic(auto, unfolding(crate::specs::Parameters::parameter_name))]
 fn parameter_name(alloc: Global, input: &mut Input<'_>) -> Result<ValueId, Fault>
     ensures { Reads (form.parameter_name.read input.old) result input.new }
 {
     match input.kind() {
         Kind::LocalName => input.new_value(alloc),
-        kind => Err(input.refuse(decorates_parameter(kind))),
+        Kind::LocalNumber => input.numbered_value(alloc),
+        Kind::Comma | Kind::CloseRound => input.unnamed_value(alloc),
+        _ => Err(input.refuse(false)),
     }
 }
 
@@ -74,6 +93,7 @@ fn parameter(alloc: Global, input: &mut Input<'_>) -> Result<Parameter, Fault>
     ensures { Reads (form.parameter.read input.old) result input.new }
 {
     let written = parameter_type(alloc, input)?.id;
+    decorations(alloc, input, Spot::Parameter)?;
     let value = parameter_name(alloc, input)?;
     input.set_type(value, written);
     separator(input, Kind::CloseRound)?;

@@ -25,6 +25,8 @@ pub enum ReadFault {
     LeftOut { place: Position, word: Items<u8> },
     #[error("L8: a limit is passed")]
     Limit(Position),
+    #[error("L9: the number is not the next one")]
+    WrongNumber(Position),
 }
 
 impl From<AllocError> for ReadFault {

@@ -51,6 +51,7 @@ fn located(alloc: Global, bytes: &[u8], fault: Fault) -> ReadFault
         Fault::NotDefined(place) => ReadFault::NotDefined(Position::of(bytes, place)),
         Fault::OutOfRange(place) => ReadFault::OutOfRange(Position::of(bytes, place)),
         Fault::Limit(place) => ReadFault::Limit(Position::of(bytes, place)),
+        Fault::WrongNumber(place) => ReadFault::WrongNumber(Position::of(bytes, place)),
         Fault::LeftOut { start, length } => {
             let word = front(behind(bytes, start as usize), length as usize);
             match Items::from_slice(alloc, word) {

@@ -1,3 +1,5 @@
 mod Few
 mod Phis
 mod Arguments
+mod Kept
+mod Roots

@@ -1,7 +1,8 @@
 -- What an instruction asks for.
-use Rattle.std.specs.Prelude.{ℕ, ◌==◌, nat_lt, Bool, false, ◌&&◌, ◌||◌, if◌then◌else◌, List, [], ◌∷◌, length, slice_get, Option, Some, None, is_some}
+use Rattle.std.specs.Prelude.{ℕ, ◌==◌, nat_lt, Bool, true, false, ◌&&◌, ◌||◌, if◌then◌else◌, List, [], ◌∷◌, length, slice_get, Option, Some, None, is_some}
 use Rattle.std.specs.List.{list_all}
 use Rattle.ir_ast.specs.declared.function.Function.{Function}
+use Rattle.ir_ast.specs.declared.function.Parameter.{Parameter}
 use Rattle.ir_ast.specs.declared.items_of_module.Declare.{Declare}
 use Rattle.ir_ast.specs.declared.items_of_module.SymbolSort.{SymbolSort}
 use Rattle.ir_ast.specs.declared.items_of_module.SymbolSort.TheVariants as symbol
@@ -29,7 +30,7 @@ use Rattle.machine.specs.declared.value.Place.TheVariants as place
 use Rattle.machine.specs.declared.value.Value.{Value}
 use Rattle.machine.specs.declared.value.Value.TheVariants as value
 use Rattle.machine.specs.declared.action.Action.{Action}
-use Rattle.machine.specs.declared.action.Action.TheVariants.{Local, Read, StorePlain, Alloc, End, Wrong}
+use Rattle.machine.specs.declared.action.Action.TheVariants.{Local, Read, StorePlain, Alloc, Safepoint, End, Wrong}
 use Rattle.machine.specs.Kinds.{is_integer, is_integer_of, is_void, is_byte_pointer, is_place_of_bytes, leads_to, may_refer, may_lead, bits_at, is_set, is_number, is_reference, fits_layout_of, are_of_one_layout, number_in, value_of, is_typed, is_usable, is_usable_number, is_local_of, slot_at_place, address_at_place}
 use Rattle.machine.specs.Integers.{may_resize, is_equality}
 use Rattle.machine.specs.Elements.{element_offset, element_place, is_read_as, takes_integer, refers_to}
@@ -183,6 +184,11 @@ abbrev pub are_alloc_types : Module → (returned : ℕ) → List ℕ → Bool
 are_alloc_types m returned (layout ∷ []) = is_byte_pointer m returned && is_integer_of 32 (slice_get m.types layout)
 are_alloc_types m returned parameters = false
 
+-- the types of dg_safepoint: void ()
+abbrev pub are_safepoint_types : Module → (returned : ℕ) → List ℕ → Bool
+are_safepoint_types m returned [] = is_void (slice_get m.types returned)
+are_safepoint_types m returned parameters = false
+
 -- whether a name is declared with types that pass a test
 abbrev pub declared_with : (ℕ → List ℕ → Bool) → Option Declare → Bool
 declared_with test None = false
@@ -228,11 +234,47 @@ abbrev pub alloc_action : Module → (returned : ℕ) → List Argument → Acti
 alloc_action m returned (layout ∷ []) = only_if (are_alloc_types m returned (layout.written ∷ [])) (alloc_of (layout_named m layout.operand))
 alloc_action m returned arguments = Wrong
 
--- a call of a function of the runtime, declared and called with its types; no other callee is known
-abbrev pub call_action : Module → Function → SlotTable → List Value → (returned : ℕ) → List Argument → Option Declare → Option Runtime → Action
-call_action m f slots registers returned arguments declare (Some runtime.Alloc) = only_if (declared_with (are_alloc_types m) declare) (alloc_action m returned arguments)
-call_action m f slots registers returned arguments declare (Some runtime.GcRoot) = only_if (declared_with (are_gcroot_types m) declare) (gcroot_action m f slots registers returned arguments)
-call_action m f slots registers returned arguments declare _ = Wrong
+-- dg_safepoint asks whether a stage was posted
+abbrev pub safepoint_action : Module → (returned : ℕ) → List Argument → Action
+safepoint_action m returned [] = only_if (are_safepoint_types m returned []) Safepoint
+safepoint_action m returned arguments = Wrong
+
+-- ---- calls of defined functions
+
+-- the number of the defined function that a name of this sort is
+abbrev pub number_of_sort : Option SymbolSort → Option ℕ
+number_of_sort (Some (symbol.Defined function)) = Some function
+number_of_sort _ = None
+
+-- the number of the defined function that a global name names
+abbrev pub number_called : Module → (callee : ℕ) → Option ℕ
+number_called m callee = number_of_sort (slice_get m.sorts callee)
+
+-- the function with a number, if there is one
+abbrev pub function_numbered : Module → (function : Option ℕ) → Option Function
+function_numbered m None = None
+function_numbered m (Some function) = slice_get m.functions function
+
+-- there is one argument for each parameter, of its type and usable
+abbrev pub arguments_pass : Module → Function → SlotTable → List Value → List Parameter → List Argument → Bool
+arguments_pass m f slots registers [] [] = true
+arguments_pass m f slots registers (parameter ∷ parameters) (argument ∷ arguments) =
+    (argument.written == parameter.written) && (is_usable m f slots registers argument.written argument.operand && arguments_pass m f slots registers parameters arguments)
+arguments_pass m f slots registers _ _ = false
+
+-- a call of a defined function is one step, if it is called with its types
+abbrev pub defined_action : Module → Function → SlotTable → List Value → (returned : ℕ) → List Argument → (callee : Option Function) → Action
+defined_action m f slots registers returned arguments None = Wrong
+defined_action m f slots registers returned arguments (Some callee) =
+    only_if ((returned == callee.returned) && arguments_pass m f slots registers callee.parameters arguments) Local
+
+-- a call of a function of the runtime, declared and called with its types, or of a defined function; no other callee is known
+abbrev pub call_action : Module → Function → SlotTable → List Value → (returned : ℕ) → List Argument → Option Declare → (callee : Option Function) → Option Runtime → Action
+call_action m f slots registers returned arguments declare callee (Some runtime.Alloc) = only_if (declared_with (are_alloc_types m) declare) (alloc_action m returned arguments)
+call_action m f slots registers returned arguments declare callee (Some runtime.GcRoot) = only_if (declared_with (are_gcroot_types m) declare) (gcroot_action m f slots registers returned arguments)
+call_action m f slots registers returned arguments declare callee (Some runtime.Safepoint) = only_if (declared_with (are_safepoint_types m) declare) (safepoint_action m returned arguments)
+call_action m f slots registers returned arguments declare callee None = defined_action m f slots registers returned arguments callee
+call_action m f slots registers returned arguments declare callee _ = Wrong
 
 -- ---- the end of a block
 
@@ -282,13 +324,13 @@ op_action p f slots from registers (Select condition_type condition written chos
     only_if (is_condition p.of_module f slots registers condition_type condition && may_select p.of_module f slots registers written chosen other) Local
 op_action p f slots from registers (Phi written incoming) = Local
 op_action p f slots from registers (Call returned callee arguments) =
-    call_action p.of_module f slots registers returned arguments (declare_of p.of_module callee) (runtime_called p.of_module callee)
+    call_action p.of_module f slots registers returned arguments (declare_of p.of_module callee) (function_numbered p.of_module (number_called p.of_module callee)) (runtime_called p.of_module callee)
 op_action p f slots from registers (Jump label) = way_action p.of_module f slots from registers (Jump label)
 op_action p f slots from registers (Branch condition_type condition taken other) =
     if is_condition p.of_module f slots registers condition_type condition then way_action p.of_module f slots from registers (Branch condition_type condition taken other) else Wrong
 op_action p f slots from registers (Switch written v otherwise cases) =
     if is_usable_number p.of_module f slots registers written v && cases_fit p.of_module written cases then way_action p.of_module f slots from registers (Switch written v otherwise cases) else Wrong
 op_action p f slots from registers Unreachable = End
-op_action p f slots from registers ReturnVoid = End
+op_action p f slots from registers ReturnVoid = only_if (is_void (slice_get p.of_module.types f.returned)) End
 op_action p f slots from registers (Return argument) =
     only_if ((argument.written == f.returned) && is_usable p.of_module f slots registers argument.written argument.operand) End

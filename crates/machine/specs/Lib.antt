@@ -6,3 +6,4 @@ pub mod Asks
 pub mod Machine
 pub mod Log
 pub mod Start
+pub mod Entered

@@ -6,17 +6,18 @@ use Rattle.pools.specs.declared.word_kind.WordKind.TheVariants.{Integer, Referen
 use Rattle.pools.specs.Heap.{Setup, IsOfLayout, kind_of}
 use Rattle.layout.specs.Layouts.{LaidOut}
 use Rattle.machine.specs.declared.action.Action.{Action}
-use Rattle.machine.specs.declared.action.Action.TheVariants.{Local, Read, StorePlain, Alloc, End, Wrong}
+use Rattle.machine.specs.declared.action.Action.TheVariants.{Local, Read, StorePlain, Alloc, Safepoint, End, Wrong}
 use Rattle.machine.specs.declared.action.Answer.{Answer}
 use Rattle.machine.specs.declared.action.Answer.TheVariants as answer
 use Rattle.machine.specs.declared.value.Value.{Value}
 use Rattle.machine.specs.declared.value.Value.TheVariants as value
 use Rattle.machine.specs.Machine.{State, action, after_answer, roots}
 
--- a step: what was asked for, and what was answered
+-- a step: what was asked for, what was answered, and the thread's roots when it asked
 pub record Step : Type 0 where
   pub asked : Action
   pub given : Answer
+  pub roots : List Value
 
 -- the steps of a thread
 abbrev pub Log : Type 0
@@ -29,23 +30,33 @@ abbrev pub Gives : Answer → ℕ → Type 0
 Gives (answer.Cell at) cell = at.cell ≡ cell
 Gives _ cell = ⊥
 
--- a thread holds the cells that it read or claimed
-abbrev pub Held : Log → ℕ → Type 0
-Held [] cell = ⊥
-Held (step ∷ log) cell = Gives step.given cell ⊎ Held log cell
-
 -- the cell to which a value refers
 abbrev pub RefersTo : Value → ℕ → Type 0
 RefersTo (value.Cell layout at) cell = at.cell ≡ cell
 RefersTo _ cell = ⊥
 
--- what a step makes of the cells that were fresh: a claimed one is, and a stored one is no more
+-- one of these values refers to the cell
+abbrev pub IsReferredTo : List Value → ℕ → Type 0
+IsReferredTo values cell = (v : Value) × Contains values v × RefersTo v cell
+
+-- what a step makes of the cells that were held: where a stage was answered, only those to which the roots refer stay; otherwise what the answer hands over is held too
+abbrev pub StaysHeld : Action → Answer → (roots : List Value) → (was : Type 0) → ℕ → Type 0
+StaysHeld Safepoint answer.Answered roots was cell = IsReferredTo roots cell
+StaysHeld asked given roots was cell = Gives given cell ⊎ was
+
+-- a thread holds the cells that it read or claimed, since it answered a stage, and its roots of then
+abbrev pub Held : Log → ℕ → Type 0
+Held [] cell = ⊥
+Held (step ∷ log) cell = StaysHeld step.asked step.given step.roots (Held log cell) cell
+
+-- what a step makes of the cells that were fresh: a claimed one is, and a stored one is no more; none is where a stage was answered
 abbrev pub StaysFresh : Action → Answer → (was : Type 0) → ℕ → Type 0
 StaysFresh (Alloc layout) given was cell = Gives given cell ⊎ was
 StaysFresh (StorePlain at word v) given was cell = (RefersTo v cell → ⊥) × was
+StaysFresh Safepoint answer.Answered was cell = ⊥
 StaysFresh asked given was cell = was
 
--- a cell is fresh that was claimed and was not stored since
+-- a cell is fresh that was claimed, and neither was it stored nor a stage answered since
 abbrev pub IsFresh : Log → ℕ → Type 0
 IsFresh [] cell = ⊥
 IsFresh (step ∷ log) cell = StaysFresh step.asked step.given (IsFresh log cell) cell
@@ -65,13 +76,15 @@ MayBeRead heap log (Some (Referring layout)) answer.Null = Unit {0}
 MayBeRead heap log (Some (Referring layout)) (answer.Cell at) = IsOfLayout heap layout at.cell × (IsFresh log at.cell → ⊥)
 MayBeRead heap log kind given = ⊥
 
--- what may be answered: to an alloc null, or a cell of the asked pool that the thread does not hold
+-- what may be answered: to an alloc null, or a cell of the asked pool that the thread does not hold; to a safepoint that nothing new was posted, or that the stage was answered
 abbrev pub Possible : Setup → Log → Action → Answer → Type 0
 Possible heap log Local answer.Done = Unit {0}
 Possible heap log (Read at word) given = MayBeRead heap log (kind_of heap at.cell word) given
 Possible heap log (StorePlain at word v) answer.Done = Unit {0}
 Possible heap log (Alloc layout) answer.Null = Unit {0}
 Possible heap log (Alloc layout) (answer.Cell at) = IsOfLayout heap layout at.cell × (Held log at.cell → ⊥)
+Possible heap log Safepoint answer.Done = Unit {0}
+Possible heap log Safepoint answer.Answered = Unit {0}
 Possible heap log End answer.Done = Unit {0}
 Possible heap log asked given = ⊥
 
@@ -90,6 +103,7 @@ Keeps heap log Local = Unit {0}
 Keeps heap log (Read at word) = Held log at.cell × (kind_of heap at.cell word ≢ None)
 Keeps heap log (StorePlain at word v) = Held log at.cell × MayBeStored heap log at.cell (kind_of heap at.cell word) v
 Keeps heap log (Alloc layout) = Unit {0}
+Keeps heap log Safepoint = Unit {0}
 Keeps heap log End = Unit {0}
 Keeps heap log Wrong = ⊥
 
@@ -103,4 +117,4 @@ abbrev pub Safe : Setup → LaidOut → State → Log → List Answer → Type 0
 Safe heap p s log [] = IsSafe heap p s log
 Safe heap p s log (given ∷ answers) =
     IsSafe heap p s log
-    × (Possible heap log (action p s) given → Safe heap p (after_answer p s given) (record { asked = action p s; given = given } ∷ log) answers)
+    × (Possible heap log (action p s) given → Safe heap p (after_answer p s given) (record { asked = action p s; given = given; roots = roots p.of_module s } ∷ log) answers)

@@ -1,5 +1,5 @@
 -- One thread: what it asks for, and its state behind the answer.
-use Rattle.std.specs.Prelude.{ℕ, ◌+◌, ◌==◌, Bool, true, false, if◌then◌else◌, List, [], ◌∷◌, ◌++◌, length, map, replicate, slice_get, slice_set, unwrap_or, Option, Some, None}
+use Rattle.std.specs.Prelude.{ℕ, suc, ◌+◌, ◌==◌, nat_lt, Bool, true, false, if◌then◌else◌, List, [], ◌∷◌, ◌++◌, length, map, replicate, slice_get, slice_set, unwrap_or, Option, Some, None}
 use Rattle.ir_ast.specs.declared.block.Block.{Block}
 use Rattle.ir_ast.specs.declared.function.Function.{Function}
 use Rattle.ir_ast.specs.declared.function.Parameter.{Parameter}
@@ -20,7 +20,7 @@ use Rattle.machine.specs.declared.value.Place.TheVariants as place
 use Rattle.machine.specs.declared.value.Value.{Value}
 use Rattle.machine.specs.declared.value.Value.TheVariants as value
 use Rattle.machine.specs.declared.action.Action.{Action}
-use Rattle.machine.specs.declared.action.Action.TheVariants.{End}
+use Rattle.machine.specs.declared.action.Action.TheVariants.{Local, End}
 use Rattle.machine.specs.declared.action.Answer.{Answer}
 use Rattle.machine.specs.declared.action.Answer.TheVariants as answer
 use Rattle.machine.specs.declared.frame.Frame.{Frame}
@@ -28,7 +28,7 @@ use Rattle.machine.specs.Kinds.{is_integer, bits_at, number_in, value_of, slot_a
 use Rattle.machine.specs.Integers.{computed, resized, compares, compares_equal, truth}
 use Rattle.machine.specs.Elements.{element_offset, element_place, address_of, read_value}
 use Rattle.machine.specs.Jumps.{put_register, phis_of, enter}
-use Rattle.machine.specs.Asks.{layout_named, op_action, way_of, target_at}
+use Rattle.machine.specs.Asks.{layout_named, number_called, op_action, way_of, target_at}
 
 -- the frames of a thread, the running one first; a thread without a frame has ended
 pub record State : Type 0 where
@@ -37,6 +37,40 @@ pub record State : Type 0 where
 -- the value of a slot
 abbrev pub slot_value : List Value → (slot : ℕ) → Value
 slot_value slots slot = unwrap_or (slice_get slots slot) value.Unset
+
+-- ---- how a thread goes on
+
+-- behind an instruction
+pub data Onward : Type 0 where
+  Next : Onward  -- at the next place
+  Way : Onward  -- in the block to which it leads
+  Into : (function : ℕ) → Onward  -- at the beginning of the function that it calls
+  Back : Onward  -- in the frame below
+  Nowhere : Onward  -- it ends
+
+-- behind a call, by the defined function that is called
+abbrev pub onward_of_call : (function : Option ℕ) → Onward
+onward_of_call None = Next
+onward_of_call (Some function) = Into function
+
+-- by what the instruction is
+abbrev pub onward_of : Module → Op → Onward
+onward_of m (Call returned callee arguments) = onward_of_call (number_called m callee)
+onward_of m (Jump label) = Way
+onward_of m (Branch condition_type condition taken other) = Way
+onward_of m (Switch written v otherwise cases) = Way
+onward_of m Unreachable = Nowhere
+onward_of m ReturnVoid = Back
+onward_of m (Return argument) = Back
+onward_of m _ = Next
+
+-- how many frames a thread may have
+abbrev pub frame_limit : ℕ
+frame_limit = 10000
+
+-- there may be one frame more above the running one, which has so many below
+abbrev pub has_room : (below : ℕ) → Bool
+has_room below = nat_lt (below + 1) frame_limit
 
 -- ---- what a thread asks for
 
@@ -54,10 +88,21 @@ abbrev pub instr_action : LaidOut → Function → Frame → Option Instr → Ac
 instr_action p f frame None = End
 instr_action p f frame (Some instr) = op_action p f (slots_of p.of_module f) frame.block frame.registers instr.op
 
--- what a frame of this function asks for
-abbrev pub frame_action : LaidOut → Frame → Option Function → Action
-frame_action p frame None = End
-frame_action p frame (Some f) = instr_action p f frame (instr_at f frame)
+-- what is asked for above so many other frames: a return to one of them is one step, and a call for whose frame there is no room ends the thread
+abbrev pub above : Onward → (below : ℕ) → Action → Action
+above Back (suc below) End = Local
+above (Into function) below Local = if has_room below then Local else End
+above onward below asked = asked
+
+-- what an instruction asks for above so many other frames
+abbrev pub step_action : LaidOut → Function → Frame → (below : ℕ) → Option Instr → Action
+step_action p f frame below None = End
+step_action p f frame below (Some instr) = above (onward_of p.of_module instr.op) below (instr_action p f frame (Some instr))
+
+-- what a frame of this function asks for above so many other frames
+abbrev pub frame_action : LaidOut → Frame → (below : ℕ) → Option Function → Action
+frame_action p frame below None = End
+frame_action p frame below (Some f) = step_action p f frame below (instr_at f frame)
 
 -- what a thread asks for
 abbrev pub action : LaidOut → State → Action
@@ -65,7 +110,7 @@ action p s = frames_action s.frames
   where
     frames_action : List Frame → Action
     frames_action [] = End
-    frames_action (frame ∷ below) = frame_action p frame (slice_get p.of_module.functions frame.function)
+    frames_action (frame ∷ below) = frame_action p frame (length below) (slice_get p.of_module.functions frame.function)
 
 -- ---- what an instruction leaves
 
@@ -157,23 +202,6 @@ after_op p f slots name (Select condition_type condition written chosen other) g
 after_op p f slots name (Call returned callee arguments) given frame = after_call p.of_module f slots name arguments (runtime_called p.of_module callee) given frame
 after_op p f slots name _ given frame = frame
 
--- how a thread goes on behind an instruction
-pub data Onward : Type 0 where
-  Next : Onward  -- at the next place
-  Way : Onward  -- in the block to which it leads
-  Back : Onward  -- in the frame below
-  Nowhere : Onward  -- it ends
-
--- by what the instruction is
-abbrev pub onward_of : Op → Onward
-onward_of (Jump label) = Way
-onward_of (Branch condition_type condition taken other) = Way
-onward_of (Switch written v otherwise cases) = Way
-onward_of Unreachable = Nowhere
-onward_of ReturnVoid = Back
-onward_of (Return argument) = Back
-onward_of _ = Next
-
 -- the next place
 abbrev pub go_on : Frame → Frame
 go_on frame = record frame { place = frame.place + 1 }
@@ -183,17 +211,68 @@ abbrev pub enter_block : Module → Function → (target : Option ℕ) → Frame
 enter_block m f None frame = frame
 enter_block m f (Some block) frame = enter m f frame.block block (phis_of (slice_get f.blocks block)) frame
 
+-- ---- frames that begin and end
+
+-- a slot begins with 0 or null
+abbrev pub initial : Module → (held : ℕ) → Value
+initial m held = if is_integer (slice_get m.types held) then value.Number 0 else value.Null
+
+-- registers with the arguments in those of the parameters
+abbrev pub with_arguments : List Parameter → List Value → List Value → List Value
+with_arguments (parameter ∷ parameters) (argument ∷ arguments) registers = with_arguments parameters arguments (slice_set registers parameter.value argument)
+with_arguments parameters arguments registers = registers
+
+-- a frame at the beginning of a function, whose result goes into this name of its caller's
+abbrev pub entry_frame : Module → Function → (function : ℕ) → (into : Option ℕ) → (arguments : List Value) → Frame
+entry_frame m f function into arguments = record {
+  function = function;
+  into = into;
+  block = 0;
+  place = 0;
+  registers = with_arguments f.parameters arguments (replicate (length f.locals) value.Unset);
+  slots = map (initial m) (slots_of m f).held;
+}
+
+-- the values of a call's arguments
+abbrev pub values_of : Module → List Value → List Argument → List Value
+values_of m registers arguments = map (λ argument. value_of m registers argument.written argument.operand) arguments
+
+-- and of what an instruction calls
+abbrev pub called_with : Module → List Value → Op → List Value
+called_with m registers (Call returned callee arguments) = values_of m registers arguments
+called_with m registers _ = []
+
+-- the frames behind a call: the called function's stands above the caller's, which goes on at the next place; where there is no room the thread ends
+abbrev pub frames_called : Module → (into : Option ℕ) → (arguments : List Value) → (function : ℕ) → (callee : Option Function) → Frame → (below : List Frame) → List Frame
+frames_called m into arguments function None frame below = frame ∷ below
+frames_called m into arguments function (Some callee) frame below =
+    if has_room (length below) then entry_frame m callee function into arguments ∷ go_on frame ∷ below else []
+
+-- what a return gives
+abbrev pub result_of : Module → List Value → Op → Value
+result_of m registers (Return argument) = value_of m registers argument.written argument.operand
+result_of m registers _ = value.Unset
+
+-- the frames behind a return: the caller's takes the result; behind the last one there is none
+abbrev pub frames_returned : (into : Option ℕ) → (result : Value) → (below : List Frame) → List Frame
+frames_returned into result [] = []
+frames_returned into result (caller ∷ below) = set_register into result caller ∷ below
+
+-- ---- the state behind an answer
+
 -- the frames behind an instruction
 abbrev pub after_onward : LaidOut → Function → Instr → Answer → Frame → (below : List Frame) → Onward → List Frame
 after_onward p f instr given frame below Next = go_on (after_op p f (slots_of p.of_module f) instr.result instr.op given frame) ∷ below
 after_onward p f instr given frame below Way = enter_block p.of_module f (target_at f (way_of p.of_module frame.registers instr.op)) frame ∷ below
-after_onward p f instr given frame below Back = below
+after_onward p f instr given frame below (Into function) =
+    frames_called p.of_module instr.result (called_with p.of_module frame.registers instr.op) function (slice_get p.of_module.functions function) frame below
+after_onward p f instr given frame below Back = frames_returned frame.into (result_of p.of_module frame.registers instr.op) below
 after_onward p f instr given frame below Nowhere = []
 
 -- and where there is none
 abbrev pub after_instr : LaidOut → Function → Option Instr → Answer → Frame → (below : List Frame) → List Frame
 after_instr p f None given frame below = frame ∷ below
-after_instr p f (Some instr) given frame below = after_onward p f instr given frame below (onward_of instr.op)
+after_instr p f (Some instr) given frame below = after_onward p f instr given frame below (onward_of p.of_module instr.op)
 
 -- the frames behind a step of a frame of this function
 abbrev pub after_frame : LaidOut → Option Function → Answer → Frame → (below : List Frame) → List Frame
@@ -210,34 +289,15 @@ after_answer p s given = record { frames = after_frames s.frames }
 
 -- ---- the start
 
--- a slot begins with 0 or null
-abbrev pub initial : Module → (held : ℕ) → Value
-initial m held = if is_integer (slice_get m.types held) then value.Number 0 else value.Null
-
--- registers with the arguments in those of the parameters
-abbrev pub with_arguments : List Parameter → List Value → List Value → List Value
-with_arguments (parameter ∷ parameters) (argument ∷ arguments) registers = with_arguments parameters arguments (slice_set registers parameter.value argument)
-with_arguments parameters arguments registers = registers
-
--- a frame at the beginning of a function
-abbrev pub entry_frame : Module → Function → (function : ℕ) → (arguments : List Value) → Frame
-entry_frame m f function arguments = record {
-  function = function;
-  block = 0;
-  place = 0;
-  registers = with_arguments f.parameters arguments (replicate (length f.locals) value.Unset);
-  slots = map (initial m) (slots_of m f).held;
-}
-
 -- a thread stands at the beginning of its function
 abbrev pub start : Module → Option Function → (function : ℕ) → (arguments : List Value) → State
 start m None function arguments = record { frames = [] }
-start m (Some f) function arguments = record { frames = entry_frame m f function arguments ∷ [] }
+start m (Some f) function arguments = record { frames = entry_frame m f function None arguments ∷ [] }
 
--- the frames of a thread that has one function
-abbrev pub frames_unless : (ended : Bool) → Frame → List Frame
-frames_unless true frame = []
-frames_unless false frame = frame ∷ []
+-- the frames of a thread that runs this one above others, unless it has ended
+abbrev pub frames_unless : (ended : Bool) → Frame → (below : List Frame) → List Frame
+frames_unless true frame below = []
+frames_unless false frame below = frame ∷ below
 
 -- ---- roots
 

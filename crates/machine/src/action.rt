@@ -22,6 +22,8 @@ pub enum Action {
     },
     /// A cell of this layout.
     Alloc(LayoutId),
+    /// Whether a stage was posted that the thread has to answer.
+    Safepoint,
     /// The thread ends.
     End,
     /// The instruction has no meaning here.
@@ -31,7 +33,10 @@ pub enum Action {
 /// What an action is answered with.
 #[derive(Clone, Copy, Debug, PartialEq, Eq)]
 pub enum Answer {
+    /// The step is done; of a safepoint, nothing new was posted.
     Done,
+    /// Of a safepoint: a stage was posted, and the thread answered it.
+    Answered,
     /// The word that was read holds this number.
     Number(u64),
     /// The word that was read holds null, or no cell was found for an alloc.

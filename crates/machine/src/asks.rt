@@ -10,7 +10,8 @@ use crate::elements::element_place_of;
 use crate::integers::{is_equality, may_resize};
 use crate::jumps::{cases_fit, phis_fit, phis_of, switch_way};
 use crate::kinds::{
-    are_of_one_layout, bits_at, is_integer, is_integer_of, is_reference, may_refer, number_in,
+    are_of_one_layout, bits_at, is_integer, is_integer_of, is_reference, is_void, may_refer,
+    number_in,
 };
 use crate::moves::{load_action, store_action};
 use crate::operands::{is_typed, is_usable, is_usable_number, value_of};
@@ -259,7 +260,13 @@ pub fn op_action(scene: &Scene<'_>, block: usize, op: &Op) -> Action
                 Action::Wrong
             }
         }
-        Op::Unreachable | Op::ReturnVoid => Action::End,
+        Op::Unreachable => Action::End,
+        Op::ReturnVoid => {
+            only_if(
+                is_void(scene.of_module(), scene.function.returned),
+                Action::End,
+            )
+        }
         Op::Return(argument) => only_if(
             argument.written == scene.function.returned
                 && is_usable(scene, argument.written, &argument.operand),

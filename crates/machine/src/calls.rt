@@ -1,16 +1,19 @@
-//! What calls of the runtime ask for.
+//! What calls ask for.
 ghost use Rattle.std.specs.Prelude.{◌≡◌, slice_get};
 ghost use Rattle.std.specs.Option.{option_copied};
 ghost use Rattle.types.specs.RuntimeCall.{runtime_called};
 ghost use Rattle.machine.specs.Kinds.{slot_at_place};
 ghost use Rattle.machine.specs.Machine.{layout_of_call, root_of_call};
-ghost use Rattle.machine.specs.Asks.{are_gcroot_types, are_alloc_types, declare_of, declared_with, is_root_place, gcroot_action, layout_numbered, layout_named, alloc_of, alloc_action, call_action};
+ghost use Rattle.machine.specs.Asks.{are_gcroot_types, are_alloc_types, are_safepoint_types, declare_of, declared_with, is_root_place, gcroot_action, layout_numbered, layout_named, alloc_of, alloc_action, safepoint_action, number_called, function_numbered, arguments_pass, defined_action, call_action};
 
 use crate::action::{Action, only_if};
 use crate::kinds::{is_byte_pointer, is_integer_of, is_place_of_bytes, is_void};
 use crate::operands::{is_usable, slot_at_place};
 use crate::scene::Scene;
-use ir_ast::{Argument, Constant, Declare, Module, Operand, Runtime, SymbolId, SymbolSort, TypeId};
+use ir_ast::{
+    Argument, Constant, Declare, FuncId, Function, Module, Operand, Parameter, Runtime, SymbolId,
+    SymbolSort, TypeId,
+};
 use pools::LayoutId;
 use shadow_stack::SlotId;
 use types::runtime_called;
@@ -36,6 +39,12 @@ fn are_alloc_types(of_module: &Module, returned: TypeId, parameters: &[TypeId]) 
         }
         _ => false,
     }
+}
+
+fn are_safepoint_types(of_module: &Module, returned: TypeId, parameters: &[TypeId]) -> bool
+    ensures { result ≡ are_safepoint_types of_module.now returned parameters.now }
+{
+    parameters.is_empty() && is_void(of_module, returned)
 }
 
 /// The declaration of a global name.
@@ -159,14 +168,94 @@ fn declares_alloc(of_module: &Module, declare: Option<&Declare>) -> bool
     }
 }
 
-/// What a call asks for; no callee is known but the runtime's, declared and called with its types.
+/// Whether a name is declared as dg_safepoint has to be.
+fn declares_safepoint(of_module: &Module, declare: Option<&Declare>) -> bool
+    ensures { result ≡ declared_with (are_safepoint_types of_module.now) (option_copied declare.entry) }
+{
+    match declare {
+        Some(declare) => {
+            are_safepoint_types(of_module, declare.returned, declare.parameters.as_slice())
+        }
+        None => false,
+    }
+}
+
+fn safepoint_action(of_module: &Module, returned: TypeId, arguments: &[Argument]) -> Action
+    ensures { result ≡ safepoint_action of_module.now returned arguments.now }
+{
+    match arguments {
+        [] => only_if(
+            are_safepoint_types(of_module, returned, &[]),
+            Action::Safepoint,
+        ),
+        _ => Action::Wrong,
+    }
+}
+
+/// The number of the defined function that a global name names.
+pub fn number_called(of_module: &Module, callee: SymbolId) -> Option<FuncId>
+    ensures { result ≡ number_called of_module.now callee }
+{
+    match of_module.sorts.get(callee.number() as usize) {
+        Some(SymbolSort::Defined(number)) => Some(*number),
+        _ => None,
+    }
+}
+
+/// The defined function that a global name names.
+fn function_called(of_module: &Module, callee: SymbolId) -> Option<&Function>
+    ensures { option_copied result ≡ function_numbered of_module.now (number_called of_module.now callee) }
+{
+    match number_called(of_module, callee) {
+        Some(number) => of_module.functions.get(number.number() as usize),
+        None => None,
+    }
+}
+
+/// Whether there is one argument for each parameter, of its type and usable.
+#[tactic(auto, using(crate::proofs::Arguments::other_count))]
+fn arguments_pass(scene: &Scene<'_>, parameters: &[Parameter], arguments: &[Argument]) -> bool
+    ensures { result ≡ arguments_pass scene.now.program.now.of_module scene.now.function.now scene.now.slots.now scene.now.registers.now parameters.now arguments.now }
+{
+    if parameters.len() != arguments.len() {
+        return false;
+    }
+    for (parameter, argument) in parameters.iter().zip(arguments.iter()) {
+        if argument.written != parameter.written
+            || !is_usable(scene, argument.written, &argument.operand)
+        {
+            return false;
+        }
+    }
+    true
+}
+
+fn defined_action(
+    scene: &Scene<'_>,
+    returned: TypeId,
+    arguments: &[Argument],
+    callee: Option<&Function>,
+) -> Action
+    ensures { result ≡ defined_action scene.now.program.now.of_module scene.now.function.now scene.now.slots.now scene.now.registers.now returned arguments.now (option_copied callee.entry) }
+{
+    match callee {
+        Some(callee) => only_if(
+            returned == callee.returned
+                && arguments_pass(scene, callee.parameters.as_slice(), arguments),
+            Action::Local,
+        ),
+        None => Action::Wrong,
+    }
+}
+
+/// What a call asks for; no callee is known but the runtime's, declared and called with its types, and defined functions.
 pub fn call_action(
     scene: &Scene<'_>,
     returned: TypeId,
     callee: SymbolId,
     arguments: &[Argument],
 ) -> Action
-    ensures { let m = scene.now.program.now.of_module in result ≡ call_action m scene.now.function.now scene.now.slots.now scene.now.registers.now returned arguments.now (declare_of m callee) (runtime_called m callee) }
+    ensures { let m = scene.now.program.now.of_module in result ≡ call_action m scene.now.function.now scene.now.slots.now scene.now.registers.now returned arguments.now (declare_of m callee) (function_numbered m (number_called m callee)) (runtime_called m callee) }
 {
     let of_module = scene.of_module();
     let declare = declare_of(of_module, callee);
@@ -179,6 +268,16 @@ pub fn call_action(
             declares_gcroot(of_module, declare),
             gcroot_action(scene, returned, arguments),
         ),
-        _ => Action::Wrong,
+        Some(Runtime::Safepoint) => only_if(
+            declares_safepoint(of_module, declare),
+            safepoint_action(of_module, returned, arguments),
+        ),
+        Some(Runtime::GcRead | Runtime::GcWrite) => Action::Wrong,
+        None => defined_action(
+            scene,
+            returned,
+            arguments,
+            function_called(of_module, callee),
+        ),
     }
 }

@@ -27,6 +27,8 @@ use types::runtime_called;
 #[derive(Debug, Drop)]
 pub struct Frame {
     pub function: FuncId,
+    /// The name of the caller's that takes the result.
+    pub into: Option<ValueId>,
     pub block: usize,
     pub place: usize,
     pub registers: Items<Value>,
@@ -226,7 +228,7 @@ impl Frame {
     }
 
     /// A value is put into a register, if there is a name.
-    fn set_register(&mut self, name: Option<ValueId>, value: Value)
+    pub fn set_register(&mut self, name: Option<ValueId>, value: Value)
         ensures { self.new ≡ set_register name value self.old }
     {
         put_register(&mut self.registers, name, value);

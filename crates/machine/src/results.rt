@@ -1,9 +1,9 @@
 //! The values that instructions give.
-ghost use Rattle.std.specs.Prelude.{◌≡◌};
+ghost use Rattle.std.specs.Prelude.{◌≡◌, IfOk};
 ghost use Rattle.machine.specs.Kinds.{value_of, bits_at, number_in};
 ghost use Rattle.machine.specs.Integers.{resized};
 ghost use Rattle.machine.specs.Elements.{address_of};
-ghost use Rattle.machine.specs.Machine.{slot_value, read_at, loaded_from, arithmetic_value, are_equal, compared, selected, alloc_value};
+ghost use Rattle.machine.specs.Machine.{slot_value, read_at, loaded_from, arithmetic_value, are_equal, compared, selected, alloc_value, values_of, result_of};
 ghost use Rattle.ir_ast.specs.declared.op.Op.TheVariants as op;
 ghost use Rattle.machine.specs.declared.value.Value.TheVariants as value;
 
@@ -11,15 +11,17 @@ use crate::action::Answer;
 use crate::elements::{kind_of_word, read_value};
 use crate::integers::{compares, compares_equal, computed, resized, truth};
 use crate::kinds::{bits_at, number_in};
-use crate::operands::value_of;
+use crate::operands::{operand_value, value_of};
 use crate::scene::Scene;
 use crate::value::{Place, Value};
-use ir_ast::{Arithmetic, Comparison, Operand, Resize, TypeId};
+use ir_ast::{Argument, Arithmetic, Comparison, Module, Op, Operand, Resize, TypeId};
 use layout::Program;
 use pools::LayoutId;
 use shadow_stack::SlotId;
+use std::alloc::{AllocError, Global};
 
-fn slot_value(slots: &[Value], slot: SlotId) -> Value
+/// What a slot holds.
+pub fn slot_value(slots: &[Value], slot: SlotId) -> Value
     ensures { result ≡ slot_value slots.now slot }
 {
     match slots.get(slot.number()) {
@@ -141,6 +143,33 @@ pub fn alloc_value(layout: Option<LayoutId>, answer: Answer) -> Value
     match (layout, answer) {
         (_, Answer::Null) => Value::Null,
         (Some(layout), Answer::Cell(at)) => Value::Cell(layout, at),
+        _ => Value::Unset,
+    }
+}
+
+/// The values of a call's arguments.
+pub fn values_of(
+    alloc: Global,
+    of_module: &Module,
+    registers: &[Value],
+    arguments: &[Argument],
+) -> Result<Vec<Value>, AllocError>
+    ensures { IfOk result (λ values. values.items ≡ values_of of_module.now registers.now arguments.now) }
+{
+    arguments
+        .iter()
+        .map(|argument| operand_value(of_module, registers, argument.written, &argument.operand))
+        .collect(alloc)
+}
+
+/// What a return gives.
+pub fn result_of(of_module: &Module, registers: &[Value], op: &Op) -> Value
+    ensures { result ≡ result_of of_module.now registers.now op.now }
+{
+    match op {
+        Op::Return(argument) => {
+            operand_value(of_module, registers, argument.written, &argument.operand)
+        }
         _ => Value::Unset,
     }
 }

@@ -1,23 +1,20 @@
-ghost use Rattle.std.specs.Prelude.{◌≡◌, ◌+◌, ◌<◌, ◌≤◌, ◌^◌, ◌↔◌, ℕ, length, map, replicate, slice_get, Err, IfOk, OnSome, Some};
+ghost use Rattle.std.specs.Prelude.{◌≡◌, ◌+◌, ◌<◌, ◌^◌, ◌↔◌, length, slice_get, Err, IfOk, OnOk, OnErr, OnSome, Some};
 ghost use Rattle.std.specs.Option.{option_copied};
-ghost use Rattle.shadow_stack.specs.Slots.{slots_of};
-ghost use Rattle.machine.specs.Jumps.{phis_of, HasRoom};
-ghost use Rattle.machine.specs.Machine.{action, after_answer, start, initial, instr_in, with_arguments, entry_frame};
+ghost use Rattle.machine.specs.Machine.{action, after_answer, start, roots, instr_in};
 ghost use Rattle.machine.specs.Start.{takes_reference, argument_fits, arguments_fit, argument_values, StartsByReference, StartsWrongly};
 ghost use Rattle.machine.specs.declared.thread.StartFault.TheVariants.{ReferenceParameter, WrongArguments};
 
 use crate::action::{Action, Answer};
-use crate::asks::{op_action, target_of_way};
-use crate::frame::{Frame, initial, put};
+use crate::asks::op_action;
+use crate::entered::{Entered, function_of};
+use crate::entry::entry_frame;
+use crate::frame::Frame;
+use crate::frames::{above, step};
 use crate::integers::wrapped;
-use crate::jumps::phis_in;
 use crate::kinds::{bits_at, is_integer};
-use crate::results::address_of;
-use crate::value::{Place, Value};
-use ir_ast::{FuncId, Function, Instr, Module, Op, Parameter, TypeId, ValueId};
-use items::Items;
+use crate::value::Value;
+use ir_ast::{FuncId, Function, Instr, Module, Parameter};
 use layout::Program;
-use shadow_stack::Slots;
 use std::alloc::{AllocError, Global};
 use std::marker::Model;
 use thiserror::Error;
@@ -38,26 +35,24 @@ pub enum StartFault {
 /// A thread of a program.
 #[derive(Drop)]
 pub struct Thread<'a> {
-    program: &'a Program,
-    function: &'a Function,
-    slots: Slots,
-    frame: Frame,
-    /// Room for the values that the phis of a block take.
-    phi_values: Items<Value>,
+    alloc: Global,
+    entered: Entered<'a>,
+    running: Frame,
+    /// The frames that wait below it, the newest last.
+    below: Vec<Frame>,
     ended: bool,
 }
 
 impl<'a> Model for Thread<'a> {
-    ghost use Rattle.std.specs.Prelude.{◌≡◌, slice_get, Some};
-    ghost use Rattle.shadow_stack.specs.Slots.{slots_of};
-    ghost use Rattle.machine.specs.Jumps.{HasRoom};
+    ghost use Rattle.std.specs.Prelude.{◌∷◌, reverse};
     ghost use Rattle.machine.specs.Machine.{Run, frames_unless};
+    ghost use Rattle.machine.specs.Entered.{WereEntered};
 
     ghost Value = { Run };
 
-    ghost view = { λ t. record { program = t.program.now; state = record { frames = frames_unless t.ended t.frame } } };
+    ghost view = { λ t. record { program = t.entered.program; state = record { frames = frames_unless t.ended t.running (reverse t.below.items) } } };
 
-    ghost invariant = { λ t. (slice_get t.program.now.of_module.functions t.frame.function ≡ Some t.function.now) × (t.slots ≡ slots_of t.program.now.of_module t.function.now) × HasRoom t.function.now t.phi_values };
+    ghost invariant = { λ t. WereEntered t.entered.tables (t.running ∷ t.below.items) };
 }
 
 impl<'a> Thread<'a> {
@@ -97,16 +92,23 @@ impl<'a> Thread<'a> {
         requires { slice_get program.now.of_module.functions number ≡ Some function.now }
         ensures { IfOk result (λ thread. (thread.program ≡ program.now) × (thread.state ≡ start program.now.of_module (Some function.now) number (argument_values arguments.now))) }
     {
-        let of_module = program.module();
-        let slots = Slots::of(alloc, of_module, function)?;
-        let phi_values = room_for_phis(alloc, function)?;
-        let frame = entry_frame(alloc, of_module, &slots, function, number, arguments)?;
-        Ok(Thread {
-            program,
+        let mut entered = Entered::new(alloc, program)?;
+        entered.enter(alloc, number)?;
+        let values = argument_values(alloc, arguments)?;
+        let running = entry_frame(
+            alloc,
+            program.module(),
+            entered.slots(number),
             function,
-            slots,
-            frame,
-            phi_values,
+            number,
+            None,
+            values.as_slice(),
+        )?;
+        Ok(Thread {
+            alloc,
+            entered,
+            running,
+            below: Vec::new(alloc),
             ended: false,
         })
     }
@@ -118,62 +120,63 @@ impl<'a> Thread<'a> {
         if self.ended {
             return Action::End;
         }
-        match instr_at(self.function, self.frame.block, self.frame.place) {
-            Some(instr) => op_action(
-                &self.frame.scene(self.program, self.function, &self.slots),
-                self.frame.block,
+        let number = self.running.function;
+        let function = self.entered.function(number);
+        let scene = self.running.scene(
+            self.entered.program(),
+            function,
+            self.entered.slots(number),
+        );
+        match instr_at(function, self.running.block, self.running.place) {
+            Some(instr) => above(
+                scene.of_module(),
                 &instr.op,
+                self.below.len(),
+                op_action(&scene, self.running.block, &instr.op),
             ),
             None => Action::End,
         }
     }
 
-    /// The thread goes on with the answer to what it asked for.
-    pub fn resume(&mut self, answer: Answer)
-        ensures { self.new ≡ record self.old { state = after_answer self.old.program self.old.state answer } }
+    /// The values of the gcroot slots of all frames, the oldest frame first.
+    pub fn roots(&self) -> Result<Vec<Value>, AllocError>
+        ensures { IfOk result (λ all. all.items ≡ roots self.now.program.of_module self.now.state) }
+    {
+        let mut all = Vec::new(self.alloc);
+        if self.ended {
+            return Ok(all);
+        }
+        for frame in &self.below {
+            self.entered.add_roots(frame, &mut all)?;
+        }
+        self.entered.add_roots(&self.running, &mut all)?;
+        Ok(all)
+    }
+
+    /// The thread goes on with the answer to what it asked for. Without memory it stays as it was.
+    pub fn resume(&mut self, answer: Answer) -> Result<(), AllocError>
+        ensures ok { OnOk result (self.new ≡ record self.old { state = after_answer self.old.program self.old.state answer }) }
+        ensures err { OnErr result (self.new ≡ self.old) }
     {
         if self.ended {
-            return;
+            return Ok(());
         }
-        let Some(instr) = instr_at(self.function, self.frame.block, self.frame.place) else {
-            return;
+        let function = self.entered.function(self.running.function);
+        let Some(instr) = instr_at(function, self.running.block, self.running.place) else {
+            return Ok(());
         };
-        match &instr.op {
-            Op::Jump(_) | Op::Branch { .. } | Op::Switch { .. } => {
-                let target = target_of_way(
-                    &self.frame.scene(self.program, self.function, &self.slots),
-                    &instr.op,
-                );
-                if let Some(block) = target {
-                    self.frame.enter(
-                        self.program.module(),
-                        self.function,
-                        block,
-                        &mut self.phi_values,
-                    );
-                }
-            }
-            Op::Unreachable | Op::ReturnVoid | Op::Return(_) => self.ended = true,
-            op => {
-                self.frame.after_op(
-                    self.program,
-                    self.function,
-                    &self.slots,
-                    instr.result,
-                    op,
-                    answer,
-                );
-                self.frame.place += 1;
-            }
-        }
+        let goes_on = step(
+            self.alloc,
+            &mut self.entered,
+            &mut self.running,
+            &mut self.below,
+            function,
+            instr,
+            answer,
+        )?;
+        self.ended = !goes_on;
+        Ok(())
     }
-}
-
-fn function_of(of_module: &Module, number: FuncId) -> &Function
-    requires { number < length of_module.now.functions }
-    ensures { slice_get of_module.now.functions number ≡ Some result.now }
-{
-    &of_module.functions.as_slice()[number.number() as usize]
 }
 
 fn instr_at(function: &Function, block: usize, place: usize) -> Option<&Instr>
@@ -223,79 +226,12 @@ fn arguments_fit(of_module: &Module, parameters: &[Parameter], arguments: &[u64]
     true
 }
 
-/// The greatest number of phis that a block of the function has.
-fn most_phis(function: &Function) -> usize
-    ensures { (block : ℕ) → length (phis_of (slice_get function.now.blocks block)) ≤ result }
+/// The arguments of a start as values.
+fn argument_values(alloc: Global, arguments: &[u64]) -> Result<Vec<Value>, AllocError>
+    ensures { IfOk result (λ values. values.items ≡ argument_values arguments.now) }
 {
-    let mut most = 0;
-    for block in function.blocks.as_slice() {
-        let count = phis_in(block).len();
-        if count > most {
-            most = count;
-        }
-    }
-    most
-}
-
-/// So many values, none of which is set.
-fn all_unset(alloc: Global, count: usize) -> Result<Items<Value>, AllocError>
-    ensures { IfOk result (λ values. values ≡ replicate count Value.Unset) }
-{
-    // The address of nothing is unset. It names the type of places, which the prover has to see where it makes values.
-    let nowhere: Option<Place> = None;
-    let values = vec![in alloc; address_of(nowhere); count]?;
-    Ok(Items::from_vec(values))
-}
-
-/// Room for the values of the phis of any block.
-fn room_for_phis(alloc: Global, function: &Function) -> Result<Items<Value>, AllocError>
-    ensures { IfOk result (λ values. HasRoom function.now values) }
-{
-    all_unset(alloc, most_phis(function))
-}
-
-/// Registers with the arguments in those of the parameters.
-fn registers_of(
-    alloc: Global,
-    function: &Function,
-    arguments: &[u64],
-) -> Result<Items<Value>, AllocError>
-    ensures { IfOk result (λ registers. registers ≡ with_arguments function.now.parameters (argument_values arguments.now) (replicate (length function.now.locals) Value.Unset)) }
-{
-    let mut registers = all_unset(alloc, function.locals.count())?;
-    for (parameter, argument) in function.parameters.as_slice().iter().zip(arguments.iter()) {
-        put(&mut registers, parameter.value, Value::Number(*argument));
-    }
-    Ok(registers)
-}
-
-/// A frame at the beginning of a function.
-fn entry_frame(
-    alloc: Global,
-    of_module: &Module,
-    slots: &Slots,
-    function: &Function,
-    number: FuncId,
-    arguments: &[u64],
-) -> Result<Frame, AllocError>
-    requires { slots.now ≡ slots_of of_module.now function.now }
-    ensures { IfOk result (λ frame. frame ≡ entry_frame of_module.now function.now number (argument_values arguments.now)) }
-{
-    let registers = registers_of(alloc, function, arguments)?;
-    let held = initials(alloc, of_module, slots.held_types())?;
-    Ok(Frame {
-        function: number,
-        block: 0,
-        place: 0,
-        registers,
-        slots: Items::from_vec(held),
-    })
-}
-
-fn initials(alloc: Global, of_module: &Module, held: &[TypeId]) -> Result<Vec<Value>, AllocError>
-    ensures { IfOk result (λ values. values.items ≡ map (initial of_module.now) held.now) }
-{
-    held.iter()
-        .map(|held| initial(of_module, *held))
+    arguments
+        .iter()
+        .map(|argument| Value::Number(*argument))
         .collect(alloc)
 }

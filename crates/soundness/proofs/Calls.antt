@@ -1,371 +1,206 @@
--- Calls of the runtime.
-use Rattle.std.proofs.Common.{◌≡◌, ℕ, zero, suc, List, [], ◌∷◌, length, refl, sym, ap, ◌∙◌, subst, arith, true, false, Bool, Option, Some, None, inl, inr, is_some, slice_set, slice_get}
-use Rattle.std.specs.Prelude.{◌==◌, ◌&&◌, ◌⊎◌, if◌then◌else◌, nat_lt}
+-- Calls of defined functions: what the caller knows while it waits, and what the called function begins with.
+use Rattle.std.proofs.Common.{◌≡◌, ◌≢◌, ℕ, List, [], ◌∷◌, length, refl, sym, ap, ◌∙◌, subst, arith, true, false, Bool, Option, None, inl, inr}
+use Rattle.std.specs.Prelude.{◌==◌, ◌⊎◌}
 use Rattle.std.specs.List.{list_all, zip}
 use Rattle.ir_ast.specs.declared.function.Function.{Function}
-use Rattle.ir_ast.specs.declared.items_of_module.Declare.{Declare}
-use Rattle.ir_ast.specs.declared.items_of_module.SymbolSort.{SymbolSort}
-use Rattle.ir_ast.specs.declared.items_of_module.SymbolSort.TheVariants as symbol
-use Rattle.ir_ast.specs.declared.module.Module.{Module}
+use Rattle.ir_ast.specs.declared.function.Parameter.{Parameter}
 use Rattle.ir_ast.specs.declared.op.Argument.{Argument}
-use Rattle.ir_ast.specs.declared.operand.Constant.TheVariants as constant
 use Rattle.ir_ast.specs.declared.operand.Operand.{Operand}
 use Rattle.ir_ast.specs.declared.operand.Operand.TheVariants as operand
-use Rattle.ir_ast.specs.declared.runtime.Runtime.{Runtime}
-use Rattle.ir_ast.specs.declared.runtime.Runtime.TheVariants as runtime
 use Rattle.pools.specs.Heap.{Setup}
 use Rattle.layout.specs.Layouts.{LaidOut}
-use Rattle.types.specs.References.{referenced_layout}
-use Rattle.types.specs.RuntimeCall.{runtime_called, runtime_of_declare, runtime_of_sort}
-use Rattle.types.specs.ValueTypes.{has_type}
-use Rattle.shadow_stack.specs.Slots.{SlotTable, held_type, is_reference_held}
-use Rattle.facts.specs.Facts.{FactSet, known_at, define_new, root_slot}
-use Rattle.block_rules.specs.declared.signature.RuntimeType.TheVariants as types
-use Rattle.block_rules.specs.declared.standing.Standing.{Standing}
-use Rattle.block_rules.specs.declared.type_kind.TypeKind.{TypeKind}
-use Rattle.block_rules.specs.declared.type_kind.TypeKind.TheVariants.{NoValue, Bits, Reference, AnyReference, Address as AddressKind, Other}
-use Rattle.block_rules.specs.Calls.{call_conditions, root_conditions, alloc_conditions, unknown_conditions, after_call, after_root, after_root_call, after_alloc_call, is_unrooted, holds_reference, number_layouts, numbers_layout, all_values}
+use Rattle.shadow_stack.specs.Slots.{SlotTable}
+use Rattle.certificate.specs.declared.section.Mark.{Mark}
+use Rattle.certificate.specs.declared.section.Mark.TheVariants as mark
+use Rattle.certificate.specs.declared.section.Promise.{Promise}
+use Rattle.certificate.specs.declared.section.Section.{Section}
+use Rattle.facts.specs.declared.known.Known.TheVariants.{Cell}
+use Rattle.facts.specs.Facts.{FactSet, known_at, class_at, drop_fresh_of}
+use Rattle.block_rules.specs.Calls.{all_available, all_values, all_current, no_slots, is_written_for, drop_arguments, after_mark}
 use Rattle.block_rules.specs.Operands as o
-use Rattle.block_rules.specs.Rules.{first_failing}
-use Rattle.block_rules.specs.Signature.{signature_of, is_runtime_type, is_of_type, is_declared_as, is_written_as, callable, callable_declare, callable_sort, callee_of}
-use Rattle.block_rules.specs.TypeKinds.{kind_of, is_reference, is_integer, layout_of_kind}
-use Rattle.machine.specs.declared.value.Reference.{Reference as Ref}
+use Rattle.block_rules.specs.Promises.{given_by, is_may, keeps_promise, shows_promise, show_promises}
+use Rattle.block_rules.specs.TypeKinds.{kind_of}
+use Rattle.machine.specs.declared.frame.Frame.{Frame}
 use Rattle.machine.specs.declared.value.Value.{Value}
 use Rattle.machine.specs.declared.value.Value.TheVariants as value
-use Rattle.machine.specs.declared.frame.Frame.{Frame}
-use Rattle.machine.specs.declared.action.Action.{Action}
-use Rattle.machine.specs.declared.action.Action.TheVariants.{Local, Read, StorePlain, Alloc, End, Wrong}
-use Rattle.machine.specs.declared.action.Answer.{Answer}
-use Rattle.machine.specs.declared.action.Answer.TheVariants as answer
 use Rattle.machine.specs.Asks as a
-use Rattle.machine.specs.Kinds as k
-use Rattle.machine.specs.Machine as mc
-use Rattle.machine.specs.Machine.{slot_value}
-use Rattle.machine.specs.Log.{Log, Held, IsFresh, StaysFresh, Gives, Possible}
-use Rattle.soundness.specs.Meaning.{Cells, Guarded, IsOwn, IsNullOrFresh, AreApart, FitsReference, FitsHeld, FitsSlot, Holds}
-use Rattle.soundness.proofs.Lists.{both, equal, got}
-use Rattle.soundness.proofs.KindLemmas.{integer_same, layout_same, bits_same, void_same, bytes_same, place_bytes_same}
-use Rattle.soundness.proofs.Keep.{log_keeps, known_within}
-use Rattle.soundness.proofs.Change.{apart_turned, new_keeps}
-use Rattle.soundness.proofs.SlotsKeep.{slot_keeps}
-use Rattle.soundness.proofs.Steps.{Goes, goes_local, all_hold, usable}
-use Rattle.soundness.proofs.Moves.{place_is}
+use Rattle.machine.specs.Kinds.{value_of}
+use Rattle.machine.specs.Machine.{values_of}
+use Rattle.machine.specs.Log.{Log, IsFresh, RefersTo}
+use Rattle.fact_meaning.specs.Meaning.{Cells, Guarded, IsOwn, IsNullOrFresh, AreApart, Holds}
+use Rattle.fact_meaning.proofs.Lists.{both, equal}
+use Rattle.fact_meaning.proofs.Phis.{drop_one, drop_of_values, drop_of_keeps}
+use Rattle.fact_meaning.proofs.Stale.{IsStill, stale_cells, stale_keeps, stale_still, stale_unfresh}
+use Rattle.step_soundness.specs.Goes.{HaveMembers}
+use Rattle.step_soundness.proofs.Members.{arguments_members}
+use Rattle.step_soundness.proofs.Steps.{none_of, usable}
+use Rattle.soundness.proofs.Receive.{IsGiven, Passes, value_given}
+use Rattle.soundness.proofs.Stack.{FreshIn}
+use Rattle.soundness.proofs.Start.{AllGiven}
 
--- ---- a cell that is not held is apart from each value of the frame
+-- ---- the arguments' classes are fresh no more
 
--- a fresh cell is held
-pub fresh_held : (log : Log) (cell : ℕ) → IsFresh log cell → Held log cell
-fresh_held [] cell x = absurd x
-fresh_held (step ∷ log) cell x = by step.asked x (fresh_held log cell) where
-  by : (asked : Action) → StaysFresh asked step.given (IsFresh log cell) cell → (IsFresh log cell → Held log cell) → Gives step.given cell ⊎ Held log cell
-  by Local x before = inr (before x)
-  by (Read at word) x before = inr (before x)
-  by (StorePlain at word v) x before = inr (before x.1)
-  by (Alloc layout) (inl g) before = inl g
-  by (Alloc layout) (inr x) before = inr (before x)
-  by End x before = inr (before x)
-  by Wrong x before = inr (before x)
+-- no argument is of this class
+abbrev NotOf : FactSet → List Argument → ℕ → Type 0
+NotOf facts [] c = Unit {0}
+NotOf facts (argument ∷ arguments) c = ((l : ℕ) (s : Bool) → o.known_of facts argument.operand ≡ Cell c l s → ⊥) × NotOf facts arguments c
 
-own_apart : (log : Log) (guarded : Guarded) (layout : ℕ) (at : Ref) (v : Value) → (Held log at.cell → ⊥) → IsOwn log guarded v → AreApart (value.Cell layout at) v
-own_apart log guarded layout at value.Unset free o = tt
-own_apart log guarded layout at (value.Number n) free o = tt
-own_apart log guarded layout at value.Null free o = tt
-own_apart log guarded layout at (value.Cell own there) free o = λ e. free (subst (Held log) (sym e) o.0)
-own_apart log guarded layout at (value.Address x) free o = tt
+known_same : (x : Operand) (f g : FactSet) → f.values ≡ g.values → o.known_of f x ≡ o.known_of g x
+known_same (operand.Constant c) f g e = refl
+known_same (operand.Local v) f g e = ap (λ values. known_at values v) e
+known_same (operand.Global n) f g e = refl
+known_same (operand.CastGlobal a n b) f g e = refl
 
-fresh_apart : (log : Log) (layout : ℕ) (at : Ref) (v : Value) → (Held log at.cell → ⊥) → IsNullOrFresh log v → AreApart v (value.Cell layout at)
-fresh_apart log layout at value.Unset free o = tt
-fresh_apart log layout at (value.Number n) free o = tt
-fresh_apart log layout at value.Null free o = tt
-fresh_apart log layout at (value.Cell own there) free o = λ e. free (subst (Held log) e (fresh_held log there.cell o))
-fresh_apart log layout at (value.Address x) free o = tt
+-- a class that is still fresh is that of no argument
+dropped : (arguments : List Argument) (facts before : FactSet) → facts.values ≡ before.values → (c : ℕ) → (class_at (drop_arguments arguments facts).classes c).fresh ≡ true → ((class_at facts.classes c).fresh ≡ true) × NotOf before arguments c
+dropped [] facts before same c fr = (fr, tt)
+dropped (argument ∷ arguments) facts before same c fr =
+    let k = o.known_of facts argument.operand in
+    let r = dropped arguments (drop_fresh_of k facts) before (drop_of_values k facts ∙ same) c fr in
+    let d = drop_one k facts c r.0 in
+    (d.0, (λ l s e. d.1 l s (known_same argument.operand facts before same ∙ e), r.1))
 
--- past the end of a list of the same length nothing stands
-past_end : (held : List ℕ) (values : List Value) (s : ℕ) → length values ≡ length held → slice_get held s ≡ None → got value.Unset values s ≡ value.Unset
-past_end [] [] s e none = refl
-past_end [] (v ∷ values) s e none = absurd (omega (arith, e))
-past_end (t ∷ held) [] s e none = refl
-past_end (t ∷ held) (v ∷ values) zero e none = absurd cc
-past_end (t ∷ held) (v ∷ values) (suc s) e none = past_end held values s (omega (arith, e)) none
+dropped_values : (arguments : List Argument) (facts : FactSet) → (drop_arguments arguments facts).values ≡ facts.values
+dropped_values [] facts = refl
+dropped_values (argument ∷ arguments) facts = dropped_values arguments (drop_fresh_of (o.known_of facts argument.operand) facts) ∙ drop_of_values (o.known_of facts argument.operand) facts
 
--- ---- which function of the runtime a call is of
+-- two values that refer to one cell are not apart
+not_apart : (a b : Value) (cell : ℕ) → AreApart a b → RefersTo a cell → RefersTo b cell → ⊥
+not_apart (value.Cell l at) (value.Cell m there) cell apart x y = apart (x ∙ sym y)
+not_apart (value.Cell l at) value.Unset cell apart x y = y
+not_apart (value.Cell l at) (value.Number n) cell apart x y = y
+not_apart (value.Cell l at) value.Null cell apart x y = y
+not_apart (value.Cell l at) (value.Address place) cell apart x y = y
+not_apart value.Unset b cell apart x y = x
+not_apart (value.Number n) b cell apart x y = x
+not_apart value.Null b cell apart x y = x
+not_apart (value.Address place) b cell apart x y = x
 
--- what the rules take for a callee is declared so
-pub record IsCallee (m : Module) (callee count : ℕ) (called : Runtime) (declared : Option Declare) : Type 0 where
-  pub declare : Declare
-  pub is_declared : declared ≡ Some declare
-  pub types : is_declared_as m declare called ≡ true
-  pub arity : (count == length (signature_of called).parameters) ≡ true
+-- a value that refers to a cell, and is null or fresh, is fresh
+refers_fresh : (log : Log) (v : Value) (cell : ℕ) → IsNullOrFresh log v → RefersTo v cell → IsFresh log cell
+refers_fresh log value.Unset cell fresh refers = absurd refers
+refers_fresh log (value.Number n) cell fresh refers = absurd refers
+refers_fresh log value.Null cell fresh refers = absurd refers
+refers_fresh log (value.Cell l at) cell fresh refers = subst (IsFresh log) refers fresh
+refers_fresh log (value.Address place) cell fresh refers = absurd refers
 
-module _ (m : Module) (callee count : ℕ) (called : Runtime) where
-  of_runtime : (declared : Declare) (t : Option Runtime) → declared.runtime ≡ t → callable m count declared t ≡ Some called → IsCallee m callee count called (Some declared) × (declared.runtime ≡ Some called)
-  of_runtime declared None is e = absurd cc
-  of_runtime declared (Some own) is e = pick (is_declared_as m declared own && (count == length (signature_of own).parameters)) refl e where
-    pick : (b : Bool) → (is_declared_as m declared own && (count == length (signature_of own).parameters)) ≡ b → (if b then Some own else None) ≡ Some called → IsCallee m callee count called (Some declared) × (declared.runtime ≡ Some called)
-    pick false t e = absurd cc
-    pick true t e =
-        let same : own ≡ called = cc in
-        let b = both (is_declared_as m declared own) (count == length (signature_of own).parameters) t in (
-          record { declare = declared; is_declared = refl; types = subst (λ x. is_declared_as m declared x ≡ true) same b.0; arity = subst (λ x. (count == length (signature_of x).parameters) ≡ true) same b.1 },
-          is ∙ ap Some same,
-        )
+-- ---- what a caller knows while it waits
 
-  of_declare : (q : Option Declare) → callable_declare m count q ≡ Some called → IsCallee m callee count called q × (runtime_of_declare q ≡ Some called)
-  of_declare None e = absurd cc
-  of_declare (Some declared) e = of_runtime declared declared.runtime refl e
+module _ (heap : Setup) (p : LaidOut) (certs : List Section) (f : Function) (table : SlotTable) (guarded : Guarded) (log : Log) (cells : Cells) (facts : FactSet) (frame : Frame) (h : Holds heap p table guarded log cells facts frame.registers frame.slots) (members : HaveMembers facts) where
+  arguments_keep : (arguments : List Argument) (before : FactSet) → Holds heap p table guarded log cells before frame.registers frame.slots → Holds heap p table guarded log cells (drop_arguments arguments before) frame.registers frame.slots
+  arguments_keep [] before b = b
+  arguments_keep (argument ∷ arguments) before b =
+      arguments_keep arguments (drop_fresh_of (o.known_of before argument.operand) before) (drop_of_keeps heap p table guarded log frame.slots cells (o.known_of before argument.operand) before frame.registers b)
 
-  of_sort : (q : Option SymbolSort) → callable_sort m count q ≡ Some called → IsCallee m callee count called (a.declare_of_sort m q) × (runtime_of_sort m q ≡ Some called)
-  of_sort None e = absurd cc
-  of_sort (Some symbol.Unknown) e = absurd cc
-  of_sort (Some (symbol.Global g)) e = absurd cc
-  of_sort (Some (symbol.Defined d)) e = absurd cc
-  of_sort (Some (symbol.Declared d)) e = of_declare (slice_get m.declares d) e
+  -- its facts hold, of no argument is known that it is fresh, and under a function that may reach a safepoint all is stale
+  pub record Waits (called : Mark) (arguments : List Argument) : Type 0 where
+    pub more : Cells
+    pub holds : Holds heap p table guarded log more (after_mark called (drop_arguments arguments facts)) frame.registers frame.slots
+    pub still : is_may called ≡ true → IsStill more (after_mark called (drop_arguments arguments facts))
+    pub fresh : (cell : ℕ) → FreshIn (record { facts = after_mark called (drop_arguments arguments facts); cells = more }) cell → FreshIn (record { facts = drop_arguments arguments facts; cells = cells }) cell
 
-  pub callee_is : callee_of m callee count ≡ Some called → IsCallee m callee count called (a.declare_of m callee) × (runtime_called m callee ≡ Some called)
-  callee_is e = of_sort (slice_get m.sorts callee) e
+  pub waits : (called : Mark) (arguments : List Argument) → Waits called arguments
+  waits mark.None arguments = record {
+    more = cells;
+    holds = arguments_keep arguments facts h;
+    still = λ z. absurd cc;
+    fresh = λ cell x. x;
+  }
+  waits mark.May arguments =
+      let b = arguments_keep arguments facts h in
+      record {
+        more = stale_cells heap p table guarded log cells (drop_arguments arguments facts) frame.registers frame.slots b;
+        holds = stale_keeps heap p table guarded log cells (drop_arguments arguments facts) frame.registers frame.slots b log (arguments_members arguments facts members).1 (λ s reference own. own);
+        still = λ z. stale_still heap p table guarded log cells (drop_arguments arguments facts) frame.registers frame.slots b;
+        fresh = λ cell x. absurd (let z = stale_unfresh (drop_arguments arguments facts) x.name x.class x.layout x.stale x.is in let y = sym z ∙ x.fresh in cc);
+      }
 
--- ---- the types of the runtime's functions
+  -- such a cell is fresh
+  pub waiting_fresh : (arguments : List Argument) (cell : ℕ) → FreshIn (record { facts = drop_arguments arguments facts; cells = cells }) cell → IsFresh log cell
+  waiting_fresh arguments cell x = refers_fresh log (cells x.class) cell (((arguments_keep arguments facts h).classes x.class).fresh x.fresh) x.refers
 
-one_parameter : {X : Type 0} (xs : List X) → (length xs ≡ 1) → (x : X) × (xs ≡ x ∷ [])
-one_parameter [] e = absurd (omega arith)
-one_parameter (x ∷ []) e = (x, refl)
-one_parameter (x ∷ y ∷ xs) e = absurd (omega arith)
+  -- ---- the arguments
 
-two_parameters : {X : Type 0} (xs : List X) → (length xs ≡ 2) → (x : X) × (y : X) × (xs ≡ x ∷ y ∷ [])
-two_parameters [] e = absurd (omega arith)
-two_parameters (x ∷ []) e = absurd (omega arith)
-two_parameters (x ∷ y ∷ []) e = (x, y, refl)
-two_parameters (x ∷ y ∷ z ∷ xs) e = absurd (omega arith)
+  -- what the rules ask of each argument
+  abbrev pub AllPass : List Argument → Type 0
+  AllPass [] = Unit {0}
+  AllPass (argument ∷ arguments) = Passes heap p certs f table guarded log cells facts frame h argument.written argument.operand × AllPass arguments
 
-module _ (m : Module) where
-  alloc_types : (returned written : ℕ) → is_runtime_type m returned types.Pointer ≡ true → is_runtime_type m written types.Number ≡ true → a.are_alloc_types m returned (written ∷ []) ≡ true
-  alloc_types returned written a b = rw (sym (bytes_same m returned) ∙ a, sym (bits_same m 32 written) ∙ b) refl
+  pub all_pass : (arguments : List Argument) → all_available table facts arguments ≡ true → all_values p.of_module f facts arguments ≡ true → all_current facts arguments ≡ true → no_slots table arguments ≡ true → AllPass arguments
+  all_pass [] k1 k2 k3 k10 = tt
+  all_pass (argument ∷ arguments) k1 k2 k3 k10 =
+      let a = both (o.is_available table facts argument.operand) (all_available table facts arguments) k1 in
+      let b = both (o.is_value p.of_module f facts argument.written argument.operand) (all_values p.of_module f facts arguments) k2 in
+      let c = both (o.is_current facts (o.known_of facts argument.operand)) (all_current facts arguments) k3 in
+      let d = both (o.is_no_slot table argument.operand) (no_slots table arguments) k10 in
+      (record { there = a.0; typed = b.0; current = c.0; no_slot = none_of (o.slot_named table argument.operand) d.0 }, all_pass arguments a.1 b.1 c.1 d.1)
 
-  alloc_declared : (d : Declare) → is_declared_as m d runtime.Alloc ≡ true → a.are_alloc_types m d.returned d.parameters ≡ true
-  alloc_declared d e =
-      let a = both (is_runtime_type m d.returned types.Pointer) ((length d.parameters == 1) && list_all (is_of_type m) (zip d.parameters (types.Number ∷ []))) e in
-      let b = both (length d.parameters == 1) (list_all (is_of_type m) (zip d.parameters (types.Number ∷ []))) a.1 in
-      let p = one_parameter d.parameters (equal (length d.parameters) 1 b.0) in
-      let c = both (is_runtime_type m p.0 types.Number) true (subst (λ x. list_all (is_of_type m) (zip x (types.Number ∷ [])) ≡ true) p.1 b.1) in
-      rw p.1 (alloc_types d.returned p.0 a.0 c.0)
+  -- the machine lets them pass
+  pub machine_pass : (parameters : List Parameter) (arguments : List Argument) → AllPass arguments → length arguments ≡ length parameters → list_all is_written_for (zip arguments parameters) ≡ true
+      → a.arguments_pass p.of_module f table frame.registers parameters arguments ≡ true
+  machine_pass [] [] all same written = refl
+  machine_pass [] (argument ∷ arguments) all same written = absurd (omega (arith, same))
+  machine_pass (parameter ∷ parameters) [] all same written = absurd (omega (arith, same))
+  machine_pass (parameter ∷ parameters) (argument ∷ arguments) all same written =
+      let b = both (argument.written == parameter.written) (list_all is_written_for (zip arguments parameters)) written in
+      rw (
+        b.0,
+        usable heap p certs false f table guarded log cells facts frame h argument.written argument.operand all.0.there all.0.typed all.0.no_slot,
+        machine_pass parameters arguments all.1 (omega (arith, same)) b.1,
+      ) refl
 
-  root_types : (returned place metadata : ℕ) → is_runtime_type m returned types.Void ≡ true → is_runtime_type m place types.PointerToPointer ≡ true → is_runtime_type m metadata types.Pointer ≡ true → a.are_gcroot_types m returned (place ∷ metadata ∷ []) ≡ true
-  root_types returned place metadata a b c = rw (sym (void_same m returned) ∙ a, sym (place_bytes_same m place) ∙ b, sym (bytes_same m metadata) ∙ c) refl
+  -- the cells that are guarded from the called function
+  abbrev pub Waiting : List Argument → Guarded
+  Waiting arguments cell = FreshIn (record { facts = drop_arguments arguments facts; cells = cells }) cell ⊎ guarded cell
 
-  root_declared : (d : Declare) → is_declared_as m d runtime.GcRoot ≡ true → a.are_gcroot_types m d.returned d.parameters ≡ true
-  root_declared d e =
-      let expected = types.PointerToPointer ∷ types.Pointer ∷ [] in
-      let a = both (is_runtime_type m d.returned types.Void) ((length d.parameters == 2) && list_all (is_of_type m) (zip d.parameters expected)) e in
-      let b = both (length d.parameters == 2) (list_all (is_of_type m) (zip d.parameters expected)) a.1 in
-      let p = two_parameters d.parameters (equal (length d.parameters) 2 b.0) in
-      let all = subst (λ x. list_all (is_of_type m) (zip x expected) ≡ true) p.2 b.1 in
-      let c = both (is_runtime_type m p.0 types.PointerToPointer) (is_runtime_type m p.1 types.Pointer && true) all in
-      let g = both (is_runtime_type m p.1 types.Pointer) true c.1 in
-      rw p.2 (root_types d.returned p.0 p.1 a.0 c.0 g.0)
+  may_give : (arguments : List Argument) (x : Operand) → ((c : ℕ) → (class_at (drop_arguments arguments facts).classes c).fresh ≡ true → (l : ℕ) (s : Bool) → o.known_of facts x ≡ Cell c l s → ⊥) → (c l : ℕ) → o.known_of facts x ≡ Cell c l false
+      → (v : Value) → v ≡ cells c → IsOwn log guarded v → IsOwn log (Waiting arguments) v
+  may_give arguments x none c l is value.Unset at own = absurd own
+  may_give arguments x none c l is (value.Number n) at own = absurd own
+  may_give arguments x none c l is value.Null at own = tt
+  may_give arguments x none c l is (value.Address place) at own = absurd own
+  may_give arguments x none c l is (value.Cell m there) at own = (own.0, λ g. elim g [ inl y ↦ apart y | inr below ↦ own.1 below ]) where
+    named : (x : Operand) → o.known_of facts x ≡ Cell c l false → (u : ℕ) × (known_at facts.values u ≡ Cell c l false)
+    named (operand.Constant d) e = absurd cc
+    named (operand.Local u) e = (u, e)
+    named (operand.Global d) e = absurd cc
+    named (operand.CastGlobal a d b) e = absurd cc
 
-module _ (heap : Setup) (p : LaidOut) (f : Function) (table : SlotTable) (guarded : Guarded) (log : Log) (guards : (cell : ℕ) → guarded cell → IsFresh log cell) (here : Standing) (cells : Cells) (facts : FactSet) (frame : Frame) (h : Holds heap p table guarded log cells facts frame.registers frame.slots) (result : Option ℕ) (returned : ℕ) where
-  abbrev pub call_action : List Argument → Option Declare → Option Runtime → Action
-  call_action arguments declared called = a.call_action p.of_module f table frame.registers returned arguments declared called
+    apart : FreshIn (record { facts = drop_arguments arguments facts; cells = cells }) there.cell → ⊥
+    apart y =
+        let u = named x is in
+        let was : known_at facts.values y.name ≡ Cell y.class y.layout y.stale = ap (λ values. known_at values y.name) (sym (dropped_values arguments facts)) ∙ y.is in
+        let fr = (dropped arguments facts facts refl y.class y.fresh).0 in
+        let other : y.class ≢ c = λ e. none y.class y.fresh l false (is ∙ ap (λ d. Cell d l false) (sym e)) in
+        not_apart (cells y.class) (cells c) there.cell (h.alone y.name u.0 y.class c y.layout l y.stale was u.1 fr other) y.refers (subst (λ z. RefersTo z there.cell) at refl)
 
-  abbrev pub behind_call : List Argument → Option Runtime → Answer → Frame
-  behind_call arguments called given = mc.after_call p.of_module f table result arguments called given frame
+  -- each parameter takes its argument
+  pub all_given : (arguments : List Argument) (parameters : List Parameter) (promises : List (Option Promise)) (rest : List Argument) → AllPass rest → ((c : ℕ) → (class_at (drop_arguments arguments facts).classes c).fresh ≡ true → NotOf facts rest c)
+      → length rest ≡ length parameters → list_all is_written_for (zip rest parameters) ≡ true → show_promises facts rest promises ≡ true → AllGiven heap p (Waiting arguments) log parameters promises (values_of p.of_module frame.registers rest)
+  all_given arguments [] promises [] all none same written shown = tt
+  all_given arguments [] promises (argument ∷ rest) all none same written shown = absurd (omega (arith, same))
+  all_given arguments (parameter ∷ parameters) promises [] all none same written shown = absurd (omega (arith, same))
+  all_given arguments (parameter ∷ parameters) [] (argument ∷ rest) all none same written shown =
+      let b = both (argument.written == parameter.written) (list_all is_written_for (zip rest parameters)) written in
+      let first = value_given heap p certs f table guarded log cells facts frame h argument.written (Waiting arguments) argument.operand None
+      (λ c l is own. may_give arguments argument.operand (λ d fr. (none d fr).0) c l is (cells c) refl own) all.0 refl in (
+        subst (λ t. IsGiven heap (Waiting arguments) log (given_by (kind_of p.of_module t)) None (value_of p.of_module frame.registers argument.written argument.operand)) (equal argument.written parameter.written b.0) first,
+        all_given arguments parameters [] rest all.1 (λ c fr. (none c fr).1) (omega (arith, same)) b.1 (no_promises rest),
+      ) where
+        no_promises : (rest : List Argument) → list_all (shows_promise facts) (zip rest []) ≡ true
+        no_promises [] = refl
+        no_promises (argument ∷ rest) = refl
+  all_given arguments (parameter ∷ parameters) (promise ∷ promises) (argument ∷ rest) all none same written shown =
+      let b = both (argument.written == parameter.written) (list_all is_written_for (zip rest parameters)) written in
+      let s = both (keeps_promise facts promise argument.operand) (show_promises facts rest promises) shown in
+      let first = value_given heap p certs f table guarded log cells facts frame h argument.written (Waiting arguments) argument.operand promise
+      (λ c l is own. may_give arguments argument.operand (λ d fr. (none d fr).0) c l is (cells c) refl own) all.0 s.0 in (
+        subst (λ t. IsGiven heap (Waiting arguments) log (given_by (kind_of p.of_module t)) promise (value_of p.of_module frame.registers argument.written argument.operand)) (equal argument.written parameter.written b.0) first,
+        all_given arguments parameters promises rest all.1 (λ c fr. (none c fr).1) (omega (arith, same)) b.1 s.1,
+      )
 
-  -- ---- dg_alloc
-
-  slot_apart : (n : ℕ) (at : Ref) → (Held log at.cell → ⊥) → (t : ℕ) → AreApart (value.Cell n at) (slot_value frame.slots t)
-  slot_apart n at free t = by (held_type table t) refl (h.slot_types t) where
-    of_layout : (layout : Option ℕ) (v : Value) → FitsReference heap guarded log layout v → AreApart (value.Cell n at) v
-    of_layout None v e = subst (AreApart (value.Cell n at)) (sym e) tt
-    of_layout (Some l) v r = own_apart log guarded n at v free r.1
-
-    of_type : (held : ℕ) (b : Bool) → k.is_integer (slice_get p.of_module.types held) ≡ b → FitsHeld heap p.of_module guarded log held (slot_value frame.slots t) → AreApart (value.Cell n at) (slot_value frame.slots t)
-    of_type held true e fits = subst (AreApart (value.Cell n at)) (sym (fits.integer e).is) tt
-    of_type held false e fits = of_layout (referenced_layout p.of_module held) (slot_value frame.slots t) (fits.reference e)
-
-    by : (held : Option ℕ) → held_type table t ≡ held → FitsSlot heap p.of_module guarded log held (slot_value frame.slots t) → AreApart (value.Cell n at) (slot_value frame.slots t)
-    by None e fits = subst (AreApart (value.Cell n at)) (sym (past_end table.held frame.slots t h.held_size e)) tt
-    by (Some held) e fits = of_type held (k.is_integer (slice_get p.of_module.types held)) refl fits
-
-  grown : (n : ℕ) (given : Answer) → Holds heap p table guarded (record { asked = Alloc n; given = given } ∷ log) cells facts frame.registers frame.slots
-  grown n given = log_keeps heap p table guarded log cells facts frame.registers frame.slots h (record { asked = Alloc n; given = given } ∷ log) (λ cell x. inr x) (λ cell x. inr x)
-
-  claimed : (n v : ℕ) (given : Answer) → Possible heap log (Alloc n) given
-      → (more : Cells) × Holds heap p table guarded (record { asked = Alloc n; given = given } ∷ log) more (define_new v n (record { nonnull = false; fresh = true }) facts) (slice_set frame.registers v (mc.alloc_value (Some n) given)) frame.slots
-  claimed n v answer.Done q = absurd q
-  claimed n v (answer.Number i) q = absurd q
-  claimed n v answer.Null q = (
-    _,
-    new_keeps heap p table guarded (record { asked = Alloc n; given = answer.Null } ∷ log) cells facts frame.registers frame.slots (grown n answer.Null) v n false (record { nonnull = false; fresh = true }) value.Null tt (λ e. tt)
-        (record { nonnull = λ z. absurd cc; fresh = λ z. tt }) (λ z w d m is. tt) (λ e w c l st is fr. apart_turned value.Null (cells c) tt) (λ z t. tt),
-  )
-  claimed n v (answer.Cell at) q = (
-    _,
-    new_keeps heap p table guarded (record { asked = Alloc n; given = answer.Cell at } ∷ log) cells facts frame.registers frame.slots (grown n (answer.Cell at)) v n false (record { nonnull = false; fresh = true }) (value.Cell n at) (refl, q.0)
-        (λ e. (inl refl, λ g. q.1 (fresh_held log at.cell (guards at.cell g))))
-        (record { nonnull = λ z. absurd cc; fresh = λ z. inl refl })
-        (λ z w d m is. let member = known_within heap p table guarded log cells facts frame.registers frame.slots h w d m false is in subst (AreApart (value.Cell n at)) member.is (own_apart log guarded n at _ q.1 (member.own refl)))
-        (λ e w c l st is fr. fresh_apart log n at (cells c) q.1 ((h.classes c).fresh fr))
-        (λ z t. slot_apart n at q.1 t),
-  )
-
-  alloc_leads : (n : ℕ) (next : FactSet) → ((given : Answer) → Possible heap log (Alloc n) given
-      → (more : Cells) × Holds heap p table guarded (record { asked = Alloc n; given = given } ∷ log) more next (mc.set_register result (mc.alloc_value (Some n) given) frame).registers (mc.set_register result (mc.alloc_value (Some n) given) frame).slots)
-      → Goes heap p table guarded log next (Alloc n) (λ given. mc.set_register result (mc.alloc_value (Some n) given) frame)
-  alloc_leads n next leads = record { keeps = tt; leads = leads }
-
-  alloc_of_number : (n : ℕ) (d : Declare) (argument : Argument) → argument.operand ≡ operand.Constant (constant.Number n) → a.are_alloc_types p.of_module d.returned d.parameters ≡ true → a.are_alloc_types p.of_module returned (argument.written ∷ []) ≡ true
-      → (nat_lt n (length p.of_module.structs) && nat_lt n 4294967296) ≡ true
-      → Goes heap p table guarded log (after_alloc_call result (argument ∷ []) facts) (call_action (argument ∷ []) (Some d) (Some runtime.Alloc)) (behind_call (argument ∷ []) (Some runtime.Alloc))
-  alloc_of_number n d argument is declared written numbered =
-      let below = (both (nat_lt n (length p.of_module.structs)) (nat_lt n 4294967296) numbered).1 in
-      let named : a.layout_named p.of_module argument.operand ≡ Some n = rw (is, numbered) refl in
-      subst (λ a. Goes heap p table guarded log (after_alloc_call result (argument ∷ []) facts) a (behind_call (argument ∷ []) (Some runtime.Alloc))) (sym (rw (declared, written, named) refl))
-      (subst (λ l. Goes heap p table guarded log (after_alloc_call result (argument ∷ []) facts) (Alloc n) (λ given. mc.set_register result (mc.alloc_value l given) frame)) (sym named)
-      (alloc_leads n (after_alloc_call result (argument ∷ []) facts) (kept below result))) where
-        kept : nat_lt n 4294967296 ≡ true → (name : Option ℕ) (given : Answer) → Possible heap log (Alloc n) given
-            → (more : Cells) × Holds heap p table guarded (record { asked = Alloc n; given = given } ∷ log) more (after_alloc_call name (argument ∷ []) facts) (mc.set_register name (mc.alloc_value (Some n) given) frame).registers (mc.set_register name (mc.alloc_value (Some n) given) frame).slots
-        kept below None given q = (cells, grown n given)
-        kept below (Some v) given q = rw (is, below) (claimed n v given q)
-
-  alloc_by : (d : Declare) (argument : Argument) (x : Operand) → argument.operand ≡ x → a.are_alloc_types p.of_module d.returned d.parameters ≡ true → a.are_alloc_types p.of_module returned (argument.written ∷ []) ≡ true → numbers_layout p.of_module x ≡ true
-      → Goes heap p table guarded log (after_alloc_call result (argument ∷ []) facts) (call_action (argument ∷ []) (Some d) (Some runtime.Alloc)) (behind_call (argument ∷ []) (Some runtime.Alloc))
-  alloc_by d argument (operand.Constant (constant.Number n)) is declared written numbered = alloc_of_number n d argument is declared written numbered
-  alloc_by d argument (operand.Constant (constant.Truth b)) is declared written numbered = absurd cc
-  alloc_by d argument (operand.Constant constant.Null) is declared written numbered = absurd cc
-  alloc_by d argument (operand.Local v) is declared written numbered = absurd cc
-  alloc_by d argument (operand.Global g) is declared written numbered = absurd cc
-  alloc_by d argument (operand.CastGlobal a b c) is declared written numbered = absurd cc
-
-  alloc_goes : (d : Declare) (arguments : List Argument) → is_declared_as p.of_module d runtime.Alloc ≡ true → (length arguments == 1) ≡ true → first_failing (alloc_conditions p.of_module f table here facts returned arguments) ≡ None
-      → Goes heap p table guarded log (after_alloc_call result arguments facts) (call_action arguments (Some d) (Some runtime.Alloc)) (behind_call arguments (Some runtime.Alloc))
-  alloc_goes d arguments declared arity e =
-      let parts = one_parameter arguments (equal (length arguments) 1 arity) in
-      subst (λ x. Goes heap p table guarded log (after_alloc_call result x facts) (call_action x (Some d) (Some runtime.Alloc)) (behind_call x (Some runtime.Alloc))) (sym parts.1)
-      (one parts.0 (subst (λ x. first_failing (alloc_conditions p.of_module f table here facts returned x) ≡ None) parts.1 e)) where
-        one : (argument : Argument) → first_failing (alloc_conditions p.of_module f table here facts returned (argument ∷ [])) ≡ None
-            → Goes heap p table guarded log (after_alloc_call result (argument ∷ []) facts) (call_action (argument ∷ []) (Some d) (Some runtime.Alloc)) (behind_call (argument ∷ []) (Some runtime.Alloc))
-        one argument e =
-            let all = all_hold (alloc_conditions p.of_module f table here facts returned (argument ∷ [])) e in
-            let k2 = all.1 in
-            let a = both (all_values p.of_module f facts (argument ∷ []) && is_written_as p.of_module returned (argument ∷ []) runtime.Alloc) (number_layouts p.of_module (argument ∷ [])) k2.0 in
-            let b = both (all_values p.of_module f facts (argument ∷ [])) (is_written_as p.of_module returned (argument ∷ []) runtime.Alloc) a.0 in
-            let c = both (is_runtime_type p.of_module returned types.Pointer) (is_runtime_type p.of_module argument.written types.Number && true) b.1 in
-            let g = both (is_runtime_type p.of_module argument.written types.Number) true c.1 in
-            let n = both (numbers_layout p.of_module argument.operand) true a.1 in
-            alloc_by d argument argument.operand refl (alloc_declared p.of_module d declared) (alloc_types p.of_module returned argument.written c.0 g.0) n.0
-
-  -- ---- gcroot
-
-  is_held : (held : ℕ) → is_reference (kind_of p.of_module held) ≡ true → (is_some (referenced_layout p.of_module held) ≡ true) × FitsHeld heap p.of_module guarded log held value.Null
-  is_held held e = (
-    ap is_some (sym (layout_same p.of_module held)) ∙ layout_there (kind_of p.of_module held) e,
-    record {
-      integer = λ z. absurd (no_integer (kind_of p.of_module held) e (integer_same p.of_module held ∙ z));
-      reference = λ z. null_fits (referenced_layout p.of_module held);
-    },
-  ) where
-    layout_there : (x : TypeKind) → is_reference x ≡ true → is_some (layout_of_kind x) ≡ true
-    layout_there NoValue e = absurd cc
-    layout_there (Bits bits) e = absurd cc
-    layout_there (Reference layout) e = refl
-    layout_there AnyReference e = absurd cc
-    layout_there AddressKind e = absurd cc
-    layout_there Other e = absurd cc
-
-    no_integer : (x : TypeKind) → is_reference x ≡ true → is_integer x ≡ true → ⊥
-    no_integer NoValue e z = absurd cc
-    no_integer (Bits bits) e z = absurd cc
-    no_integer (Reference layout) e z = absurd cc
-    no_integer AnyReference e z = absurd cc
-    no_integer AddressKind e z = absurd cc
-    no_integer Other e z = absurd cc
-
-    null_fits : (layout : Option ℕ) → FitsReference heap guarded log layout value.Null
-    null_fits None = refl
-    null_fits (Some layout) = (tt, tt)
-
-  root_held : (held : Option ℕ) → holds_reference p.of_module held ≡ true → (is_reference_held p.of_module held ≡ true) × FitsSlot heap p.of_module guarded log held value.Null
-  root_held None e = absurd cc
-  root_held (Some held) e = is_held held e
-
-  null_usable : (written : ℕ) (x : Operand) → o.is_null x ≡ true → o.is_value p.of_module f facts written x ≡ true → k.is_usable p.of_module f table frame.registers written x ≡ true
-  null_usable written (operand.Constant c) e k2 = usable heap p f table guarded log cells facts frame h written (operand.Constant c) refl k2 refl
-  null_usable written (operand.Local v) e k2 = absurd cc
-  null_usable written (operand.Global g) e k2 = absurd cc
-  null_usable written (operand.CastGlobal a b c) e k2 = absurd cc
-
-  slot_place : (written s : ℕ) (x : Operand) → o.slot_named table x ≡ Some s → o.is_value p.of_module f facts written x ≡ true → k.slot_at_place p.of_module f table written x ≡ Some s
-  slot_place written s (operand.Constant c) is k2 = absurd cc
-  slot_place written s (operand.Local v) is k2 = place_is p f table written v s (both (has_type p.of_module f written v) (o.known_fits (kind_of p.of_module written) (known_at facts.values v)) k2).0 is
-  slot_place written s (operand.Global g) is k2 = absurd cc
-  slot_place written s (operand.CastGlobal a b c) is k2 = absurd cc
-
-  root_of_slot : (d : Declare) (place metadata : Argument) (s : ℕ) → o.slot_named table place.operand ≡ Some s → a.are_gcroot_types p.of_module d.returned d.parameters ≡ true → a.are_gcroot_types p.of_module returned (place.written ∷ metadata.written ∷ []) ≡ true
-      → o.is_value p.of_module f facts place.written place.operand ≡ true → o.is_value p.of_module f facts metadata.written metadata.operand ≡ true → o.is_null metadata.operand ≡ true → holds_reference p.of_module (held_type table s) ≡ true
-      → Goes heap p table guarded log (after_root_call table (place ∷ metadata ∷ []) facts) (call_action (place ∷ metadata ∷ []) (Some d) (Some runtime.GcRoot)) (behind_call (place ∷ metadata ∷ []) (Some runtime.GcRoot))
-  root_of_slot d place metadata s is declared written k2p k2m null reference =
-      let there = slot_place place.written s place.operand is k2p in
-      let held = root_held (held_type table s) reference in
-      subst (λ x. Goes heap p table guarded log (after_root x facts) (call_action (place ∷ metadata ∷ []) (Some d) (Some runtime.GcRoot)) (behind_call (place ∷ metadata ∷ []) (Some runtime.GcRoot))) (sym is)
-      (subst (λ x. Goes heap p table guarded log (root_slot s facts) (call_action (place ∷ metadata ∷ []) (Some d) (Some runtime.GcRoot)) (λ given. mc.set_slot x value.Null frame)) (sym there)
-      (goes_local heap p table guarded log _ _ _ (rw (declared, written, there, held.0, null_usable metadata.written metadata.operand null k2m) refl)
-      (cells, slot_keeps heap p table guarded log cells facts frame.registers frame.slots h s _ value.Null held.1 (record { means = record { nonnull = λ z. absurd cc; holds = λ c z. absurd cc }; apart = λ v c l st is2 fr out. apart_turned value.Null (cells c) tt }))))
-
-  root_goes : (d : Declare) (arguments : List Argument) → is_declared_as p.of_module d runtime.GcRoot ≡ true → (length arguments == 2) ≡ true → first_failing (root_conditions p.of_module f table here facts returned arguments) ≡ None
-      → Goes heap p table guarded log (after_root_call table arguments facts) (call_action arguments (Some d) (Some runtime.GcRoot)) (behind_call arguments (Some runtime.GcRoot))
-  root_goes d arguments declared arity e =
-      let parts = two_parameters arguments (equal (length arguments) 2 arity) in
-      subst (λ x. Goes heap p table guarded log (after_root_call table x facts) (call_action x (Some d) (Some runtime.GcRoot)) (behind_call x (Some runtime.GcRoot))) (sym parts.2)
-      (two parts.0 parts.1 (subst (λ x. first_failing (root_conditions p.of_module f table here facts returned x) ≡ None) parts.2 e)) where
-        slot : (place metadata : Argument) (q : Option ℕ) → o.slot_named table place.operand ≡ q → is_unrooted p.of_module table facts q ≡ true → a.are_gcroot_types p.of_module returned (place.written ∷ metadata.written ∷ []) ≡ true
-            → o.is_value p.of_module f facts place.written place.operand ≡ true → o.is_value p.of_module f facts metadata.written metadata.operand ≡ true → o.is_null metadata.operand ≡ true
-            → Goes heap p table guarded log (after_root_call table (place ∷ metadata ∷ []) facts) (call_action (place ∷ metadata ∷ []) (Some d) (Some runtime.GcRoot)) (behind_call (place ∷ metadata ∷ []) (Some runtime.GcRoot))
-        slot place metadata None is unrooted written k2p k2m null = absurd cc
-        slot place metadata (Some s) is unrooted written k2p k2m null =
-            root_of_slot d place metadata s is (root_declared p.of_module d declared) written k2p k2m null (both (holds_reference p.of_module (held_type table s)) _ unrooted).0
-
-        two : (place metadata : Argument) → first_failing (root_conditions p.of_module f table here facts returned (place ∷ metadata ∷ [])) ≡ None
-            → Goes heap p table guarded log (after_root_call table (place ∷ metadata ∷ []) facts) (call_action (place ∷ metadata ∷ []) (Some d) (Some runtime.GcRoot)) (behind_call (place ∷ metadata ∷ []) (Some runtime.GcRoot))
-        two place metadata e =
-            let all = all_hold (root_conditions p.of_module f table here facts returned (place ∷ metadata ∷ [])) e in
-            let k2 = all.1 in
-            let k9 = all.1.1.1 in
-            let a = both (all_values p.of_module f facts (place ∷ metadata ∷ [])) (is_written_as p.of_module returned (place ∷ metadata ∷ []) runtime.GcRoot) k2.0 in
-            let t = both (o.is_value p.of_module f facts place.written place.operand) (o.is_value p.of_module f facts metadata.written metadata.operand && true) a.0 in
-            let t2 = both (o.is_value p.of_module f facts metadata.written metadata.operand) true t.1 in
-            let w = both (is_runtime_type p.of_module returned types.Void) (is_runtime_type p.of_module place.written types.PointerToPointer && (is_runtime_type p.of_module metadata.written types.Pointer && true)) a.1 in
-            let w2 = both (is_runtime_type p.of_module place.written types.PointerToPointer) (is_runtime_type p.of_module metadata.written types.Pointer && true) w.1 in
-            let w3 = both (is_runtime_type p.of_module metadata.written types.Pointer) true w2.1 in
-            let q = both (here.in_head && o.is_null metadata.operand) (is_unrooted p.of_module table facts (o.slot_named table place.operand)) k9.0 in
-            let q2 = both here.in_head (o.is_null metadata.operand) q.0 in
-            slot place metadata (o.slot_named table place.operand) refl q.1 (root_types p.of_module returned place.written metadata.written w.0 w2.0 w3.0) t.0 t2.0 q2.1
-
-  -- ---- any call
-
-  never : (arguments : List Argument) → first_failing (unknown_conditions p.of_module f table here facts arguments) ≡ None → ⊥
-  never arguments e =
-      let all = all_hold (unknown_conditions p.of_module f table here facts arguments) e in
-      let k18 = all.1.1.1.1.1.0 in
-      cc
-
-  pub call_goes : (callee : ℕ) (arguments : List Argument) → first_failing (call_conditions p.of_module f table here facts returned arguments (callee_of p.of_module callee (length arguments))) ≡ None
-      → Goes heap p table guarded log (after_call table result arguments (callee_of p.of_module callee (length arguments)) facts) (call_action arguments (a.declare_of p.of_module callee) (runtime_called p.of_module callee)) (behind_call arguments (runtime_called p.of_module callee))
-  call_goes callee arguments e = by (callee_of p.of_module callee (length arguments)) refl e where
-    by : (called : Option Runtime) → callee_of p.of_module callee (length arguments) ≡ called → first_failing (call_conditions p.of_module f table here facts returned arguments called) ≡ None
-        → Goes heap p table guarded log (after_call table result arguments (callee_of p.of_module callee (length arguments)) facts) (call_action arguments (a.declare_of p.of_module callee) (runtime_called p.of_module callee)) (behind_call arguments (runtime_called p.of_module callee))
-    by None is e = absurd (never arguments e)
-    by (Some runtime.Safepoint) is e = absurd (never arguments e)
-    by (Some runtime.GcRead) is e = absurd (never arguments e)
-    by (Some runtime.GcWrite) is e = absurd (never arguments e)
-    by (Some runtime.Alloc) is e =
-        let c = callee_is p.of_module callee (length arguments) runtime.Alloc is in
-        subst (λ x. Goes heap p table guarded log (after_call table result arguments x facts) (call_action arguments (a.declare_of p.of_module callee) (runtime_called p.of_module callee)) (behind_call arguments (runtime_called p.of_module callee))) (sym is)
-        (subst (λ x. Goes heap p table guarded log (after_alloc_call result arguments facts) (call_action arguments (a.declare_of p.of_module callee) x) (behind_call arguments x)) (sym c.1)
-        (subst (λ x. Goes heap p table guarded log (after_alloc_call result arguments facts) (call_action arguments x (Some runtime.Alloc)) (behind_call arguments (Some runtime.Alloc))) (sym c.0.is_declared)
-        (alloc_goes c.0.declare arguments c.0.types c.0.arity e)))
-    by (Some runtime.GcRoot) is e =
-        let c = callee_is p.of_module callee (length arguments) runtime.GcRoot is in
-        subst (λ x. Goes heap p table guarded log (after_call table result arguments x facts) (call_action arguments (a.declare_of p.of_module callee) (runtime_called p.of_module callee)) (behind_call arguments (runtime_called p.of_module callee))) (sym is)
-        (subst (λ x. Goes heap p table guarded log (after_root_call table arguments facts) (call_action arguments (a.declare_of p.of_module callee) x) (behind_call arguments x)) (sym c.1)
-        (subst (λ x. Goes heap p table guarded log (after_root_call table arguments facts) (call_action arguments x (Some runtime.GcRoot)) (behind_call arguments (Some runtime.GcRoot))) (sym c.0.is_declared)
-        (root_goes c.0.declare arguments c.0.types c.0.arity e)))
+  -- the arguments of a call
+  pub arguments_given : (arguments : List Argument) (parameters : List Parameter) (promises : List (Option Promise)) → AllPass arguments → length arguments ≡ length parameters → list_all is_written_for (zip arguments parameters) ≡ true
+      → show_promises facts arguments promises ≡ true → AllGiven heap p (Waiting arguments) log parameters promises (values_of p.of_module frame.registers arguments)
+  arguments_given arguments parameters promises all same written shown =
+      all_given arguments parameters promises arguments all (λ c fr. (dropped arguments facts facts refl c fr).1) same written shown

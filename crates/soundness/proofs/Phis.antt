@@ -1,254 +1,141 @@
--- What phis keep: each takes a copy of its entry, all at once.
-use Rattle.std.proofs.Common.{◌≡◌, ◌≢◌, ℕ, ◌<◌, ◌≤◌, List, [], ◌∷◌, ◌++◌, length, refl, sym, ap, ◌∙◌, subst, arith, true, false, Bool, slice_set, inl, inr}
-use Rattle.std.proofs.lemmas.List.{length-set}
-use Rattle.std.specs.Prelude.{◌⊎◌}
-use Rattle.pools.specs.Heap.{Setup}
+-- The phis of a certified block: each may take its entry, and behind them the block goes on with what it begins with.
+use Rattle.std.proofs.Common.{◌≡◌, ℕ, suc, ◌+◌, List, [], ◌∷◌, length, drop, refl, sym, ◌∙◌, subst, arith, true, false, Bool, Option, Some, None, is_some, slice_get}
+use Rattle.std.proofs.lemmas.List.Sums.{take_while-cons}
+use Rattle.std.specs.Prelude.{◌||◌, ◌++◌, not, if◌then◌else◌, cond}
+use Rattle.std.specs.List.{take_while}
+use Rattle.ir_ast.specs.declared.function.Function.{Function}
+use Rattle.ir_ast.specs.declared.function.LocalSort.{LocalSort}
+use Rattle.ir_ast.specs.declared.function.LocalSort.TheVariants as sort
+use Rattle.ir_ast.specs.declared.instr.Instr.{Instr}
+use Rattle.ir_ast.specs.declared.op.Incoming.{Incoming}
+use Rattle.ir_ast.specs.declared.op.Op.{Op}
+use Rattle.ir_ast.specs.declared.op.Op.TheVariants.{Phi}
+use Rattle.ir_ast.specs.declared.operand.Operand.{Operand}
+use Rattle.ir_ast.specs.declared.operand.Operand.TheVariants as operand
 use Rattle.layout.specs.Layouts.{LaidOut}
-use Rattle.shadow_stack.specs.Slots.{SlotTable}
-use Rattle.facts.specs.declared.known.Class.{Class}
-use Rattle.facts.specs.declared.known.Entry.{Entry}
-use Rattle.facts.specs.declared.known.Known.{Known}
-use Rattle.facts.specs.declared.known.Known.TheVariants.{Nothing, Number, Cell, Null, Address, GlobalAddress}
-use Rattle.facts.specs.Facts.{FactSet, known_at, class_at, lost_class, values_without, define, drop_fresh_of, drop_fresh_all, enter_phi, enter_phis, after_phis}
-use Rattle.machine.specs.declared.value.Value.{Value}
-use Rattle.machine.specs.declared.value.Value.TheVariants as value
-use Rattle.machine.specs.Kinds.{register_at}
-use Rattle.machine.specs.Log.{Log}
-use Rattle.soundness.specs.Meaning.{Cells, Guarded, IsReferenceTo, IsOwn, AreApart, IsInteger, Means, Holds}
-use Rattle.soundness.proofs.Lists.{at_set, at_old, longer, at_end}
-use Rattle.soundness.proofs.Keep.{set_cell, forget_cell, known_within}
-use Rattle.soundness.proofs.Change.{extend, extend_old, drop_keeps, define_plain, new_keeps}
+use Rattle.types.specs.ValueTypes.{is_value_of, target_of}
+use Rattle.shadow_stack.specs.Slots.{SlotTable, slot_of}
+use Rattle.certificate.specs.declared.section.Section.{Section}
+use Rattle.facts.specs.Facts.{FactSet}
+use Rattle.block_rules.specs.declared.rule.Rule.{Rule}
+use Rattle.block_rules.specs.declared.standing.Standing.{Standing}
+use Rattle.block_rules.specs.declared.type_kind.TypeKind.{TypeKind}
+use Rattle.block_rules.specs.declared.type_kind.TypeKind.TheVariants.{NoValue, Bits, Reference, AnyReference, Address, Other}
+use Rattle.block_rules.specs.Integers.{may_choose}
+use Rattle.block_rules.specs.Rules.{first_failing, op_conditions, conditions, after_op, is_entry, may_come_in, all_come_in}
+use Rattle.block_rules.specs.TypeKinds.{kind_of, is_integer, may_be_reference}
+use Rattle.certified.specs.declared.block_fault.Detail.{Detail}
+use Rattle.certified.specs.Certified.{breach, breach_of, failing, entry_conditions, Follows, stands}
+use Rattle.certified.specs.Ways.{Scene, ways, unshown_on}
+use Rattle.machine.specs.Jumps as j
+use Rattle.machine.specs.Jumps.{is_phi, is_phi_op}
+use Rattle.machine.specs.Kinds as k
+use Rattle.fact_meaning.proofs.Lists.{both}
+use Rattle.fact_meaning.proofs.KindLemmas.{constant_passes, integer_same, refers_same}
+use Rattle.step_soundness.proofs.Steps.{all_hold, none_of}
 
--- entries with the values that come in
-abbrev pub entries_of : List (Entry × Value) → List Entry
-entries_of [] = []
-entries_of (copy ∷ copies) = copy.0 ∷ entries_of copies
+-- ---- what an instruction that keeps the rules shows
 
--- each is put into its register
-abbrev pub copied : List (Entry × Value) → List Value → List Value
-copied [] registers = registers
-copied (copy ∷ copies) registers = copied copies (slice_set registers copy.0.phi copy.1)
+-- where no condition of a list fails, none of its front does
+first_passes : (first rest : List (Rule × Bool)) → first_failing (first ++ rest) ≡ None → first_failing first ≡ None
+first_passes [] rest e = refl
+first_passes (condition ∷ first) rest e = pick condition.1 (first_passes first rest) e where
+  pick : (b : Bool) → (first_failing (first ++ rest) ≡ None → first_failing first ≡ None) → (if b then first_failing (first ++ rest) else Some condition.0) ≡ None → (if b then first_failing first else Some condition.0) ≡ None
+  pick true others e = others e
+  pick false others e = absurd cc
 
--- no entry is of this class
-abbrev NotOf : List Entry → ℕ → Type 0
-NotOf [] c = Unit {0}
-NotOf (entry ∷ entries) c = ((l : ℕ) (s : Bool) → entry.known ≡ Cell c l s → ⊥) × NotOf entries c
+-- no condition of an instruction fails, and each of its ways shows the lines of its target
+pub record Kept (s : Scene) (block : ℕ) (here : Standing) (facts : FactSet) (instr : Instr) : Type 0 where
+  pub allowed : first_failing (conditions s.program s.certs s.function s.slots here facts instr) ≡ None
+  pub shown : unshown_on s block facts (ways instr.op) ≡ None
 
-drop_one : (k : Known) (f : FactSet) (c : ℕ) → (class_at (drop_fresh_of k f).classes c).fresh ≡ true → ((class_at f.classes c).fresh ≡ true) × ((l : ℕ) (s : Bool) → k ≡ Cell c l s → ⊥)
-drop_one (Cell d l s) f c fr = at_set (λ x. x.fresh ≡ true → ((class_at f.classes c).fresh ≡ true) × ((m : ℕ) (t : Bool) → Cell d l s ≡ Cell c m t → ⊥)) f.classes d c _ lost_class
-    (λ e lt z. absurd cc) (λ ne z. (z, λ m t e. ne cc)) (λ z. absurd cc) fr
-drop_one Nothing f c fr = (fr, λ m t e. cc)
-drop_one (Number n b) f c fr = (fr, λ m t e. cc)
-drop_one Null f c fr = (fr, λ m t e. cc)
-drop_one (Address x w) f c fr = (fr, λ m t e. cc)
-drop_one (GlobalAddress g) f c fr = (fr, λ m t e. cc)
+-- an instruction that breaks no rule is such a one
+pub kept : (s : Scene) (block : ℕ) (here : Standing) (facts : FactSet) (instr : Instr) → breach s block here facts instr ≡ None → Kept s block here facts instr
+kept s block here facts instr e = by (failing s block here facts instr) refl (unshown_on s block facts (ways instr.op)) refl e where
+  by : (rule : Option Rule) → failing s block here facts instr ≡ rule → (detail : Option Detail) → unshown_on s block facts (ways instr.op) ≡ detail → breach_of rule detail ≡ None → Kept s block here facts instr
+  by None failed None shown e = record { allowed = first_passes (conditions s.program s.certs s.function s.slots here facts instr) (entry_conditions s.function block instr.op) failed; shown = shown }
+  by None failed (Some detail) shown e = absurd cc
+  by (Some rule) failed detail shown e = absurd cc
 
-dropped : (entries : List Entry) (f : FactSet) (c : ℕ) → (class_at (drop_fresh_all entries f).classes c).fresh ≡ true → ((class_at f.classes c).fresh ≡ true) × NotOf entries c
-dropped [] f c fr = (fr, tt)
-dropped (entry ∷ entries) f c fr =
-    let r = dropped entries (drop_fresh_of entry.known f) c fr in
-    let o = drop_one entry.known f c r.0 in
-    (o.0, (o.1, r.1))
+-- ---- the phis in front of a block
 
-drop_of_values : (k : Known) (f : FactSet) → (drop_fresh_of k f).values ≡ f.values
-drop_of_values (Cell d l s) f = refl
-drop_of_values Nothing f = refl
-drop_of_values (Number n b) f = refl
-drop_of_values Null f = refl
-drop_of_values (Address x w) f = refl
-drop_of_values (GlobalAddress g) f = refl
+-- what may be chosen is an integer or a reference
+scalar_kind : (x : TypeKind) → may_choose x ≡ true → (is_integer x || may_be_reference x) ≡ true
+scalar_kind NoValue e = absurd cc
+scalar_kind (Bits bits) e = refl
+scalar_kind (Reference layout) e = refl
+scalar_kind AnyReference e = refl
+scalar_kind Address e = absurd cc
+scalar_kind Other e = absurd cc
 
-drop_values : (entries : List Entry) (f : FactSet) → (drop_fresh_all entries f).values ≡ f.values
-drop_values [] f = refl
-drop_values (entry ∷ entries) f = drop_values entries (drop_fresh_of entry.known f) ∙ drop_of_values entry.known f
+module _ (p : LaidOut) (certs : List Section) (f : Function) (table : SlotTable) where
+  value_typed : (written v : ℕ) (given : Option LocalSort) → is_entry f written v given ≡ true → is_value_of p.of_module f written given ≡ true
+  value_typed written v None e = absurd cc
+  value_typed written v (Some sort.Unknown) e = absurd cc
+  value_typed written v (Some (sort.Value type)) e = e
+  value_typed written v (Some (sort.Element block place)) e = absurd cc
+  value_typed written v (Some (sort.Block block)) e = absurd cc
 
-module _ (heap : Setup) (p : LaidOut) (table : SlotTable) (guarded : Guarded) (log : Log) (slots : List Value) where
-  abbrev Stands : Cells → FactSet → List Value → Type 0
-  Stands cells facts registers = Holds heap p table guarded log cells facts registers slots
+  -- an entry that the rules let come in has the written type
+  operand_typed : (written : ℕ) (x : Operand) → may_come_in p.of_module f table written x ≡ true → k.is_typed p.of_module f table written x ≡ true
+  operand_typed written (operand.Constant c) e = constant_passes p.of_module written c e
+  operand_typed written (operand.Local v) e =
+      let b = both (is_entry f written v (slice_get f.sorts v)) (not (is_some (slot_of table v))) e in
+      rw (value_typed written v (slice_get f.sorts v) b.0, none_of (slot_of table v) b.1) refl
+  operand_typed written (operand.Global g) e = absurd cc
+  operand_typed written (operand.CastGlobal from g to) e = absurd cc
 
-  drop_of_keeps : (cells : Cells) (k : Known) (facts : FactSet) (registers : List Value) → Stands cells facts registers → Stands cells (drop_fresh_of k facts) registers
-  drop_of_keeps cells (Cell c l s) facts registers h = drop_keeps heap p table guarded log cells facts registers slots h c
-  drop_of_keeps cells Nothing facts registers h = h
-  drop_of_keeps cells (Number n b) facts registers h = h
-  drop_of_keeps cells Null facts registers h = h
-  drop_of_keeps cells (Address x w) facts registers h = h
-  drop_of_keeps cells (GlobalAddress g) facts registers h = h
+  entry_typed : (written from : ℕ) (incoming : List Incoming) → all_come_in p.of_module f table written incoming ≡ true → j.entry_fits p.of_module f table written (j.entry_for f from incoming) ≡ true
+  entry_typed written from [] e = refl
+  entry_typed written from (entry ∷ incoming) e =
+      let b = both (may_come_in p.of_module f table written entry.operand) (all_come_in p.of_module f table written incoming) e in
+      pick (j.is_block from (target_of f entry.from)) (operand_typed written entry.operand b.0) (entry_typed written from incoming b.1) where
+        pick : (b : Bool) → k.is_typed p.of_module f table written entry.operand ≡ true → j.entry_fits p.of_module f table written (j.entry_for f from incoming) ≡ true
+            → j.entry_fits p.of_module f table written (if b then Some entry.operand else j.entry_for f from incoming) ≡ true
+        pick true first rest = first
+        pick false first rest = rest
 
-  pub drop_all_keeps : (cells : Cells) (entries : List Entry) (facts : FactSet) (registers : List Value) → Stands cells facts registers → Stands cells (drop_fresh_all entries facts) registers
-  drop_all_keeps cells [] facts registers h = h
-  drop_all_keeps cells (entry ∷ entries) facts registers h = drop_all_keeps cells entries (drop_fresh_of entry.known facts) registers (drop_of_keeps cells entry.known facts registers h)
+  scalar_written : (written : ℕ) → may_choose (kind_of p.of_module written) ≡ true → k.is_scalar p.of_module written ≡ true
+  scalar_written written e =
+      subst (λ x. (x || k.may_refer p.of_module written) ≡ true) (integer_same p.of_module written)
+      (subst (λ x. (is_integer (kind_of p.of_module written) || x) ≡ true) (refers_same p.of_module written) (scalar_kind (kind_of p.of_module written) e))
 
-  -- a reference that may be copied: no fresh value is of its cell
-  record MayCopy (cells : Cells) (facts : FactSet) (c l : ℕ) (s : Bool) (x : Value) : Type 0 where
-    within : c < length facts.classes
-    refers : IsReferenceTo heap l x
-    own : s ≡ false → IsOwn log guarded x
-    nonnull : (class_at facts.classes c).nonnull ≡ true → x ≢ value.Null
-    apart : s ≡ false → (w d m : ℕ) (t : Bool) → known_at facts.values w ≡ Cell d m t → (class_at facts.classes d).fresh ≡ true → AreApart (cells d) x
+  -- a phi that the rules allow may take its entry
+  phi_fits_so : (from : ℕ) (here : Standing) (facts : FactSet) (result : Option ℕ) (op : Op) → is_phi_op op ≡ true → first_failing (op_conditions p certs f table here facts result op) ≡ None → j.phi_fits p.of_module f table from op ≡ true
+  phi_fits_so from here facts result (Phi written incoming) is e =
+      let all = all_hold (op_conditions p certs f table here facts result (Phi written incoming)) e in
+      let b = both (may_choose (kind_of p.of_module written)) (all_come_in p.of_module f table written incoming) all.0 in
+      rw (scalar_written written b.0, entry_typed written from incoming b.1) refl
+  phi_fits_so from here facts result _ is e = absurd cc
 
-  abbrev Copyable : Cells → FactSet → Known → Value → Type 0
-  Copyable cells facts Nothing x = Unit {0}
-  Copyable cells facts (Number bits below) x = IsInteger bits below x
-  Copyable cells facts (Cell c l s) x = MayCopy cells facts c l s x
-  Copyable cells facts Null x = x ≡ value.Null
-  Copyable cells facts (Address b w) x = Unit {0}
-  Copyable cells facts (GlobalAddress g) x = Unit {0}
+  -- a phi leaves what is known
+  phi_after : (facts : FactSet) (result : Option ℕ) (op : Op) → is_phi_op op ≡ true → after_op p certs table result op facts ≡ facts
+  phi_after facts None (Phi written incoming) is = refl
+  phi_after facts (Some v) (Phi written incoming) is = refl
+  phi_after facts result _ is = absurd cc
 
-  -- what a copy leaves
-  record Entered (cells : Cells) (facts : FactSet) (v : ℕ) (k : Known) (x : Value) (registers : List Value) : Type 0 where
-    more : Cells
-    holds : Stands more (enter_phi v k facts) (slice_set registers v x)
-    grown : length facts.classes ≤ length (enter_phi v k facts).classes
-    agree : (c : ℕ) → c < length facts.classes → more c ≡ cells c
-    same : (c : ℕ) → c < length facts.classes → class_at (enter_phi v k facts).classes c ≡ class_at facts.classes c
-    was : (w c l : ℕ) (s : Bool) → known_at (enter_phi v k facts).values w ≡ Cell c l s → (class_at (enter_phi v k facts).classes c).fresh ≡ true → (known_at facts.values w ≡ Cell c l s) × ((class_at facts.classes c).fresh ≡ true)
+-- some phis in front of these instructions may take their entries from a block, and behind them the rules lead on from the same facts
+pub record PhisStand (s : Scene) (block place from : ℕ) (facts : FactSet) (instrs : List Instr) (last : FactSet) (phis : List Instr) : Type 0 where
+  pub fit : j.phis_fit s.program.of_module s.function s.slots from phis ≡ true
+  pub rest : Follows s block (length phis + place) facts (drop (length phis) instrs) last
 
-  plain_enters : (cells : Cells) (facts : FactSet) (v : ℕ) (k : Known) (x : Value) (registers : List Value) → ((c l : ℕ) (s : Bool) → k ≡ Cell c l s → ⊥) → Stands cells facts registers → Means heap p guarded log cells (length facts.classes) (slice_set registers v x) k x
-      → (w c l : ℕ) (s : Bool) → known_at (define v k facts).values w ≡ Cell c l s → known_at facts.values w ≡ Cell c l s
-  plain_enters cells facts v k x registers none h means w c l s e = pick (set_cell (values_without v facts.values) v w k c l s e) where
-    pick : ((v ≡ w) × (k ≡ Cell c l s)) ⊎ (known_at (values_without v facts.values) w ≡ Cell c l s) → known_at facts.values w ≡ Cell c l s
-    pick (inl z) = absurd (none c l s z.1)
-    pick (inr z) = forget_cell v facts.values w c l s z
-
-  nothing_enters : (cells : Cells) (facts : FactSet) (v : ℕ) (k : Known) (x : Value) (registers : List Value) → enter_phi v k facts ≡ define v Nothing facts → Stands cells facts registers → Entered cells facts v k x registers
-  nothing_enters cells facts v k x registers is h = record {
-    more = cells;
-    holds = subst (λ f. Stands cells f (slice_set registers v x)) (sym is) (define_plain heap p table guarded log cells facts registers slots h v Nothing x (λ c l s z. cc) tt);
-    grown = omega (arith, ap (λ f. length f.classes) is);
-    agree = λ c lt. refl;
-    same = λ c lt. ap (λ f. class_at f.classes c) is;
-    was = λ w c l s e fr. (plain_enters cells facts v Nothing x registers (λ c l s z. cc) h tt w c l s (sym (ap (λ f. known_at f.values w) is) ∙ e), sym (ap (λ f. (class_at f.classes c).fresh) is) ∙ fr);
-  }
-
-  enters : (cells : Cells) (facts : FactSet) (v : ℕ) (k : Known) (x : Value) (registers : List Value) → Stands cells facts registers → Copyable cells facts k x → Entered cells facts v k x registers
-  enters cells facts v (Number bits below) x registers h m = record {
-    more = cells;
-    holds = define_plain heap p table guarded log cells facts registers slots h v (Number bits below) x (λ c l s z. cc) m;
-    grown = omega arith;
-    agree = λ c lt. refl;
-    same = λ c lt. refl;
-    was = λ w c l s e fr. (plain_enters cells facts v (Number bits below) x registers (λ c l s z. cc) h m w c l s e, fr);
-  }
-  enters cells facts v Null x registers h m = record {
-    more = cells;
-    holds = define_plain heap p table guarded log cells facts registers slots h v Null x (λ c l s z. cc) m;
-    grown = omega arith;
-    agree = λ c lt. refl;
-    same = λ c lt. refl;
-    was = λ w c l s e fr. (plain_enters cells facts v Null x registers (λ c l s z. cc) h m w c l s e, fr);
-  }
-  enters cells facts v (Cell c l s) x registers h m = record {
-    more = extend cells (length facts.classes) x;
-    holds = new_keeps heap p table guarded log cells facts registers slots h v l s class x m.refers m.own (record { nonnull = m.nonnull; fresh = λ z. absurd cc }) (λ z. absurd cc) (λ z w d k t is fr. m.apart z w d k t is fr) (λ z. absurd cc);
-    grown = omega (arith, longer facts.classes class);
-    agree = λ d lt. extend_old cells (length facts.classes) x d lt;
-    same = λ d lt. at_old facts.classes class d lost_class lt;
-    was = λ w d k t e fr. before w d k t (set_cell (values_without v facts.values) v w (Cell (length facts.classes) l s) d k t e) fr;
-  } where
-    class : Class
-    class = record { nonnull = (class_at facts.classes c).nonnull; fresh = false }
-
-    before : (w d k : ℕ) (t : Bool) → ((v ≡ w) × (Cell (length facts.classes) l s ≡ Cell d k t)) ⊎ (known_at (values_without v facts.values) w ≡ Cell d k t) → (class_at (facts.classes ++ class ∷ []) d).fresh ≡ true → (known_at facts.values w ≡ Cell d k t) × ((class_at facts.classes d).fresh ≡ true)
-    before w d k t (inl z) fr =
-        let n : length facts.classes ≡ d = let y = z.1 in cc in
-        let no : false ≡ true = sym (ap (λ y. y.fresh) (at_end facts.classes class lost_class)) ∙ subst (λ y. (class_at (facts.classes ++ class ∷ []) y).fresh ≡ true) (sym n) fr in
-        absurd cc
-    before w d k t (inr z) fr =
-        let is = forget_cell v facts.values w d k t z in
-        let lt = (known_within heap p table guarded log cells facts registers slots h w d k t is).within in
-        (is, sym (ap (λ y. y.fresh) (at_old facts.classes class d lost_class lt)) ∙ fr)
-  enters cells facts v Nothing x registers h m = nothing_enters cells facts v Nothing x registers refl h
-  enters cells facts v (Address b w) x registers h m = nothing_enters cells facts v (Address b w) x registers refl h
-  enters cells facts v (GlobalAddress g) x registers h m = nothing_enters cells facts v (GlobalAddress g) x registers refl h
-
-  copyable_stays : (cells : Cells) (facts : FactSet) (v : ℕ) (k : Known) (x : Value) (registers : List Value) → Stands cells facts registers → (e : Entered cells facts v k x registers) → (j : Known) (y : Value) → Copyable cells facts j y → Copyable e.more (enter_phi v k facts) j y
-  copyable_stays cells facts v k x registers h e Nothing y m = tt
-  copyable_stays cells facts v k x registers h e (Number n b) y m = m
-  copyable_stays cells facts v k x registers h e (Cell c l s) y m = record {
-    within = omega (arith, e.grown, m.within);
-    refers = m.refers;
-    own = m.own;
-    nonnull = λ z. m.nonnull (sym (ap (λ t. t.nonnull) (e.same c m.within)) ∙ z);
-    apart = λ z w d n t is fr.
-        let o = e.was w d n t is fr in
-        subst (λ q. AreApart q y) (sym (e.agree d (known_within heap p table guarded log cells facts registers slots h w d n t o.0).within)) (m.apart z w d n t o.0 o.1);
-  }
-  copyable_stays cells facts v k x registers h e Null y m = m
-  copyable_stays cells facts v k x registers h e (Address b w) y m = tt
-  copyable_stays cells facts v k x registers h e (GlobalAddress g) y m = tt
-
-  abbrev AllCopyable : Cells → FactSet → List (Entry × Value) → Type 0
-  AllCopyable cells facts [] = Unit {0}
-  AllCopyable cells facts (copy ∷ copies) = Copyable cells facts copy.0.known copy.1 × AllCopyable cells facts copies
-
-  all_stay : (cells : Cells) (facts : FactSet) (v : ℕ) (k : Known) (x : Value) (registers : List Value) → Stands cells facts registers → (e : Entered cells facts v k x registers) → (copies : List (Entry × Value)) → AllCopyable cells facts copies → AllCopyable e.more (enter_phi v k facts) copies
-  all_stay cells facts v k x registers h e [] m = tt
-  all_stay cells facts v k x registers h e (copy ∷ copies) m = (copyable_stays cells facts v k x registers h e copy.0.known copy.1 m.0, all_stay cells facts v k x registers h e copies m.1)
-
-  all_enter : (cells : Cells) (facts : FactSet) (registers : List Value) (copies : List (Entry × Value)) → Stands cells facts registers → AllCopyable cells facts copies → (more : Cells) × Stands more (enter_phis (entries_of copies) facts) (copied copies registers)
-  all_enter cells facts registers [] h m = (cells, h)
-  all_enter cells facts registers (copy ∷ copies) h m =
-      let e = enters cells facts copy.0.phi copy.0.known copy.1 registers h m.0 in
-      all_enter e.more (enter_phi copy.0.phi copy.0.known facts) (slice_set registers copy.0.phi copy.1) copies e.holds (all_stay cells facts copy.0.phi copy.0.known copy.1 registers h e copies m.1)
-
-  -- what is known of an entry holds of the value that comes in
-  pub record ComesFrom (facts : FactSet) (registers : List Value) (c l : ℕ) (s : Bool) (x : Value) : Type 0 where
-    pub of : ℕ
-    pub known : known_at facts.values of ≡ Cell c l s
-    pub is : x ≡ register_at registers of
-
-  abbrev pub ComesIn : FactSet → List Value → Known → Value → Type 0
-  ComesIn facts registers Nothing x = Unit {0}
-  ComesIn facts registers (Number bits below) x = IsInteger bits below x
-  ComesIn facts registers (Cell c l s) x = ComesFrom facts registers c l s x
-  ComesIn facts registers Null x = x ≡ value.Null
-  ComesIn facts registers (Address b w) x = Unit {0}
-  ComesIn facts registers (GlobalAddress g) x = Unit {0}
-
-  abbrev pub AllComeIn : FactSet → List Value → List (Entry × Value) → Type 0
-  AllComeIn facts registers [] = Unit {0}
-  AllComeIn facts registers (copy ∷ copies) = ComesIn facts registers copy.0.known copy.1 × AllComeIn facts registers copies
-
-  module _ (cells : Cells) (facts : FactSet) (registers : List Value) (h : Stands cells facts registers) (copies : List (Entry × Value)) where
-    abbrev rest : FactSet
-    rest = drop_fresh_all (entries_of copies) facts
-
-    size : (entries : List Entry) (f : FactSet) → length (drop_fresh_all entries f).classes ≡ length f.classes
-    size [] f = refl
-    size (entry ∷ entries) f = size entries (drop_fresh_of entry.known f) ∙ one entry.known where
-      one : (k : Known) → length (drop_fresh_of k f).classes ≡ length f.classes
-      one (Cell d l s) = length-set f.classes d _
-      one Nothing = refl
-      one (Number n b) = refl
-      one Null = refl
-      one (Address x w) = refl
-      one (GlobalAddress g) = refl
-
-    stands : Stands cells rest registers
-    stands = drop_all_keeps cells (entries_of copies) facts registers h
-
-    source : (k : Known) (x : Value) → ((c : ℕ) → (class_at rest.classes c).fresh ≡ true → (l : ℕ) (s : Bool) → k ≡ Cell c l s → ⊥) → ComesIn facts registers k x → Copyable cells rest k x
-    source Nothing x none m = tt
-    source (Number n b) x none m = m
-    source (Cell c l s) x none m =
-        let is = ap (λ v. known_at v m.of) (drop_values (entries_of copies) facts) ∙ m.known in
-        let w = known_within heap p table guarded log cells rest registers slots stands m.of c l s is in
-        let cell : x ≡ cells c = m.is ∙ w.is in
-        record {
-          within = w.within;
-          refers = subst (IsReferenceTo heap l) (sym m.is) w.refers;
-          own = λ z. subst (IsOwn log guarded) (sym m.is) (w.own z);
-          nonnull = λ z y. (stands.classes c).nonnull z (sym cell ∙ y);
-          apart = λ z v d n t isv fr. subst (AreApart (cells d)) (sym cell) (stands.alone v m.of d c n l t isv (is ∙ ap (Cell c l) z) fr (λ q. none d fr l s (ap (λ y. Cell y l s) (sym q))));
-        }
-    source Null x none m = m
-    source (Address b w) x none m = tt
-    source (GlobalAddress g) x none m = tt
-
-    sources : (some : List (Entry × Value)) → ((c : ℕ) → (class_at rest.classes c).fresh ≡ true → NotOf (entries_of some) c) → AllComeIn facts registers some → AllCopyable cells rest some
-    sources [] none m = tt
-    sources (copy ∷ some) none m = (source copy.0.known copy.1 (λ c fr. (none c fr).0) m.0, sources some (λ c fr. (none c fr).1) m.1)
-
-    -- the classes of all entries lose fresh, then each phi takes its entry
-    pub phis_keep : AllComeIn facts registers copies → (more : Cells) × Stands more (after_phis (entries_of copies) facts) (copied copies registers)
-    phis_keep m = all_enter cells rest registers copies stands (sources copies (λ c fr. (dropped (entries_of copies) facts c fr).1) m)
+-- the phis in front of a certified block are such ones
+pub phis_stand : (s : Scene) (block place from : ℕ) (facts : FactSet) (instrs : List Instr) (last : FactSet) → Follows s block place facts instrs last → PhisStand s block place from facts instrs last (take_while is_phi instrs)
+phis_stand s block place from facts [] last follows = record { fit = refl; rest = follows }
+phis_stand s block place from facts (instr ∷ instrs) last follows =
+    subst (PhisStand s block place from facts (instr ∷ instrs) last) (sym (take_while-cons is_phi instr instrs))
+    (pick (is_phi instr) refl (phis_stand s block (suc place) from follows.0 instrs last follows.2)) where
+      pick : (b : Bool) → is_phi instr ≡ b → PhisStand s block (suc place) from follows.0 instrs last (take_while is_phi instrs) → PhisStand s block place from facts (instr ∷ instrs) last (cond b (instr ∷ take_while is_phi instrs) [])
+      pick false is behind =
+          let here : place ≡ 0 + place = omega arith in
+          record { fit = refl; rest = subst (λ n. Follows s block n facts (instr ∷ instrs) last) here follows }
+      pick true is behind =
+          let allowed = (kept s block (stands s block place) facts instr follows.1.keeps).allowed in
+          let same : follows.0 ≡ facts = follows.1.facts_after ∙ phi_after s.program s.certs s.function s.slots facts instr.result instr.op is in
+          let place_same : length (take_while is_phi instrs) + suc place ≡ suc (length (take_while is_phi instrs)) + place = omega arith in
+          let fits : j.phi_fits s.program.of_module s.function s.slots from instr.op ≡ true = phi_fits_so s.program s.certs s.function s.slots from (stands s block place) facts instr.result instr.op is allowed in
+          record {
+            fit = rw (fits, behind.fit) refl;
+            rest = subst (λ n. Follows s block n facts (drop (length (take_while is_phi instrs)) instrs) last) place_same
+                (subst (λ g. Follows s block (length (take_while is_phi instrs) + suc place) g (drop (length (take_while is_phi instrs)) instrs) last) same behind.rest);
+          }

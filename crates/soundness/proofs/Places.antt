@@ -1,95 +1,143 @@
--- Loads and stores of addresses keep the discipline.
-use Rattle.std.proofs.Common.{◌≡◌, ◌≢◌, ℕ, zero, suc, ◌<◌, List, length, refl, sym, ap, ◌∙◌, subst, arith, true, false, Bool, Option, Some, None, slice_get}
-use Rattle.std.specs.Prelude.{◌||◌, not}
-use Rattle.pools.specs.Heap.{Setup, IsOfLayout, kind_of}
-use Rattle.pools.specs.Layouts.{words_of, kind_of_word}
-use Rattle.pools.specs.WordSets.{has_word}
-use Rattle.pools.specs.declared.word_kind.WordKind.{WordKind}
-use Rattle.pools.specs.declared.word_kind.WordKind.TheVariants as word
-use Rattle.pools.specs.declared.word_set.WordSet.{WordSet}
+-- Where a frame stands behind an instruction, and which of its slots are roots.
+use Rattle.std.proofs.Common.{◌≡◌, ℕ, zero, suc, ◌<◌, List, [], ◌∷◌, length, drop, refl, ap, ◌∙◌, subst, arith, true, false, Bool, Option, Some, None, slice_get}
+use Rattle.std.proofs.lemmas.List.{length-set}
+use Rattle.std.specs.Prelude.{if◌then◌else◌}
+use Rattle.ir_ast.specs.declared.block.Block.{Block}
+use Rattle.ir_ast.specs.declared.function.Function.{Function}
+use Rattle.ir_ast.specs.declared.instr.Instr.{Instr}
+use Rattle.ir_ast.specs.declared.module.Module.{Module}
+use Rattle.ir_ast.specs.declared.op.Argument.{Argument}
+use Rattle.ir_ast.specs.declared.op.Op.{Op}
+use Rattle.ir_ast.specs.declared.op.Op.TheVariants.{Alloca, Bitcast, Load, Store, Element, Arithmetic, Resize, Compare, Select, Call}
+use Rattle.ir_ast.specs.declared.operand.Operand.{Operand}
+use Rattle.ir_ast.specs.declared.operand.Operand.TheVariants as operand
+use Rattle.ir_ast.specs.declared.runtime.Runtime.{Runtime}
+use Rattle.ir_ast.specs.declared.runtime.Runtime.TheVariants as runtime
 use Rattle.layout.specs.Layouts.{LaidOut}
-use Rattle.shadow_stack.specs.Slots.{SlotTable}
-use Rattle.facts.specs.declared.known.Known.TheVariants.{Cell, Address}
-use Rattle.facts.specs.Facts.{FactSet, known_at, class_at}
-use Rattle.block_rules.specs.declared.wanted.Wanted.{Wanted}
-use Rattle.block_rules.specs.declared.wanted.Wanted.TheVariants as want
-use Rattle.block_rules.specs.Places.{holds_wanted, each_word}
-use Rattle.machine.specs.declared.action.Action.TheVariants.{Read, StorePlain}
-use Rattle.machine.specs.declared.value.Place.TheVariants as place
-use Rattle.machine.specs.declared.value.Reference.{Reference}
+use Rattle.types.specs.RuntimeCall.{runtime_called}
+use Rattle.shadow_stack.specs.Slots.{SlotTable, held_type, is_among, is_reference_held, operand_slot}
+use Rattle.certificate.specs.declared.section.Section.{Section}
+use Rattle.facts.specs.Facts.{FactSet}
+use Rattle.block_rules.specs.declared.standing.Standing.{Standing}
+use Rattle.block_rules.specs.Rules.{first_failing, op_conditions, may_hold}
+use Rattle.block_rules.specs.Standing.{block_instructions}
+use Rattle.certified.specs.Certified.{Follows, stands}
+use Rattle.certified.specs.Ways.{Scene}
+use Rattle.machine.specs.declared.action.Answer.{Answer}
+use Rattle.machine.specs.declared.frame.Frame.{Frame}
 use Rattle.machine.specs.declared.value.Value.{Value}
-use Rattle.machine.specs.declared.value.Value.TheVariants as value
-use Rattle.machine.specs.Kinds.{register_at}
-use Rattle.machine.specs.Log.{Log, Held, Keeps, MayBeStored}
-use Rattle.soundness.specs.Meaning.{Cells, Guarded, IsReferenceTo, IsOwn, IsInteger, IsAddressOf, Means, Holds}
-use Rattle.soundness.proofs.Lists.{each_below, equal}
-use Rattle.soundness.proofs.Keep.{known_within}
+use Rattle.machine.specs.Jumps as j
+use Rattle.machine.specs.Kinds as k
+use Rattle.machine.specs.Machine as mc
+use Rattle.step_soundness.proofs.Steps.{all_hold}
+use Rattle.soundness.proofs.Phis.{kept}
+use Rattle.soundness.proofs.Slots.{AllocaIs, AllNamed, BlocksNamed, NamesRoots, AreRooted, rooted_set}
 
--- what the words of a cell hold is by its layout
-kind_at : (heap : Setup) (p : LaidOut) (layout cell w : ℕ) → heap.layouts ≡ p.layouts → IsOfLayout heap layout cell → kind_of heap cell w ≡ kind_of_word p.layouts layout w
-unfolding kind_of
-kind_at heap p layout zero w same of = absurd (omega (arith, of.0))
-kind_at heap p layout (suc c) w same of =
-    ap (λ l. slice_get (words_of heap.layouts l) w) of.2 ∙ ap (λ ls. slice_get (words_of ls layout) w) same
+-- ---- the instruction at a place
 
--- the word of an address whose base is there and not null
-pub record Located (heap : Setup) (p : LaidOut) (log : Log) (layout : ℕ) (words : WordSet) (v : Value) : Type 0 where
-  pub at : Reference
-  pub word : ℕ
-  pub is : v ≡ value.Address (place.Word layout at word)
-  pub held : Held log at.cell
-  pub has : has_word words.members word ≡ true
-  pub within : word < 64
-  pub there : kind_of_word p.layouts layout word ≢ None
-  pub kind : kind_of heap at.cell word ≡ kind_of_word p.layouts layout word
+-- the rest of a list from a place on begins with what stands there
+drop_some : {X : Type 0} (xs : List X) (i : ℕ) (x : X) → slice_get xs i ≡ Some x → drop i xs ≡ x ∷ drop (suc i) xs
+drop_some [] i x e = absurd cc
+drop_some (y ∷ xs) zero x e = let same : y ≡ x = cc in ap (λ z. z ∷ xs) same
+drop_some (y ∷ xs) (suc i) x e = drop_some xs i x e
 
-module _ (heap : Setup) (p : LaidOut) (table : SlotTable) (guarded : Guarded) (log : Log) (cells : Cells) (facts : FactSet) (registers slots : List Value) (same : heap.layouts ≡ p.layouts) (h : Holds heap p table guarded log cells facts registers slots) where
-  located : (layout : ℕ) (words : WordSet) (base v : Value) → base ≢ value.Null → IsReferenceTo heap layout base → IsOwn log guarded base → IsAddressOf p words.members base v → Located heap p log layout words v
-  located layout words value.Unset v ne r o a = absurd r
-  located layout words (value.Number n) v ne r o a = absurd r
-  located layout words value.Null v ne r o a = absurd (ne refl)
-  located layout words (value.Cell own at) v ne r o a =
-      let there = subst (λ l. kind_of_word p.layouts l a.0 ≢ None) r.0 a.4 in
-      record {
-        at = at;
-        word = a.0;
-        is = a.1 ∙ ap (λ l. value.Address (place.Word l at a.0)) r.0;
-        held = o.0;
-        has = a.2;
-        within = a.3;
-        there = there;
-        kind = kind_at heap p layout at.cell a.0 same r.1;
-      }
-  located layout words (value.Address x) v ne r o a = absurd r
+pub instruction_in : (q : Option Block) (place : ℕ) (instr : Instr) → mc.instr_in place q ≡ Some instr → drop place (block_instructions q) ≡ instr ∷ drop (suc place) (block_instructions q)
+instruction_in None place instr e = absurd cc
+instruction_in (Some block) place instr e = drop_some block.instructions place instr e
 
-  -- an address with a base that is a reference, not stale and not null, leads to a word of a held cell
-  pub address_located : (v base c layout : ℕ) (words : WordSet) → known_at facts.values v ≡ Address base words → known_at facts.values base ≡ Cell c layout false → (class_at facts.classes c).nonnull ≡ true
-      → Located heap p log layout words (register_at registers v)
-  address_located v base c layout words is known nonnull =
-      let b = known_within heap p table guarded log cells facts registers slots h base c layout false known in
-      located layout words (register_at registers base) (register_at registers v) (λ z. (h.classes c).nonnull nonnull (sym b.is ∙ z)) b.refers (b.own refl)
-      (subst (λ k. Means heap p guarded log cells (length facts.classes) registers k (register_at registers v)) is (h.values v))
+-- the rules and the machine read the same instructions
+pub same_instructions : (q : Option Block) → block_instructions q ≡ j.instructions_in q
+same_instructions None = refl
+same_instructions (Some block) = refl
 
-  -- a word of the set holds what each word is asked to hold
-  pub holds_as_asked : (wanted : Wanted) (layout w : ℕ) (words : WordSet) → w < 64 → has_word words.members w ≡ true → each_word wanted p.layouts layout words ≡ true → holds_wanted wanted (kind_of_word p.layouts layout w) ≡ true
-  holds_as_asked wanted layout w words lt has e =
-      pick (has_word words.members w) (each_below (λ w. not (has_word words.members w) || holds_wanted wanted (kind_of_word p.layouts layout w)) 64 w lt e) has where
-        pick : (b : Bool) → (not b || holds_wanted wanted (kind_of_word p.layouts layout w)) ≡ true → b ≡ true → holds_wanted wanted (kind_of_word p.layouts layout w) ≡ true
-        pick true z y = z
-        pick false z y = absurd cc
+-- ---- the allocas of a certified function
 
-  -- a read of that word keeps the discipline
-  pub read_keeps : (layout : ℕ) (words : WordSet) (v : Value) → (l : Located heap p log layout words v) → Keeps heap log (Read l.at l.word)
-  read_keeps layout words v l = (l.held, λ z. l.there (sym l.kind ∙ z))
+module _ (p : LaidOut) (certs : List Section) (f : Function) (table : SlotTable) where
+  alloca_allowed : (here : Standing) (facts : FactSet) (result : Option ℕ) (op : Op) → first_failing (op_conditions p certs f table here facts result op) ≡ None → AllocaIs (λ w held. may_hold p.of_module table (Some w) held ≡ true) result op
+  alloca_allowed here facts result (Alloca held) e = λ w is. subst (λ name. may_hold p.of_module table name held ≡ true) is (all_hold (op_conditions p certs f table here facts result (Alloca held)) e).0
+  alloca_allowed here facts result _ e = tt
 
-  integer_word : (bits : ℕ) (kind : Option WordKind) → holds_wanted (want.Integer bits) kind ≡ true → kind ≡ Some (word.Integer bits)
-  integer_word bits None e = absurd cc
-  integer_word bits (Some (word.Integer other)) e = ap (λ b. Some (word.Integer b)) (equal other bits e)
-  integer_word bits (Some (word.Reference other)) e = absurd cc
+-- each alloca of instructions that keep the rules is allowed
+pub follows_named : (s : Scene) (block place : ℕ) (facts : FactSet) (instrs : List Instr) (last : FactSet) → Follows s block place facts instrs last → AllNamed (λ w held. may_hold s.program.of_module s.slots (Some w) held ≡ true) instrs
+follows_named s block place facts [] last follows = tt
+follows_named s block place facts (instr ∷ instrs) last follows = (
+  alloca_allowed s.program s.certs s.function s.slots (stands s block place) facts instr.result instr.op (kept s block (stands s block place) facts instr follows.1.keeps).allowed,
+  follows_named s block (suc place) follows.0 instrs last follows.2,
+)
 
-  -- and a store of an integer of its bits
-  pub store_keeps : (layout bits : ℕ) (below : Option ℕ) (words : WordSet) (v stored : Value) → (l : Located heap p log layout words v) → each_word (want.Integer bits) p.layouts layout words ≡ true → IsInteger bits below stored
-      → Keeps heap log (StorePlain l.at l.word stored)
-  store_keeps layout bits below words v stored l e i =
-      let k : kind_of heap l.at.cell l.word ≡ Some (word.Integer bits) = l.kind ∙ integer_word bits (kind_of_word p.layouts layout l.word) (holds_as_asked (want.Integer bits) layout l.word words l.within l.has e) in
-      (l.held, subst (λ x. MayBeStored heap log l.at.cell x stored) (sym k) (subst (λ x. MayBeStored heap log l.at.cell (Some (word.Integer bits)) x) (sym i.is) i.fits))
+-- and so is each of the blocks
+pub blocks_named : (P : (name held : ℕ) → Type 0) (blocks : List Block) → ((i : ℕ) → i < length blocks → AllNamed P (block_instructions (slice_get blocks i))) → BlocksNamed P blocks
+blocks_named P [] each = tt
+blocks_named P (block ∷ blocks) each = (each 0 (omega arith), blocks_named P blocks (λ i lt. each (suc i) (omega (arith, lt))))
+
+-- ---- what an instruction leaves
+
+-- behind an instruction a frame stands where it stood, with as many registers, and has written no slots but roots
+pub record SamePlace (m : Module) (table : SlotTable) (before behind : Frame) : Type 0 where
+  pub function : behind.function ≡ before.function
+  pub into : behind.into ≡ before.into
+  pub block : behind.block ≡ before.block
+  pub place : behind.place ≡ before.place
+  pub size : length behind.registers ≡ length before.registers
+  pub rooted : AreRooted m table before.slots → AreRooted m table behind.slots
+
+module _ (p : LaidOut) (f : Function) (table : SlotTable) (names : NamesRoots p.of_module table) where
+  same_place : (frame : Frame) → SamePlace p.of_module table frame frame
+  same_place frame = record { function = refl; into = refl; block = refl; place = refl; size = refl; rooted = λ r. r }
+
+  register_place : (name : Option ℕ) (v : Value) (frame : Frame) → SamePlace p.of_module table frame (mc.set_register name v frame)
+  register_place None v frame = record { function = refl; into = refl; block = refl; place = refl; size = refl; rooted = λ r. r }
+  register_place (Some n) v frame = record { function = refl; into = refl; block = refl; place = refl; size = length-set frame.registers n v; rooted = λ r. r }
+
+  slot_place : (name : Option ℕ) (v : Value) (frame : Frame) → ((s : ℕ) → name ≡ Some s → is_reference_held p.of_module (held_type table s) ≡ true → is_among table.roots s ≡ true) → SamePlace p.of_module table frame (mc.set_slot name v frame)
+  slot_place None v frame root = same_place frame
+  slot_place (Some n) v frame root = record { function = refl; into = refl; block = refl; place = refl; size = refl; rooted = rooted_set p.of_module table frame.slots n v (root n refl) }
+
+  cast_place : (name : Option ℕ) (v : Value) (slot : Option ℕ) (frame : Frame) → SamePlace p.of_module table frame (mc.after_cast name v slot frame)
+  cast_place name v None frame = register_place name v frame
+  cast_place name v (Some slot) frame = same_place frame
+
+  -- the slot at a place has a name
+  place_root : (written : ℕ) (x : Operand) (s : ℕ) → k.slot_at_place p.of_module f table written x ≡ Some s → is_reference_held p.of_module (held_type table s) ≡ true → is_among table.roots s ≡ true
+  place_root written x s e reference = pick (k.is_local_of p.of_module f written x) e where
+    by : (x : Operand) → operand_slot table.names x ≡ Some s → is_among table.roots s ≡ true
+    by (operand.Constant c) e = absurd cc
+    by (operand.Local v) e = names v s e reference
+    by (operand.Global g) e = absurd cc
+    by (operand.CastGlobal a g b) e = absurd cc
+
+    pick : (b : Bool) → (if b then operand_slot table.names x else None) ≡ Some s → is_among table.roots s ≡ true
+    pick true e = by x e
+    pick false e = absurd cc
+
+  call_root : (arguments : List Argument) (s : ℕ) → mc.root_of_call p.of_module f table arguments ≡ Some s → is_reference_held p.of_module (held_type table s) ≡ true → is_among table.roots s ≡ true
+  call_root [] s e reference = absurd cc
+  call_root (argument ∷ arguments) s e reference = place_root argument.written argument.operand s e reference
+
+  call_place : (name : Option ℕ) (arguments : List Argument) (called : Option Runtime) (given : Answer) (frame : Frame) → SamePlace p.of_module table frame (mc.after_call p.of_module f table name arguments called given frame)
+  call_place name arguments None given frame = same_place frame
+  call_place name arguments (Some runtime.Alloc) given frame = register_place name _ frame
+  call_place name arguments (Some runtime.Safepoint) given frame = same_place frame
+  call_place name arguments (Some runtime.GcRoot) given frame = slot_place _ _ frame (call_root arguments)
+  call_place name arguments (Some runtime.GcRead) given frame = same_place frame
+  call_place name arguments (Some runtime.GcWrite) given frame = same_place frame
+
+  pub op_place : (name : Option ℕ) (op : Op) (given : Answer) (frame : Frame) → SamePlace p.of_module table frame (mc.after_op p f table name op given frame)
+  op_place name (Bitcast from x to) given frame = cast_place name _ (operand_slot table.names x) frame
+  op_place name (Load loaded place_type place) given frame = register_place name _ frame
+  op_place name (Store stored x place_type place) given frame = slot_place _ _ frame (place_root place_type place)
+  op_place name (Element source base_type base indices) given frame = register_place name _ frame
+  op_place name (Arithmetic kind written first second) given frame = register_place name _ frame
+  op_place name (Resize kind from x to) given frame = register_place name _ frame
+  op_place name (Compare kind written first second) given frame = register_place name _ frame
+  op_place name (Select condition_type condition written chosen other) given frame = register_place name _ frame
+  op_place name (Call returned callee arguments) given frame = call_place name arguments (runtime_called p.of_module callee) given frame
+  op_place name _ given frame = same_place frame
+
+-- phis take no more registers
+pub put_size : (p : LaidOut) (f : Function) (before : List Value) (from : ℕ) (phis : List Instr) (registers : List Value) → length (j.put_phis p.of_module f before from phis registers) ≡ length registers
+put_size p f before from [] registers = refl
+put_size p f before from (phi ∷ phis) registers = put_size p f before from phis (j.put_register phi.result (j.phi_value p.of_module f before from phi.op) registers) ∙ one phi.result (j.phi_value p.of_module f before from phi.op) where
+  one : (name : Option ℕ) (v : Value) → length (j.put_register name v registers) ≡ length registers
+  one None v = refl
+  one (Some n) v = length-set registers n v

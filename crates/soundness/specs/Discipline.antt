@@ -6,13 +6,13 @@ use Rattle.layout.specs.Layouts.{LaidOut}
 use Rattle.certificate.specs.declared.section.Promise.{Promise}
 use Rattle.certificate.specs.declared.section.Section.{Section}
 use Rattle.facts.specs.Lines.{promised_below}
+use Rattle.block_rules.specs.Promises.{promises_in}
 use Rattle.certified.specs.Certified.{BlockCertified}
-use Rattle.certified.specs.Ways.{promises_in}
 use Rattle.machine.specs.declared.action.Answer.{Answer}
 use Rattle.machine.specs.Machine.{start}
 use Rattle.machine.specs.Start.{takes_reference, arguments_fit, argument_values}
 use Rattle.machine.specs.Log.{Safe}
-use Rattle.soundness.specs.Meaning.{IsBelow}
+use Rattle.fact_meaning.specs.Meaning.{IsBelow}
 
 -- each argument is below what is promised of its parameter
 abbrev pub MeetPromises : List (Option Promise) → List ℕ → Type 0
@@ -26,9 +26,13 @@ pub record IsStart (program : LaidOut) (f : Function) (section : Option Section)
   pub fit : arguments_fit program.of_module f.parameters arguments ≡ true
   pub meet : MeetPromises (promises_in section) arguments
 
--- a thread that starts at a function all of whose blocks are certified is safe, over every heap of the program's layouts and for every list of possible answers
+-- each block of each function of a program is certified
+abbrev pub AreCertified : LaidOut → List Section → Type 0
+AreCertified program certs = (function : ℕ) (f : Function) → slice_get program.of_module.functions function ≡ Some f → (block : ℕ) → block < length f.blocks → BlockCertified program certs function block
+
+-- where each function of a program is certified, a thread that starts at one of them is safe, over every heap of the program's layouts and for every list of possible answers
 abbrev pub CertifiedIsNeverWrong : Type 0
 CertifiedIsNeverWrong =
     (program : LaidOut) (certs : List Section) (func : ℕ) (f : Function) (heap : Setup) (arguments : List ℕ) (answers : List Answer) → slice_get program.of_module.functions func ≡ Some f
-    → heap.layouts ≡ program.layouts → ((block : ℕ) → block < length f.blocks → BlockCertified program certs func block) → IsStart program f (slice_get certs func) arguments
+    → heap.layouts ≡ program.layouts → AreCertified program certs → IsStart program f (slice_get certs func) arguments
     → Safe heap program (start program.of_module (Some f) func (argument_values arguments)) [] answers

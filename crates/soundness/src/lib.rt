@@ -1,9 +1,9 @@
 //! Why a thread of a certified function keeps the discipline.
 #![tactic(auto)]
 
-ghost use Rattle.soundness.specs.Edges.{ShownHolds};
+ghost use Rattle.soundness.specs.Discipline.{CertifiedIsNeverWrong};
 
-/// What a block shows of its targets holds behind each way to one, when the phis there have taken their entries.
-pub fn edge_law()
-    ensures { ShownHolds }
+/// In every run of one thread of a program all of whose functions are certified, which starts at one of them with arguments that it takes and that meet what is promised of its parameters: whatever possible answers it gets, and through all the calls that it makes, it is never wrong, the roots of all its frames are null or held, and each of its steps on the heap keeps the discipline.
+pub fn discipline_law()
+    ensures { CertifiedIsNeverWrong }
 {}

@@ -1,8 +1,12 @@
 use Rattle.certificate.proofs.Laws.{found, only, no_fault, no_cert, is_fault, only_fault}
+use Rattle.certificate.proofs.ReadFits.{cert_fits}
 use Rattle.certificate.proofs.reader.read_cert.Goals as goal
 
 pub returns-in-Ok-clause-found : goal.returns-in-Ok-clause-found
 returns-in-Ok-clause-found c = rw c.new.ensures (found c.args.bytes.now c.args.module.now c.in-Ok.sections c.in-Ok.ensures)
+
+pub returns-in-Ok-clause-fits : goal.returns-in-Ok-clause-fits
+returns-in-Ok-clause-fits c = rw c.new.ensures (cert_fits c.args.bytes.now c.args.module.now c.in-Ok.sections (found c.args.bytes.now c.args.module.now c.in-Ok.sections c.in-Ok.ensures))
 
 pub returns-in-Ok-clause-only : goal.returns-in-Ok-clause-only
 returns-in-Ok-clause-only c = rw c.new.ensures (λ certs. only c.args.bytes.now c.args.module.now c.in-Ok.sections certs c.in-Ok.ensures)

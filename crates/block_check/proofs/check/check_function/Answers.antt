@@ -1,0 +1,9 @@
+use Rattle.certified.specs.Functions.{blocks_in}
+use Rattle.block_check.proofs.Exact.{function_certified_only, function_refused_only}
+use Rattle.block_check.proofs.check.check_function.Goals as goal
+
+pub returns-clause-certified : goal.returns-clause-certified
+returns-clause-certified c = function_certified_only c.args.program.now c.args.certs.now c.args.func (blocks_in c.args.program.now c.args.func) c.answer_function.result c.answer_function.ensures
+
+pub returns-clause-refused : goal.returns-clause-refused
+returns-clause-refused c = function_refused_only c.args.program.now c.args.certs.now c.args.func (blocks_in c.args.program.now c.args.func) c.answer_function.result c.answer_function.ensures

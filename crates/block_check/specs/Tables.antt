@@ -1,0 +1,14 @@
+-- What is found of a function once.
+use Rattle.std.specs.Prelude.{◌≡◌, length}
+use Rattle.ir_ast.specs.declared.function.Function.{Function}
+use Rattle.ir_ast.specs.declared.module.Module.{Module}
+use Rattle.shadow_stack.specs.Slots.{slots_of}
+use Rattle.facts.specs.Facts.{nothing_known}
+use Rattle.block_check.specs.Predecessors.{ArePredecessors}
+use Rattle.block_check.specs.declared.tables.Tables.{Tables}
+
+-- its slots, facts where nothing is known, and its predecessors
+pub record IsOf (m : Module) (f : Function) (tables : Tables) : Type 0 where
+  pub slots : tables.slots ≡ slots_of m f
+  pub blank : tables.blank ≡ nothing_known (length f.locals) (length tables.slots.held)
+  pub predecessors : ArePredecessors f tables.predecessors

@@ -1,0 +1,80 @@
+//! What an instruction breaks.
+ghost use Rattle.std.specs.Prelude.{◌≡◌, ◌<◌, length, IfOk};
+ghost use Rattle.block_rules.specs.Rules.{first_failing};
+ghost use Rattle.certified.specs.Certified.{entry_conditions, failing, breach};
+ghost use Rattle.block_check.specs.Predecessors.{ArePredecessors};
+ghost use Rattle.block_check.specs.Subject.{seen, IsReady};
+
+use crate::entries::are_entries;
+use crate::predecessors::Predecessors;
+use crate::subject::Subject;
+use crate::ways::{Exit, Rooms};
+use block_rules::{Rule, Standing, refusal};
+use certified::Breach;
+use facts::Facts;
+use ir_ast::{BlockId, Function, Instr, Op};
+use std::alloc::{AllocError, Global};
+
+/// What an instruction of a block breaks, if it breaks a rule.
+pub fn breach(
+    alloc: Global,
+    subject: &Subject,
+    rooms: &mut Rooms,
+    here: Standing,
+    exit: &Exit,
+    instr: &Instr,
+) -> Result<Option<Breach>, AllocError>
+    requires ready { IsReady subject.now }
+    requires within { exit.now.block < length subject.now.scene.function.now.blocks }
+    ensures { IfOk result (λ found. found ≡ breach (seen subject.now) exit.now.block here exit.now.facts.now instr.now) }
+{
+    if let Some(rule) = failing(subject, here, exit, instr) {
+        return Ok(Some(Breach { rule, detail: None }));
+    }
+    match rooms.unshown_on(alloc, subject, exit, &instr.op)? {
+        Some(detail) => Ok(Some(Breach {
+            rule: Rule::K15,
+            detail: Some(detail),
+        })),
+        None => Ok(None),
+    }
+}
+
+/// The first rule that it fails by what is known before it.
+fn failing(subject: &Subject, here: Standing, exit: &Exit, instr: &Instr) -> Option<Rule>
+    requires ready { IsReady subject.now }
+    requires within { exit.now.block < length subject.now.scene.function.now.blocks }
+    ensures { result ≡ failing (seen subject.now) exit.now.block here exit.now.facts.now instr.now }
+{
+    match refusal(&subject.scene, here, exit.facts, instr) {
+        Some(rule) => Some(rule),
+        None => entry_refusal(
+            subject.scene.function,
+            subject.predecessors,
+            exit.block,
+            &instr.op,
+        ),
+    }
+}
+
+fn entry_refusal(
+    function: &Function,
+    predecessors: &Predecessors,
+    block: BlockId,
+    op: &Op,
+) -> Option<Rule>
+    requires predecessors { ArePredecessors function.now predecessors.now }
+    requires within { block < length function.now.blocks }
+    ensures { result ≡ first_failing (entry_conditions function.now block op.now) }
+{
+    match op {
+        Op::Phi { incoming, .. } => {
+            if are_entries(function, predecessors, block, incoming.as_slice()) {
+                None
+            } else {
+                Some(Rule::K16)
+            }
+        }
+        _ => None,
+    }
+}

@@ -1,0 +1,71 @@
+//! What a block begins with.
+ghost use Rattle.std.specs.Prelude.{◌≡◌, OnOk};
+ghost use Rattle.facts.specs.Lines.{receive_all};
+ghost use Rattle.certified.specs.Ways.{parameters_given, line_facts, given_at};
+ghost use Rattle.block_check.specs.Subject.{seen, IsReady};
+
+use crate::subject::Subject;
+use block_rules::{TypeKind, given_by};
+use certificate::Promise;
+use facts::Facts;
+use ir_ast::{BlockId, Module, Parameter};
+use std::alloc::{AllocError, Global};
+
+/// What a block begins with, in place of what is known.
+pub fn begin_block(
+    alloc: Global,
+    subject: &Subject,
+    facts: &mut Facts,
+    block: BlockId,
+) -> Result<(), AllocError>
+    requires { IsReady subject.now }
+    ensures { OnOk result (facts.new ≡ given_at (seen subject.now) block) }
+{
+    if block.number() == 0 {
+        facts.set_from(alloc, subject.blank)?;
+        receive_parameters(
+            subject.scene.module(),
+            facts,
+            subject.scene.function.parameters.as_slice(),
+            subject.promises(),
+        )
+    } else {
+        begin_lines(alloc, subject, facts, block)
+    }
+}
+
+/// What the lines of a block say, in place of what is known.
+pub fn begin_lines(
+    alloc: Global,
+    subject: &Subject,
+    facts: &mut Facts,
+    block: BlockId,
+) -> Result<(), AllocError>
+    requires { IsReady subject.now }
+    ensures { OnOk result (facts.new ≡ line_facts (seen subject.now) block) }
+{
+    facts.set_from(alloc, subject.blank)?;
+    facts.begin(alloc, subject.scene.slots, subject.lines(block))
+}
+
+fn receive_parameters(
+    module: &Module,
+    facts: &mut Facts,
+    parameters: &[Parameter],
+    promises: &[Option<Promise>],
+) -> Result<(), AllocError>
+    ensures { OnOk result (facts.new ≡ receive_all (parameters_given «module».now parameters.now promises.now) facts.old) }
+{
+    let mut rest = promises;
+    for parameter in parameters {
+        let given = given_by(TypeKind::of(module, parameter.written));
+        match rest {
+            [promise, others @ ..] => {
+                facts.receive(parameter.value, given, *promise)?;
+                rest = others;
+            }
+            [] => facts.receive(parameter.value, given, None)?,
+        }
+    }
+    Ok(())
+}

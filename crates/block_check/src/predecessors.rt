@@ -1,0 +1,173 @@
+//! The blocks from which each block is entered.
+ghost use Rattle.std.specs.Prelude.{ℕ, ◌≡◌, ◌==◌, ◌||◌, true, [], Some, map, length, slice_index_or, OnOk, IfOk};
+ghost use Rattle.std.specs.List.{list_any};
+ghost use Rattle.types.specs.ValueTypes.{target_of};
+ghost use Rattle.certified.specs.Ways.{is_number, ways, open_way, instruction_leads};
+ghost use Rattle.block_check.specs.Predecessors.{is_in, Adds, ArePredecessors};
+
+use crate::subject::instructions_of;
+use ir_ast::{Block, BlockId, Case, Function, Instr, Op, ValueId};
+use items::Items;
+use std::alloc::{AllocError, Global};
+use std::marker::Model;
+use types::target_of;
+
+/// For each block, the blocks from which it is entered.
+#[derive(Drop)]
+pub struct Predecessors {
+    lists: Vec<Items<BlockId>>,
+}
+
+impl Model for Predecessors {
+    ghost use Rattle.std.specs.Prelude.{List, ℕ};
+
+    ghost Value = { List (List ℕ) };
+
+    ghost view = { λ predecessors. predecessors.lists.items };
+}
+
+impl Predecessors {
+    /// The predecessors of each block of a function.
+    pub fn of(alloc: Global, function: &Function) -> Result<Predecessors, AllocError>
+        ensures { IfOk result (λ lists. ArePredecessors function.now lists) }
+    {
+        // No memory holds more blocks than there are numbers for them.
+        let Ok(count) = u32::try_from(function.blocks.len()) else {
+            return Err(AllocError);
+        };
+        let mut lists = no_blocks(alloc, function.blocks.as_slice())?;
+        note_blocks(&mut lists, function, count)?;
+        Ok(Predecessors { lists })
+    }
+
+    /// The predecessors of a block.
+    pub fn list(&self, to: BlockId) -> &[BlockId]
+        ensures { result.now ≡ slice_index_or self.now to [] }
+    {
+        match self.lists.get(to.number() as usize) {
+            Some(list) => list.as_slice(),
+            None => &[],
+        }
+    }
+}
+
+/// No block is noted.
+fn no_blocks(alloc: Global, blocks: &[Block]) -> Result<Vec<Items<BlockId>>, AllocError>
+    ensures { IfOk result (λ lists. lists.items ≡ map (λ _. []) blocks.now) }
+{
+    let mut lists = Vec::new(alloc);
+    for _block in blocks {
+        lists.push(Items::new(alloc))?;
+    }
+    Ok(lists)
+}
+
+fn note_blocks(
+    lists: &mut [Items<BlockId>],
+    function: &Function,
+    count: u32,
+) -> Result<(), AllocError>
+    requires blocks { length function.now.blocks ≡ count }
+    requires none { lists.old ≡ map (λ _. []) function.now.blocks }
+    ensures { OnOk result (ArePredecessors function.now lists.new) }
+{
+    for number in 0..count {
+        let from = BlockId::new(number);
+        note_instructions(lists, function, from, instructions_of(function, from))?;
+    }
+    Ok(())
+}
+
+fn note_instructions(
+    lists: &mut [Items<BlockId>],
+    function: &Function,
+    from: BlockId,
+    instructions: &[Instr],
+) -> Result<(), AllocError>
+    ensures { OnOk result (Adds lists.old lists.new from (λ to. list_any (instruction_leads function.now to) instructions.now)) }
+{
+    for instr in instructions {
+        note_ways(lists, function, from, &instr.op)?;
+    }
+    Ok(())
+}
+
+fn note_ways(
+    lists: &mut [Items<BlockId>],
+    function: &Function,
+    from: BlockId,
+    op: &Op,
+) -> Result<(), AllocError>
+    ensures { OnOk result (Adds lists.old lists.new from (λ to. list_any (λ way. is_number to (target_of function.now way.target)) (ways op.now))) }
+{
+    match op {
+        Op::Jump(target) => note(lists, from, target_of(function, *target)),
+        Op::Branch { taken, other, .. } => {
+            note(lists, from, target_of(function, *taken))?;
+            note(lists, from, target_of(function, *other))
+        }
+        Op::Switch {
+            otherwise,
+            cases,
+            ..
+        } => {
+            note(lists, from, target_of(function, *otherwise))?;
+            note_cases(lists, function, from, cases.as_slice())
+        }
+        _ => Ok(()),
+    }
+}
+
+fn note_cases(
+    lists: &mut [Items<BlockId>],
+    function: &Function,
+    from: BlockId,
+    cases: &[Case],
+) -> Result<(), AllocError>
+    ensures { OnOk result (Adds lists.old lists.new from (λ to. list_any (λ way. is_number to (target_of function.now way.target)) (map (λ case. open_way case.target) cases.now))) }
+{
+    for case in cases {
+        note(lists, from, target_of(function, case.target))?;
+    }
+    Ok(())
+}
+
+/// Notes a block as a predecessor of another, if there is one.
+fn note(lists: &mut [Items<BlockId>], from: BlockId, to: Option<BlockId>) -> Result<(), AllocError>
+    ensures { OnOk result (Adds lists.old lists.new from (λ other. is_number other to)) }
+{
+    match to {
+        Some(to) => note_at(lists, from, to),
+        None => Ok(()),
+    }
+}
+
+fn note_at(lists: &mut [Items<BlockId>], from: BlockId, to: BlockId) -> Result<(), AllocError>
+    ensures { OnOk result (Adds lists.old lists.new from (λ other. is_number other (Some to))) }
+{
+    let at = to.number() as usize;
+    if at >= lists.len() {
+        return Ok(());
+    }
+    let list = &mut lists[at];
+    note_last(list, from)
+}
+
+/// Notes a block, unless it is the last one.
+fn note_last(list: &mut Items<BlockId>, from: BlockId) -> Result<(), AllocError>
+    ensures { OnOk result ((other : ℕ) → is_in list.new other ≡ (is_in list.old other || (from == other))) }
+{
+    if is_last(list.as_slice(), from) {
+        return Ok(());
+    }
+    list.push(from)
+}
+
+fn is_last(list: &[BlockId], block: BlockId) -> bool
+    ensures { result ≡ true → (other : ℕ) → is_in list.now other ≡ (is_in list.now other || (block == other)) }
+{
+    match list {
+        [.., last] => *last == block,
+        [] => false,
+    }
+}

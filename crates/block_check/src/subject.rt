@@ -1,0 +1,75 @@
+ghost use Rattle.std.specs.Prelude.{◌≡◌, slice_get};
+ghost use Rattle.block_rules.specs.Standing.{instructions_of};
+ghost use Rattle.block_rules.specs.Promises.{promises_in, promised_in, own_mark};
+ghost use Rattle.certified.specs.Ways.{lines_in};
+
+use crate::predecessors::Predecessors;
+use block_rules::Scene;
+use certificate::{Line, Mark, Promise};
+use facts::Facts;
+use ir_ast::{BlockId, FuncId, Function, Instr};
+
+/// The function that is checked, with what is found of it once.
+#[derive(Clone, Copy)]
+pub struct Subject<'a> {
+    pub func: FuncId,
+    pub scene: Scene<'a>,
+    /// Nothing is known of its values and slots.
+    pub blank: &'a Facts,
+    pub predecessors: &'a Predecessors,
+}
+
+impl<'a> Subject<'a> {
+    /// The lines of a block in the certificate.
+    pub fn lines(&self, block: BlockId) -> &'a [Line]
+        ensures { result.now ≡ lines_in (slice_get self.now.scene.certs.now self.now.func) block }
+    {
+        match self.scene.certs.section(self.func) {
+            Some(section) => match section.blocks.get(block.number() as usize) {
+                Some(lines) => lines.as_slice(),
+                None => &[],
+            },
+            None => &[],
+        }
+    }
+
+    /// What is promised of each parameter.
+    pub fn promises(&self) -> &'a [Option<Promise>]
+        ensures { result.now ≡ promises_in (slice_get self.now.scene.certs.now self.now.func) }
+    {
+        match self.scene.certs.section(self.func) {
+            Some(section) => section.parameters.as_slice(),
+            None => &[],
+        }
+    }
+
+    /// What is promised of the result.
+    pub fn promised(&self) -> Option<Promise>
+        ensures { result ≡ promised_in (slice_get self.now.scene.certs.now self.now.func) }
+    {
+        match self.scene.certs.section(self.func) {
+            Some(section) => section.result,
+            None => None,
+        }
+    }
+
+    /// How it is marked.
+    pub fn mark(&self) -> Mark
+        ensures { result ≡ own_mark (slice_get self.now.scene.certs.now self.now.func) }
+    {
+        match self.scene.certs.section(self.func) {
+            Some(section) => section.mark,
+            None => Mark::None,
+        }
+    }
+}
+
+/// The instructions of a block; a block that there is not has none.
+pub fn instructions_of(function: &Function, block: BlockId) -> &[Instr]
+    ensures { result.now ≡ instructions_of function.now block }
+{
+    match function.blocks.get(block.number() as usize) {
+        Some(block) => block.instructions.as_slice(),
+        None => &[],
+    }
+}

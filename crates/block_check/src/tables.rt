@@ -1,0 +1,52 @@
+ghost use Rattle.std.specs.Prelude.{◌≡◌, Some, slice_get, IfOk};
+ghost use Rattle.block_check.specs.Tables.{IsOf};
+ghost use Rattle.block_check.specs.Subject.{IsReady};
+
+use crate::predecessors::Predecessors;
+use crate::subject::Subject;
+use block_rules::Scene;
+use facts::Facts;
+use ir_ast::{FuncId, Function, Module};
+use shadow_stack::Slots;
+use std::alloc::{AllocError, Global};
+
+/// What is found of a function once, for all its blocks.
+#[derive(Drop)]
+pub struct Tables {
+    pub slots: Slots,
+    pub blank: Facts,
+    pub predecessors: Predecessors,
+}
+
+impl Tables {
+    pub fn of(alloc: Global, module: &Module, function: &Function) -> Result<Tables, AllocError>
+        ensures { IfOk result (IsOf «module».now function.now) }
+    {
+        let slots = Slots::of(alloc, module, function)?;
+        let blank = Facts::new(alloc, function.locals.count(), slots.count())?;
+        let predecessors = Predecessors::of(alloc, function)?;
+        Ok(Tables {
+            slots,
+            blank,
+            predecessors,
+        })
+    }
+
+    /// The function as it is checked.
+    pub fn subject<'a>(&'a self, scene: Scene<'a>, func: FuncId) -> Subject<'a>
+        requires of { IsOf scene.program.now.of_module scene.function.now self.now }
+        requires slots { scene.slots.now ≡ self.now.slots }
+        requires there { slice_get scene.program.now.of_module.functions func ≡ Some scene.function.now }
+        ensures ready { IsReady result }
+        ensures func { result.func ≡ func }
+        ensures program { result.scene.program.now ≡ scene.entry.program.now }
+        ensures certs { result.scene.certs.now ≡ scene.entry.certs.now }
+    {
+        Subject {
+            func,
+            scene,
+            blank: &self.blank,
+            predecessors: &self.predecessors,
+        }
+    }
+}

@@ -1,0 +1,225 @@
+//! The ways out of a block, and the first line of a target that is not shown.
+ghost use Rattle.std.specs.Prelude.{◌≡◌, map, position, not, Some, OnOk, IfOk};
+ghost use Rattle.facts.specs.Lines.{shows_line};
+ghost use Rattle.types.specs.ValueTypes.{target_of};
+ghost use Rattle.certified.specs.Ways.{open_way, branch_ways, ways, decided_facts, entered, line_facts, unshown_line, unshown_at, unshown_on};
+ghost use Rattle.block_check.specs.Subject.{seen, IsReady};
+ghost use Rattle.block_check.specs.Decided.{decided_by};
+
+use crate::given::begin_lines;
+use crate::phis::note_entries;
+use crate::subject::{Subject, instructions_of};
+use certificate::Line;
+use certified::Detail;
+use facts::{Entry, Facts};
+use ir_ast::{BlockId, Case, Op, Operand, ValueId};
+use items::Items;
+use shadow_stack::Slots;
+use std::alloc::{AllocError, Global};
+use types::target_of;
+
+/// Where a way comes from: a block, with what is known at its end.
+#[derive(Clone, Copy)]
+pub struct Exit<'a> {
+    pub block: BlockId,
+    pub facts: &'a Facts,
+}
+
+/// Room for what is known on a way, and for what its target begins with.
+#[derive(Drop)]
+pub struct Rooms {
+    way: Facts,
+    there: Facts,
+    entries: Items<Entry>,
+}
+
+impl Rooms {
+    pub fn new(alloc: Global) -> Result<Rooms, AllocError> {
+        let way = Facts::new(alloc, 0, 0)?;
+        let there = Facts::new(alloc, 0, 0)?;
+        Ok(Rooms {
+            way,
+            there,
+            entries: Items::new(alloc),
+        })
+    }
+
+    /// The first line that is not shown, on the first way where one is not.
+    pub fn unshown_on(
+        &mut self,
+        alloc: Global,
+        subject: &Subject,
+        exit: &Exit,
+        op: &Op,
+    ) -> Result<Option<Detail>, AllocError>
+        requires { IsReady subject.now }
+        ensures { IfOk result (λ found. found ≡ unshown_on (seen subject.now) exit.now.block exit.now.facts.now (ways op.now)) }
+    {
+        match op {
+            Op::Jump(target) => self.unshown_at(alloc, subject, exit, *target, None),
+            Op::Branch {
+                condition,
+                taken,
+                other,
+                ..
+            } => self.unshown_on_branch(alloc, subject, exit, condition, *taken, *other),
+            Op::Switch {
+                otherwise,
+                cases,
+                ..
+            } => {
+                if let Some(detail) = self.unshown_at(alloc, subject, exit, *otherwise, None)? {
+                    return Ok(Some(detail));
+                }
+                self.unshown_on_cases(alloc, subject, exit, cases.as_slice())
+            }
+            _ => Ok(None),
+        }
+    }
+
+    fn unshown_on_branch(
+        &mut self,
+        alloc: Global,
+        subject: &Subject,
+        exit: &Exit,
+        condition: &Operand,
+        taken: ValueId,
+        other: ValueId,
+    ) -> Result<Option<Detail>, AllocError>
+        requires { IsReady subject.now }
+        ensures { IfOk result (λ found. found ≡ unshown_on (seen subject.now) exit.now.block exit.now.facts.now (branch_ways condition.now taken other)) }
+    {
+        let on = decided_by(condition, true);
+        if let Some(detail) = self.unshown_at(alloc, subject, exit, taken, on)? {
+            return Ok(Some(detail));
+        }
+        let off = decided_by(condition, false);
+        self.unshown_at(alloc, subject, exit, other, off)
+    }
+
+    fn unshown_on_cases(
+        &mut self,
+        alloc: Global,
+        subject: &Subject,
+        exit: &Exit,
+        cases: &[Case],
+    ) -> Result<Option<Detail>, AllocError>
+        requires { IsReady subject.now }
+        ensures { IfOk result (λ found. found ≡ unshown_on (seen subject.now) exit.now.block exit.now.facts.now (map (λ case. open_way case.target) cases.now)) }
+    {
+        for case in cases {
+            if let Some(detail) = self.unshown_at(alloc, subject, exit, case.target, None)? {
+                return Ok(Some(detail));
+            }
+        }
+        Ok(None)
+    }
+
+    /// The first line of the target that is not shown on one way.
+    fn unshown_at(
+        &mut self,
+        alloc: Global,
+        subject: &Subject,
+        exit: &Exit,
+        target: ValueId,
+        decided: Option<(ValueId, bool)>,
+    ) -> Result<Option<Detail>, AllocError>
+        requires { IsReady subject.now }
+        ensures { IfOk result (λ found. found ≡ unshown_at (seen subject.now) exit.now.block (decided_facts decided exit.now.facts.now) (target_of subject.now.scene.function.now target)) }
+    {
+        match target_of(subject.scene.function, target) {
+            Some(to) => self.unshown_in(alloc, subject, exit, decided, to),
+            None => Ok(None),
+        }
+    }
+
+    fn unshown_in(
+        &mut self,
+        alloc: Global,
+        subject: &Subject,
+        exit: &Exit,
+        decided: Option<(ValueId, bool)>,
+        to: BlockId,
+    ) -> Result<Option<Detail>, AllocError>
+        requires { IsReady subject.now }
+        ensures { IfOk result (λ found. found ≡ unshown_at (seen subject.now) exit.now.block (decided_facts decided exit.now.facts.now) (Some to)) }
+    {
+        if subject.lines(to).is_empty() {
+            return Ok(None);
+        }
+        self.enter(alloc, subject, exit, decided, to)?;
+        begin_lines(alloc, subject, &mut self.there, to)?;
+        match self.unshown_line(subject, to) {
+            Some(line) => Ok(Some(Detail { target: to, line })),
+            None => Ok(None),
+        }
+    }
+
+    /// The first line of the target that what is known on the way does not show.
+    fn unshown_line(&self, subject: &Subject, to: BlockId) -> Option<usize>
+        requires { self.now.there ≡ line_facts (seen subject.now) to }
+        ensures { result ≡ unshown_line (seen subject.now) to self.now.way }
+    {
+        unshown_among(
+            subject.scene.slots,
+            &self.way,
+            &self.there,
+            subject.lines(to),
+        )
+    }
+
+    /// What is known behind the phis of the target.
+    fn enter(
+        &mut self,
+        alloc: Global,
+        subject: &Subject,
+        exit: &Exit,
+        decided: Option<(ValueId, bool)>,
+        to: BlockId,
+    ) -> Result<(), AllocError>
+        ensures { OnOk result (self.new.way ≡ entered (seen subject.now) exit.now.block to (decided_facts decided exit.now.facts.now)) }
+    {
+        self.way.set_from(alloc, exit.facts)?;
+        learn(&mut self.way, decided)?;
+        note_entries(
+            subject.scene.module(),
+            subject.scene.function,
+            exit.block,
+            &self.way,
+            instructions_of(subject.scene.function, to),
+            &mut self.entries,
+        )?;
+        self.way.after_phis(self.entries.as_slice())
+    }
+}
+
+fn decided_by(condition: &Operand, taken: bool) -> Option<(ValueId, bool)>
+    ensures { result ≡ decided_by condition.now taken }
+{
+    match condition {
+        Operand::Local(value) => Some((*value, taken)),
+        _ => None,
+    }
+}
+
+/// What a way shows by what decides it.
+fn learn(facts: &mut Facts, decided: Option<(ValueId, bool)>) -> Result<(), AllocError>
+    ensures { OnOk result (facts.new ≡ decided_facts decided facts.old) }
+{
+    match decided {
+        Some((value, taken)) => {
+            let test = facts.test(value);
+            facts.learn_test(test, taken)
+        }
+        None => Ok(()),
+    }
+}
+
+/// The first line that these facts do not show; `there` is what its block begins with.
+fn unshown_among(slots: &Slots, facts: &Facts, there: &Facts, lines: &[Line]) -> Option<usize>
+    ensures { result ≡ position (λ line. not (shows_line slots.now facts.now there.now line)) lines.now }
+{
+    lines
+        .iter()
+        .position(|line| !facts.shows_line(slots, there, *line))
+}

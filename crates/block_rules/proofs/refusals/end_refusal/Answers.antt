@@ -1,0 +1,9 @@
+use Rattle.std.proofs.Common.{sym, ap, ◌∙◌}
+use Rattle.block_rules.specs.Rules.{first_failing, op_conditions}
+use Rattle.block_rules.proofs.refusals.end_refusal.Goals as goal
+
+pub returns-in-ReturnVoid : goal.returns-in-ReturnVoid
+returns-in-ReturnVoid c ends =
+    let scene = c.args.scene.now in
+    c.return_void_refusal.ensures c.args.facts.now
+    ∙ ap (λ op. first_failing (op_conditions scene.program.now scene.certs.now scene.function.now scene.slots.now c.args.here c.args.facts.now c.args.instr.now.result op)) (sym c.in-ReturnVoid.is)

@@ -1,0 +1,12 @@
+use ir_ast::{FuncId, Runtime};
+
+/// Which function a call is of.
+#[derive(Clone, Copy, Debug, PartialEq, Eq)]
+pub enum Callee {
+    /// A function of the runtime.
+    OfRuntime(Runtime),
+    /// A function that the module defines.
+    OfModule(FuncId),
+    /// No function that may be called so.
+    NoFunction,
+}

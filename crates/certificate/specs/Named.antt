@@ -1,0 +1,51 @@
+-- Modules whose names lead back to what they name.
+use Rattle.std.specs.Prelude.{◌≡◌, ℕ, ◌^◌, ◌<◌, nat_lt, true, false, not, ◌&&◌, ◌||◌, ◌==◌, Bool, List, [], ◌∷◌, length, slice_get, Some}
+use Rattle.std.specs.List.{list_all}
+use Rattle.ir_ast.specs.Names.{place_of}
+use Rattle.ir_ast.specs.declared.block.Block.{Block}
+use Rattle.ir_ast.specs.declared.function.Function.{Function}
+use Rattle.ir_ast.specs.declared.function.LocalSort.TheVariants as local
+use Rattle.ir_ast.specs.declared.function.Parameter.{Parameter}
+use Rattle.ir_ast.specs.declared.items_of_module.StructType.{StructType}
+use Rattle.ir_ast.specs.declared.items_of_module.SymbolSort.TheVariants as sort
+use Rattle.ir_ast.specs.declared.module.Module.{Module}
+use Rattle.ir_tokens.specs.Bytes.{is_digit}
+use Rattle.certificate.specs.Fits.{is_value}
+use Rattle.certificate.specs.Print.{is_plain}
+use Rattle.certificate.specs.Words.{Text}
+
+-- a name that is written without quotes, and is shorter than a text may be
+abbrev pub is_short_plain : Text → Bool
+is_short_plain name = is_plain name && nat_lt (length name) (2 ^ 24)
+
+-- each name of a table is such a name, and is found at its place
+abbrev pub AreNames : List Text → Type 0
+AreNames names = (number : ℕ) (name : Text) → slice_get names number ≡ Some name → (is_short_plain name ≡ true) × (place_of name names ≡ Some number)
+
+-- digits without zeros before them
+abbrev pub has_no_zeros_before : Text → Bool
+has_no_zeros_before [] = false
+has_no_zeros_before (digit ∷ []) = true
+has_no_zeros_before (digit ∷ next ∷ digits) = not (digit == 48)
+
+-- the number of a value or a block without a name, shorter than a text may be
+abbrev pub is_short_number : Text → Bool
+is_short_number key = has_no_zeros_before key && list_all is_digit key && nat_lt (length key) (2 ^ 24)
+
+-- each key of a table is a number or such a name, and is found at its place
+abbrev pub AreKeys : List Text → Type 0
+AreKeys keys = (number : ℕ) (key : Text) → slice_get keys number ≡ Some key → ((is_short_plain key || is_short_number key) ≡ true) × (place_of key keys ≡ Some number)
+
+-- the names of a function, and what they name
+pub record IsNamedFunction (f : Function) : Type 0 where
+  pub names : AreKeys f.locals
+  pub values : (value : ℕ) → is_value f value ≡ true → value < length f.locals
+  pub parameters : (place : ℕ) (parameter : Parameter) → slice_get f.parameters place ≡ Some parameter → parameter.value ≡ place
+  pub labels : (number : ℕ) (block : Block) → slice_get f.blocks number ≡ Some block → (block.label < length f.locals) × (slice_get f.sorts block.label ≡ Some (local.Block number))
+
+-- the names of a module, and what they name
+pub record IsNamed (m : Module) : Type 0 where
+  pub symbols : AreNames m.symbols
+  pub structs : AreNames m.struct_names
+  pub layouts : (layout name : ℕ) → slice_get m.struct_of name ≡ Some (Some layout) → (struct : StructType) × (slice_get m.structs layout ≡ Some struct) × (struct.name ≡ name) × (name < length m.struct_names)
+  pub functions : (number : ℕ) (f : Function) → slice_get m.functions number ≡ Some f → (f.symbol < length m.symbols) × (slice_get m.sorts f.symbol ≡ Some (sort.Defined number)) × IsNamedFunction f

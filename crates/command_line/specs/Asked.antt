@@ -1,0 +1,31 @@
+-- What a command line asks for, and what becomes of an error of `clap`.
+use Rattle.std.specs.Prelude.{List, [], ◌∷◌, Bool, true, false, if◌then◌else◌}
+use Rattle.clap.specs.Words.{Text, kind_of}
+use Rattle.clap.specs.declared.error.Error.{Error}
+use Rattle.clap.specs.declared.error.kind.ErrorKind.{ErrorKind}
+use Rattle.clap.specs.declared.error.kind.ErrorKind.TheVariants.{OutOfMemory}
+use Rattle.command_line.specs.declared.asked.Line.{Line}
+use Rattle.command_line.specs.declared.asked.Line.TheVariants.{Check}
+use Rattle.command_line.specs.declared.asked.LineFault.{LineFault}
+use Rattle.command_line.specs.declared.asked.LineFault.TheVariants.{Memory, Words}
+
+-- whether the kind of error is want of memory
+abbrev pub is_memory_kind : ErrorKind → Bool
+is_memory_kind OutOfMemory = true
+is_memory_kind _ = false
+
+-- want of memory, or the error with the text that `clap` has for it
+abbrev pub fault_of_error : Error → LineFault
+fault_of_error error = if is_memory_kind (kind_of error) then Memory else Words error
+
+-- what a line asks for: a command on the files of these paths
+pub data Asked : Type 0 where
+  check : (module_path certificate_path : Text) → Asked
+
+-- what a line asks for, as plain text
+abbrev pub asked_by : Line → Asked
+asked_by (Check module_path certificate_path) = check module_path.now certificate_path.now
+
+-- the paths of the command's files, in the line's order
+abbrev pub paths_of : Asked → List Text
+paths_of (check module_path certificate_path) = module_path ∷ certificate_path ∷ []

@@ -1,0 +1,86 @@
+//! Whole checks of functions with several blocks, with true certificates and with lying ones.
+use crate::reading_tests::{CLAIM, NINE, TWO, TWO_CERTIFIED, TWO_ENDED};
+use crate::report::{STATUS_NO, STATUS_YES};
+use crate::tests::{HEAD, prints};
+use std::test::Fail;
+
+const NINE_CERTIFIED: &str =
+    "cert 1\nfunction @nine none\nparam %n nonnull\nblock %loop\n%p ref Node nonnull\n%k i64\nblock %out\nend\n";
+
+/// The loop ends by a number, and says nothing of the node that it goes on with.
+const NINE_BY_NUMBER: &str =
+    "define i64 @nine(%Node* %n, i64 %k) gc \"shadow-stack\" {\nentry:\n  br label %loop\nloop:\n  %p = phi %Node* [ %n, %entry ], [ %q, %loop ]\n  %f = getelementptr %Node, %Node* %p, i32 0, i32 1\n  %q = load %Node*, %Node** %f\n  %c = icmp eq i64 %k, 0\n  br i1 %c, label %out, label %loop\nout:\n  ret i64 0\n}\n";
+
+const TEN: &str =
+    "%Arr = type { [4 x i64] }\ndefine i64 @ten(%Arr* %a, i64 %i) gc \"shadow-stack\" {\nentry:\n  %c = icmp ult i64 %i, 4\n  br i1 %c, label %in, label %out\nin:\n  %p = getelementptr %Arr, %Arr* %a, i32 0, i32 0, i64 %i\n  %v = load i64, i64* %p\n  ret i64 %v\nout:\n  ret i64 0\n}\n";
+
+/// An index one past the array passes the comparison.
+const TEN_BY_FIVE: &str =
+    "%Arr = type { [4 x i64] }\ndefine i64 @ten(%Arr* %a, i64 %i) gc \"shadow-stack\" {\nentry:\n  %c = icmp ult i64 %i, 5\n  br i1 %c, label %in, label %out\nin:\n  %p = getelementptr %Arr, %Arr* %a, i32 0, i32 0, i64 %i\n  %v = load i64, i64* %p\n  ret i64 %v\nout:\n  ret i64 0\n}\n";
+
+const TEN_BELOW_THREE: &str =
+    "cert 1\nfunction @ten none\nparam %a nonnull\nblock %in\n%a ref Arr nonnull\n%i i64 below 3\nblock %out\nend\n";
+
+const TEN_BELOW_FOUR: &str =
+    "cert 1\nfunction @ten none\nparam %a nonnull\nblock %in\n%a ref Arr nonnull\n%i i64 below 4\nblock %out\nend\n";
+
+const TEN_BELOW_FIVE: &str =
+    "cert 1\nfunction @ten none\nparam %a nonnull\nblock %in\n%a ref Arr nonnull\n%i i64 below 5\nblock %out\nend\n";
+
+#[test]
+fn goes_by_what_edges_show(rt: HostRuntime) -> Result<(), Fail> {
+    let alloc = rt.alloc();
+    let two = [HEAD, TWO, CLAIM, TWO_ENDED];
+    let rows = [
+        (two.as_slice(), TWO_CERTIFIED, STATUS_YES, "yes 1\n"),
+        (
+            two.as_slice(),
+            "cert 1\nfunction @two none\nblock %no\nblock %ok\n%x ref Node fresh\nend\n",
+            STATUS_YES,
+            "yes 1\n",
+        ),
+        (
+            [HEAD, NINE].as_slice(),
+            NINE_CERTIFIED,
+            STATUS_YES,
+            "yes 1\n",
+        ),
+        (
+            [HEAD, NINE_BY_NUMBER].as_slice(),
+            NINE_CERTIFIED,
+            STATUS_NO,
+            "no @nine %loop 4 K15 %loop %p ref Node nonnull\n",
+        ),
+    ];
+    for (module, certificate, status, out) in rows {
+        assert!(rt;
+            prints(alloc, module, certificate, status, out, "")?,
+            "{out}"
+        );
+    }
+    Ok(())
+}
+
+#[test]
+fn goes_by_what_is_shown_below(rt: HostRuntime) -> Result<(), Fail> {
+    let alloc = rt.alloc();
+    let rows = [
+        (TEN, TEN_BELOW_FOUR, STATUS_YES, "yes 1\n"),
+        (TEN_BY_FIVE, TEN_BELOW_FIVE, STATUS_NO, "no @ten %in 0 K5\n"),
+        (
+            TEN,
+            TEN_BELOW_THREE,
+            STATUS_NO,
+            "no @ten %entry 1 K15 %in %i i64 below 3\n",
+        ),
+        (TEN, TEN_BELOW_FIVE, STATUS_NO, "no @ten %in 0 K5\n"),
+    ];
+    for (function, certificate, status, out) in rows {
+        let module = [HEAD, function];
+        assert!(rt;
+            prints(alloc, module.as_slice(), certificate, status, out, "")?,
+            "{out}"
+        );
+    }
+    Ok(())
+}

@@ -1,0 +1,12 @@
+pub mod Lists
+pub mod Listed
+pub mod Keep
+pub mod Change
+pub mod SlotsKeep
+pub mod Phis
+pub mod Edges
+pub mod Places
+pub mod Stale
+pub mod Tests
+pub mod Numbers
+pub mod KindLemmas

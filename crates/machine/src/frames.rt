@@ -1,0 +1,227 @@
+//! The frames of a thread: how calls and returns change them.
+ghost use Rattle.std.specs.Prelude.{◌≡◌, ◌+◌, ◌<◌, ◌^◌, ◌∷◌, ◌++◌, [], List, Option, Some, not, is_ok, if◌then◌else◌, reverse, slice_get, IfOk, OnErr};
+ghost use Rattle.shadow_stack.specs.Slots.{SlotTable, slots_of};
+ghost use Rattle.machine.specs.Asks.{way_of, target_at};
+ghost use Rattle.machine.specs.Machine.{above, onward_of, Into, Back, has_room, values_of, after_op, after_onward, enter_block, go_on, frames_called, frames_unless, frames_returned};
+ghost use Rattle.machine.specs.Entered.{WasEntered, WereEntered};
+
+use crate::action::{Action, Answer};
+use crate::asks::target_of_way;
+use crate::calls::number_called;
+use crate::entered::Entered;
+use crate::entry::entry_frame;
+use crate::frame::Frame;
+use crate::results::{result_of, values_of};
+use crate::value::Value;
+use ir_ast::{Argument, FuncId, Function, Instr, Module, Op, ValueId};
+use std::alloc::{AllocError, Global};
+use std::mem;
+
+/// How many frames a thread may have.
+const FRAME_LIMIT: u128 = 10_000;
+
+/// Whether there may be one frame more above the running one, which has so many below.
+pub fn has_room(below: usize) -> bool
+    ensures { result ≡ has_room below }
+{
+    below as u128 + 1 < FRAME_LIMIT
+}
+
+fn above_callers(below: usize, asked: Action) -> Action
+    ensures { result ≡ above Back below asked }
+{
+    match asked {
+        Action::End if below > 0 => Action::Local,
+        asked => asked,
+    }
+}
+
+fn with_room(number: FuncId, below: usize, asked: Action) -> Action
+    ensures { result ≡ above (Into number) below asked }
+{
+    match asked {
+        Action::Local => {
+            if has_room(below) {
+                Action::Local
+            } else {
+                Action::End
+            }
+        }
+        asked => asked,
+    }
+}
+
+/// What an instruction that asks for this alone asks for above so many frames.
+pub fn above(of_module: &Module, op: &Op, below: usize, asked: Action) -> Action
+    ensures { result ≡ above (onward_of of_module.now op.now) below asked }
+{
+    match op {
+        Op::ReturnVoid | Op::Return(_) => above_callers(below, asked),
+        Op::Call { callee, .. } => match number_called(of_module, *callee) {
+            Some(number) => with_room(number, below, asked),
+            None => asked,
+        },
+        _ => asked,
+    }
+}
+
+/// A frame stands above the running one, which goes on at the next place once it runs again.
+fn push_frame(running: &mut Frame, below: &mut Vec<Frame>, frame: Frame) -> Result<(), AllocError>
+    requires { running.old.place + 1 < 2 ^ 64 }
+    ensures running { running.new ≡ (if is_ok result then frame else running.old) }
+    ensures below { below.new.items ≡ (if is_ok result then below.old.items ++ go_on running.old ∷ [] else below.old.items) }
+{
+    below.reserve(1)?;
+    let mut caller = mem::replace(running, frame);
+    caller.place += 1;
+    below.push(caller)?;
+    Ok(())
+}
+
+/// A function is called. Whether the thread goes on: it ends where there is no room for one frame more.
+fn call(
+    alloc: Global,
+    entered: &mut Entered<'_>,
+    running: &mut Frame,
+    below: &mut Vec<Frame>,
+    number: FuncId,
+    into: Option<ValueId>,
+    arguments: &[Argument],
+) -> Result<bool, AllocError>
+    requires entered { WereEntered entered.old.tables (running.old ∷ below.old.items) }
+    requires place { running.old.place + 1 < 2 ^ 64 }
+    ensures program { entered.new.program ≡ entered.old.program }
+    ensures entered { WereEntered entered.new.tables (running.new ∷ below.new.items) }
+    ensures ok { let m = entered.old.program.of_module in IfOk result (λ goes_on. frames_unless (not goes_on) running.new (reverse below.new.items) ≡ frames_called m into (values_of m running.old.registers arguments.now) number (slice_get m.functions number) running.old (reverse below.old.items)) }
+    ensures err { OnErr result ((running.new ≡ running.old) × (below.new.items ≡ below.old.items)) }
+{
+    let of_module = entered.program().module();
+    let Some(callee) = of_module.functions.get(number.number() as usize) else {
+        return Ok(true);
+    };
+    if !has_room(below.len()) {
+        return Ok(false);
+    }
+    entered.enter(alloc, number)?;
+    let values = values_of(alloc, of_module, running.registers.as_slice(), arguments)?;
+    let frame = entry_frame(
+        alloc,
+        of_module,
+        entered.slots(number),
+        callee,
+        number,
+        into,
+        values.as_slice(),
+    )?;
+    push_frame(running, below, frame)?;
+    Ok(true)
+}
+
+/// The running frame goes on at the next place of its block.
+fn go_on(
+    entered: &Entered<'_>,
+    running: &mut Frame,
+    function: &Function,
+    instr: &Instr,
+    answer: Answer,
+)
+    requires entered { WasEntered entered.now.tables running.old.function }
+    requires function { slice_get entered.now.program.of_module.functions running.old.function ≡ Some function.now }
+    requires place { running.old.place + 1 < 2 ^ 64 }
+    ensures { let p = entered.now.program in running.new ≡ go_on (after_op p function.now (slots_of p.of_module function.now) instr.now.result instr.now.op answer running.old) }
+{
+    running.after_op(
+        entered.program(),
+        function,
+        entered.slots(running.function),
+        instr.result,
+        &instr.op,
+        answer,
+    );
+    running.place += 1;
+}
+
+/// The running frame goes on in the block to which a br or a switch leads.
+fn follow(entered: &mut Entered<'_>, running: &mut Frame, function: &Function, op: &Op)
+    requires entered { WasEntered entered.old.tables running.old.function }
+    requires function { slice_get entered.old.program.of_module.functions running.old.function ≡ Some function.now }
+    ensures known { entered.new ≡ entered.old }
+    ensures running { let m = entered.old.program.of_module in running.new ≡ enter_block m function.now (target_at function.now (way_of m running.old.registers op.now)) running.old }
+{
+    let target = target_of_way(
+        &running.scene(entered.program(), function, entered.slots(running.function)),
+        op,
+    );
+    if let Some(block) = target {
+        entered.enter_block(running, function, block);
+    }
+}
+
+/// The running frame is left: its caller's takes the result. Whether there is one.
+fn leave_function(running: &mut Frame, below: &mut Vec<Frame>, value: Value) -> bool
+    ensures frames { frames_unless (not result) running.new (reverse below.new.items) ≡ frames_returned running.old.into value (reverse below.old.items) }
+    ensures entered { (tables : List (Option SlotTable)) → WereEntered tables (running.old ∷ below.old.items) → WereEntered tables (running.new ∷ below.new.items) }
+{
+    match below.pop() {
+        Some(caller) => {
+            let into = running.into;
+            *running = caller;
+            running.set_register(into, value);
+            true
+        }
+        None => false,
+    }
+}
+
+/// The thread goes on behind an instruction of its running frame. Whether it has not ended.
+pub fn step(
+    alloc: Global,
+    entered: &mut Entered<'_>,
+    running: &mut Frame,
+    below: &mut Vec<Frame>,
+    function: &Function,
+    instr: &Instr,
+    answer: Answer,
+) -> Result<bool, AllocError>
+    requires entered { WereEntered entered.old.tables (running.old ∷ below.old.items) }
+    requires function { slice_get entered.old.program.of_module.functions running.old.function ≡ Some function.now }
+    requires place { running.old.place + 1 < 2 ^ 64 }
+    ensures program { entered.new.program ≡ entered.old.program }
+    ensures entered { WereEntered entered.new.tables (running.new ∷ below.new.items) }
+    ensures ok { let p = entered.old.program in IfOk result (λ goes_on. frames_unless (not goes_on) running.new (reverse below.new.items) ≡ after_onward p function.now instr.now answer running.old (reverse below.old.items) (onward_of p.of_module instr.now.op)) }
+    ensures err { OnErr result ((running.new ≡ running.old) × (below.new.items ≡ below.old.items)) }
+{
+    let of_module = entered.program().module();
+    match &instr.op {
+        Op::Jump(_) | Op::Branch { .. } | Op::Switch { .. } => {
+            follow(entered, running, function, &instr.op);
+            return Ok(true);
+        }
+        Op::Unreachable => return Ok(false),
+        Op::ReturnVoid | Op::Return(_) => {
+            let value = result_of(of_module, running.registers.as_slice(), &instr.op);
+            return Ok(leave_function(running, below, value));
+        }
+        Op::Call {
+            callee,
+            arguments,
+            ..
+        } => {
+            if let Some(number) = number_called(of_module, *callee) {
+                let into = instr.result;
+                return call(
+                    alloc,
+                    entered,
+                    running,
+                    below,
+                    number,
+                    into,
+                    arguments.as_slice(),
+                );
+            }
+        }
+        _ => {}
+    }
+    go_on(entered, running, function, instr, answer);
+    Ok(true)
+}

@@ -1,0 +1,3 @@
+pub mod OneLayout
+pub mod Exclusive
+pub mod Disciplined

@@ -1,0 +1,14 @@
+use Rattle.std.proofs.Common.{◌∙◌, sym, subst}
+use Rattle.module_check.specs.Discipline.{AreDisciplined}
+use Rattle.module_check.proofs.Disciplined.{disciplined}
+use Rattle.module_check.proofs.Exclusive.{only_memory}
+use Rattle.module_check.proofs.verdict.check.Goals as goal
+
+pub returns-in-None-clause-disciplined : goal.returns-in-None-clause-disciplined
+returns-in-None-clause-disciplined c =
+    subst (λ accepted. AreDisciplined accepted.program accepted.certs) (sym c.of.ensures) (disciplined c.discipline_law.ensures c.in-Ok.program c.args.certs c.in-None.ensures)
+
+pub returns-in-Some-clause-only : goal.returns-in-Some-clause-only
+returns-in-Some-clause-only c accepted =
+    let found = c.in-Ok.ensures.found in
+    c.from-in-Some.ensures ∙ only_memory c.in-Ok.program c.args.of_module c.args.certs c.in-Some.fault found.0 found.1 found.2 c.in-Some.ensures accepted

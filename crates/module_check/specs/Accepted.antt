@@ -1,0 +1,67 @@
+-- When a module is accepted with its certificates, and which instruction is the first that is refused.
+use Rattle.std.specs.Prelude.{◌≡◌, ◌<◌, ℕ, List, Option, length}
+use Rattle.ir_ast.specs.declared.module.Module.{Module}
+use Rattle.pools.specs.declared.word_kind.WordKind.{WordKind}
+use Rattle.layout.specs.Layouts.{AreLayouts, AreSizes, IsLayoutFault, LaidOut}
+use Rattle.layout.specs.declared.fault.LayoutFault.{LayoutFault}
+use Rattle.layout.specs.declared.fault.LayoutFault.TheVariants as layout
+use Rattle.certificate.specs.declared.section.Section.{Section}
+use Rattle.certified.specs.Certified.{IfRefused}
+use Rattle.certified.specs.Functions.{IsFirstInFunction, IsFunctionCertified, blocks_in}
+use Rattle.certified.specs.declared.block_fault.Refusal.{Refusal}
+use Rattle.certified.specs.declared.block_fault.BlockFault.{BlockFault}
+use Rattle.certified.specs.declared.block_fault.BlockFault.TheVariants as block
+use Rattle.module_check.specs.declared.verdict.Verdict.{Verdict}
+use Rattle.module_check.specs.declared.verdict.Verdict.TheVariants.{Refused, Layout, Memory}
+
+-- a program with certificates
+pub record CertifiedProgram : Type 0 where
+  pub program : LaidOut
+  pub certs : List Section
+
+-- the first `count` functions of a module are certified
+abbrev pub IsModuleCertified : LaidOut → List Section → (count : ℕ) → Type 0
+IsModuleCertified program certs count = (func : ℕ) → func < count → IsFunctionCertified program certs func
+
+-- an instruction of one of the first `count` functions of a module is refused, the blocks before it in its function and
+-- the functions before that are certified
+pub record IsFirstInModule (program : LaidOut) (certs : List Section) (count : ℕ) (refusal : Refusal) : Type 0 where
+  pub within : refusal.func < count
+  pub refused : IsFirstInFunction program certs refusal.func (blocks_in program refusal.func) refusal
+  pub before : IsModuleCertified program certs refusal.func
+
+-- the fault of a module is its first refusal, if it is a refusal
+abbrev pub IsModuleFault : LaidOut → List Section → (count : ℕ) → BlockFault → Type 0
+IsModuleFault program certs count fault = IfRefused fault (IsFirstInModule program certs count)
+
+-- the verdict of a fault of a block
+abbrev pub verdict_of_block : BlockFault → Verdict
+verdict_of_block (block.Refused refusal) = Refused refusal
+verdict_of_block block.Memory = Memory
+
+-- the verdict of a fault of the layouts
+abbrev pub verdict_of_layout : LayoutFault → Verdict
+verdict_of_layout layout.Memory = Memory
+verdict_of_layout fault = Layout fault
+
+-- the module has layouts, and with them and these certificates each of its functions is certified
+pub record IsAccepted (of_module : Module) (certs : List Section) : Type 0 where
+  pub layouts : List (List WordKind)
+  pub sizes : List (Option ℕ)
+  pub laid_out : AreLayouts of_module layouts
+  pub sized : AreSizes of_module sizes
+  pub certified : IsModuleCertified (record { of_module = of_module; layouts = layouts; sizes = sizes }) certs (length of_module.functions)
+
+-- the module has layouts, and with them and these certificates this is its first refused instruction
+pub record IsFirstRefusal (of_module : Module) (certs : List Section) (refusal : Refusal) : Type 0 where
+  pub layouts : List (List WordKind)
+  pub sizes : List (Option ℕ)
+  pub laid_out : AreLayouts of_module layouts
+  pub sized : AreSizes of_module sizes
+  pub first : IsFirstInModule (record { of_module = of_module; layouts = layouts; sizes = sizes }) certs (length of_module.functions) refusal
+
+-- why a module is not accepted
+abbrev pub IsVerdictOf : Module → List Section → Verdict → Type 0
+IsVerdictOf of_module certs (Refused refusal) = IsFirstRefusal of_module certs refusal
+IsVerdictOf of_module certs (Layout fault) = IsLayoutFault of_module fault
+IsVerdictOf of_module certs Memory = Unit

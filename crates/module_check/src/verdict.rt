@@ -1,0 +1,119 @@
+ghost use Rattle.std.specs.Prelude.{◌≡◌, ◌<◌, ◌≤◌, length, IfOk, IfErr, MatchOption, OnOk};
+ghost use Rattle.module_check.specs.Accepted.{IsAccepted, IsModuleCertified, IsModuleFault, IsVerdictOf};
+ghost use Rattle.module_check.specs.Discipline.{AreDisciplined};
+
+use crate::accepted::Accepted;
+use block_check::check_function;
+use certificate::Certs;
+use certified::{BlockFault, Refusal};
+use ir_ast::{FuncId, Module};
+use layout::{LayoutFault, Program};
+use soundness::discipline_law;
+use std::alloc::Global;
+
+/// Why a module is not accepted.
+#[derive(Clone, Copy, Debug, PartialEq, Eq)]
+pub enum Verdict {
+    /// An instruction is refused, the first one in text order.
+    Refused(Refusal),
+    /// The module has no layouts.
+    Layout(LayoutFault),
+    /// Memory was refused.
+    Memory,
+}
+
+/// A module that is not accepted, given back with its certificates.
+#[derive(Drop)]
+pub struct NotAccepted {
+    pub verdict: Verdict,
+    pub of_module: Module,
+    pub certs: Certs,
+}
+
+impl From<BlockFault> for Verdict {
+    ghost use Rattle.module_check.specs.Accepted.{verdict_of_block};
+
+    ghost from_gives = { λ fault verdict. verdict ≡ verdict_of_block fault };
+
+    fn from(fault: BlockFault) -> Verdict {
+        match fault {
+            BlockFault::Refused(refusal) => Verdict::Refused(refusal),
+            BlockFault::Memory => Verdict::Memory,
+        }
+    }
+}
+
+impl From<LayoutFault> for Verdict {
+    ghost use Rattle.module_check.specs.Accepted.{verdict_of_layout};
+
+    ghost from_gives = { λ fault verdict. verdict ≡ verdict_of_layout fault };
+
+    fn from(fault: LayoutFault) -> Verdict {
+        match fault {
+            LayoutFault::Memory => Verdict::Memory,
+            fault => Verdict::Layout(fault),
+        }
+    }
+}
+
+/// The first fault in the first `count` functions of a module, in text order.
+fn fault_in_functions(
+    alloc: Global,
+    program: &Program,
+    certs: &Certs,
+    count: u32,
+) -> Option<BlockFault>
+    requires { count ≤ length program.now.of_module.functions }
+    ensures { MatchOption result (IsModuleCertified program.now certs.now count) (IsModuleFault program.now certs.now count) }
+{
+    for number in 0..count {
+        if let Err(fault) = check_function(alloc, program, certs, FuncId::new(number)) {
+            return Some(fault);
+        }
+    }
+    None
+}
+
+/// The first fault in a module.
+fn fault_in_module(alloc: Global, program: &Program, certs: &Certs) -> Option<BlockFault>
+    ensures { let count = length program.now.of_module.functions in MatchOption result (IsModuleCertified program.now certs.now count) (IsModuleFault program.now certs.now count) }
+{
+    // No memory holds more functions than there are numbers for them.
+    match u32::try_from(program.module().functions.len()) {
+        Ok(count) => fault_in_functions(alloc, program, certs, count),
+        Err(_) => Some(BlockFault::Memory),
+    }
+}
+
+/// Checks a module against its certificates. Where it is not accepted, the verdict is the first refusal in the order of
+/// functions, blocks, instructions and targets, or the fault of its layouts; module and certificates are given back.
+/// A thread of an accepted module is never wrong, its roots are null or held, and its steps on the heap keep the discipline,
+/// whatever possible answers it gets.
+pub fn check(alloc: Global, of_module: Module, certs: Certs) -> Result<Accepted, NotAccepted>
+    ensures kept { IfOk result (λ accepted. (accepted.program.of_module ≡ of_module) × (accepted.certs ≡ certs)) }
+    ensures accepted { OnOk result (IsAccepted of_module certs) }
+    ensures disciplined { IfOk result (λ accepted. AreDisciplined accepted.program accepted.certs) }
+    ensures verdict { IfErr result (λ refused. IsVerdictOf of_module certs refused.verdict) }
+    ensures only { IsAccepted of_module certs → IfErr result (λ refused. refused.verdict ≡ Verdict.Memory) }
+    ensures given_back { IfErr result (λ refused. (refused.of_module ≡ of_module) × (refused.certs ≡ certs)) }
+{
+    discipline_law();
+    let program = match Program::new(alloc, of_module) {
+        Ok(program) => program,
+        Err(refused) => {
+            return Err(NotAccepted {
+                verdict: Verdict::from(refused.fault),
+                of_module: refused.of_module,
+                certs,
+            });
+        }
+    };
+    match fault_in_module(alloc, &program, &certs) {
+        None => Ok(Accepted::of(program, certs)),
+        Some(fault) => Err(NotAccepted {
+            verdict: Verdict::from(fault),
+            of_module: program.into_module(),
+            certs,
+        }),
+    }
+}

@@ -1,0 +1,10 @@
+pub mod Steps
+pub mod Casts
+pub mod Moves
+pub mod Calls
+pub mod Sums
+pub mod CellWords
+pub mod Choices
+pub mod Members
+pub mod Elements
+pub mod Rows

@@ -1,0 +1,15 @@
+pub mod Decimals
+pub mod Turns
+pub mod NamesLemmas
+pub mod Laws
+pub mod Collected
+pub mod Ranges
+pub mod Seams
+pub mod NameSeams
+pub mod Named
+pub mod Spelled
+pub mod Reading
+pub mod Lines
+pub mod Lists
+pub mod RoundTrip
+pub mod Kept

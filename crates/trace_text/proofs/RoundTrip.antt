@@ -1,0 +1,185 @@
+-- What is printed of a trace is a text of it.
+use Rattle.std.proofs.Common.{◌≡◌, ℕ, zero, suc, ◌+◌, ◌<◌, ◌≤◌, ◌^◌, Bool, true, false, not, if◌then◌else◌, List, [], ◌∷◌, ◌++◌, length, map, Option, Some, None, refl, ap, sym, subst, ◌∙◌, arith, append_assoc, get_or}
+use Rattle.std.specs.Prelude.{codes, replicate, slice_get, sum, nat_le, ◌==◌}
+use Rattle.std.specs.List.{AllByRecursion, flat_map}
+use Rattle.std.proofs.lemmas.Bool.{eqb-true}
+use Rattle.std.proofs.lemmas.Bool.Decides.{nat_tests}
+use Rattle.std.proofs.lemmas.List.FromFn.{fill_by_all}
+use Rattle.layout.specs.Layouts.{LaidOut}
+use Rattle.pools.specs.Heap.{cells_in}
+use Rattle.trace_text.specs.Words.{Text}
+use Rattle.trace_text.specs.Input.{Input, emptied}
+use Rattle.trace_text.specs.Text.{count_or_none, counts_of, if_fitting, pools_of, finished_by, finished, heading, pools, past_pools, starts, setup, all_steps, steps, file, IsTrace}
+use Rattle.trace_text.specs.Print.{pools_text, start_text, trace_shown}
+use Rattle.trace_text.specs.Print as print
+use Rattle.trace_text.specs.Traces.{IsStartOf, IsTraceOf, step_sum}
+use Rattle.trace_text.specs.declared.trace.Start.{Start}
+use Rattle.trace_text.specs.declared.trace.Steps.{Steps}
+use Rattle.trace_text.specs.declared.trace.Trace.{Trace}
+use Rattle.trace_text.proofs.Named.{AreRead}
+use Rattle.trace_text.proofs.Seams.{inner_word}
+use Rattle.trace_text.proofs.Reading.{at, looked, IsFresh, expected, begins_so, line_ended}
+use Rattle.trace_text.proofs.Lines.{start_begins}
+use Rattle.trace_text.proofs.Lists.{start_seam, listed_count, no_counts, pools_from, fresh_pools, pools_listed, pools_are, fresh_starts, starts_listed, fresh_steps, steps_listed}
+
+-- ---- the pools that are listed
+
+count_by : (count : ℕ) (t : Bool) → count == 0 ≡ t → count ≡ count_or_none (Some (if t then None else Some count))
+count_by count true e = eqb-true count 0 e
+count_by count false e = refl
+
+count_is : (counts : List ℕ) (layout : ℕ) → get_or counts layout 0 ≡ count_or_none (slice_get (map listed_count counts) layout)
+count_is [] layout = refl
+count_is (count ∷ counts) zero = count_by count (count == 0) refl
+count_is (count ∷ counts) (suc layout) = count_is counts layout
+
+counts_are : (counts : List ℕ) (layouts : ℕ) → length counts ≡ layouts → counts_of layouts (map listed_count counts) ≡ counts
+counts_are counts layouts long = sym (fill_by_all (λ layout. count_or_none (slice_get (map listed_count counts) layout)) counts layouts 0 long (λ layout within. count_is counts layout))
+
+pools_fit : (p : LaidOut) (counts : List ℕ) → length counts ≡ length p.layouts → cells_in counts ≤ 2 ^ 20 → pools_of p (map listed_count counts) ≡ Some counts
+pools_fit p counts long few =
+    let fits : nat_le (cells_in counts) 1048576 ≡ true = grind (arith, nat_tests) in
+    ap if_fitting (counts_are counts (length p.layouts) long) ∙ ap (λ (t : Bool). if t then Some counts else None) fits
+
+no_counts_are : (counts : List ℕ) → replicate (length counts) None ≡ no_counts counts
+no_counts_are [] = refl
+no_counts_are (count ∷ counts) = ap (λ (others : List (Option ℕ)). None ∷ others) (no_counts_are counts)
+
+-- ---- the parts of the text
+
+-- what is left, with all that is read so far
+abbrev state : Text → List (Option ℕ) → List Start → List Steps → (made : ℕ) → Input
+state text counts starts steps made = record { rest = text; counts = counts; starts = starts; steps = steps; made = made }
+
+-- no pool comes where threads begin, or behind them
+past_all_pools : (p : LaidOut) → AreRead p → (all : List Start) → AllByRecursion (IsStartOf p) all → (behind : Text) → IsFresh (codes "steps" ++ 10 ∷ behind) → (i : Input)
+    → past_pools (at (flat_map (start_text p.of_module) all ++ (codes "steps" ++ 10 ∷ behind)) i) ≡ true
+past_all_pools p named [] own behind fresh i = ap not (begins_so (codes "steps") (10 ∷ behind) (10 ∷ behind) (inner_word (codes "steps") refl) refl refl i (codes "pool"))
+past_all_pools p named (s ∷ all) own behind fresh i =
+    let m = p.of_module in
+    let tail = codes "steps" ++ 10 ∷ behind in
+    let here = start_begins m (flat_map (start_text m) all ++ tail) (fresh_starts m all tail fresh) i s (named.functions s.function own.0.0) (codes "pool") in
+    ap (λ (text : Text). past_pools (at text i)) (start_seam m s (flat_map (start_text m) all) tail) ∙ ap not here
+
+module _ (p : LaidOut) (trace : Trace) (named : AreRead p) (own : IsTraceOf p trace) where
+  abbrev last : Text
+  last = codes "end" ++ 10 ∷ []
+
+  abbrev of_steps : Text
+  of_steps = flat_map print.steps_line trace.steps ++ last
+
+  abbrev behind_starts : Text
+  behind_starts = codes "steps" ++ 10 ∷ of_steps
+
+  abbrev behind_pools : Text
+  behind_pools = flat_map (start_text p.of_module) trace.setup.starts ++ behind_starts
+
+  abbrev behind_heading : Text
+  behind_heading = pools_from p.of_module 0 trace.setup.pools ++ behind_pools
+
+  abbrev whole : Text
+  whole = codes "trace 1" ++ 10 ∷ behind_heading
+
+  all_shown : trace_shown p trace ≡ whole
+  all_shown =
+      let counts = trace.setup.pools in
+      let lines : pools_text p.of_module (length p.layouts) counts ≡ pools_from p.of_module 0 counts =
+      ap (λ (n : ℕ). pools_text p.of_module n counts) (sym own.one_each) ∙ pools_are p.of_module counts counts 0 (λ n. (let same : 0 + n ≡ n = omega arith in ap (slice_get counts) same)) in
+      let of_starts = flat_map (start_text p.of_module) trace.setup.starts in
+      ap (λ (text : Text). codes "trace 1" ++ 10 ∷ text)
+      (append_assoc (pools_text p.of_module (length p.layouts) counts ++ of_starts) (codes "steps" ++ 10 ∷ flat_map print.steps_line trace.steps) last
+      ∙ append_assoc (pools_text p.of_module (length p.layouts) counts) of_starts behind_starts
+      ∙ ap (λ (text : Text). text ++ behind_pools) lines)
+
+  abbrev counts_read : List (Option ℕ)
+  counts_read = map listed_count trace.setup.pools
+
+  fresh_behind : IsFresh behind_pools
+  fresh_behind = fresh_starts p.of_module trace.setup.starts behind_starts refl
+
+  heading_says : (i : Input) → heading.says (at whole i) tt (at behind_heading i)
+  unfolding heading
+  heading_says i = (
+    tt,
+    at (codes "1" ++ 10 ∷ behind_heading) i,
+    expected (codes "trace") (32 ∷ (codes "1" ++ 10 ∷ behind_heading)) (codes "1" ++ 10 ∷ behind_heading) (inner_word (codes "trace") refl) refl refl i,
+    (
+      tt,
+      at (10 ∷ behind_heading) i,
+      expected (codes "1") (10 ∷ behind_heading) (10 ∷ behind_heading) (inner_word (codes "1") refl) refl refl i,
+      line_ended behind_heading i (fresh_pools p.of_module 0 trace.setup.pools behind_pools fresh_behind),
+    ),
+  )
+
+  setup_says : (setup p.of_module).says (state behind_heading (no_counts trace.setup.pools) [] [] 0) tt (state behind_starts counts_read trace.setup.starts [] 0)
+  unfolding setup pools starts
+  setup_says =
+      let before = state behind_heading (no_counts trace.setup.pools) [] [] 0 in
+      let between = state behind_pools counts_read [] [] 0 in
+      let small : sum trace.setup.pools < 2 ^ 32 = omega (arith, own.cells) in
+      let all_pools =
+      pools_listed p.of_module (length p.layouts) named.layouts behind_pools (past_all_pools p named trace.setup.starts own.starts of_steps refl) fresh_behind before trace.setup.pools 0 [] refl
+      (omega (arith, own.one_each)) small in
+      let past_them = λ (i : Input). ap not (begins_so (codes "steps") (10 ∷ of_steps) (10 ∷ of_steps) (inner_word (codes "steps") refl) refl refl i (codes "start")) in
+      let all_starts = starts_listed p named behind_starts past_them refl between trace.setup.starts [] own.starts (omega (arith, own.threads)) in
+      (tt, between, (all_pools.0, between, all_pools.1, (refl, refl)), (all_starts.0, state behind_starts counts_read trace.setup.starts [] 0, all_starts.1, (refl, refl)))
+
+  steps_are_said : steps.says (state behind_starts counts_read trace.setup.starts [] 0) tt (state [] counts_read trace.setup.starts trace.steps (0 + step_sum trace.steps))
+  unfolding steps all_steps
+  steps_are_said =
+      let before = state behind_starts counts_read trace.setup.starts [] 0 in
+      let behind = state last counts_read trace.setup.starts trace.steps (0 + step_sum trace.steps) in
+      let past_them = λ (i : Input). begins_so (codes "end") (10 ∷ []) (10 ∷ []) (inner_word (codes "end") refl) refl refl i (codes "end") in
+      let all_lines =
+      steps_listed (length trace.setup.starts) own.threads last past_them refl before refl trace.steps [] 0 own.actors
+      (omega (arith, own.steps)) in (
+        tt,
+        at (10 ∷ of_steps) before,
+        expected (codes "steps") (10 ∷ of_steps) (10 ∷ of_steps) (inner_word (codes "steps") refl) refl refl before,
+        (
+          tt,
+          at of_steps before,
+          line_ended of_steps before (fresh_steps trace.steps last refl),
+          (
+            tt,
+            behind,
+            (all_lines.0, behind, all_lines.1, (refl, refl)),
+            (
+              tt,
+              at (10 ∷ []) behind,
+              expected (codes "end") (10 ∷ []) (10 ∷ []) (inner_word (codes "end") refl) refl refl behind,
+              (tt, at [] behind, line_ended [] behind refl, (refl, refl)),
+            ),
+          ),
+        ),
+      )
+
+  finished_says : (i : Input) → i.counts ≡ counts_read → i.starts ≡ trace.setup.starts → i.steps ≡ trace.steps → (finished p).says i trace (emptied i)
+  unfolding finished
+  finished_says i same_counts same_starts same_steps =
+      looked (λ i. pools_of p i.counts) finished_by i (Some trace.setup.pools) trace (emptied i)
+      (ap (pools_of p) same_counts ∙ pools_fit p trace.setup.pools own.one_each own.cells)
+      (rw (same_starts, same_steps) refl, refl)
+
+  file_says : (file p).says (state whole (no_counts trace.setup.pools) [] [] 0) trace (emptied (state [] counts_read trace.setup.starts trace.steps (0 + step_sum trace.steps)))
+  unfolding file
+  file_says =
+      let before = state whole (no_counts trace.setup.pools) [] [] 0 in
+      let behind = state [] counts_read trace.setup.starts trace.steps (0 + step_sum trace.steps) in (
+        tt,
+        at behind_heading before,
+        heading_says before,
+        (
+          tt,
+          state behind_starts counts_read trace.setup.starts [] 0,
+          setup_says,
+          (tt, behind, steps_are_said, finished_says behind refl refl refl),
+        ),
+      )
+
+  pub round_trip : IsTrace (trace_shown p trace) p trace
+  round_trip =
+      let behind = emptied (state [] counts_read trace.setup.starts trace.steps (0 + step_sum trace.steps)) in
+      let none : replicate (length p.layouts) None ≡ no_counts trace.setup.pools = ap (λ (n : ℕ). replicate n None) (sym own.one_each) ∙ no_counts_are trace.setup.pools in
+      subst (λ (text : Text). IsTrace text p trace) (sym all_shown)
+      (behind, subst (λ (counts : List (Option ℕ)). (file p).says (state whole counts [] [] 0) trace behind) (sym none) file_says)

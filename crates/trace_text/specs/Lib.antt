@@ -1,0 +1,11 @@
+pub mod Words
+pub mod Numbers
+pub mod Names
+pub mod Input
+pub mod View
+pub mod Falls
+pub mod Forms
+pub mod Ends
+pub mod Text
+pub mod Print
+pub mod Traces

@@ -1,0 +1,107 @@
+-- The text of traces.
+use Rattle.std.specs.Prelude.{ℕ, ◌+◌, ◌/◌, ◌%◌, ◌==◌, nat_le, nat_lt, Bool, false, not, ◌&&◌, ◌||◌, if◌then◌else◌, List, [], ◌∷◌, ◌++◌, length, codes, Option, Some, None, unwrap_or, slice_get}
+use Rattle.std.specs.List.{list_all, flat_map, range_with_len}
+use Rattle.std.specs.Fmt.{decimal}
+use Rattle.ir_ast.specs.declared.function.Function.{Function}
+use Rattle.ir_ast.specs.declared.items_of_module.StructType.{StructType}
+use Rattle.ir_ast.specs.declared.module.Module.{Module}
+use Rattle.ir_tokens.specs.Bytes.{is_letter, is_digit}
+use Rattle.layout.specs.Layouts.{LaidOut}
+use Rattle.trace_text.specs.Words.{Text}
+use Rattle.trace_text.specs.declared.trace.Actor.{Actor}
+use Rattle.trace_text.specs.declared.trace.Actor.TheVariants as actor
+use Rattle.trace_text.specs.declared.trace.Start.{Start}
+use Rattle.trace_text.specs.declared.trace.Steps.{Steps}
+use Rattle.trace_text.specs.declared.trace.Trace.{Trace}
+
+-- ---- names
+
+-- whether a letter stands at the front
+abbrev pub begins_plain : Text → Bool
+begins_plain [] = false
+begins_plain (first ∷ rest) = is_letter first
+
+-- a plain name: letters and digits, of which the first is a letter
+abbrev pub is_plain : Text → Bool
+is_plain name = begins_plain name && list_all (λ byte. is_letter byte || is_digit byte) name
+
+-- from the blank to ~, but for the quote and the backslash
+abbrev pub is_shown : ℕ → Bool
+is_shown byte = nat_le 32 byte && nat_le byte 126 && not (byte == 34) && not (byte == 92)
+
+-- a hexadecimal digit
+abbrev pub hexadecimal : ℕ → ℕ
+hexadecimal digit = if nat_lt digit 10 then 48 + digit else 55 + digit
+
+-- a byte between quotes
+abbrev pub quoted_byte : ℕ → Text
+quoted_byte byte = if is_shown byte then byte ∷ [] else 92 ∷ hexadecimal (byte / 16) ∷ hexadecimal (byte % 16) ∷ []
+
+-- a name, in quotes where it is not plain
+abbrev pub name_text : Text → Text
+name_text name = if is_plain name then name else 34 ∷ (flat_map quoted_byte name ++ 34 ∷ [])
+
+-- the name with this number
+abbrev pub name_at : List Text → (number : ℕ) → Text
+name_at names number = unwrap_or (slice_get names number) []
+
+-- the name of a struct, if there is one
+abbrev pub struct_name : Module → Option StructType → Text
+struct_name m None = []
+struct_name m (Some struct) = name_at m.struct_names struct.name
+
+-- the name of a layout's type, without its sign
+abbrev pub layout_text : Module → (layout : ℕ) → Text
+layout_text m layout = name_text (struct_name m (slice_get m.structs layout))
+
+-- the name of a function with its sign, if there is one
+abbrev pub name_of_function : Module → Option Function → Text
+name_of_function m None = []
+name_of_function m (Some f) = 64 ∷ name_text (name_at m.symbols f.symbol)
+
+-- the name of a defined function with its sign
+abbrev pub function_text : Module → (function : ℕ) → Text
+function_text m function = name_of_function m (slice_get m.functions function)
+
+-- ---- lines
+
+-- the line of a pool, unless it has no cell
+abbrev pub pool_line : Module → (layout count : ℕ) → Text
+pool_line m layout count = if count == 0 then [] else codes "pool " ++ layout_text m layout ++ 32 ∷ (decimal count ++ 10 ∷ [])
+
+-- the line of a layout's pool
+abbrev pub pool_text : Module → (pools : List ℕ) → (layout : ℕ) → Text
+pool_text m pools layout = pool_line m layout (unwrap_or (slice_get pools layout) 0)
+
+-- the lines of the pools of so many layouts
+abbrev pub pools_text : Module → (layouts : ℕ) → (pools : List ℕ) → Text
+pools_text m layouts pools = flat_map (pool_text m pools) (range_with_len 0 layouts)
+
+-- arguments, each behind a blank
+abbrev pub arguments_text : List ℕ → Text
+arguments_text = flat_map (λ argument. 32 ∷ decimal argument)
+
+-- the line of a thread
+abbrev pub start_text : Module → Start → Text
+start_text m start = codes "start " ++ function_text m start.function ++ arguments_text start.arguments ++ 10 ∷ []
+
+-- who makes steps
+abbrev pub actor_text : Actor → Text
+actor_text (actor.Thread thread) = codes "t " ++ decimal thread ++ 32 ∷ []
+actor_text actor.Collector = codes "c "
+
+-- a line of steps
+abbrev pub steps_line : Steps → Text
+steps_line steps = actor_text steps.actor ++ decimal steps.count ++ 10 ∷ []
+
+-- the lines of a trace, for so many layouts
+abbrev pub trace_lines : Module → (layouts : ℕ) → Trace → Text
+trace_lines m layouts trace =
+    codes "trace 1" ++ 10 ∷ pools_text m layouts trace.setup.pools
+    ++ flat_map (start_text m) trace.setup.starts
+    ++ (codes "steps" ++ 10 ∷ flat_map steps_line trace.steps)
+    ++ (codes "end" ++ 10 ∷ [])
+
+-- the text of a trace
+abbrev pub trace_shown : LaidOut → Trace → Text
+trace_shown p trace = trace_lines p.of_module (length p.layouts) trace

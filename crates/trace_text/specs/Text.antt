@@ -1,0 +1,211 @@
+-- The lines of a trace, and a trace's text.
+use Rattle.std.specs.Prelude.{◌≡◌, ℕ, ◌-◌, Bool, true, false, not, nat_le, nat_lt, if◌then◌else◌, List, length, map, Option, Some, None, Result, Ok, Err, slice_get, codes}
+use Rattle.std.specs.List.{range_with_len}
+use Rattle.std.proofs.Common.{lit<}
+use Rattle.ir_ast.specs.declared.module.Module.{Module}
+use Rattle.grammar.specs.Grammar.{pure, ◌>>=◌, ◌>>◌, step, checked, look, refuse}
+use Rattle.grammar.specs.Many.{many}
+use Rattle.grammar.specs.Outcome.{Outcome}
+use Rattle.grammar.specs.Takes.{Takes, TakesWhere, first_takes, first_takes_where, second_takes, look_takes}
+use Rattle.ir_tokens.specs.declared.position.Position.{Position}
+use Rattle.ir_tokens.specs.Position.{position_of}
+use Rattle.layout.specs.Layouts.{LaidOut}
+use Rattle.pools.specs.Heap.{cells_in}
+use Rattle.trace_text.specs.Words.{Text as Bytes}
+use Rattle.trace_text.specs.Input.{Input, Form, left, start_of, ended, begins, line_ends, emptied}
+use Rattle.trace_text.specs.Falls.{emptied_falls}
+use Rattle.trace_text.specs.Forms.{skip, expect, line_end, function_name, new_layout, cell_count, argument, thread, put_pool, put_start, step_count}
+use Rattle.trace_text.specs.Ends.{expect_takes, word_taken, argument_takes}
+use Rattle.trace_text.specs.declared.trace.Actor.{Actor}
+use Rattle.trace_text.specs.declared.trace.Actor.TheVariants as actor
+use Rattle.trace_text.specs.declared.trace.Trace.{Trace}
+use Rattle.trace_text.specs.declared.fault.Found.{Found}
+use Rattle.trace_text.specs.declared.fault.Found.TheVariants.{Syntax, NoThread, TooManySteps, TooManyCells, Memory}
+use Rattle.trace_text.specs.declared.fault.TraceFault.{TraceFault}
+use Rattle.trace_text.specs.declared.fault.TraceFault.TheVariants as fault
+
+-- ---- pools
+
+-- a pool behind its first word
+abbrev pub pool_behind : Module → Form (Unit {0})
+pool_behind m = do
+  layout ← new_layout m
+  count ← cell_count
+  line_end
+  put_pool layout count
+
+-- how many cells a layout has
+unfoldable pub pool : Module → Form (Unit {0})
+pool m = expect (codes "pool") >> pool_behind m
+
+-- a pool takes bytes
+pub pool_takes : (m : Module) → Takes (pool m)
+unfolding pool
+pool_takes m = first_takes (expect (codes "pool")) (λ _. pool_behind m) (expect_takes (codes "pool") (lit< tt))
+
+-- no pool comes here
+abbrev pub past_pools : Input → Bool
+past_pools i = not (begins (codes "pool") i)
+
+-- the pools
+unfoldable pub pools : Module → Form (Unit {0})
+pools m = many past_pools (pool m) (pool_takes m) >> pure tt
+
+-- ---- threads
+
+-- arguments up to the line's end
+unfoldable pub arguments : Form (List ℕ)
+arguments = many line_ends argument argument_takes
+
+-- whether fewer than 64 threads begin so far
+abbrev pub has_room : Input → Bool
+has_room i = nat_lt (length i.starts) 64
+
+-- a start behind its first word
+abbrev pub start_behind : Module → Form (Unit {0})
+start_behind m = do
+  function ← function_name m
+  arguments ← arguments
+  line_end
+  put_start function arguments
+
+-- how a thread begins, if there are not 64 of them
+unfoldable pub start : Module → Form (Unit {0})
+start m = checked has_room (λ i. Syntax (left i)) >> (expect (codes "start") >> start_behind m)
+
+-- a start takes bytes
+pub start_takes : (m : Module) → Takes (start m)
+unfolding start
+start_takes m =
+    second_takes (checked has_room (λ i. Syntax (left i))) (λ _. expect (codes "start") >> start_behind m)
+    (λ _. first_takes (expect (codes "start")) (λ _. start_behind m) (expect_takes (codes "start") (lit< tt)))
+
+-- no start comes here
+abbrev pub past_starts : Input → Bool
+past_starts i = not (begins (codes "start") i)
+
+-- how the threads begin
+unfoldable pub starts : Module → Form (Unit {0})
+starts m = many past_starts (start m) (start_takes m) >> pure tt
+
+-- ---- steps
+
+-- steps of an actor behind their first words
+abbrev pub steps_of : Actor → Form (Unit {0})
+steps_of actor = step_count actor >> line_end
+
+-- steps of a thread behind their first word
+abbrev pub thread_steps : Form (Unit {0})
+thread_steps = thread >>= λ thread. steps_of (actor.Thread thread)
+
+-- `t` begins steps of a thread, and `c` those of the collector
+abbrev pub steps_by : Bool → Form (Unit {0})
+steps_by true = skip >> thread_steps
+steps_by false = expect (codes "c") >> steps_of actor.Collector
+
+-- a line of steps
+unfoldable pub steps_line : Form (Unit {0})
+steps_line = look (begins (codes "t")) steps_by
+
+-- a line of steps takes bytes
+pub steps_line_takes : Takes steps_line
+unfolding steps_line
+steps_line_takes = look_takes (begins (codes "t")) steps_by each
+  where
+    each : (k : Bool) → TakesWhere (λ i. begins (codes "t") i ≡ k) (steps_by k)
+    each true i a o p h = first_takes_where (λ i. begins (codes "t") i ≡ true) skip (λ _. thread_steps) (word_taken (codes "t") (lit< tt)) i a o p h
+    each false i a o p h = first_takes (expect (codes "c")) (λ _. steps_of actor.Collector) (expect_takes (codes "c") (lit< tt)) i a o h
+
+-- the steps end here
+abbrev pub past_steps : Input → Bool
+past_steps = begins (codes "end")
+
+-- the steps
+unfoldable pub all_steps : Form (Unit {0})
+all_steps = many past_steps steps_line steps_line_takes >> pure tt
+
+-- ---- the whole
+
+-- the count that is listed, or 0
+abbrev pub count_or_none : Option (Option ℕ) → ℕ
+count_or_none (Some (Some count)) = count
+count_or_none _ = 0
+
+-- how many cells each of so many layouts has; a pool that is not listed has none
+abbrev pub counts_of : (layouts : ℕ) → List (Option ℕ) → List ℕ
+counts_of layouts counts = map (λ layout. count_or_none (slice_get counts layout)) (range_with_len 0 layouts)
+
+-- these counts, if all cells, with that of the globals, are within the limit
+abbrev pub if_fitting : List ℕ → Option (List ℕ)
+if_fitting counts = if nat_le (cells_in counts) 1048576 then Some counts else None
+
+-- the pools of a program with these counts, if their cells are within the limit
+abbrev pub pools_of : LaidOut → List (Option ℕ) → Option (List ℕ)
+pools_of p counts = if_fitting (counts_of (length p.layouts) counts)
+
+-- what is read, with these pools
+abbrev pub trace_with : (pools : List ℕ) → Input → Trace
+trace_with pools i = record { setup = record { pools = pools; starts = i.starts }; steps = i.steps }
+
+-- the trace with these pools, if they are within the limit
+abbrev pub finished_by : Option (List ℕ) → Form Trace
+finished_by None = refuse (λ _. TooManyCells)
+finished_by (Some pools) = step (trace_with pools) emptied emptied_falls
+
+-- the trace, if its cells are within the limit
+unfoldable pub finished : LaidOut → Form Trace
+finished p = look (λ i. pools_of p i.counts) finished_by
+
+-- the first line
+unfoldable pub heading : Form (Unit {0})
+heading = do
+  expect (codes "trace")
+  expect (codes "1")
+  line_end
+
+-- pools and threads
+unfoldable pub setup : Module → Form (Unit {0})
+setup m = pools m >> starts m
+
+-- steps between their first line and the text's end
+unfoldable pub steps : Form (Unit {0})
+steps = do
+  expect (codes "steps")
+  line_end
+  all_steps
+  expect (codes "end")
+  line_end
+  checked ended (λ i. Syntax (left i))
+
+-- a text of a trace
+unfoldable pub file : LaidOut → Form Trace
+file p = do
+  heading
+  setup p.of_module
+  steps
+  finished p
+
+-- what reading gives, without the state from which reading goes on
+abbrev pub value_of : {A : Type 0} → Outcome Input Found A → Result A Found
+value_of (Ok p) = Ok p.0
+value_of (Err e) = Err e
+
+-- the text is one of this trace, for this program
+abbrev pub IsTrace : Bytes → LaidOut → Trace → Type 0
+IsTrace bytes p trace = (o : Input) × (file p).says (start_of p bytes) trace o
+
+-- a place at which so much of the text is left
+abbrev pub place : Bytes → (rest : ℕ) → Position
+place bytes rest = position_of bytes (length bytes - rest)
+
+-- a fault with its place
+abbrev pub placed : Bytes → Found → TraceFault
+placed bytes (Syntax rest) = fault.Syntax (place bytes rest)
+placed bytes (NoThread rest) = fault.NoThread (place bytes rest)
+placed bytes (TooManySteps rest) = fault.TooManySteps (place bytes rest)
+placed bytes TooManyCells = fault.TooManyCells
+placed bytes Memory = fault.Memory
+
+-- the text is of the format up to a place, where it has this fault
+abbrev pub IsFault : Bytes → LaidOut → TraceFault → Type 0
+IsFault bytes p fault = (found : Found) × (file p).stuck (start_of p bytes) found × (placed bytes found ≡ fault)

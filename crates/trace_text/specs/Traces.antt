@@ -1,0 +1,58 @@
+-- Traces of a program, and the programs whose names are read as they are printed.
+use Rattle.std.specs.Prelude.{◌≡◌, ℕ, ◌<◌, ◌≤◌, ◌^◌, List, length, map, sum, Option, Some, None, [], slice_get}
+use Rattle.std.specs.List.{AllByRecursion}
+use Rattle.ir_ast.specs.declared.function.Function.{Function}
+use Rattle.ir_ast.specs.declared.items_of_module.SymbolSort.TheVariants as sort
+use Rattle.ir_ast.specs.declared.module.Module.{Module}
+use Rattle.layout.specs.Layouts.{LaidOut}
+use Rattle.trace_text.specs.Words.{Text}
+use Rattle.pools.specs.Heap.{cells_in}
+use Rattle.trace_text.specs.Names.{function_named, layout_named}
+use Rattle.trace_text.specs.Print.{name_at, name_text, struct_name}
+use Rattle.trace_text.specs.declared.trace.Actor.{Actor}
+use Rattle.trace_text.specs.declared.trace.Actor.TheVariants as actor
+use Rattle.trace_text.specs.declared.trace.Start.{Start}
+use Rattle.trace_text.specs.declared.trace.Steps.{Steps}
+use Rattle.trace_text.specs.declared.trace.Trace.{Trace}
+
+-- a name of bytes that stays within a text's limit when it is printed
+abbrev pub IsShort : Text → Type 0
+IsShort name = AllByRecursion (λ byte. byte < 256) name × (length (name_text name) < 2 ^ 24)
+
+-- the name of a function, if there is one
+abbrev pub symbol_name : Module → Option Function → Text
+symbol_name m None = []
+symbol_name m (Some f) = name_at m.symbols f.symbol
+
+-- each function and each layout has a short name, and is the one that has it
+pub record AreNamed (p : LaidOut) : Type 0 where
+  pub short_function : (function : ℕ) → function < length p.of_module.functions → IsShort (symbol_name p.of_module (slice_get p.of_module.functions function))
+  pub function : (function : ℕ) → function < length p.of_module.functions → function_named p.of_module (Some (symbol_name p.of_module (slice_get p.of_module.functions function))) ≡ Some function
+  pub short_layout : (layout : ℕ) → layout < length p.layouts → IsShort (struct_name p.of_module (slice_get p.of_module.structs layout))
+  pub layout : (layout : ℕ) → layout < length p.layouts → layout_named p.of_module (Some (struct_name p.of_module (slice_get p.of_module.structs layout))) ≡ Some layout
+
+-- each name that stands for a defined function stands for one that is there
+abbrev pub AreDefined : LaidOut → Type 0
+AreDefined p = (symbol function : ℕ) → slice_get p.of_module.sorts symbol ≡ Some (sort.Defined function) → function < length p.of_module.functions
+
+-- a thread begins at a function of the program, with arguments of 64 bits
+abbrev pub IsStartOf : LaidOut → Start → Type 0
+IsStartOf p start = (start.function < length p.of_module.functions) × AllByRecursion (λ argument. argument < 2 ^ 64) start.arguments
+
+-- the collector, or one of so many threads
+abbrev pub IsActorOf : (threads : ℕ) → Actor → Type 0
+IsActorOf threads (actor.Thread thread) = thread < threads
+IsActorOf threads actor.Collector = Unit {0}
+
+-- how many steps there are
+abbrev pub step_sum : List Steps → ℕ
+step_sum steps = sum (map (λ (s : Steps). s.count) steps)
+
+-- a trace of the program, within the limits of cells, threads and steps
+pub record IsTraceOf (p : LaidOut) (trace : Trace) : Type 0 where
+  pub one_each : length trace.setup.pools ≡ length p.layouts
+  pub cells : cells_in trace.setup.pools ≤ 2 ^ 20
+  pub starts : AllByRecursion (IsStartOf p) trace.setup.starts
+  pub threads : length trace.setup.starts ≤ 64
+  pub actors : AllByRecursion (λ (s : Steps). IsActorOf (length trace.setup.starts) s.actor) trace.steps
+  pub steps : step_sum trace.steps ≤ 10000000

@@ -1,0 +1,18 @@
+//! Traces: pools and threads to begin with, and a list of atomic steps, read from their text and printed.
+#![tactic(auto)]
+
+mod fault;
+mod forms;
+mod input;
+mod naming;
+mod numbers;
+mod place;
+mod print;
+mod reader;
+mod trace;
+mod words;
+
+pub use fault::TraceFault;
+pub use print::print_trace;
+pub use reader::read_trace;
+pub use trace::{Actor, STEP_LIMIT, Setup, Start, Steps, THREAD_LIMIT, Trace};

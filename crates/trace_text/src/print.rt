@@ -1,0 +1,280 @@
+//! The text of traces.
+ghost use Rattle.std.specs.Prelude.{◌≡◌, ◌++◌, ◌∷◌, [], ◌<◌, ◌||◌, ◌^◌, length, OnOk, IfOk, slice_get};
+ghost use Rattle.std.specs.List.{list_all, flat_map, range_with_len};
+ghost use Rattle.std.specs.Fmt.{decimal};
+ghost use Rattle.ir_tokens.specs.Bytes.{is_letter as letter, is_digit as digit};
+ghost use Rattle.trace_text.specs.Print as spec;
+ghost use Rattle.trace_text.specs.Text.{IsTrace};
+ghost use Rattle.trace_text.specs.Traces.{AreNamed, IsTraceOf};
+
+use crate::trace::{Actor, Start, Steps, Trace};
+use ir_ast::{FuncId, Module, Names};
+use layout::Program;
+use pools::{LayoutId, Pools};
+use std::alloc::{AllocError, Global};
+
+fn is_letter(byte: u8) -> bool
+    ensures { result ≡ letter byte }
+{
+    matches!(byte, b'a'..=b'z' | b'A'..=b'Z' | b'-' | b'$' | b'.' | b'_')
+}
+
+fn is_digit(byte: u8) -> bool
+    ensures { result ≡ digit byte }
+{
+    matches!(byte, b'0'..=b'9')
+}
+
+fn begins_plain(name: &[u8]) -> bool
+    ensures { result ≡ spec.begins_plain name.now }
+{
+    match name {
+        [first, ..] => is_letter(*first),
+        [] => false,
+    }
+}
+
+fn has_plain_bytes(name: &[u8]) -> bool
+    ensures { result ≡ list_all (λ byte. letter byte || digit byte) name.now }
+{
+    name.iter().all(|byte| is_letter(*byte) || is_digit(*byte))
+}
+
+/// Whether a name stands without quotes.
+fn is_plain(name: &[u8]) -> bool
+    ensures { result ≡ spec.is_plain name.now }
+{
+    begins_plain(name) && has_plain_bytes(name)
+}
+
+/// Whether a byte stands for itself between quotes.
+fn is_shown(byte: u8) -> bool
+    ensures { result ≡ spec.is_shown byte }
+{
+    byte >= 32 && byte <= 126 && byte != b'"' && byte != b'\\'
+}
+
+fn hexadecimal(digit: u8) -> u8
+    requires { digit < 16 }
+    ensures { result ≡ spec.hexadecimal digit }
+{
+    if digit < 10 { 48 + digit } else { 55 + digit }
+}
+
+fn put_quoted_byte(out: &mut Vec<u8>, byte: u8) -> Result<(), AllocError>
+    ensures { OnOk result (out.new.items ≡ out.old.items ++ spec.quoted_byte byte) }
+{
+    if is_shown(byte) {
+        out.extend_from_slice(&[byte])
+    } else {
+        out.extend_from_slice(&[b'\\', hexadecimal(byte / 16), hexadecimal(byte % 16)])
+    }
+}
+
+fn put_quoted(out: &mut Vec<u8>, name: &[u8]) -> Result<(), AllocError>
+    ensures { OnOk result (out.new.items ≡ out.old.items ++ flat_map spec.quoted_byte name.now) }
+{
+    for byte in name {
+        put_quoted_byte(out, *byte)?;
+    }
+    Ok(())
+}
+
+/// A name, in quotes where it is not plain.
+fn put_name(out: &mut Vec<u8>, name: &[u8]) -> Result<(), AllocError>
+    ensures { OnOk result (out.new.items ≡ out.old.items ++ spec.name_text name.now) }
+{
+    if is_plain(name) {
+        return out.extend_from_slice(name);
+    }
+    out.push(b'"')?;
+    put_quoted(out, name)?;
+    out.push(b'"')?;
+    Ok(())
+}
+
+fn name_at(names: &Names, number: usize) -> &[u8]
+    ensures { result.now ≡ spec.name_at names.now number }
+{
+    names.get(number).unwrap_or(&[])
+}
+
+fn struct_name(module: &Module, layout: LayoutId) -> &[u8]
+    ensures { result.now ≡ spec.struct_name «module».now (slice_get «module».now.structs layout) }
+{
+    match module.structs.get(layout.number() as usize) {
+        Some(named) => name_at(&module.struct_names, named.name.number() as usize),
+        None => &[],
+    }
+}
+
+/// The name of a layout's type.
+fn put_layout(out: &mut Vec<u8>, module: &Module, layout: LayoutId) -> Result<(), AllocError>
+    ensures { OnOk result (out.new.items ≡ out.old.items ++ spec.layout_text «module».now layout) }
+{
+    put_name(out, struct_name(module, layout))
+}
+
+fn put_number(alloc: Global, out: &mut Vec<u8>, number: u64) -> Result<(), AllocError>
+    ensures { OnOk result (out.new.items ≡ out.old.items ++ decimal number) }
+{
+    let digits = number.to_string(alloc)?;
+    out.extend_from_slice(digits.as_bytes())
+}
+
+/// The name of a defined function with its sign; nothing where there is no such function.
+fn put_function(out: &mut Vec<u8>, module: &Module, function: FuncId) -> Result<(), AllocError>
+    ensures { OnOk result (out.new.items ≡ out.old.items ++ spec.function_text «module».now function) }
+{
+    match module.functions.get(function.number() as usize) {
+        None => Ok(()),
+        Some(function) => {
+            out.push(b'@')?;
+            put_name(
+                out,
+                name_at(&module.symbols, function.symbol.number() as usize),
+            )
+        }
+    }
+}
+
+/// The line of a pool, unless it has no cell.
+fn put_pool(
+    alloc: Global,
+    out: &mut Vec<u8>,
+    module: &Module,
+    layout: LayoutId,
+    count: u32,
+) -> Result<(), AllocError>
+    ensures { OnOk result (out.new.items ≡ out.old.items ++ spec.pool_line «module».now layout count) }
+{
+    if count == 0 {
+        return Ok(());
+    }
+    out.extend_from_slice(b"pool ")?;
+    put_layout(out, module, layout)?;
+    out.push(b' ')?;
+    put_number(alloc, out, count as u64)?;
+    out.extend_from_slice(b"\n")
+}
+
+/// The lines of the pools of so many layouts.
+fn put_pools(
+    alloc: Global,
+    out: &mut Vec<u8>,
+    module: &Module,
+    layouts: u32,
+    pools: &Pools,
+) -> Result<(), AllocError>
+    ensures { OnOk result (out.new.items ≡ out.old.items ++ spec.pools_text «module».now layouts pools.now) }
+{
+    for layout in 0..layouts {
+        let layout = LayoutId::new(layout);
+        put_pool(alloc, out, module, layout, pools.count(layout))?;
+    }
+    Ok(())
+}
+
+/// Arguments, each behind a blank.
+fn put_arguments(alloc: Global, out: &mut Vec<u8>, arguments: &[u64]) -> Result<(), AllocError>
+    ensures { OnOk result (out.new.items ≡ out.old.items ++ spec.arguments_text arguments.now) }
+{
+    for argument in arguments {
+        out.push(b' ')?;
+        put_number(alloc, out, *argument)?;
+    }
+    Ok(())
+}
+
+/// The line of a thread.
+fn put_start(
+    alloc: Global,
+    out: &mut Vec<u8>,
+    module: &Module,
+    start: &Start,
+) -> Result<(), AllocError>
+    ensures { OnOk result (out.new.items ≡ out.old.items ++ spec.start_text «module».now start.now) }
+{
+    out.extend_from_slice(b"start ")?;
+    put_function(out, module, start.function)?;
+    put_arguments(alloc, out, start.arguments.as_slice())?;
+    out.extend_from_slice(b"\n")
+}
+
+fn put_starts(
+    alloc: Global,
+    out: &mut Vec<u8>,
+    module: &Module,
+    starts: &[Start],
+) -> Result<(), AllocError>
+    ensures { OnOk result (out.new.items ≡ out.old.items ++ flat_map (spec.start_text «module».now) starts.now) }
+{
+    for start in starts {
+        put_start(alloc, out, module, start)?;
+    }
+    Ok(())
+}
+
+/// Who makes steps.
+fn put_actor(alloc: Global, out: &mut Vec<u8>, actor: Actor) -> Result<(), AllocError>
+    ensures { OnOk result (out.new.items ≡ out.old.items ++ spec.actor_text actor) }
+{
+    match actor {
+        Actor::Thread(thread) => {
+            out.extend_from_slice(b"t ")?;
+            put_number(alloc, out, thread as u64)?;
+            out.push(b' ')?;
+            Ok(())
+        }
+        Actor::Collector => out.extend_from_slice(b"c "),
+    }
+}
+
+/// A line of steps.
+fn put_steps(alloc: Global, out: &mut Vec<u8>, steps: Steps) -> Result<(), AllocError>
+    ensures { OnOk result (out.new.items ≡ out.old.items ++ spec.steps_line steps) }
+{
+    put_actor(alloc, out, steps.actor)?;
+    put_number(alloc, out, steps.count as u64)?;
+    out.extend_from_slice(b"\n")
+}
+
+fn put_all_steps(alloc: Global, out: &mut Vec<u8>, steps: &[Steps]) -> Result<(), AllocError>
+    ensures { OnOk result (out.new.items ≡ out.old.items ++ flat_map spec.steps_line steps.now) }
+{
+    for steps in steps {
+        put_steps(alloc, out, *steps)?;
+    }
+    Ok(())
+}
+
+fn put_trace(
+    alloc: Global,
+    out: &mut Vec<u8>,
+    trace: &Trace,
+    module: &Module,
+    layouts: u32,
+) -> Result<(), AllocError>
+    ensures { OnOk result (out.new.items ≡ out.old.items ++ spec.trace_lines «module».now layouts trace.now) }
+{
+    out.extend_from_slice(b"trace 1\n")?;
+    put_pools(alloc, out, module, layouts, &trace.setup.pools)?;
+    put_starts(alloc, out, module, trace.setup.starts.as_slice())?;
+    out.extend_from_slice(b"steps\n")?;
+    put_all_steps(alloc, out, trace.steps.as_slice())?;
+    out.extend_from_slice(b"end\n")
+}
+
+/// The text of a trace of this program. A program with so many layouts that their numbers end takes more memory than there is.
+pub fn print_trace(alloc: Global, trace: &Trace, program: &Program) -> Result<Vec<u8>, AllocError>
+    ensures text { IfOk result (λ text. text.items ≡ spec.trace_shown program.now trace.now) }
+    // What is printed of a trace of the program is a text of that trace.
+    ensures read { IfOk result (λ text. AreNamed program.now → IsTraceOf program.now trace.now → IsTrace text.items program.now trace.now) }
+{
+    let Ok(layouts) = u32::try_from(program.layouts().count()) else {
+        return Err(AllocError);
+    };
+    let mut out = Vec::new(alloc);
+    put_trace(alloc, &mut out, trace, program.module(), layouts)?;
+    Ok(out)
+}

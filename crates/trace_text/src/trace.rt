@@ -1,0 +1,45 @@
+use ir_ast::FuncId;
+use items::Items;
+use pools::Pools;
+
+/// How many threads a trace begins with at most.
+pub const THREAD_LIMIT: usize = 64;
+
+/// How many steps a trace lists at most.
+pub const STEP_LIMIT: u64 = 10_000_000;
+
+/// Who makes a step.
+#[derive(Clone, Copy, Debug, PartialEq, Eq)]
+pub enum Actor {
+    /// The thread with this number; threads are numbered from 0 in the order of their starts.
+    Thread(u32),
+    Collector,
+}
+
+/// Steps of one actor, one behind the other.
+#[derive(Clone, Copy, Debug, PartialEq, Eq)]
+pub struct Steps {
+    pub actor: Actor,
+    pub count: u32,
+}
+
+/// How a thread begins.
+#[derive(Debug, Drop)]
+pub struct Start {
+    pub function: FuncId,
+    pub arguments: Items<u64>,
+}
+
+/// The pools of a program's layouts, and one start for each thread.
+#[derive(Debug, Drop)]
+pub struct Setup {
+    pub pools: Pools,
+    pub starts: Items<Start>,
+}
+
+/// A setup, and the steps that are made from it.
+#[derive(Debug, Drop)]
+pub struct Trace {
+    pub setup: Setup,
+    pub steps: Items<Steps>,
+}
