@@ -280,10 +280,11 @@ number_again (b ∷ w) e =
     let short = rest_true (has_no_zeros_before (b ∷ w) && list_all is_digit (b ∷ w)) (nat_lt (length (b ∷ w)) (2 ^ 24)) e in
     let own = first_true (has_no_zeros_before (b ∷ w)) (list_all is_digit (b ∷ w)) whole in
     let digits = rest_true (has_no_zeros_before (b ∷ w)) (list_all is_digit (b ∷ w)) whole in
-    let digit = first_true (is_digit b) (list_all is_digit w) digits in
-    (rw (short_is (b ∷ w) short, lexed_is k.LocalNumber (37 ∷ b ∷ w) (number_token b w digits), eq-eqb (length (37 ∷ b ∷ w)) (length (37 ∷ b ∷ w)) refl) (ap (λ x. Some (key_of_digits x)) (number_spelled b w digit) ∙ ap (λ x. Some x) (own_number (b ∷ w) own)),
-     plain_bytes (b ∷ w) (digit_bytes (b ∷ w) digits),
-     ap (λ (t : Bool). if t then b ∷ w else name_text (name_of_key (b ∷ w))) digit)
+    let digit = first_true (is_digit b) (list_all is_digit w) digits in (
+      rw (short_is (b ∷ w) short, lexed_is k.LocalNumber (37 ∷ b ∷ w) (number_token b w digits), eq-eqb (length (37 ∷ b ∷ w)) (length (37 ∷ b ∷ w)) refl) (ap (λ x. Some (key_of_digits x)) (number_spelled b w digit) ∙ ap (λ x. Some x) (own_number (b ∷ w) own)),
+      plain_bytes (b ∷ w) (digit_bytes (b ∷ w) digits),
+      ap (λ (t : Bool). if t then b ∷ w else name_text (name_of_key (b ∷ w))) digit,
+    )
 
 -- a number or a short plain name is read as it is printed
 pub key_read : (key : Text) → (is_short_plain key || is_short_number key) ≡ true → IsReadAgain key

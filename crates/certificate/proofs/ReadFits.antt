@@ -51,6 +51,7 @@ use Rattle.certificate.specs.declared.section.Section.{Section}
 -- what is read so far; the form changes nothing else
 abbrev pub still : Input → Input
 still i = record i { rest = [] }
+
 abbrev pub Still : {A : Type 0} → Form A → Type 0
 Still {A = A} g = (i : Input) (a : A) (o : Input) → g.says i a o → still i ≡ still o
 
