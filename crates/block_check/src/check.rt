@@ -178,7 +178,7 @@ fn walk(
         let exit = Exit { block, facts };
         match breach(alloc, subject, rooms, here, &exit, instr)? {
             Some(broken) => return Ok(Some((place, broken))),
-            None => advance(alloc, &subject.scene, facts, instr)?,
+            None => advance(&subject.scene, facts, instr)?,
         }
     }
     Ok(None)

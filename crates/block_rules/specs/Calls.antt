@@ -9,22 +9,23 @@ use Rattle.ir_ast.specs.declared.operand.Constant.{Constant}
 use Rattle.ir_ast.specs.declared.operand.Constant.TheVariants.{Number as Numeral}
 use Rattle.ir_ast.specs.declared.operand.Operand.{Operand}
 use Rattle.ir_ast.specs.declared.operand.Operand.TheVariants.{Constant as Written}
-use Rattle.ir_ast.specs.declared.runtime.Runtime.TheVariants.{Alloc, Safepoint, GcRoot}
+use Rattle.ir_ast.specs.declared.runtime.Runtime.TheVariants.{Alloc, Safepoint, GcRoot, GcRead, GcWrite}
+use Rattle.layout.specs.Layouts.{LaidOut}
 use Rattle.shadow_stack.specs.Slots.{SlotTable, held_type}
-use Rattle.certificate.specs.declared.section.Mark.{Mark}
-use Rattle.certificate.specs.declared.section.Mark.TheVariants as mark
 use Rattle.certificate.specs.declared.section.Promise.{Promise}
 use Rattle.certificate.specs.declared.section.Section.{Section}
 use Rattle.facts.specs.declared.known.Known.TheVariants.{Nothing}
 use Rattle.facts.specs.Facts.{FactSet, slot_at, define, define_new, root_slot, drop_fresh_of, make_stale}
 use Rattle.facts.specs.Lines.{receive}
+use Rattle.safepoints.specs.Marks.{is_may, marks_agree, after_mark}
 use Rattle.block_rules.specs.declared.callee.Callee.{Callee}
-use Rattle.block_rules.specs.declared.callee.Callee.TheVariants.{OfRuntime, OfModule}
+use Rattle.block_rules.specs.declared.callee.Callee.TheVariants.{OfRuntime, OfModule, NoFunction}
 use Rattle.block_rules.specs.declared.rule.Rule.{Rule}
 use Rattle.block_rules.specs.declared.rule.Rule.TheVariants.{K1, K2, K3, K9, K10, K12, K13, K17, K18}
 use Rattle.block_rules.specs.declared.standing.Standing.{Standing}
+use Rattle.block_rules.specs.Barriers.{read_conditions, write_conditions, after_read_call, after_write}
 use Rattle.block_rules.specs.Operands.{slot_named, known_of, is_available, is_value, is_current, is_null, is_no_slot}
-use Rattle.block_rules.specs.Promises.{promises_in, promised_in, callee_mark, is_may, marks_agree, given_by, show_promises}
+use Rattle.block_rules.specs.Promises.{promises_in, promised_in, callee_mark, given_by, show_promises}
 use Rattle.block_rules.specs.Signature.{is_written_as}
 use Rattle.block_rules.specs.TypeKinds.{kind_of, is_reference}
 
@@ -126,14 +127,26 @@ unknown_conditions m f slots here facts arguments =
     ∷ (K12, here.collected)
     ∷ (K18, false) ∷ []
 
+-- of gcread, by its arguments
+abbrev pub read_call_conditions : LaidOut → Function → SlotTable → Standing → FactSet → (returned : ℕ) → List Argument → List (Rule × Bool)
+read_call_conditions p f slots here facts returned (object ∷ place ∷ []) = read_conditions p f slots here facts returned object place
+read_call_conditions p f slots here facts returned arguments = unknown_conditions p.of_module f slots here facts arguments
+
+-- of gcwrite, by its arguments
+abbrev pub write_call_conditions : LaidOut → Function → SlotTable → Standing → FactSet → (returned : ℕ) → List Argument → List (Rule × Bool)
+write_call_conditions p f slots here facts returned (value ∷ object ∷ place ∷ []) = write_conditions p f slots here facts returned value object place
+write_call_conditions p f slots here facts returned arguments = unknown_conditions p.of_module f slots here facts arguments
+
 -- of a call, by the function that it is of
-abbrev pub call_conditions : Module → (certs : List Section) → Function → SlotTable → Standing → FactSet → (returned : ℕ) → List Argument → Callee → List (Rule × Bool)
-call_conditions m certs f slots here facts returned arguments (OfRuntime Alloc) = alloc_conditions m f slots here facts returned arguments
-call_conditions m certs f slots here facts returned arguments (OfRuntime GcRoot) = root_conditions m f slots here facts returned arguments
-call_conditions m certs f slots here facts returned arguments (OfRuntime Safepoint) = safepoint_conditions m here returned arguments
-call_conditions m certs f slots here facts returned arguments (OfModule called) =
-    defined_conditions m f slots here facts returned arguments (slice_get m.functions called) (slice_get certs called)
-call_conditions m certs f slots here facts returned arguments _ = unknown_conditions m f slots here facts arguments
+abbrev pub call_conditions : LaidOut → (certs : List Section) → Function → SlotTable → Standing → FactSet → (returned : ℕ) → List Argument → Callee → List (Rule × Bool)
+call_conditions p certs f slots here facts returned arguments (OfRuntime Alloc) = alloc_conditions p.of_module f slots here facts returned arguments
+call_conditions p certs f slots here facts returned arguments (OfRuntime GcRoot) = root_conditions p.of_module f slots here facts returned arguments
+call_conditions p certs f slots here facts returned arguments (OfRuntime Safepoint) = safepoint_conditions p.of_module here returned arguments
+call_conditions p certs f slots here facts returned arguments (OfRuntime GcRead) = read_call_conditions p f slots here facts returned arguments
+call_conditions p certs f slots here facts returned arguments (OfRuntime GcWrite) = write_call_conditions p f slots here facts returned arguments
+call_conditions p certs f slots here facts returned arguments (OfModule called) =
+    defined_conditions p.of_module f slots here facts returned arguments (slice_get p.of_module.functions called) (slice_get certs called)
+call_conditions p certs f slots here facts returned arguments NoFunction = unknown_conditions p.of_module f slots here facts arguments
 
 -- a gcroot puts null in its slot
 abbrev pub after_root : (slot : Option ℕ) → FactSet → FactSet
@@ -171,11 +184,6 @@ abbrev pub drop_arguments : List Argument → FactSet → FactSet
 drop_arguments [] facts = facts
 drop_arguments (argument ∷ arguments) facts = drop_arguments arguments (drop_fresh_of (known_of facts argument.operand) facts)
 
--- behind a function that is marked so
-abbrev pub after_mark : Mark → FactSet → FactSet
-after_mark mark.May facts = make_stale facts
-after_mark mark.None facts = facts
-
 -- the result, if it has a name, with what its type gives and what is promised of it
 abbrev pub receive_result : Module → (result : Option ℕ) → (returned : ℕ) → Option Promise → FactSet → FactSet
 receive_result m None returned promise facts = facts
@@ -187,9 +195,11 @@ after_defined m result returned arguments section facts =
     receive_result m result returned (promised_in section) (after_mark (callee_mark section) (drop_arguments arguments facts))
 
 -- behind a call
-abbrev pub after_call : Module → (certs : List Section) → SlotTable → (result : Option ℕ) → (returned : ℕ) → List Argument → Callee → FactSet → FactSet
-after_call m certs slots result returned arguments (OfRuntime Alloc) facts = after_alloc_call result arguments facts
-after_call m certs slots result returned arguments (OfRuntime GcRoot) facts = after_root_call slots arguments facts
-after_call m certs slots result returned arguments (OfRuntime Safepoint) facts = make_stale facts
-after_call m certs slots result returned arguments (OfModule called) facts = after_defined m result returned arguments (slice_get certs called) facts
-after_call m certs slots result returned arguments _ facts = facts
+abbrev pub after_call : LaidOut → (certs : List Section) → SlotTable → (result : Option ℕ) → (returned : ℕ) → List Argument → Callee → FactSet → FactSet
+after_call p certs slots result returned arguments (OfRuntime Alloc) facts = after_alloc_call result arguments facts
+after_call p certs slots result returned arguments (OfRuntime GcRoot) facts = after_root_call slots arguments facts
+after_call p certs slots result returned arguments (OfRuntime Safepoint) facts = make_stale facts
+after_call p certs slots result returned arguments (OfRuntime GcRead) facts = after_read_call p result arguments facts
+after_call p certs slots result returned arguments (OfRuntime GcWrite) facts = after_write arguments facts
+after_call p certs slots result returned arguments (OfModule called) facts = after_defined p.of_module result returned arguments (slice_get certs called) facts
+after_call p certs slots result returned arguments NoFunction facts = facts

@@ -4,7 +4,8 @@ use Rattle.ir_ast.specs.declared.module.Module.{Module}
 use Rattle.ir_ast.specs.declared.operand.Constant.{Constant}
 use Rattle.ir_ast.specs.declared.operand.Constant.TheVariants.{Number as Numeral, Truth, Null as NullWritten}
 use Rattle.ir_ast.specs.declared.operand.Operand.{Operand}
-use Rattle.ir_ast.specs.declared.operand.Operand.TheVariants.{Constant as Written, Local}
+use Rattle.ir_ast.specs.declared.operand.Operand.TheVariants.{Constant as Written, Local, CastGlobal}
+use Rattle.layout.specs.Globals.{global_word}
 use Rattle.layout.specs.Layouts.{LaidOut}
 use Rattle.pools.specs.declared.word_kind.WordKind.{WordKind}
 use Rattle.pools.specs.declared.word_set.WordSet.{WordSet}
@@ -15,7 +16,8 @@ use Rattle.facts.specs.Facts.{FactSet, known_at, define, off_base}
 use Rattle.block_rules.specs.declared.type_kind.TypeKind.{TypeKind}
 use Rattle.block_rules.specs.declared.type_kind.TypeKind.TheVariants.{Bits, Reference}
 use Rattle.block_rules.specs.Bounds.{below_next}
-use Rattle.block_rules.specs.Places.{loads_words, define_held}
+use Rattle.block_rules.specs.Operands.{known_of}
+use Rattle.block_rules.specs.Places.{layout_of_word, loads_words, define_held}
 use Rattle.block_rules.specs.TypeKinds.{kind_of, place_kind, may_be_reference, fits_layout, layout_of_kind}
 
 -- null of a reference type is null of each, and null of an address of references likewise
@@ -48,6 +50,20 @@ abbrev pub casts_base : LaidOut → (to : ℕ) → WordSet → (base : Known) �
 casts_base p to words (Cell class layout stale) = casts_words p.layouts layout words (place_kind p.of_module to)
 casts_base p to words _ = true
 
+-- a place of references to this layout, if they refer to one, may be named as a place of references to it, or as `i8**`
+abbrev pub casts_to : (layout : Option ℕ) → (to : TypeKind) → Bool
+casts_to None to = false
+casts_to (Some layout) to = fits_layout layout to
+
+-- the same of the word of a global
+abbrev pub casts_global : Module → (to symbol : ℕ) → Bool
+casts_global m to symbol = casts_to (layout_of_word (global_word m symbol)) (place_kind m to)
+
+-- K19: a global stands under its own type, or under one of the same layout; other operands are not cast where they stand
+abbrev pub casts_operand : Module → Operand → Bool
+casts_operand m (CastGlobal from symbol to) = (from == to) || casts_global m to symbol
+casts_operand m _ = true
+
 -- a reference to a layout may be named as one, or as `i8*`
 abbrev pub casts_known : LaidOut → FactSet → (to : ℕ) → Known → Bool
 casts_known p facts to Nothing = true
@@ -55,18 +71,18 @@ casts_known p facts to (Number bits below) = false
 casts_known p facts to (Cell class layout stale) = fits_layout layout (kind_of p.of_module to)
 casts_known p facts to Null = may_be_reference (kind_of p.of_module to)
 casts_known p facts to (Address base words) = casts_base p to words (known_at facts.values base)
-casts_known p facts to (GlobalAddress g) = true
+casts_known p facts to (GlobalAddress symbol) = casts_global p.of_module to symbol
 
 -- a name names a slot, or a value
 abbrev pub casts_local : LaidOut → SlotTable → FactSet → (to : ℕ) → Known → (slot : Option ℕ) → Bool
 casts_local p slots facts to known None = casts_known p facts to known
 casts_local p slots facts to known (Some s) = casts_held p.of_module to (held_type slots s)
 
--- a bitcast to another type keeps the layout; a global is refused before
+-- a bitcast to another type keeps the layout
 abbrev pub casts_other : LaidOut → SlotTable → FactSet → (from to : ℕ) → Operand → Bool
 casts_other p slots facts from to (Written c) = casts_constant p.of_module from to c
 casts_other p slots facts from to (Local v) = casts_local p slots facts to (known_at facts.values v) (slot_of slots v)
-casts_other p slots facts from to _ = true
+casts_other p slots facts from to operand = casts_known p facts to (known_of facts operand)
 
 -- K19: a bitcast leads to the same type, or to a type of the same layout
 abbrev pub may_cast : LaidOut → SlotTable → FactSet → (from to : ℕ) → Operand → Bool
@@ -96,4 +112,4 @@ cast_local v u known (Some s) facts = facts
 abbrev pub after_cast : Module → SlotTable → (v from to : ℕ) → Operand → FactSet → FactSet
 after_cast m slots v from to (Written c) facts = cast_constant m v from to c facts
 after_cast m slots v from to (Local u) facts = cast_local v u (known_at facts.values u) (slot_of slots u) facts
-after_cast m slots v from to _ facts = define v Nothing facts
+after_cast m slots v from to operand facts = define v (known_of facts operand) facts

@@ -115,7 +115,7 @@ element_words p facts source (first ∷ []) start = None
 element_words p facts source (first ∷ index ∷ indices) start =
     if is_zero (number_of first.operand) then words_behind p facts (Some source) (index ∷ indices) (Some start) else None
 
--- the words at which it begins: those of an address, or the first of a cell
+-- the words at which it begins: those of an address, or the first of a cell, or that of a global
 abbrev pub start_of : Known → WordSet
 start_of (Address base words) = words
 start_of _ = record { members = adds_word no_words 0 }
@@ -139,14 +139,19 @@ abbrev pub stays_in : (layouts : List (List WordKind)) → (layout : Option ℕ)
 stays_in layouts layout None = false
 stays_in layouts layout (Some set) = lies_in layouts layout set
 
--- K5: the indices lead into the layout
+-- there are words, and a global has them: it has one
+abbrev pub stays_at_first : (words : Option WordSet) → Bool
+stays_at_first None = false
+stays_at_first (Some set) = lie_below 1 set
+
+-- K5: the indices lead into the layout, or to the word of a global
 abbrev pub may_lead : LaidOut → FactSet → (source : ℕ) → List Argument → (base : Known) → Bool
+may_lead p facts source indices (GlobalAddress symbol) = stays_at_first (element_words p facts source indices (start_of (GlobalAddress symbol)))
 may_lead p facts source indices base = stays_in p.layouts (base_layout facts base) (element_words p facts source indices (start_of base))
 
 -- K2: what is known of a base is that it is a reference or an address
 abbrev pub may_be_base : Known → Bool
 may_be_base (Number bits below) = false
-may_be_base (GlobalAddress g) = false
 may_be_base _ = true
 
 -- K2: an index is an integer of its type
@@ -157,10 +162,11 @@ is_index m f facts index = is_value m f facts index.written index.operand && is_
 abbrev pub are_indices : Module → Function → FactSet → List Argument → Bool
 are_indices m f facts indices = list_all (is_index m f facts) indices
 
--- v is the address of one of these words, of the cell of u, or of the base of the address u; none is known that names v itself
+-- v is the address of one of these words, of the cell of u, or of the base of the address u, or of the same global; none is known that names v itself
 abbrev pub define_element : (v u : ℕ) → Known → (words : WordSet) → FactSet → FactSet
 define_element v u (Cell class layout stale) words facts = define v (off_base v (Address u words)) facts
 define_element v u (Address base from) words facts = define v (off_base v (Address base words)) facts
+define_element v u (GlobalAddress symbol) words facts = define v (GlobalAddress symbol) facts
 define_element v u _ words facts = define v Nothing facts
 
 -- if there are words
@@ -168,9 +174,9 @@ abbrev pub define_words : (v u : ℕ) → Known → (words : Option WordSet) →
 define_words v u base None facts = define v Nothing facts
 define_words v u base (Some words) facts = define_element v u base words facts
 
--- behind a getelementptr; from null nothing is known
+-- behind a getelementptr; a global that stands there leads to itself, and from null nothing is known
 abbrev pub after_element : LaidOut → (v source : ℕ) → (base : Operand) → List Argument → FactSet → FactSet
 after_element p v source (Local u) indices facts =
     let base = known_at facts.values u in
     define_words v u base (element_words p facts source indices (start_of base)) facts
-after_element p v source _ indices facts = define v Nothing facts
+after_element p v source base indices facts = define v (known_of facts base) facts

@@ -8,6 +8,7 @@ pub mod Places
 pub mod Integers
 pub mod Casts
 pub mod Elements
+pub mod Barriers
 pub mod Calls
 pub mod Standing
 pub mod Rules

@@ -1,11 +1,12 @@
 -- What the rules ask of an operand, by its written type and by what is known of it.
-use Rattle.std.specs.Prelude.{ℕ, ◌^◌, Bool, true, false, not, ◌&&◌, ◌||◌, Option, Some, None, is_some, nat_lt, nat_le}
+use Rattle.std.specs.Prelude.{ℕ, ◌^◌, ◌==◌, Bool, true, false, not, ◌&&◌, ◌||◌, Option, Some, None, is_some, nat_lt, nat_le}
 use Rattle.ir_ast.specs.declared.function.Function.{Function}
 use Rattle.ir_ast.specs.declared.module.Module.{Module}
 use Rattle.ir_ast.specs.declared.operand.Constant.{Constant}
 use Rattle.ir_ast.specs.declared.operand.Constant.TheVariants.{Number as Numeral, Truth, Null as NullWritten}
 use Rattle.ir_ast.specs.declared.operand.Operand.{Operand}
-use Rattle.ir_ast.specs.declared.operand.Operand.TheVariants.{Constant as Written, Local}
+use Rattle.ir_ast.specs.declared.operand.Operand.TheVariants.{Constant as Written, Local, Global, CastGlobal}
+use Rattle.types.specs.Globals.{points_to_global}
 use Rattle.types.specs.ValueTypes.{has_type}
 use Rattle.shadow_stack.specs.Slots.{SlotTable, slot_of}
 use Rattle.facts.specs.declared.known.Known.{Known}
@@ -20,10 +21,12 @@ abbrev pub slot_named : SlotTable → Operand → Option ℕ
 slot_named slots (Local v) = slot_of slots v
 slot_named slots _ = None
 
--- what is known of an operand
+-- what is known of an operand; a global is its address, under each type
 abbrev pub known_of : FactSet → Operand → Known
 known_of facts (Local v) = known_at facts.values v
-known_of facts _ = Nothing
+known_of facts (Global symbol) = GlobalAddress symbol
+known_of facts (CastGlobal from symbol to) = GlobalAddress symbol
+known_of facts (Written c) = Nothing
 
 -- what is known of a value is that it is a reference of a class
 abbrev pub is_cell : Known → Bool
@@ -52,11 +55,12 @@ constant_fits (Numeral n) kind = fits_bits n kind
 constant_fits (Truth b) kind = false
 constant_fits NullWritten kind = is_pointer kind
 
--- K2: an operand has its written type
+-- K2: an operand has its written type; a global that of pointers to what it holds, or the type to which it is cast from that one
 abbrev pub is_typed : Module → Function → (written : ℕ) → Operand → Bool
 is_typed m f written (Written c) = constant_fits c (kind_of m written)
 is_typed m f written (Local v) = has_type m f written v
-is_typed m f written _ = false
+is_typed m f written (Global symbol) = points_to_global m written symbol
+is_typed m f written (CastGlobal from symbol to) = (written == to) && points_to_global m from symbol
 
 -- what is known of a value is of this kind; an address is a value of none
 abbrev pub known_fits : TypeKind → Known → Bool

@@ -4,6 +4,7 @@ use Rattle.std.specs.List.{list_all, range_with_len}
 use Rattle.ir_ast.specs.declared.module.Module.{Module}
 use Rattle.ir_ast.specs.declared.operand.Operand.{Operand}
 use Rattle.ir_ast.specs.declared.operand.Operand.TheVariants.{Constant as Written, Local}
+use Rattle.layout.specs.Globals.{global_word}
 use Rattle.layout.specs.Layouts.{LaidOut}
 use Rattle.pools.specs.Layouts.{kind_of_word}
 use Rattle.pools.specs.WordSets.{has_word}
@@ -12,8 +13,8 @@ use Rattle.pools.specs.declared.word_kind.WordKind.TheVariants as word
 use Rattle.pools.specs.declared.word_set.WordSet.{WordSet}
 use Rattle.shadow_stack.specs.Slots.{SlotTable, slot_of, held_type}
 use Rattle.facts.specs.declared.known.Known.{Known}
-use Rattle.facts.specs.declared.known.Known.TheVariants.{Nothing, Number, Cell, Null, Address}
-use Rattle.facts.specs.Facts.{FactSet, known_at, define, define_new, store_slot, load_slot}
+use Rattle.facts.specs.declared.known.Known.TheVariants.{Nothing, Number, Cell, Null, Address, GlobalAddress}
+use Rattle.facts.specs.Facts.{FactSet, known_at, define, define_new, drop_fresh_of, store_slot, load_slot}
 use Rattle.block_rules.specs.declared.wanted.Wanted.{Wanted}
 use Rattle.block_rules.specs.declared.wanted.Wanted.TheVariants as want
 use Rattle.block_rules.specs.declared.type_kind.TypeKind.{TypeKind}
@@ -78,10 +79,15 @@ abbrev pub loads_base : LaidOut → TypeKind → WordSet → (base : Known) → 
 loads_base p kind words (Cell class layout stale) = loads_words p.layouts layout words kind
 loads_base p kind words _ = true
 
+-- the same of the word of a global
+abbrev pub loads_word : TypeKind → Option WordKind → Bool
+loads_word kind word = holds_wanted (wanted_by_load kind (layout_of_word word)) word
+
 -- K2: a load of this kind from what is known of a place, which has to be an address
 abbrev pub loads_known : LaidOut → FactSet → TypeKind → Known → Bool
 loads_known p facts kind Nothing = true
 loads_known p facts kind (Address base words) = loads_base p kind words (known_at facts.values base)
+loads_known p facts kind (GlobalAddress symbol) = loads_word kind (global_word p.of_module symbol)
 loads_known p facts kind _ = false
 
 -- the same of a slot, or of what a name stands for that names no slot
@@ -93,7 +99,7 @@ loads_local p slots facts known loaded (Some s) = moves p.of_module loaded (held
 abbrev pub may_load : LaidOut → SlotTable → FactSet → (loaded : ℕ) → (place : Operand) → Bool
 may_load p slots facts loaded (Written c) = is_null_constant c
 may_load p slots facts loaded (Local v) = loads_local p slots facts (known_at facts.values v) loaded (slot_of slots v)
-may_load p slots facts loaded _ = false
+may_load p slots facts loaded place = loads_known p facts (kind_of p.of_module loaded) (known_of facts place)
 
 -- what a store of this kind wants of words
 abbrev pub wanted_by_store : TypeKind → Wanted
@@ -120,10 +126,20 @@ abbrev pub stores_base : LaidOut → TypeKind → (value : Known) → WordSet �
 stores_base p kind value words (Cell class layout stale) = each_word (wanted_by_store kind) p.layouts layout words && fits_words p.layouts layout words (wanted_by_value value)
 stores_base p kind value words _ = true
 
+-- what is known of a value fits the word of a global
+abbrev pub fits_word : Option WordKind → Option Wanted → Bool
+fits_word word None = true
+fits_word word (Some wanted) = holds_wanted wanted word
+
+-- a store of this kind may put what is known of a value into the word of a global
+abbrev pub stores_word : TypeKind → (value : Known) → Option WordKind → Bool
+stores_word kind value word = holds_wanted (wanted_by_store kind) word && fits_word word (wanted_by_value value)
+
 -- K2: a store of this kind to what is known of a place, which has to be an address
 abbrev pub stores_known : LaidOut → FactSet → TypeKind → (value : Known) → (place : Known) → Bool
 stores_known p facts kind value Nothing = true
 stores_known p facts kind value (Address base words) = stores_base p kind value words (known_at facts.values base)
+stores_known p facts kind value (GlobalAddress symbol) = stores_word kind value (global_word p.of_module symbol)
 stores_known p facts kind value _ = false
 
 -- what is known of a value fits what a slot holds
@@ -144,7 +160,7 @@ stores_local p slots facts place stored value (Some s) = stores_slot p.of_module
 abbrev pub may_store : LaidOut → SlotTable → FactSet → (stored : ℕ) → (value : Known) → (place : Operand) → Bool
 may_store p slots facts stored value (Written c) = is_null_constant c && is_word (kind_of p.of_module stored)
 may_store p slots facts stored value (Local v) = stores_local p slots facts (known_at facts.values v) stored value (slot_of slots v)
-may_store p slots facts stored value _ = false
+may_store p slots facts stored value place = stores_known p facts (kind_of p.of_module stored) value (known_of facts place)
 
 -- v is null or a cell of this layout, which is held; without a layout nothing is known
 abbrev pub define_held : (v : ℕ) → (layout : Option ℕ) → (nonnull : Bool) → FactSet → FactSet
@@ -174,9 +190,17 @@ abbrev pub load_base : LaidOut → (v : ℕ) → TypeKind → WordSet → (base 
 load_base p v kind words (Cell class layout stale) facts = load_words p.layouts v layout words kind facts
 load_base p v kind words _ facts = define v Nothing facts
 
+-- a load of this kind from the word of a global
+abbrev pub load_word : (v : ℕ) → TypeKind → Option WordKind → FactSet → FactSet
+load_word v (Bits bits) word facts = define v (Number bits None) facts
+load_word v (Reference layout) word facts = define_held v (Some layout) false facts
+load_word v AnyReference word facts = define_held v (layout_of_word word) false facts
+load_word v _ word facts = define v Nothing facts
+
 -- by what is known of the place
 abbrev pub load_known : LaidOut → (v : ℕ) → TypeKind → Known → FactSet → FactSet
 load_known p v kind (Address base words) facts = load_base p v kind words (known_at facts.values base) facts
+load_known p v kind (GlobalAddress symbol) facts = load_word v kind (global_word p.of_module symbol) facts
 load_known p v kind _ facts = define v Nothing facts
 
 -- behind a load, by the slot that the place is
@@ -188,7 +212,7 @@ load_place p slots v loaded place (Some s) facts = load_held_type p.of_module v 
 abbrev pub after_load : LaidOut → SlotTable → (v loaded : ℕ) → (place : Operand) → FactSet → FactSet
 after_load p slots v loaded place facts = load_place p slots v loaded place (slot_named slots place) facts
 
--- a store to a slot: the slot holds the value, or null, or a number; to an address only integers are stored
+-- behind a store: a slot holds the value, or null, or a number; in a word others may find it, so its class is fresh no more
 abbrev pub after_store : (value : Known) → (slot : Option ℕ) → FactSet → FactSet
-after_store value None facts = facts
+after_store value None facts = drop_fresh_of value facts
 after_store value (Some s) facts = store_slot s value facts

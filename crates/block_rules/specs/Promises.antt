@@ -1,5 +1,5 @@
 -- What the certificates of functions promise of parameters and results, and how they mark functions.
-use Rattle.std.specs.Prelude.{ℕ, Bool, true, false, not, ◌&&◌, ◌||◌, List, [], Option, Some, None}
+use Rattle.std.specs.Prelude.{ℕ, Bool, true, ◌&&◌, List, [], Option, Some, None}
 use Rattle.std.specs.List.{list_all, zip}
 use Rattle.ir_ast.specs.declared.op.Argument.{Argument}
 use Rattle.ir_ast.specs.declared.operand.Operand.{Operand}
@@ -37,15 +37,6 @@ own_mark (Some section) = section.mark
 abbrev pub callee_mark : Option Section → Mark
 callee_mark None = mark.May
 callee_mark (Some section) = section.mark
-
--- a function may reach a safepoint
-abbrev pub is_may : Mark → Bool
-is_may mark.May = true
-is_may mark.None = false
-
--- K17: a function that may reach no safepoint calls none that may reach one
-abbrev pub marks_agree : (own called : Mark) → Bool
-marks_agree own called = is_may own || not (is_may called)
 
 -- what a type says of a parameter or a result
 abbrev pub given_by : TypeKind → Given

@@ -20,15 +20,16 @@ use Rattle.facts.specs.Facts.{FactSet, end_slot}
 use Rattle.block_rules.specs.declared.rule.Rule.{Rule}
 use Rattle.block_rules.specs.declared.rule.Rule.TheVariants.{K1, K2, K3, K4, K5, K6, K8, K10, K11, K12, K14, K19}
 use Rattle.block_rules.specs.declared.standing.Standing.{Standing}
+use Rattle.block_rules.specs.Barriers.{needs_no_barrier}
 use Rattle.block_rules.specs.Calls.{no_slots, call_conditions, after_call}
-use Rattle.block_rules.specs.Casts.{may_cast, after_cast}
+use Rattle.block_rules.specs.Casts.{casts_operand, may_cast, after_cast}
 use Rattle.block_rules.specs.Elements.{may_be_base, are_indices, may_lead, after_element}
 use Rattle.block_rules.specs.Integers.{below_of, arithmetic_below, define_number, may_resize, resized_below, may_compare, after_compare, known_layout, one_layout, may_choose, after_select}
 use Rattle.block_rules.specs.Operands.{slot_named, known_of, is_available, constant_fits, is_typed, is_value, is_current, is_based, is_no_slot}
 use Rattle.block_rules.specs.Places.{may_load, may_store, after_load, after_store}
 use Rattle.block_rules.specs.Promises.{keeps_promise}
 use Rattle.block_rules.specs.Signature.{callee_of}
-use Rattle.block_rules.specs.TypeKinds.{kind_of, is_integer, is_pointer, is_void, is_bits, may_be_reference}
+use Rattle.block_rules.specs.TypeKinds.{kind_of, is_integer, is_pointer, is_void, is_bits}
 
 -- the number of the first condition that fails; each list of conditions is in the order of the numbers
 abbrev pub first_failing : List (Rule × Bool) → Option Rule
@@ -94,28 +95,31 @@ op_conditions p certs f slots here facts result (Bitcast from operand to) =
     ∷ (K2, is_typed p.of_module f from operand)
     ∷ (K3, is_current facts (known_of facts operand))
     ∷ (K12, here.collected)
-    ∷ (K19, may_cast p slots facts from to operand) ∷ []
+    ∷ (K19, casts_operand p.of_module operand && may_cast p slots facts from to operand) ∷ []
 op_conditions p certs f slots here facts result (Load loaded place_type place) =
     (K1, is_available slots facts place)
     ∷ (K2, is_typed p.of_module f place_type place && may_load p slots facts loaded place)
     ∷ (K3, is_current facts (known_of facts place))
     ∷ (K4, is_based facts place)
-    ∷ (K12, here.collected) ∷ []
+    ∷ (K12, here.collected)
+    ∷ (K19, casts_operand p.of_module place) ∷ []
 op_conditions p certs f slots here facts result (Store stored value place_type place) =
     (K1, is_available slots facts value && is_available slots facts place)
     ∷ (K2, is_value p.of_module f facts stored value && is_typed p.of_module f place_type place && may_store p slots facts stored (known_of facts value) place)
     ∷ (K3, is_current facts (known_of facts value) && is_current facts (known_of facts place))
     ∷ (K4, is_based facts place)
-    ∷ (K6, is_some (slot_named slots place) || not (may_be_reference (kind_of p.of_module stored)))
+    ∷ (K6, needs_no_barrier p.of_module slots facts stored place)
     ∷ (K10, is_no_slot slots value)
-    ∷ (K12, here.collected) ∷ []
+    ∷ (K12, here.collected)
+    ∷ (K19, casts_operand p.of_module place) ∷ []
 op_conditions p certs f slots here facts result (Element source base_type base indices) =
     (K1, is_available slots facts base && list_all (λ index. is_available slots facts index.operand) indices)
     ∷ (K2, is_typed p.of_module f base_type base && is_pointer (kind_of p.of_module base_type) && may_be_base (known_of facts base) && are_indices p.of_module f facts indices && no_slots slots indices)
     ∷ (K3, is_current facts (known_of facts base))
     ∷ (K5, may_lead p facts source indices (known_of facts base))
     ∷ (K10, is_no_slot slots base)
-    ∷ (K12, here.collected) ∷ []
+    ∷ (K12, here.collected)
+    ∷ (K19, casts_operand p.of_module base) ∷ []
 op_conditions p certs f slots here facts result (Arithmetic kind written first second) =
     (K1, is_available slots facts first && is_available slots facts second)
     ∷ (K2, is_value p.of_module f facts written first && is_value p.of_module f facts written second && is_integer (kind_of p.of_module written) && is_no_slot slots first && is_no_slot slots second)
@@ -145,7 +149,7 @@ op_conditions p certs f slots here facts result (Select condition_type condition
 op_conditions p certs f slots here facts result (Phi written incoming) =
     (K2, may_choose (kind_of p.of_module written) && all_come_in p.of_module f slots written incoming) ∷ (K12, here.collected) ∷ []
 op_conditions p certs f slots here facts result (Call returned callee arguments) =
-    call_conditions p.of_module certs f slots here facts returned arguments (callee_of p.of_module callee (length arguments))
+    call_conditions p certs f slots here facts returned arguments (callee_of p.of_module callee (length arguments))
 op_conditions p certs f slots here facts result (Jump target) =
     (K2, names_target f target) ∷ (K12, here.collected) ∷ []
 op_conditions p certs f slots here facts result (Branch condition_type condition taken other) =
@@ -191,7 +195,7 @@ after_named p slots v _ facts = facts
 -- behind an instruction, by the name that it defines, if it does; a phi has its facts from the way in
 abbrev pub after_op : LaidOut → (certs : List Section) → SlotTable → (result : Option ℕ) → Op → FactSet → FactSet
 after_op p certs slots result (Store stored value place_type place) facts = after_store (known_of facts value) (slot_named slots place) facts
-after_op p certs slots result (Call returned callee arguments) facts = after_call p.of_module certs slots result returned arguments (callee_of p.of_module callee (length arguments)) facts
+after_op p certs slots result (Call returned callee arguments) facts = after_call p certs slots result returned arguments (callee_of p.of_module callee (length arguments)) facts
 after_op p certs slots None _ facts = facts
 after_op p certs slots (Some v) op facts = after_named p slots v op facts
 

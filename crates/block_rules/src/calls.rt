@@ -3,16 +3,15 @@ ghost use Rattle.std.specs.List.{list_all, zip};
 ghost use Rattle.std.specs.Option.{option_copied};
 ghost use Rattle.block_rules.specs.Rules.{first_failing};
 ghost use Rattle.block_rules.specs.Signature.{callee_of};
-ghost use Rattle.block_rules.specs.Calls.{all_available, all_values, all_current, no_slots, holds_reference, is_unrooted, may_root, numbers_one_of, numbers_layout, number_layouts, root_conditions, alloc_conditions, safepoint_conditions, is_written_for, is_written_with, defined_conditions, unknown_conditions, call_conditions, after_root, after_root_call, alloc_numbered, alloc_layout, after_alloc, after_alloc_call, drop_arguments, after_mark, receive_result, after_defined, after_call};
+ghost use Rattle.block_rules.specs.Calls.{all_available, all_values, all_current, no_slots, holds_reference, is_unrooted, may_root, numbers_one_of, numbers_layout, number_layouts, root_conditions, alloc_conditions, safepoint_conditions, is_written_for, is_written_with, defined_conditions, unknown_conditions, read_call_conditions, write_call_conditions, call_conditions, after_root, after_root_call, alloc_numbered, alloc_layout, after_alloc, after_alloc_call, drop_arguments, receive_result, after_defined, after_call};
 
+use crate::barrier::{after_read_call, after_write, read_refusal, write_refusal};
 use crate::callee::Callee;
 use crate::first_failing::first_failing;
 use crate::operands::{
     is_available, is_no_slot, is_null, is_operand_current, is_value, known_of, slot_named,
 };
-use crate::promises::{
-    callee_mark, given_by, is_may, marks_agree, promised_in, promises_in, show_promises,
-};
+use crate::promises::{callee_mark, given_by, promised_in, promises_in, show_promises};
 use crate::rule::Rule;
 use crate::scene::Scene;
 use crate::signature::{callee_of, is_written_as};
@@ -24,8 +23,9 @@ use ir_ast::{
     Argument, Constant, FuncId, Module, Operand, Parameter, Runtime, SymbolId, TypeId, ValueId,
 };
 use pools::LayoutId;
+use safepoints::{is_may, marks_agree};
 use shadow_stack::{SlotId, Slots};
-use std::alloc::{AllocError, Global};
+use std::alloc::AllocError;
 
 /// Layouts are numbered below this.
 const LAYOUT_NUMBERS: u64 = 1 << 32;
@@ -39,7 +39,7 @@ pub fn call_refusal(
     callee: SymbolId,
     arguments: &[Argument],
 ) -> Option<Rule>
-    ensures { result ≡ first_failing (call_conditions scene.now.program.now.of_module scene.now.certs.now scene.now.function.now scene.now.slots.now here facts.now returned arguments.now (callee_of scene.now.program.now.of_module callee (length arguments.now))) }
+    ensures { result ≡ first_failing (call_conditions scene.now.program.now scene.now.certs.now scene.now.function.now scene.now.slots.now here facts.now returned arguments.now (callee_of scene.now.program.now.of_module callee (length arguments.now))) }
 {
     let callee = callee_of(scene.module(), callee, arguments.len());
     match &callee {
@@ -54,6 +54,44 @@ pub fn call_refusal(
         }
         Callee::OfModule(called) => {
             defined_refusal(scene, here, facts, returned, arguments, *called)
+        }
+        Callee::OfRuntime(Runtime::GcRead) => {
+            read_call_refusal(scene, here, facts, returned, arguments)
+        }
+        Callee::OfRuntime(Runtime::GcWrite) => {
+            write_call_refusal(scene, here, facts, returned, arguments)
+        }
+        Callee::NoFunction => unknown_refusal(scene, here, facts, arguments),
+    }
+}
+
+fn read_call_refusal(
+    scene: &Scene,
+    here: Standing,
+    facts: &Facts,
+    returned: TypeId,
+    arguments: &[Argument],
+) -> Option<Rule>
+    ensures { result ≡ first_failing (read_call_conditions scene.now.program.now scene.now.function.now scene.now.slots.now here facts.now returned arguments.now) }
+{
+    match arguments {
+        [object, place] => read_refusal(scene, here, facts, returned, object, place),
+        _ => unknown_refusal(scene, here, facts, arguments),
+    }
+}
+
+fn write_call_refusal(
+    scene: &Scene,
+    here: Standing,
+    facts: &Facts,
+    returned: TypeId,
+    arguments: &[Argument],
+) -> Option<Rule>
+    ensures { result ≡ first_failing (write_call_conditions scene.now.program.now scene.now.function.now scene.now.slots.now here facts.now returned arguments.now) }
+{
+    match arguments {
+        [value, object, place] => {
+            write_refusal(scene, here, facts, returned, value, object, place)
         }
         _ => unknown_refusal(scene, here, facts, arguments),
     }
@@ -346,15 +384,6 @@ fn drop_arguments(facts: &mut Facts, arguments: &[Argument])
     }
 }
 
-fn after_mark(alloc: Global, facts: &mut Facts, mark: Mark) -> Result<(), AllocError>
-    ensures { OnOk result (facts.new ≡ after_mark mark facts.old) }
-{
-    match mark {
-        Mark::May => facts.make_stale(alloc),
-        Mark::None => Ok(()),
-    }
-}
-
 fn receive_result(
     module: &Module,
     facts: &mut Facts,
@@ -371,7 +400,6 @@ fn receive_result(
 }
 
 fn after_defined(
-    alloc: Global,
     module: &Module,
     facts: &mut Facts,
     defined: Option<ValueId>,
@@ -382,13 +410,12 @@ fn after_defined(
     ensures { OnOk result (facts.new ≡ after_defined «module».now defined returned arguments.now (option_copied section.entry) facts.old) }
 {
     drop_arguments(facts, arguments);
-    after_mark(alloc, facts, callee_mark(section))?;
+    safepoints::after_call(facts, callee_mark(section));
     receive_result(module, facts, defined, returned, promised_in(section))
 }
 
 /// Goes on behind a call.
 pub fn after_call(
-    alloc: Global,
     scene: &Scene,
     facts: &mut Facts,
     defined: Option<ValueId>,
@@ -396,24 +423,24 @@ pub fn after_call(
     arguments: &[Argument],
     callee: &Callee,
 ) -> Result<(), AllocError>
-    ensures { OnOk result (facts.new ≡ after_call scene.now.program.now.of_module scene.now.certs.now scene.now.slots.now defined returned arguments.now callee.now facts.old) }
+    ensures { OnOk result (facts.new ≡ after_call scene.now.program.now scene.now.certs.now scene.now.slots.now defined returned arguments.now callee.now facts.old) }
 {
     match callee {
         Callee::OfRuntime(Runtime::Alloc) => after_alloc_call(facts, defined, arguments),
         Callee::OfRuntime(Runtime::GcRoot) => after_root_call(scene.slots, facts, arguments),
-        Callee::OfRuntime(Runtime::Safepoint) => facts.make_stale(alloc),
+        Callee::OfRuntime(Runtime::Safepoint) => {
+            safepoints::after_call(facts, Mark::May);
+            Ok(())
+        }
+        Callee::OfRuntime(Runtime::GcRead) => after_read_call(scene, facts, defined, arguments),
+        Callee::OfRuntime(Runtime::GcWrite) => {
+            after_write(facts, arguments);
+            Ok(())
+        }
         Callee::OfModule(called) => {
             let section = scene.certs.section(*called);
-            after_defined(
-                alloc,
-                scene.module(),
-                facts,
-                defined,
-                returned,
-                arguments,
-                section,
-            )
+            after_defined(scene.module(), facts, defined, returned, arguments, section)
         }
-        _ => Ok(()),
+        Callee::NoFunction => Ok(()),
     }
 }

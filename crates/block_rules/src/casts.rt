@@ -1,14 +1,15 @@
 ghost use Rattle.std.specs.Prelude.{◌≡◌, OnOk};
 ghost use Rattle.facts.specs.Facts.{is_on, off_base};
-ghost use Rattle.block_rules.specs.Casts.{casts_null, casts_constant, casts_slot, casts_held, casts_words, casts_base, casts_known, casts_other, may_cast, layout_of_null, cast_number, cast_constant, cast_local, after_cast};
+ghost use Rattle.block_rules.specs.Casts.{casts_null, casts_constant, casts_slot, casts_held, casts_words, casts_base, casts_to, casts_global, casts_operand, casts_known, casts_other, may_cast, layout_of_null, cast_number, cast_constant, cast_local, after_cast};
 
 use crate::integers::below_next;
-use crate::places::{define_held, loads_words};
+use crate::operands::known_of;
+use crate::places::{define_held, layout_of_word, loads_words};
 use crate::scene::Scene;
 use crate::type_kind::TypeKind;
 use facts::{Facts, Known};
-use ir_ast::{Constant, Module, Operand, TypeId, ValueId};
-use layout::Program;
+use ir_ast::{Constant, Module, Operand, SymbolId, TypeId, ValueId};
+use layout::{Program, global_word};
 use pools::{LayoutId, Layouts, WordSet};
 use shadow_stack::SlotId;
 use std::alloc::AllocError;
@@ -62,15 +63,37 @@ fn casts_base(program: &Program, to: TypeId, words: &WordSet, base: &Known) -> b
     }
 }
 
+fn casts_global(module: &Module, to: TypeId, symbol: SymbolId) -> bool
+    ensures { result ≡ casts_global «module».now to symbol }
+{
+    match layout_of_word(global_word(module, symbol)) {
+        Some(layout) => TypeKind::of_place(module, to).fits_layout(layout),
+        None => false,
+    }
+}
+
+/// Whether an operand stands under a type of its layout.
+pub fn casts_operand(module: &Module, operand: &Operand) -> bool
+    ensures { result ≡ casts_operand «module».now operand.now }
+{
+    match operand {
+        Operand::CastGlobal { from, global, to } => {
+            *from == *to || casts_global(module, *to, *global)
+        }
+        _ => true,
+    }
+}
+
 fn casts_known(program: &Program, facts: &Facts, to: TypeId, known: &Known) -> bool
     ensures { result ≡ casts_known program.now facts.now to known.now }
 {
     match known {
-        Known::Nothing | Known::GlobalAddress(_) => true,
+        Known::Nothing => true,
         Known::Number { .. } => false,
         Known::Cell { layout, .. } => TypeKind::of(program.module(), to).fits_layout(*layout),
         Known::Null => TypeKind::of(program.module(), to).may_be_reference(),
         Known::Address { base, words } => casts_base(program, to, words, &facts.known(*base)),
+        Known::GlobalAddress(symbol) => casts_global(program.module(), to, *symbol),
     }
 }
 
@@ -84,7 +107,7 @@ fn casts_other(scene: &Scene, facts: &Facts, from: TypeId, to: TypeId, operand: 
             Some(s) => casts_held(scene.module(), to, scene.slots.held_type(s)),
             None => casts_known(scene.program, facts, to, &facts.known(*v)),
         },
-        _ => true,
+        operand => casts_known(scene.program, facts, to, &known_of(facts, operand)),
     }
 }
 
@@ -195,6 +218,9 @@ pub fn after_cast(
             let known = facts.known(*u);
             cast_local(facts, v, *u, &known, scene.slots.slot_of(*u))
         }
-        _ => facts.define(v, Known::Nothing),
+        operand => {
+            let known = known_of(facts, operand);
+            facts.define(v, known)
+        }
     }
 }

@@ -8,28 +8,22 @@ use crate::elements::after_element;
 use crate::integers::{
     after_compare, after_select, arithmetic_below, below_of, define_number, resized_below,
 };
-use crate::operands::{known_of, slot_named};
+use crate::operands::slot_named;
 use crate::places::{after_load, after_store};
 use crate::scene::Scene;
 use crate::signature::callee_of;
 use crate::type_kind::TypeKind;
 use facts::Facts;
 use ir_ast::{Instr, Op, ValueId};
-use std::alloc::{AllocError, Global};
+use std::alloc::AllocError;
 
 /// Goes on to what is known behind an instruction. Where memory is refused the facts are of no more use.
-pub fn advance(
-    alloc: Global,
-    scene: &Scene,
-    facts: &mut Facts,
-    instr: &Instr,
-) -> Result<(), AllocError>
+pub fn advance(scene: &Scene, facts: &mut Facts, instr: &Instr) -> Result<(), AllocError>
     ensures { OnOk result (facts.new ≡ after scene.now.program.now scene.now.certs.now scene.now.slots.now facts.old instr.now) }
 {
     match &instr.op {
         Op::Store { value, place, .. } => {
-            let known = known_of(facts, value);
-            after_store(facts, &known, slot_named(scene.slots, place))
+            after_store(facts, value, slot_named(scene.slots, place))
         }
         Op::Call {
             returned,
@@ -38,15 +32,7 @@ pub fn advance(
         } => {
             let called = callee_of(scene.module(), *callee, arguments.len());
             let arguments = arguments.as_slice();
-            after_call(
-                alloc,
-                scene,
-                facts,
-                instr.result,
-                *returned,
-                arguments,
-                &called,
-            )
+            after_call(scene, facts, instr.result, *returned, arguments, &called)
         }
         op => match instr.result {
             Some(v) => advance_named(scene, facts, v, op),

@@ -1,6 +1,6 @@
 ghost use Rattle.std.specs.Prelude.{◌≡◌, OnOk, Some};
 ghost use Rattle.block_rules.specs.Operands.{number_of};
-ghost use Rattle.block_rules.specs.Elements.{constant_stride, places_below, bounded_stride, register_stride, operand_stride, array_stride, step_stride, step_part, members, reached, all_reached, gathered, empty_set, strode, words_behind, is_zero, element_words, start_of, base_layout, lie_below, lies_in, stays_in, may_lead, may_be_base, is_index, are_indices, define_element, define_words, after_element};
+ghost use Rattle.block_rules.specs.Elements.{constant_stride, places_below, bounded_stride, register_stride, operand_stride, array_stride, step_stride, step_part, members, reached, all_reached, gathered, empty_set, strode, words_behind, is_zero, element_words, start_of, base_layout, lie_below, lies_in, stays_in, stays_at_first, may_lead, may_be_base, is_index, are_indices, define_element, define_words, after_element};
 
 use crate::casts::off_base;
 use crate::integers::{below_known, known_layout};
@@ -225,7 +225,25 @@ fn words_lie_in(count: usize, set: &WordSet) -> bool
     (0..CELL_WORDS as u32).all(|word| !set.has(word) || (word as usize) < count)
 }
 
-/// Whether the indices lead into the layout.
+fn stays_in(layouts: &Layouts, layout: Option<LayoutId>, words: Option<WordSet>) -> bool
+    ensures { result ≡ stays_in layouts.now layout words }
+{
+    match words {
+        Some(words) => lies_in(layouts, layout, &words),
+        None => false,
+    }
+}
+
+fn stays_at_first(words: Option<WordSet>) -> bool
+    ensures { result ≡ stays_at_first words }
+{
+    match words {
+        Some(words) => words_lie_in(1, &words),
+        None => false,
+    }
+}
+
+/// Whether the indices lead into the layout, or to the word of a global.
 pub fn may_lead(
     scene: &Scene,
     facts: &Facts,
@@ -236,10 +254,13 @@ pub fn may_lead(
     ensures { result ≡ may_lead scene.now.program.now facts.now source indices.now base.now }
 {
     let start = start_of(base);
-    let layout = base_layout(facts, base);
-    match element_words(scene.program, facts, source, indices, &start) {
-        Some(words) => lies_in(scene.program.layouts(), layout, &words),
-        None => false,
+    let words = element_words(scene.program, facts, source, indices, &start);
+    match base {
+        Known::GlobalAddress(_) => stays_at_first(words),
+        base => {
+            let layout = base_layout(facts, base);
+            stays_in(scene.program.layouts(), layout, words)
+        }
     }
 }
 
@@ -247,7 +268,7 @@ pub fn may_lead(
 pub fn may_be_base(known: &Known) -> bool
     ensures { result ≡ may_be_base known.now }
 {
-    !matches!(known, Known::Number { .. } | Known::GlobalAddress(_))
+    !matches!(known, Known::Number { .. })
 }
 
 /// Whether the indices are integers of their types.
@@ -294,6 +315,7 @@ fn define_element(
             );
             facts.define(v, address)
         }
+        Known::GlobalAddress(symbol) => facts.define(v, Known::GlobalAddress(*symbol)),
         _ => facts.define(v, Known::Nothing),
     }
 }
@@ -318,6 +340,9 @@ pub fn after_element(
                 None => facts.define(v, Known::Nothing),
             }
         }
-        _ => facts.define(v, Known::Nothing),
+        base => {
+            let known = known_of(facts, base);
+            facts.define(v, known)
+        }
     }
 }

@@ -1,6 +1,7 @@
 //! The rules, row by row: what an instruction has to keep by what is known before it, and what is known behind it.
 #![tactic(auto)]
 
+mod barrier;
 mod callee;
 mod calls;
 mod casts;

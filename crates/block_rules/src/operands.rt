@@ -6,7 +6,7 @@ use crate::type_kind::TypeKind;
 use facts::{Facts, Known};
 use ir_ast::{Constant, Operand, TypeId};
 use shadow_stack::{SlotId, Slots};
-use types::has_type;
+use types::{has_type, points_to_global};
 
 /// No integer type has more bits.
 const WORD_BITS: u32 = 64;
@@ -27,7 +27,9 @@ pub fn known_of(facts: &Facts, operand: &Operand) -> Known
 {
     match operand {
         Operand::Local(v) => facts.known(*v),
-        _ => Known::Nothing,
+        Operand::Global(symbol) => Known::GlobalAddress(*symbol),
+        Operand::CastGlobal { global, .. } => Known::GlobalAddress(*global),
+        Operand::Constant(_) => Known::Nothing,
     }
 }
 
@@ -86,7 +88,10 @@ pub fn is_typed(scene: &Scene, written: TypeId, operand: &Operand) -> bool
             constant_fits(*constant, TypeKind::of(scene.module(), written))
         }
         Operand::Local(v) => has_type(scene.module(), scene.function, written, *v),
-        _ => false,
+        Operand::Global(symbol) => points_to_global(scene.module(), written, *symbol),
+        Operand::CastGlobal { from, global, to } => {
+            written == *to && points_to_global(scene.module(), *from, *global)
+        }
     }
 }
 

@@ -1,14 +1,16 @@
 ghost use Rattle.std.specs.Prelude.{◌≡◌, OnOk, Some};
 ghost use Rattle.pools.specs.Layouts.{kind_of_word};
-ghost use Rattle.block_rules.specs.Places.{moves_kind, moves, holds_wanted, layout_of_word, cell_words, each_word, first_layout, one_reference, wanted_by_load, loads_words, loads_base, loads_known, may_load, wanted_by_store, wanted_by_value, fits_words, stores_base, stores_known, fits_held, stores_slot, may_store, define_held, load_kind, load_held_type, load_words, load_base, load_known, load_place, after_load, after_store};
+ghost use Rattle.block_rules.specs.Operands.{known_of};
+ghost use Rattle.block_rules.specs.Places.{moves_kind, moves, holds_wanted, layout_of_word, cell_words, each_word, first_layout, one_reference, wanted_by_load, loads_words, loads_base, loads_word, loads_known, may_load, wanted_by_store, wanted_by_value, fits_words, stores_base, fits_word, stores_word, stores_known, fits_held, stores_slot, may_store, define_held, load_kind, load_held_type, load_words, load_base, load_word, load_known, load_place, after_load, after_store};
 
+use crate::barrier::publish;
 use crate::operands::{is_null_constant, known_fits, known_of, slot_named};
 use crate::scene::Scene;
 use crate::type_kind::TypeKind;
 use crate::wanted::Wanted;
 use facts::{Class, Facts, Known};
 use ir_ast::{Module, Operand, TypeId, ValueId};
-use layout::Program;
+use layout::{Program, global_word};
 use pools::{CELL_WORDS, LayoutId, Layouts, WordKind, WordSet};
 use shadow_stack::SlotId;
 use std::alloc::AllocError;
@@ -72,7 +74,8 @@ fn each_word(wanted: Wanted, layouts: &Layouts, layout: LayoutId, words: &WordSe
     })
 }
 
-fn layout_of_word(kind: Option<WordKind>) -> Option<LayoutId>
+/// The layout to which a word refers.
+pub fn layout_of_word(kind: Option<WordKind>) -> Option<LayoutId>
     ensures { result ≡ layout_of_word kind }
 {
     match kind? {
@@ -124,12 +127,24 @@ fn loads_base(program: &Program, kind: TypeKind, words: &WordSet, base: &Known) 
     }
 }
 
-fn loads_known(program: &Program, facts: &Facts, kind: TypeKind, place: &Known) -> bool
+fn loads_word(kind: TypeKind, word: &Option<WordKind>) -> bool
+    ensures { result ≡ loads_word kind word.now }
+{
+    let first = layout_of_word(*word);
+    holds_wanted(wanted_by_load(kind, first), *word)
+}
+
+/// Whether a load of this kind may be from what is known of a place.
+pub fn loads_known(program: &Program, facts: &Facts, kind: TypeKind, place: &Known) -> bool
     ensures { result ≡ loads_known program.now facts.now kind place.now }
 {
     match place {
         Known::Nothing => true,
         Known::Address { base, words } => loads_base(program, kind, words, &facts.known(*base)),
+        Known::GlobalAddress(symbol) => {
+            let word = global_word(program.module(), *symbol);
+            loads_word(kind, &word)
+        }
         _ => false,
     }
 }
@@ -147,7 +162,10 @@ pub fn may_load(scene: &Scene, facts: &Facts, loaded: TypeId, place: &Operand) -
                 loads_known(scene.program, facts, kind, &facts.known(*v))
             }
         },
-        _ => false,
+        place => {
+            let kind = TypeKind::of(scene.module(), loaded);
+            loads_known(scene.program, facts, kind, &known_of(facts, place))
+        }
     }
 }
 
@@ -201,7 +219,23 @@ fn stores_base(
     }
 }
 
-fn stores_known(
+fn fits_word(word: Option<WordKind>, wanted: Option<Wanted>) -> bool
+    ensures { result ≡ fits_word word wanted }
+{
+    match wanted {
+        None => true,
+        Some(wanted) => holds_wanted(wanted, word),
+    }
+}
+
+fn stores_word(kind: TypeKind, value: &Known, word: &Option<WordKind>) -> bool
+    ensures { result ≡ stores_word kind value.now word.now }
+{
+    holds_wanted(wanted_by_store(kind), *word) && fits_word(*word, wanted_by_value(value))
+}
+
+/// Whether a store of this kind may put what is known of a value at what is known of a place.
+pub fn stores_known(
     program: &Program,
     facts: &Facts,
     kind: TypeKind,
@@ -214,6 +248,10 @@ fn stores_known(
         Known::Nothing => true,
         Known::Address { base, words } => {
             stores_base(program, kind, value, words, &facts.known(*base))
+        }
+        Known::GlobalAddress(symbol) => {
+            let word = global_word(program.module(), *symbol);
+            stores_word(kind, value, &word)
         }
         _ => false,
     }
@@ -256,7 +294,10 @@ pub fn may_store(
                 stores_known(scene.program, facts, kind, value, &facts.known(*v))
             }
         },
-        _ => false,
+        place => {
+            let kind = TypeKind::of(scene.module(), stored);
+            stores_known(scene.program, facts, kind, value, &known_of(facts, place))
+        }
     }
 }
 
@@ -343,7 +384,24 @@ fn load_base(
     }
 }
 
-fn load_known(
+fn load_word(
+    facts: &mut Facts,
+    v: ValueId,
+    kind: TypeKind,
+    word: Option<WordKind>,
+) -> Result<(), AllocError>
+    ensures { OnOk result (facts.new ≡ load_word v kind word facts.old) }
+{
+    match kind {
+        TypeKind::Bits(bits) => facts.define(v, Known::Number { bits, below: None }),
+        TypeKind::Reference(layout) => define_held(facts, v, Some(layout), false),
+        TypeKind::AnyReference => define_held(facts, v, layout_of_word(word), false),
+        _ => facts.define(v, Known::Nothing),
+    }
+}
+
+/// Goes on behind a load of this kind from what is known of a place.
+pub fn load_known(
     program: &Program,
     facts: &mut Facts,
     v: ValueId,
@@ -356,6 +414,9 @@ fn load_known(
         Known::Address { base, words } => {
             let base = facts.known(*base);
             load_base(program, facts, v, kind, words, &base)
+        }
+        Known::GlobalAddress(symbol) => {
+            load_word(facts, v, kind, global_word(program.module(), *symbol))
         }
         _ => facts.define(v, Known::Nothing),
     }
@@ -382,11 +443,21 @@ pub fn after_load(
 }
 
 /// Goes on behind a store.
-pub fn after_store(facts: &mut Facts, value: &Known, slot: Option<SlotId>) -> Result<(), AllocError>
-    ensures { OnOk result (facts.new ≡ after_store value.now slot facts.old) }
+pub fn after_store(
+    facts: &mut Facts,
+    value: &Operand,
+    slot: Option<SlotId>,
+) -> Result<(), AllocError>
+    ensures { OnOk result (facts.new ≡ after_store (known_of facts.old value.now) slot facts.old) }
 {
     match slot {
-        Some(s) => facts.store_slot(s, *value),
-        None => Ok(()),
+        Some(s) => {
+            let known = known_of(facts, value);
+            facts.store_slot(s, known)
+        }
+        None => {
+            publish(facts, value);
+            Ok(())
+        }
     }
 }

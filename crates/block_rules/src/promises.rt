@@ -2,7 +2,7 @@ ghost use Rattle.std.specs.Prelude.{◌≡◌};
 ghost use Rattle.std.specs.List.{list_all, zip};
 ghost use Rattle.std.specs.Option.{option_copied};
 ghost use Rattle.facts.specs.Lines.{implied, is_below};
-ghost use Rattle.block_rules.specs.Promises.{promises_in, promised_in, own_mark, callee_mark, is_may, marks_agree, given_by, is_promised, keeps_promise, shows_promise, show_promises};
+ghost use Rattle.block_rules.specs.Promises.{promises_in, promised_in, own_mark, callee_mark, given_by, is_promised, keeps_promise, shows_promise, show_promises};
 
 use crate::integers::{below_of, known_layout, one_layout};
 use crate::operands::{is_nonnull, known_of};
@@ -50,20 +50,6 @@ pub fn callee_mark(section: Option<&Section>) -> Mark
         Some(section) => section.mark,
         None => Mark::May,
     }
-}
-
-/// Whether a function may reach a safepoint.
-pub fn is_may(mark: Mark) -> bool
-    ensures { result ≡ is_may mark }
-{
-    matches!(mark, Mark::May)
-}
-
-/// Whether a function that is marked so may call one with the other mark.
-pub fn marks_agree(own: Mark, called: Mark) -> bool
-    ensures { result ≡ marks_agree own called }
-{
-    is_may(own) || !is_may(called)
 }
 
 /// What a type says of a parameter or a result.

@@ -6,14 +6,14 @@ ghost use Rattle.block_rules.specs.Groups.{makes_value, ends_block};
 ghost use Rattle.block_rules.specs.Operands.{is_available};
 ghost use Rattle.block_rules.specs.Rules.{first_failing, is_condition, op_conditions, conditions};
 
+use crate::barrier::needs_no_barrier;
 use crate::calls::{call_refusal, no_slots};
-use crate::casts::may_cast;
+use crate::casts::{casts_operand, may_cast};
 use crate::elements::{are_indices, may_be_base, may_lead};
 use crate::first_failing::first_failing;
 use crate::integers::{known_layout, may_choose, may_compare, may_resize, one_layout};
 use crate::operands::{
     is_available, is_based, is_no_slot, is_operand_current, is_typed, is_value, known_of,
-    slot_named,
 };
 use crate::places::{may_load, may_store};
 use crate::promises::keeps_promise;
@@ -178,7 +178,10 @@ fn cast_refusal(
         (Rule::K2, is_typed(scene, from, operand)),
         (Rule::K3, is_operand_current(facts, operand)),
         (Rule::K12, here.collected),
-        (Rule::K19, may_cast(scene, facts, from, to, operand)),
+        (
+            Rule::K19,
+            casts_operand(scene.module(), operand) && may_cast(scene, facts, from, to, operand),
+        ),
     ])
 }
 
@@ -201,6 +204,7 @@ fn load_refusal(
         (Rule::K3, is_operand_current(facts, place)),
         (Rule::K4, is_based(facts, place)),
         (Rule::K12, here.collected),
+        (Rule::K19, casts_operand(scene.module(), place)),
     ])
 }
 
@@ -232,13 +236,10 @@ fn store_refusal(
             is_operand_current(facts, value) && is_operand_current(facts, place),
         ),
         (Rule::K4, is_based(facts, place)),
-        (
-            Rule::K6,
-            slot_named(scene.slots, place).is_some()
-                || !TypeKind::of(scene.module(), stored).may_be_reference(),
-        ),
+        (Rule::K6, needs_no_barrier(scene, facts, stored, place)),
         (Rule::K10, is_no_slot(scene.slots, value)),
         (Rule::K12, here.collected),
+        (Rule::K19, casts_operand(scene.module(), place)),
     ])
 }
 
@@ -280,6 +281,7 @@ fn element_refusal(
         (Rule::K5, may_lead(scene, facts, source, indices, &known)),
         (Rule::K10, is_no_slot(scene.slots, base)),
         (Rule::K12, here.collected),
+        (Rule::K19, casts_operand(scene.module(), base)),
     ])
 }
 

@@ -14,4 +14,5 @@ pub mod PrintedLines
 pub mod PrintedPromises
 pub mod PrintedBlocks
 pub mod PrintedCerts
+pub mod ReadWords
 pub mod ReadFits

@@ -10,20 +10,21 @@ use Rattle.ir_ast.specs.declared.function.LocalSort.{LocalSort}
 use Rattle.ir_ast.specs.declared.function.LocalSort.TheVariants as local
 use Rattle.ir_ast.specs.declared.module.Module.{Module}
 use Rattle.pools.specs.declared.word_set.WordSet.{WordSet}
-use Rattle.certificate.specs.Words.{Text, past_blanks, past_lines, word_at}
+use Rattle.types.specs.Globals.{global_named}
+use Rattle.certificate.specs.Words.{Text, begins_with, past_blanks, past_lines, word_at}
 use Rattle.certificate.specs.Numbers.{small, count_of_word, words_of_word}
-use Rattle.certificate.specs.Names.{value_of_word, layout_of_word}
+use Rattle.certificate.specs.Names.{value_of_word, global_of_word, layout_of_word}
 use Rattle.certificate.specs.Families.{family_of_value, family_of_sort, is_reference, is_address, refers_to, same_bits}
 use Rattle.certificate.specs.Drafts.{root_names, wanting, listing, listing_slot, is_in}
 use Rattle.certificate.specs.Input.{Input, left, word, begins, after, next_line, wants, with_line, with_slot_line}
 use Rattle.certificate.specs.Forms.{skip, taken, taken_if, taken_as, expect, line_end, flag, flag_by, count, word_set, age, age_by, age_of_word, free_by, new_value, new_value_named, new_slot, root_by, slot_named, want, listed_by, listed_name, layout_by, layout_name, put_value, put_slot}
-use Rattle.certificate.specs.Lines.{number_head, head_by, below_by, below, listed_if, listed_behind, number, reference, address, fact_by, fact_of, fact_end, slot_end, value_line, slot_line, line_by, line}
+use Rattle.certificate.specs.Lines.{number_head, head_by, below_by, below, listed_if, listed_behind, number, reference, words_of_cell, global_by, global_address, address_by, address, fact_by, fact_of, fact_end, slot_end, value_line, slot_line, line_by, line}
 use Rattle.certificate.specs.Fits.{is_count, below_fits, stands_for, layout_fits, words_fit, fact_fits, is_value_sort, is_value, line_fits, named_in_fact, named_in}
 use Rattle.certificate.specs.Named.{IsNamed, IsNamedFunction}
-use Rattle.certificate.specs.Print.{word_if, below_text, value_text, age_text, words_text, fact_text, line_text, local_text, layout_text}
+use Rattle.certificate.specs.Print.{word_if, below_text, value_text, age_text, words_text, fact_text, line_text, local_text, global_text, layout_text}
 use Rattle.certificate.proofs.PrintedWords.{first_true, rest_true, stops, is_word, past_word_on, word_on, blanks_on, all_bytes, same_bytes, small_is, count_read, bits_read}
 use Rattle.certificate.proofs.PrintedSets.{words_read}
-use Rattle.certificate.proofs.PrintedNames.{value_printed, layout_printed}
+use Rattle.certificate.proofs.PrintedNames.{value_printed, global_printed, layout_printed}
 use Rattle.certificate.specs.declared.family.Family.{Family}
 use Rattle.certificate.specs.declared.family.Family.TheVariants as fam
 use Rattle.certificate.specs.declared.facts.Head.TheVariants as head
@@ -315,7 +316,7 @@ module _ (m : Module) (f : Function) (named : IsNamed m) (own : IsNamedFunction 
       )
 
   address_on : (i : Input) (family : Family) (base : ℕ) (words : WordSet) (t : Text) → fact_fits m family (fact.Address base words) ≡ true → is_value f base ≡ true → FactOn i family (fact.Address base words) t
-  unfolding fact_of address
+  unfolding fact_of address words_of_cell
   address_on i family base words t e is =
       let w = local_text f base in
       let set = words_text words.members in
@@ -330,6 +331,8 @@ module _ (m : Module) (f : Function) (named : IsNamed m) (own : IsNamedFunction 
       let kind : head_by family (word (at i (codes "addr" ++ 32 ∷ (w ++ a)))) ≡ head.Address =
       ap (head_by family) (word_is i (codes "addr") (32 ∷ (w ++ a)) (w ++ a) refl first) ∙ ap (λ (x : Bool). if x then head.Address else head.Other) (first_true (is_address family) (words_fit words.members) e) in
       let n = length (w ++ a) in
+      let behind : Behind a b = (refl, blanks_on set (10 ∷ t) r.1) in
+      let other : begins_with 64 (word (at i (w ++ a))) ≡ false = ap (begins_with 64) (word_is i w a b p.1 behind) in
       let now = noting (Some base) n i in
       let out = at now (10 ∷ t) in (
         refl,
@@ -339,20 +342,41 @@ module _ (m : Module) (f : Function) (named : IsNamed m) (own : IsNamedFunction 
               tt,
               at i (w ++ a),
               skip_on i (codes "addr") (32 ∷ (w ++ a)) (w ++ a) refl first,
-              (
+              subst (λ x. (address_by m f x).says (at i (w ++ a)) (fact.Address base words) out) (sym other) (
                 base,
                 at now b,
-                listed_on i base a b is (refl, blanks_on set (10 ∷ t) r.1),
+                listed_on i base a b is behind,
                 (words, out, word_set_on now words.members (10 ∷ t) (10 ∷ t) fits (refl, refl), (refl, refl)),
               ),
             )),
+      )
+
+  global_on : (i : Input) (family : Family) (symbol : ℕ) (t : Text) → fact_fits m family (fact.GlobalAddress symbol) ≡ true → FactOn i family (fact.GlobalAddress symbol) t
+  unfolding fact_of address global_address
+  global_on i family symbol t e =
+      let w = global_text m symbol in
+      let a = 10 ∷ t in
+      let p = global_printed m symbol named (rest_true (is_address family) (is_some (global_named m symbol)) e) in
+      let first : Behind (32 ∷ (w ++ a)) (w ++ a) = (refl, blanks_on w a p.1) in
+      let kind : head_by family (word (at i (codes "addr" ++ 32 ∷ (w ++ a)))) ≡ head.Address =
+      ap (head_by family) (word_is i (codes "addr") (32 ∷ (w ++ a)) (w ++ a) refl first) ∙ ap (λ (x : Bool). if x then head.Address else head.Other) (first_true (is_address family) (is_some (global_named m symbol)) e) in
+      let is = word_is i w a a p.1 (refl, refl) in (
+        refl,
+        0,
+        subst (λ x. (fact_by m f family x).says (at i (codes "addr" ++ 32 ∷ (w ++ a))) (fact.GlobalAddress symbol) (at i a)) (sym kind) (
+          tt,
+          at i (w ++ a),
+          skip_on i (codes "addr") (32 ∷ (w ++ a)) (w ++ a) refl first,
+          subst (λ x. (address_by m f x).says (at i (w ++ a)) (fact.GlobalAddress symbol) (at i a)) (sym (ap (begins_with 64) is))
+              (subst (λ x. (global_by x).says (at i (w ++ a)) (fact.GlobalAddress symbol) (at i a)) (sym (ap (global_of_word m) is ∙ p.0)) (taken_on (fact.GlobalAddress symbol) i w a a p.1 (refl, refl))),
+        ),
       )
 
   fact_on : (i : Input) (family : Family) (fact : Fact) (t : Text) → fact_fits m family fact ≡ true → IsValue f (named_in_fact fact) → FactOn i family fact t
   fact_on i family (fact.Number bits n) t e is = number_on i family bits n t e
   fact_on i family (fact.Reference layout nonnull how same) t e is = reference_on i family layout nonnull how same t e is
   fact_on i family (fact.Address base words) t e is = address_on i family base words t e is
-  fact_on i family (fact.GlobalAddress symbol) t e is = absurd cc
+  fact_on i family (fact.GlobalAddress symbol) t e is = global_on i family symbol t e
 
   -- ---- lines
 

@@ -1,5 +1,5 @@
 -- Printed names are read as what they name.
-use Rattle.std.proofs.Common.{◌≡◌, ℕ, zero, suc, ◌<◌, Bool, true, false, ◌||◌, List, [], ◌∷◌, length, slice_get, Option, Some, None, refl, ap, ◌∙◌, arith}
+use Rattle.std.proofs.Common.{◌≡◌, ℕ, zero, suc, ◌<◌, Bool, true, false, ◌||◌, List, [], ◌∷◌, length, slice_get, Option, Some, None, is_some, refl, ap, ◌∙◌, arith}
 use Rattle.std.specs.Prelude.{◌==◌, unwrap_or}
 use Rattle.std.specs.List.{list_any}
 use Rattle.std.proofs.lemmas.Bool.{eqb-true}
@@ -9,8 +9,9 @@ use Rattle.ir_ast.specs.declared.function.Function.{Function}
 use Rattle.ir_ast.specs.declared.function.LocalSort.{LocalSort}
 use Rattle.ir_ast.specs.declared.function.LocalSort.TheVariants as local
 use Rattle.ir_ast.specs.declared.module.Module.{Module}
+use Rattle.types.specs.Globals.{global_named}
 use Rattle.certificate.specs.Words.{Text}
-use Rattle.certificate.specs.Names.{name_in, value_of_word, value_by, block_of_word, function_of_word, layout_of_word}
+use Rattle.certificate.specs.Names.{name_in, value_of_word, value_by, block_of_word, function_of_word, global_by, global_of_word, layout_of_word}
 use Rattle.certificate.specs.Print.{name_text, key_text, name_at, local_text, global_text, layout_text, struct_name}
 use Rattle.certificate.specs.Named.{is_short_plain, AreNames, AreKeys, IsNamedFunction, IsNamed}
 use Rattle.certificate.specs.Fits.{is_value, is_value_sort, stands_for}
@@ -72,6 +73,16 @@ function_printed m number f named e =
     let l = named.functions number f e in
     let n = name_is m.symbols f.symbol named.symbols l.0 in
     (rw (n.1, global_read n.0 n.3, n.4, l.1) refl, rw n.1 (all_bytes n.0 n.2))
+
+symbol_is : (symbol : ℕ) (g : Option ℕ) → is_some g ≡ true → global_by symbol g ≡ naming.Named symbol
+symbol_is symbol None e = absurd cc
+symbol_is symbol (Some g) e = refl
+
+-- and a global's
+pub global_printed : (m : Module) (symbol : ℕ) → IsNamed m → is_some (global_named m symbol) ≡ true → (global_of_word m (global_text m symbol) ≡ naming.Named symbol) × (is_word (global_text m symbol) ≡ true)
+global_printed m symbol named e =
+    let n = name_is m.symbols symbol named.symbols (named.globals symbol e) in
+    (rw (n.1, global_read n.0 n.3, n.4) (symbol_is symbol (global_named m symbol) e), rw n.1 (all_bytes n.0 n.2))
 
 struct_found : (layout : ℕ) (xs : List (Option ℕ)) → list_any (stands_for layout) xs ≡ true → (name : ℕ) × (slice_get xs name ≡ Some (Some layout))
 struct_found layout [] e = absurd cc

@@ -1,32 +1,26 @@
 -- The certificates that a text is are certificates of the module.
-use Rattle.std.proofs.Common.{◌≡◌, ℕ, zero, suc, ◌+◌, ◌<◌, Bool, true, false, cond, not, ◌&&◌, ◌||◌, nat_lt, List, [], ◌∷◌, length, slice_get, slice_set, codes, Option, Some, None, is_some, refl, ap, sym, subst, ◌∙◌, arith}
+use Rattle.std.proofs.Common.{◌≡◌, ℕ, suc, ◌+◌, ◌<◌, Bool, true, false, not, ◌&&◌, ◌||◌, List, [], ◌∷◌, length, slice_get, slice_set, codes, Option, Some, None, is_some, refl, ap, sym, subst, ◌∙◌, arith}
 use Rattle.std.specs.Prelude.{◌==◌, if◌then◌else◌, map, unwrap_or}
-use Rattle.std.specs.List.{list_all, list_any, zip, position_or_len}
+use Rattle.std.specs.List.{list_all, zip}
 use Rattle.std.specs.Str.{bytes_eq}
-use Rattle.std.proofs.lemmas.Bool.{eqb-true, eq-eqb, ltb-true}
+use Rattle.std.proofs.lemmas.Bool.{eqb-true, eq-eqb}
 use Rattle.std.proofs.lemmas.List.{length-set}
 use Rattle.grammar.specs.Many.{Listed}
-use Rattle.ir_ast.specs.Names.{place_of}
 use Rattle.ir_ast.specs.declared.function.Function.{Function}
-use Rattle.ir_ast.specs.declared.function.LocalSort.{LocalSort}
-use Rattle.ir_ast.specs.declared.function.LocalSort.TheVariants as local
 use Rattle.ir_ast.specs.declared.module.Module.{Module}
-use Rattle.pools.specs.declared.word_set.WordSet.{WordSet}
-use Rattle.types.specs.References.{struct_named, struct_in}
-use Rattle.certificate.specs.Words.{Text as Bytes}
-use Rattle.certificate.specs.Numbers.{is_number, decimal, small, number_of_word, from_one, count_of_word, bits_of_word, words_of_word}
+use Rattle.certificate.specs.Words.{Text as Bytes, begins_with}
+use Rattle.certificate.specs.Numbers.{small, bits_of_word}
 use Rattle.certificate.specs.Names as names
-use Rattle.certificate.specs.Names.{name_in, value_of_word, value_named, value_at, value_by, local_at, layout_of_word, layout_named, struct_at}
-use Rattle.certificate.specs.Families.{family_of_type, family_of_value, is_reference, is_integer, is_address, refers_to, same_bits}
+use Rattle.certificate.specs.Names.{global_of_word, value_of_word}
+use Rattle.certificate.specs.Families.{family_of_type, family_of_value, is_reference, is_integer, is_address, same_bits}
 use Rattle.certificate.specs.Drafts.{root_names, wanting, listing, listing_slot, block_ended, is_in, first_unlisted}
-use Rattle.certificate.specs.Input.{Input, Form, left, ended, start_of, word, begins, after, next_line, line_ends, begun, with_promise, wants, with_line, with_slot_line, with_block, with_section, kept}
-use Rattle.certificate.specs.Forms.{skip, taken, taken_if, taken_as, expect, line_end, flag, flag_by, count, word_set, mark_of_word, marked, age, age_by, age_of_word, free_by, new_function, function_named, function_by, new_parameter, is_parameter, unpromised, parameter_by, parameter_named, new_block, block_by, block_named, new_value, new_value_named, new_slot, root_by, slot_named, want, listed_by, listed_name, layout_by, layout_name, begin, put_value, put_slot}
-use Rattle.certificate.specs.Lines.{no_promise, fact_if, promised_by, promise_by, promised_fact, more_by, more_facts, promise, number_head, head_by, below_by, below, listed_if, listed_behind, number, reference, address, fact_by, fact_of, fact_end, slot_end, value_line, slot_line, line_by, line}
+use Rattle.certificate.specs.Input.{Input, left, ended, start_of, word, begins, line_ends, begun, with_promise, wants, with_line, with_slot_line, with_block, with_section, kept}
+use Rattle.certificate.specs.Forms.{free_by, new_function, function_named, function_by, new_parameter, is_parameter, unpromised, parameter_by, parameter_named, new_block, block_by, block_named, new_value, new_value_named, new_slot, root_by, slot_named, want, listed_by, listed_name, begin, put_value, put_slot}
+use Rattle.certificate.specs.Lines.{no_promise, fact_if, promised_by, promise_by, promised_fact, more_by, more_facts, promise, number_head, head_by, below_by, below, listed_if, listed_behind, number, reference, words_of_cell, global_by, global_address, address_by, address, fact_by, fact_of, fact_end, slot_end, value_line, slot_line, line_by, line}
 use Rattle.certificate.specs.Text as text
-use Rattle.certificate.specs.Text.{IsCert, file, first_gap, gap_of, gap_in, gap_or, sections_in, finished_by}
-use Rattle.certificate.specs.Fits.{is_count, below_fits, stands_for, layout_fits, words_fit, says_something, promised_layout_fits, promised_below_fits, promise_fits, promised_fits, fact_fits, is_value_sort, is_value, named_in_fact, section_fits, fits}
+use Rattle.certificate.specs.Text.{IsCert, file, first_gap, gap_in, gap_or, sections_in, finished_by}
+use Rattle.certificate.specs.Fits.{below_fits, says_something, promised_layout_fits, promised_below_fits, promise_fits, promised_fits, fact_fits, is_value, named_in_fact, section_fits, fits}
 use Rattle.certificate.proofs.Between.{both, all_set_zip, Between, Within, is_wanted, last_wanted, at_start, with_parameter, block_begins, block_ends, with_wanted, with_value, with_slot}
-use Rattle.certificate.proofs.WordSets.{read_words_fit}
 use Rattle.certificate.specs.declared.draft.Draft.{Draft}
 use Rattle.certificate.specs.declared.family.Family.{Family}
 use Rattle.certificate.specs.declared.family.Family.TheVariants as family
@@ -36,179 +30,15 @@ use Rattle.certificate.specs.declared.fault.Found.{Found}
 use Rattle.certificate.specs.declared.input.Kept.{Kept}
 use Rattle.certificate.specs.declared.naming.Naming.{Naming}
 use Rattle.certificate.specs.declared.naming.Naming.TheVariants as naming
-use Rattle.certificate.specs.declared.naming.Sigil.TheVariants as sigil
 use Rattle.certificate.specs.declared.promises.Promised.{Promised}
 use Rattle.certificate.specs.declared.promises.Promised.TheVariants as promised
-use Rattle.certificate.specs.declared.section.Age.{Age}
 use Rattle.certificate.specs.declared.section.Fact.{Fact}
+use Rattle.certificate.specs.declared.section.Fact.TheVariants as facts
 use Rattle.certificate.specs.declared.section.Line.TheVariants as line
 use Rattle.certificate.specs.declared.section.Mark.{Mark}
 use Rattle.certificate.specs.declared.section.Promise.{Promise}
 use Rattle.certificate.specs.declared.section.Section.{Section}
-
--- ---- forms that change nothing but what is left of the text
-
--- what is read so far; the form changes nothing else
-abbrev pub still : Input → Input
-still i = record i { rest = [] }
-
-abbrev pub Still : {A : Type 0} → Form A → Type 0
-Still {A = A} g = (i : Input) (a : A) (o : Input) → g.says i a o → still i ≡ still o
-
-still_skip : Still skip
-unfolding skip after
-still_skip i a o h = ap still h.1
-
-still_taken : {A : Type 0} (x : A) → Still (taken x)
-still_taken x i a o h = still_skip i h.0 h.1 h.2 ∙ ap still h.3.1
-
-taken_is : {A : Type 0} (x : A) (i : Input) (a : A) (o : Input) → (taken x).says i a o → x ≡ a
-taken_is x i a o h = h.3.0
-
-still_expect : (wanted : Bytes) → Still (expect wanted)
-unfolding expect
-still_expect wanted i a o h = ap still h.2.1 ∙ still_skip h.1 a o h.3
-
-still_line_end : Still line_end
-unfolding line_end next_line
-still_line_end i a o h = ap still h.2.1 ∙ ap still h.3.1
-
-still_flag : (wanted : Bytes) → Still (flag wanted)
-unfolding flag
-still_flag wanted i a o h = by (begins wanted i) h
-  where
-    by : (b : Bool) → (flag_by b).says i a o → still i ≡ still o
-    by true h = still_taken true i a o h
-    by false h = ap still h.1
-
-still_as : {A : Type 0} (x : Option A) → Still (taken_as x)
-still_as None i a o h = absurd h
-still_as (Some x) i a o h = still_taken x i a o h
-
-as_is : {A : Type 0} (x : Option A) (i : Input) (a : A) (o : Input) → (taken_as x).says i a o → x ≡ Some a
-as_is None i a o h = absurd h
-as_is (Some x) i a o h = ap (λ y. Some y) (taken_is x i a o h)
-
-still_marked : Still marked
-unfolding marked
-still_marked i a o h = still_as (mark_of_word (word i)) i a o h
-
-still_age : Still age
-unfolding age
-still_age i a o h = by (age_of_word (word i)) h
-  where
-    by : (x : Option Age) → (age_by x).says i a o → still i ≡ still o
-    by (Some given) h = still_taken given i a o h
-    by None h = ap still h.1
-
--- ---- numbers and words
-
-number_is : (w : Bytes) (n : ℕ) → number_of_word w ≡ Some n → small n ≡ Some n
-number_is w n e = by (is_number w) (nat_lt (decimal w) 18446744073709551616) refl e
-  where
-    by : (b t : Bool) → nat_lt (decimal w) 18446744073709551616 ≡ t → (if b then (if t then Some (decimal w) else None) else None) ≡ Some n → small n ≡ Some n
-    by false t is e = absurd cc
-    by true false is e = absurd cc
-    by true true is e = let same : decimal w ≡ n = cc in subst (λ x. small x ≡ Some x) same (rw is refl)
-
-from_is : (x : Option ℕ) (n : ℕ) → from_one x ≡ Some n → x ≡ Some n
-from_is None n e = absurd cc
-from_is (Some k) n e = by (k == 0) e
-  where
-    by : (b : Bool) → (if b then None else Some k) ≡ Some n → Some k ≡ Some n
-    by true e = absurd cc
-    by false e = e
-
-count_fits : (w : Bytes) (n : ℕ) → count_of_word w ≡ Some n → is_count n ≡ true
-count_fits w n e =
-    let is = from_is (number_of_word w) n e in
-    let same : from_one (Some n) ≡ Some n = ap from_one (sym is) ∙ e in
-    ap (λ x. is_some (from_one x)) (number_is w n is) ∙ ap is_some same
-
-count_is : (i : Input) (n : ℕ) (o : Input) → count.says i n o → (is_count n ≡ true) × (still i ≡ still o)
-unfolding count
-count_is i n o h = (count_fits (word i) n (as_is (count_of_word (word i)) i n o h), still_as (count_of_word (word i)) i n o h)
-
-word_set_is : (i : Input) (set : WordSet) (o : Input) → word_set.says i set o → (words_fit set.members ≡ true) × (still i ≡ still o)
-unfolding word_set
-word_set_is i set o h = (read_words_fit (word i) set (as_is (words_of_word (word i)) i set o h), still_as (words_of_word (word i)) i set o h)
-
-bits_are : (w : Bytes) (n : ℕ) → bits_of_word w ≡ Some n → small n ≡ Some n
-bits_are [] n e = absurd cc
-bits_are (byte ∷ digits) n e = by (byte == 105) e
-  where
-    by : (b : Bool) → (if b then number_of_word digits else None) ≡ Some n → small n ≡ Some n
-    by true e = number_is digits n e
-    by false e = absurd cc
-
--- ---- names
-
-placed_within : (name : Bytes) (xs : List Bytes) (n : ℕ) → place_of name xs ≡ Some n → n < length xs
-placed_within name xs n e = by (position_or_len (bytes_eq name) xs) (length xs) (nat_lt (position_or_len (bytes_eq name) xs) (length xs)) refl e
-  where
-    by : (at end : ℕ) (b : Bool) → nat_lt at end ≡ b → cond b (Some at) None ≡ Some n → n < end
-    by at end true is e = let same : at ≡ n = cc in let below = ltb-true at end is in omega (arith, same, below)
-    by at end false is e = absurd cc
-
--- a value that a word names
-value_is : (f : Function) (w : Bytes) (v : ℕ) → value_of_word f w ≡ naming.Named v → (v < length f.locals) × (is_value f v ≡ true)
-value_is f w v e = by_name (name_in sigil.Local w) e
-  where
-    by_sort : (p : ℕ) (s : Option LocalSort) → slice_get f.sorts p ≡ s → value_by (Some p) s ≡ naming.Named v → (p ≡ v) × (is_value_sort s ≡ true)
-    by_sort p None is e = absurd cc
-    by_sort p (Some (local.Value written)) is e = (let q : p ≡ v = cc in q, refl)
-    by_sort p (Some (local.Element block place)) is e = (let q : p ≡ v = cc in q, refl)
-    by_sort p (Some local.Unknown) is e = absurd cc
-    by_sort p (Some (local.Block block)) is e = absurd cc
-
-    by_place : (name : Bytes) (p : Option ℕ) → place_of name f.locals ≡ p → value_at f p ≡ naming.Named v → (v < length f.locals) × (is_value f v ≡ true)
-    by_place name None is e = absurd cc
-    by_place name (Some p) is e =
-        let q = by_sort p (slice_get f.sorts p) refl e in
-        let below = placed_within name f.locals p is in
-        (omega (arith, below, q.0), ap (λ x. is_value f x) (sym q.0) ∙ q.1)
-
-    by_name : (n : Option Bytes) → value_named f n ≡ naming.Named v → (v < length f.locals) × (is_value f v ≡ true)
-    by_name None e = absurd cc
-    by_name (Some name) e = by_place name (place_of name f.locals) refl e
-
--- a layout that a word names
-layout_is : (m : Module) (w : Bytes) (l : ℕ) → layout_of_word m w ≡ naming.Named l → list_any (stands_for l) m.struct_of ≡ true
-layout_is m w l e = by_name (name_in sigil.Layout (37 ∷ w)) e
-  where
-    or_true : (a b : Bool) → b ≡ true → (a || b) ≡ true
-    or_true true b e = refl
-    or_true false b e = e
-
-    found : (xs : List (Option ℕ)) (i : ℕ) → struct_in (slice_get xs i) ≡ Some l → list_any (stands_for l) xs ≡ true
-    found [] i e = absurd cc
-    found (x ∷ xs) zero e = rw (ap (stands_for l) e ∙ eq-eqb l l refl) refl
-    found (x ∷ xs) (suc i) e = or_true (stands_for l x) (list_any (stands_for l) xs) (found xs i e)
-
-    by_layout : (x : Option ℕ) → names.layout_by x ≡ naming.Named l → x ≡ Some l
-    by_layout None e = absurd cc
-    by_layout (Some k) e = let q : k ≡ l = cc in ap (λ y. Some y) q
-
-    by_place : (p : Option ℕ) → names.layout_by (struct_at m p) ≡ naming.Named l → list_any (stands_for l) m.struct_of ≡ true
-    by_place None e = absurd cc
-    by_place (Some p) e = found m.struct_of p (by_layout (struct_named m p) e)
-
-    by_name : (n : Option Bytes) → layout_named m n ≡ naming.Named l → list_any (stands_for l) m.struct_of ≡ true
-    by_name None e = absurd cc
-    by_name (Some name) e = by_place (place_of name m.struct_names) e
-
-layout_name_is : (m : Module) (family : Family) (i : Input) (l : ℕ) (o : Input) → (layout_name m family).says i l o → (layout_fits m family l ≡ true) × (still i ≡ still o)
-unfolding layout_name
-layout_name_is m family i l o h = by (layout_of_word m (word i)) refl h
-  where
-    fits_by : (b : Bool) (k : ℕ) → refers_to k family ≡ b → (taken_if b k).says i l o → list_any (stands_for k) m.struct_of ≡ true → (layout_fits m family l ≡ true) × (still i ≡ still o)
-    fits_by false k is h known = absurd h
-    fits_by true k is h known = (subst (λ x. layout_fits m family x ≡ true) (taken_is k i l o h) (rw (is, known) refl), still_taken k i l o h)
-
-    by : (n : Naming) → layout_of_word m (word i) ≡ n → (layout_by family n).says i l o → (layout_fits m family l ≡ true) × (still i ≡ still o)
-    by naming.NoName is h = absurd h
-    by naming.Unknown is h = absurd h
-    by (naming.Named k) is h = fits_by (refers_to k family) k refl h (layout_is m (word i) k is)
+use Rattle.certificate.proofs.ReadWords.{still, Still, still_skip, still_taken, taken_is, still_expect, still_line_end, still_flag, still_marked, still_age, count_is, word_set_is, bits_are, value_is, global_is, layout_name_is}
 
 -- ---- promises
 
@@ -362,14 +192,34 @@ reference_fact m f family i fact o h =
     let same = listed_behind_is f (codes "same") c.1 d.0 d.1 d.2 in
     subst (λ x. FactIs m family i x o) d.3.0 (l.0, asks_behind d.0 i d.1 o (asks_before d.0 i c.1 d.1 (skipped ∙ l.1 ∙ nonnull ∙ how) same) (ap still d.3.1))
 
-address_fact : (m : Module) (f : Function) (family : Family) (i : Input) (fact : Fact) (o : Input) → is_address family ≡ true → (address f).says i fact o → FactIs m family i fact o
+cell_fact : (m : Module) (f : Function) (family : Family) (i : Input) (fact : Fact) (o : Input) → is_address family ≡ true → (words_of_cell f).says i fact o → FactIs m family i fact o
+unfolding words_of_cell
+cell_fact m f family i fact o fits h =
+    let base = listed_name_is f i h.0 h.1 h.2 in
+    let b = h.3 in
+    let set = word_set_is h.1 b.0 b.1 b.2 in
+    subst (λ x. FactIs m family i x o) b.3.0 (rw (fits, set.0) refl, asks_behind (Some h.0) i h.1 o base (set.1 ∙ ap still b.3.1))
+
+global_fact : (m : Module) (family : Family) (i : Input) (fact : Fact) (o : Input) → is_address family ≡ true → (global_address m).says i fact o → FactIs m family i fact o
+unfolding global_address
+global_fact m family i fact o fits h = by (global_of_word m (word i)) refl h
+  where
+    by : (n : Naming) → global_of_word m (word i) ≡ n → (global_by n).says i fact o → FactIs m family i fact o
+    by naming.NoName is h = absurd h
+    by naming.Unknown is h = absurd h
+    by (naming.Named s) is h =
+        let same = taken_is (facts.GlobalAddress s) i fact o h in
+        subst (λ x. FactIs m family i x o) same (rw (fits, global_is m (word i) s is) refl, still_taken (facts.GlobalAddress s) i fact o h)
+
+address_fact : (m : Module) (f : Function) (family : Family) (i : Input) (fact : Fact) (o : Input) → is_address family ≡ true → (address m f).says i fact o → FactIs m family i fact o
 unfolding address
 address_fact m f family i fact o fits h =
-    let skipped = still_skip i h.0 h.1 h.2 in
-    let base = listed_name_is f h.1 h.3.0 h.3.1 h.3.2 in
-    let b = h.3.3 in
-    let set = word_set_is h.3.1 b.0 b.1 b.2 in
-    subst (λ x. FactIs m family i x o) b.3.0 (rw (fits, set.0) refl, asks_behind (Some h.3.0) i h.3.1 o (asks_before (Some h.3.0) i h.1 h.3.1 skipped base) (set.1 ∙ ap still b.3.1))
+    let said = by (begins_with 64 (word h.1)) h.3 in
+    (said.0, asks_before (named_in_fact fact) i h.1 o (still_skip i h.0 h.1 h.2) said.1)
+  where
+    by : (b : Bool) → (address_by m f b).says h.1 fact o → FactIs m family h.1 fact o
+    by true g = global_fact m family h.1 fact o fits g
+    by false g = cell_fact m f family h.1 fact o fits g
 
 bits_fit : (family : Family) (x : Option ℕ) (bits : ℕ) → number_head (same_bits family x) ≡ head.Number bits → (x ≡ Some bits) × (is_some (same_bits family (Some bits)) ≡ true)
 bits_fit (family.Number own) None bits e = absurd cc

@@ -7,6 +7,7 @@ use Rattle.ir_ast.specs.declared.function.LocalSort.TheVariants as local
 use Rattle.ir_ast.specs.declared.function.Parameter.{Parameter}
 use Rattle.ir_ast.specs.declared.module.Module.{Module}
 use Rattle.pools.specs.WordSets.{no_words, has_word, adds_word}
+use Rattle.types.specs.Globals.{global_named}
 use Rattle.certificate.specs.Drafts.{root_names}
 use Rattle.certificate.specs.Families.{family_of_type, family_of_value, is_reference, is_integer, is_address, refers_to, same_bits}
 use Rattle.certificate.specs.Numbers.{small, from_one}
@@ -92,12 +93,12 @@ parameter_fits m f parameter promise = promised_fits m (family_of_value m f para
 
 -- ---- lines
 
--- a fact that may be said of such a value; the address of a global is not read so far
+-- a fact that may be said of such a value
 abbrev pub fact_fits : Module → Family → Fact → Bool
 fact_fits m family (fact.Number bits below) = is_some (same_bits family (small bits)) && below_fits below
 fact_fits m family (fact.Reference layout nonnull age same) = layout_fits m family layout
 fact_fits m family (fact.Address base words) = is_address family && words_fit words.members
-fact_fits m family (fact.GlobalAddress symbol) = false
+fact_fits m family (fact.GlobalAddress symbol) = is_address family && is_some (global_named m symbol)
 
 -- a parameter or an instruction's value
 abbrev pub is_value_sort : Option LocalSort → Bool

@@ -4,14 +4,17 @@ use Rattle.std.specs.Str.{bytes_eq}
 use Rattle.ir_ast.specs.declared.function.Function.{Function}
 use Rattle.ir_ast.specs.declared.module.Module.{Module}
 use Rattle.grammar.specs.Grammar.{pure, ◌>>=◌, ◌>>◌, checked, look}
-use Rattle.certificate.specs.Words.{Text as Bytes}
+use Rattle.certificate.specs.Words.{Text as Bytes, begins_with}
 use Rattle.certificate.specs.Numbers.{bits_of_word}
+use Rattle.certificate.specs.Names.{global_of_word}
 use Rattle.certificate.specs.Families.{family_of_value, is_reference, is_integer, is_address, same_bits}
 use Rattle.certificate.specs.Input.{Form, left, word, begins, line_ends}
-use Rattle.certificate.specs.Forms.{syntax, twice, skip, taken, expect, line_end, flag, count, word_set, age, new_value, new_slot, listed_name, layout_name, put_value, put_slot}
+use Rattle.certificate.specs.Forms.{syntax, unknown, twice, skip, taken, expect, line_end, flag, count, word_set, age, new_value, new_slot, listed_name, layout_name, put_value, put_slot}
 use Rattle.certificate.specs.declared.family.Family.{Family}
 use Rattle.certificate.specs.declared.facts.Head.{Head}
 use Rattle.certificate.specs.declared.facts.Head.TheVariants as head
+use Rattle.certificate.specs.declared.naming.Naming.{Naming}
+use Rattle.certificate.specs.declared.naming.Naming.TheVariants.{NoName, Unknown, Named}
 use Rattle.certificate.specs.declared.promises.Promised.{Promised}
 use Rattle.certificate.specs.declared.promises.Promised.TheVariants as promised
 use Rattle.certificate.specs.declared.section.Age.{Age}
@@ -117,19 +120,37 @@ reference m f family = do
   same ← listed_behind f (codes "same")
   pure (fact.Reference layout nonnull how same)
 
--- a fact of an address
-unfoldable pub address : Function → Form Fact
-address f = do
-  skip
+-- a value that the block has to list, and words of its cell
+unfoldable pub words_of_cell : Function → Form Fact
+words_of_cell f = do
   base ← listed_name f
   words ← word_set
   pure (fact.Address base words)
+
+-- the address of the global that is named
+abbrev pub global_by : Naming → Form Fact
+global_by NoName = syntax
+global_by Unknown = unknown
+global_by (Named symbol) = taken (fact.GlobalAddress symbol)
+
+-- the name of a global
+unfoldable pub global_address : Module → Form Fact
+global_address m = look (λ i. global_of_word m (word i)) global_by
+
+-- of a global where the sign of its name begins the word, and otherwise of words of a cell
+abbrev pub address_by : Module → Function → (begins : Bool) → Form Fact
+address_by m f true = global_address m
+address_by m f false = words_of_cell f
+
+-- a fact of an address
+unfoldable pub address : Module → Function → Form Fact
+address m f = skip >> look (λ i. begins_with 64 (word i)) (address_by m f)
 
 -- the fact that begins so
 abbrev pub fact_by : Module → Function → Family → Head → Form Fact
 fact_by m f family (head.Number bits) = number bits
 fact_by m f family head.Reference = reference m f family
-fact_by m f family head.Address = address f
+fact_by m f family head.Address = address m f
 fact_by m f family head.Other = syntax
 
 -- a fact that fits such a value

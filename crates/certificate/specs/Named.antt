@@ -1,5 +1,5 @@
 -- Modules whose names lead back to what they name.
-use Rattle.std.specs.Prelude.{◌≡◌, ℕ, ◌^◌, ◌<◌, nat_lt, true, false, not, ◌&&◌, ◌||◌, ◌==◌, Bool, List, [], ◌∷◌, length, slice_get, Some}
+use Rattle.std.specs.Prelude.{◌≡◌, ℕ, ◌^◌, ◌<◌, nat_lt, true, false, not, ◌&&◌, ◌||◌, ◌==◌, Bool, List, [], ◌∷◌, length, slice_get, Some, is_some}
 use Rattle.std.specs.List.{list_all}
 use Rattle.ir_ast.specs.Names.{place_of}
 use Rattle.ir_ast.specs.declared.block.Block.{Block}
@@ -10,6 +10,7 @@ use Rattle.ir_ast.specs.declared.items_of_module.StructType.{StructType}
 use Rattle.ir_ast.specs.declared.items_of_module.SymbolSort.TheVariants as sort
 use Rattle.ir_ast.specs.declared.module.Module.{Module}
 use Rattle.ir_tokens.specs.Bytes.{is_digit}
+use Rattle.types.specs.Globals.{global_named}
 use Rattle.certificate.specs.Fits.{is_value}
 use Rattle.certificate.specs.Print.{is_plain}
 use Rattle.certificate.specs.Words.{Text}
@@ -46,6 +47,7 @@ pub record IsNamedFunction (f : Function) : Type 0 where
 -- the names of a module, and what they name
 pub record IsNamed (m : Module) : Type 0 where
   pub symbols : AreNames m.symbols
+  pub globals : (symbol : ℕ) → is_some (global_named m symbol) ≡ true → symbol < length m.symbols
   pub structs : AreNames m.struct_names
   pub layouts : (layout name : ℕ) → slice_get m.struct_of name ≡ Some (Some layout) → (struct : StructType) × (slice_get m.structs layout ≡ Some struct) × (struct.name ≡ name) × (name < length m.struct_names)
   pub functions : (number : ℕ) (f : Function) → slice_get m.functions number ≡ Some f → (f.symbol < length m.symbols) × (slice_get m.sorts f.symbol ≡ Some (sort.Defined number)) × IsNamedFunction f

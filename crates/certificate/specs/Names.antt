@@ -13,6 +13,7 @@ use Rattle.ir_tokens.specs.declared.token.Kind.{Kind}
 use Rattle.ir_tokens.specs.declared.token.Kind.TheVariants as k
 use Rattle.ir_tokens.specs.Tokens.{lexed_of}
 use Rattle.ir_tokens.specs.Names.{name_of}
+use Rattle.types.specs.Globals.{global_named}
 use Rattle.types.specs.References.{struct_named}
 use Rattle.certificate.specs.Words.{Text}
 use Rattle.certificate.specs.declared.naming.Naming.{Naming}
@@ -59,6 +60,25 @@ function_named m (Some name) = function_by (sort_at m (place_of name m.symbols))
 -- what a word of a certificate names
 abbrev pub function_of_word : Module → (word : Text) → Naming
 function_of_word m word = function_named m (name_in sigil.Global word)
+
+-- a symbol, where it is a global's
+abbrev pub global_by : (symbol : ℕ) → (global : Option ℕ) → Naming
+global_by symbol None = Unknown
+global_by symbol (Some global) = Named symbol
+
+-- the symbol with this number, if it is a global's
+abbrev pub global_at : Module → Option ℕ → Naming
+global_at m None = Unknown
+global_at m (Some symbol) = global_by symbol (global_named m symbol)
+
+-- the symbol of the global of this name
+abbrev pub global_of_name : Module → Option Text → Naming
+global_of_name m None = NoName
+global_of_name m (Some name) = global_at m (place_of name m.symbols)
+
+-- the symbol of the global that a word names
+abbrev pub global_of_word : Module → (word : Text) → Naming
+global_of_word m word = global_of_name m (name_in sigil.Global word)
 
 -- ---- local names
 

@@ -2,14 +2,16 @@
 ghost use Rattle.std.specs.Prelude.{◌≡◌};
 ghost use Rattle.certificate.specs.Input.{Reads};
 ghost use Rattle.certificate.specs.Lines as form;
+ghost use Rattle.certificate.specs.Words.{begins_with};
 ghost use Rattle.certificate.specs.declared.section.Line.TheVariants.{Slot};
 
 use crate::family::{Family, family_of_value};
 use crate::fault::Found;
 use crate::input::Input;
+use crate::naming::{Naming, global_of_word};
 use crate::numbers::bits_of_word;
 use crate::section::{Age, Fact, Line};
-use ir_ast::{BlockId, Function, Module, ValueId};
+use ir_ast::{BlockId, Function, Module, SymbolId, ValueId};
 use std::alloc::Global;
 
 /// Which fact a word begins.
@@ -107,14 +109,55 @@ fn reference(
     })
 }
 
-#[tactic(auto, unfolding(crate::specs::Lines::address, crate::specs::Forms::skip))]
-fn address(alloc: Global, input: &mut Input<'_>, function: &Function) -> Result<Fact, Found>
-    ensures { Reads ((form.address function.now).read input.old) result input.new }
+#[tactic(auto, unfolding(crate::specs::Lines::words_of_cell))]
+fn words_of_cell(alloc: Global, input: &mut Input<'_>, function: &Function) -> Result<Fact, Found>
+    ensures { Reads ((form.words_of_cell function.now).read input.old) result input.new }
 {
-    input.skip();
     let base = input.listed_name(alloc, function)?;
     let words = input.word_set()?;
     Ok(Fact::Address { base, words })
+}
+
+/// The address of the global that is named.
+#[tactic(auto, unfolding(crate::specs::Lines::global_address, crate::specs::Forms::skip))]
+fn global_address(alloc: Global, input: &mut Input<'_>, module: &Module) -> Result<Fact, Found>
+    ensures { Reads ((form.global_address «module».now).read input.old) result input.new }
+{
+    match global_of_word(alloc, module, input.word())? {
+        Naming::NoName => Err(Found::Syntax(input.left())),
+        Naming::Unknown => Err(Found::UnknownName(input.left())),
+        Naming::Named(symbol) => {
+            input.skip();
+            Ok(Fact::GlobalAddress(SymbolId::new(symbol)))
+        }
+    }
+}
+
+fn begins_global(word: &[u8]) -> bool
+    ensures { result ≡ begins_with 64 word.now }
+{
+    match word {
+        [first, ..] => *first == b'@',
+        [] => false,
+    }
+}
+
+/// The address of a global where the sign of its name begins the word, and otherwise of words of a cell.
+#[tactic(auto, unfolding(crate::specs::Lines::address, crate::specs::Forms::skip))]
+fn address(
+    alloc: Global,
+    input: &mut Input<'_>,
+    module: &Module,
+    function: &Function,
+) -> Result<Fact, Found>
+    ensures { Reads ((form.address «module».now function.now).read input.old) result input.new }
+{
+    input.skip();
+    if begins_global(input.word()) {
+        global_address(alloc, input, module)
+    } else {
+        words_of_cell(alloc, input, function)
+    }
 }
 
 /// A fact that fits such a value.
@@ -131,7 +174,7 @@ fn fact_of(
     match head_by(*family, input.word()) {
         Head::Number(bits) => number(input, bits),
         Head::Reference => reference(alloc, input, module, function, family),
-        Head::Address => address(alloc, input, function),
+        Head::Address => address(alloc, input, module, function),
         Head::Other => Err(Found::Syntax(input.left())),
     }
 }

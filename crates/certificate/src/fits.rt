@@ -10,6 +10,7 @@ use crate::section::{Fact, Line, Promise, Section};
 use ir_ast::{Function, LocalSort, Module, Parameter, ValueId};
 use items::Items;
 use pools::{LayoutId, WordSet};
+use types::global_named;
 
 fn is_count(number: u64) -> bool
     ensures { result ≡ spec.is_count number }
@@ -148,7 +149,9 @@ fn fact_fits(module: &Module, family: Family, fact: &Fact) -> bool
         }
         Fact::Reference { layout, .. } => layout_fits(module, family, *layout),
         Fact::Address { words, .. } => family.is_address() && words_fit(words),
-        Fact::GlobalAddress(_) => false,
+        Fact::GlobalAddress(symbol) => {
+            family.is_address() && global_named(module, *symbol).is_some()
+        }
     }
 }
 

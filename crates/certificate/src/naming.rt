@@ -4,10 +4,13 @@ ghost use Rattle.certificate.specs.Names as spec;
 ghost use Rattle.ir_ast.specs.LocalKeys as keys;
 ghost use Rattle.ir_tokens.specs.Names.{name_of};
 
-use ir_ast::{Function, LocalSort, Module, SymbolSort, key_of_digits, marked, needs_mark};
+use ir_ast::{
+    Function, LocalSort, Module, SymbolId, SymbolSort, key_of_digits, marked, needs_mark,
+};
 use ir_tokens::{Kind, TEXT_LIMIT, Token, read_tokens, unescaped};
 use items::Items;
 use std::alloc::{AllocError, Global};
+use types::global_named;
 
 /// What a word names where something is to be named.
 #[derive(Clone, Copy, Debug, PartialEq, Eq)]
@@ -126,6 +129,28 @@ pub fn function_of_word(alloc: Global, module: &Module, word: &[u8]) -> Result<N
     match name_in(alloc, Sigil::Global, word)? {
         None => Ok(Naming::NoName),
         Some(name) => Ok(function_named(module, name.as_slice())),
+    }
+}
+
+fn global_of_name(module: &Module, name: &[u8]) -> Naming
+    ensures { result ≡ spec.global_of_name «module».now (Some name.now) }
+{
+    match module.symbols.find(name) {
+        None => Naming::Unknown,
+        Some(symbol) => match global_named(module, SymbolId::new(symbol as u32)) {
+            None => Naming::Unknown,
+            Some(_) => Naming::Named(symbol as u32),
+        },
+    }
+}
+
+/// The symbol of the global that a word names.
+pub fn global_of_word(alloc: Global, module: &Module, word: &[u8]) -> Result<Naming, AllocError>
+    ensures { IfOk result (λ naming. naming ≡ spec.global_of_word «module».now word.now) }
+{
+    match name_in(alloc, Sigil::Global, word)? {
+        None => Ok(Naming::NoName),
+        Some(name) => Ok(global_of_name(module, name.as_slice())),
     }
 }
 

@@ -2,10 +2,14 @@
 #![tactic(auto)]
 
 #[cfg(test)]
+mod barrier_tests;
+#[cfg(test)]
 mod calling_tests;
 #[cfg(test)]
 mod checking_tests;
 mod failure;
+#[cfg(test)]
+mod machine_tests;
 mod name;
 #[cfg(test)]
 mod reading_tests;

@@ -207,8 +207,14 @@ fn names_the_first_refusal(rt: HostRuntime) -> Result<(), Fail> {
         (
             collected,
             "",
-            "  %x = load %Node*, %Node** @g\n",
+            "  %x = load i8*, i8** @g\n",
             "no @f %entry 0 K2\n",
+        ),
+        (
+            collected,
+            claim,
+            "  call void @llvm.gcwrite(i8* %a, i8* %a, i8** bitcast (%Node** @g to i8**))\n",
+            "no @f %entry 1 K7\n",
         ),
         (
             collected,
@@ -221,6 +227,12 @@ fn names_the_first_refusal(rt: HostRuntime) -> Result<(), Fail> {
             root,
             "  call void @llvm.gcroot(i8** %r, i8* null)\n",
             "no @f %entry 3 K9\n",
+        ),
+        (
+            collected,
+            root,
+            "  %x = call i8* @llvm.gcread(i8* null, i8** %r)\n",
+            "no @f %entry 3 K10\n",
         ),
         (
             "define void @f() {\nentry:\n",

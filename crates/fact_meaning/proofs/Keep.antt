@@ -13,6 +13,7 @@ use Rattle.facts.specs.declared.known.Known.TheVariants.{Nothing, Number, Cell, 
 use Rattle.facts.specs.declared.known.SlotFact.{SlotFact}
 use Rattle.facts.specs.declared.known.Test.{Test}
 use Rattle.facts.specs.Facts.{FactSet, known_at, slot_at, class_at, test_at, open_slot, is_of, holds_class, let_go, slots_without, off_base, off_test, values_without, forget, set_known}
+use Rattle.machine.specs.declared.value.Reference.{Reference}
 use Rattle.machine.specs.declared.value.Value.{Value}
 use Rattle.machine.specs.declared.value.Value.TheVariants as value
 use Rattle.machine.specs.Kinds.{register_at, bits_at, constant_value}
@@ -56,7 +57,7 @@ forget_cell v values j c l s =
     (λ is. absurd cc)
 
 -- a class with a known value is found
-found : (values : List Known) (j c l : ℕ) (s : Bool) → known_at values j ≡ Cell c l s → list_any (is_of c) values ≡ true
+pub found : (values : List Known) (j c l : ℕ) (s : Bool) → known_at values j ≡ Cell c l s → list_any (is_of c) values ≡ true
 found [] j c l s e = absurd cc
 found (x ∷ values) zero c l s e = ap (λ b. b || list_any (is_of c) values) (ap (is_of c) e ∙ equal_test c c refl)
 found (x ∷ values) (suc j) c l s e = or_true (is_of c x) _ (found values j c l s e) where
@@ -246,12 +247,12 @@ module _ (heap : Setup) (p : LaidOut) (table : SlotTable) (guarded : Guarded) (l
           subst (λ x. AreApart x (slot_value slots s)) (sym (agree c ca)) (h.alone_in_slots a s c l st ea (fewer c ca fr) out);
     }
 
-  -- a log in which no held cell and no fresh cell is lost
-  own_grows : (later : Log) → ((cell : ℕ) → Held log cell → Held later cell) → (v : Value) → IsOwn log guarded v → IsOwn later guarded v
+  -- a log in which nothing held is lost
+  own_grows : (later : Log) → ((r : Reference) → Held log r → Held later r) → (v : Value) → IsOwn log guarded v → IsOwn later guarded v
   own_grows later held value.Unset o = o
   own_grows later held (value.Number n) o = o
   own_grows later held value.Null o = o
-  own_grows later held (value.Cell l at) o = (held at.cell o.0, o.1)
+  own_grows later held (value.Cell l at) o = (held at o.0, o.1)
   own_grows later held (value.Address at) o = o
 
   fresh_grows : (later : Log) → ((cell : ℕ) → IsFresh log cell → IsFresh later cell) → (v : Value) → IsNullOrFresh log v → IsNullOrFresh later v
@@ -261,7 +262,7 @@ module _ (heap : Setup) (p : LaidOut) (table : SlotTable) (guarded : Guarded) (l
   fresh_grows later fresh (value.Cell l at) o = fresh at.cell o
   fresh_grows later fresh (value.Address at) o = o
 
-  module _ (later : Log) (held : (cell : ℕ) → Held log cell → Held later cell) (fresh : (cell : ℕ) → IsFresh log cell → IsFresh later cell) where
+  module _ (later : Log) (held : (r : Reference) → Held log r → Held later r) where
     means_grow : (k : Known) (v : Value) → Means heap p guarded log cells (length facts.classes) registers k v → Means heap p guarded later cells (length facts.classes) registers k v
     means_grow Nothing v m = m
     means_grow (Number n b) v m = m
@@ -278,17 +279,22 @@ module _ (heap : Setup) (p : LaidOut) (table : SlotTable) (guarded : Guarded) (l
     slot_grows None v r = r
     slot_grows (Some t) v r = record { integer = r.integer; reference = λ z. reference_grows (referenced_layout p.of_module t) v (r.reference z) }
 
-    pub log_keeps : Holds heap p table guarded later cells facts registers slots
-    log_keeps = record {
+    -- where the values of the fresh classes stay fresh
+    pub classes_log_keeps : ((c : ℕ) → (class_at facts.classes c).fresh ≡ true → IsNullOrFresh log (cells c) → IsNullOrFresh later (cells c)) → Holds heap p table guarded later cells facts registers slots
+    classes_log_keeps fresh = record {
       registers_size = h.registers_size;
       tests_size = h.tests_size;
       slots_size = h.slots_size;
       held_size = h.held_size;
       values = λ v. means_grow (known_at facts.values v) (register_at registers v) (h.values v);
-      classes = λ c. record { nonnull = (h.classes c).nonnull; fresh = λ z. fresh_grows later fresh (cells c) ((h.classes c).fresh z) };
+      classes = λ c. record { nonnull = (h.classes c).nonnull; fresh = λ z. fresh c z ((h.classes c).fresh z) };
       tests = h.tests;
       slot_types = λ s. slot_grows (held_type table s) (slot_value slots s) (h.slot_types s);
       slot_facts = h.slot_facts;
       alone = h.alone;
       alone_in_slots = h.alone_in_slots;
     }
+
+    -- where no fresh cell is lost
+    pub log_keeps : ((cell : ℕ) → IsFresh log cell → IsFresh later cell) → Holds heap p table guarded later cells facts registers slots
+    log_keeps fresh = classes_log_keeps (λ c z. fresh_grows later fresh (cells c))

@@ -1,6 +1,7 @@
 pub mod Lists
 pub mod Listed
 pub mod Keep
+pub mod Named
 pub mod Change
 pub mod SlotsKeep
 pub mod Phis

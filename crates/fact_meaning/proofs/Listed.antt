@@ -23,7 +23,7 @@ use Rattle.machine.specs.declared.value.Value.TheVariants as value
 use Rattle.machine.specs.Kinds.{register_at}
 use Rattle.machine.specs.Machine.{slot_value}
 use Rattle.machine.specs.Log.{Log}
-use Rattle.fact_meaning.specs.Meaning.{Cells, Guarded, IsReferenceTo, IsOwn, IsNullOrFresh, AreApart, IsBelow, IsInteger, IsAddressOf, Means, ClassMeans, WasTested, SlotMeans, Holds}
+use Rattle.fact_meaning.specs.Meaning.{Cells, Guarded, IsReferenceTo, IsOwn, IsNullOrFresh, AreApart, IsBelow, IsInteger, IsAddressOf, IsGlobal, Means, ClassMeans, WasTested, SlotMeans, Holds}
 use Rattle.fact_meaning.proofs.Lists.{both, negated, equal, equal_test, at_set, at_map, by_equal, at_other, at_same, replicated, all_zip, as_implied, either, not_both, within_list, each_below}
 
 -- a smaller bound shows a larger one
@@ -73,7 +73,7 @@ module _ (heap : Setup) (p : LaidOut) (table : SlotTable) (guarded : Guarded) (l
   Lists v (Cell c layout stale) = ListsCell v c layout stale
   Lists v Null = ⊥
   Lists v (Address base words) = IsAddressOf p words.members (names base) (names v)
-  Lists v (GlobalAddress g) = ⊥
+  Lists v (GlobalAddress symbol) = IsGlobal p.of_module symbol (names v)
 
   -- a fresh class has a value that is fresh here
   record Origin (f : FactSet) (c : ℕ) : Type 0 where
@@ -182,13 +182,16 @@ module _ (heap : Setup) (p : LaidOut) (table : SlotTable) (guarded : Guarded) (l
   address_plain : (base : ℕ) (words : List Bool) (k : Known) (c l : ℕ) (s : Bool) → shows_address base words k ≡ true → k ≡ Cell c l s → ⊥
   address_plain base words k c l s e z = let t = subst (λ x. shows_address base words x ≡ true) z e in absurd cc
 
-  global_shown : (g : ℕ) (k : Known) (v : ℕ) → shows_global g k ≡ true → Means heap p guarded log cells (length here.classes) registers k (names v) → ⊥
-  global_shown g Nothing v e m = absurd cc
-  global_shown g (Number n b) v e m = absurd cc
-  global_shown g (Cell c l s) v e m = absurd cc
-  global_shown g Null v e m = absurd cc
-  global_shown g (Address x w) v e m = absurd cc
-  global_shown g (GlobalAddress k) v e m = m
+  global_plain : (symbol : ℕ) (k : Known) (c l : ℕ) (s : Bool) → shows_global symbol k ≡ true → k ≡ Cell c l s → ⊥
+  global_plain symbol k c l s e z = let t = subst (λ x. shows_global symbol x ≡ true) z e in absurd cc
+
+  global_shown : (v symbol : ℕ) (k : Known) → shows_global symbol k ≡ true → Means heap p guarded log cells (length here.classes) registers k (names v) → IsGlobal p.of_module symbol (names v)
+  global_shown v symbol (GlobalAddress known) e m = subst (λ x. IsGlobal p.of_module x (names v)) (equal known symbol e) m
+  global_shown v symbol Nothing e m = absurd cc
+  global_shown v symbol (Number n b) e m = absurd cc
+  global_shown v symbol (Cell c l s) e m = absurd cc
+  global_shown v symbol Null e m = absurd cc
+  global_shown v symbol (Address x w) e m = absurd cc
 
   -- a word of a part of a set is one of the set
   word_more : (set other : List Bool) (w : ℕ) → w < 64 → has_all set other ≡ true → has_word other w ≡ true → has_word set w ≡ true
@@ -293,7 +296,10 @@ module _ (heap : Setup) (p : LaidOut) (table : SlotTable) (guarded : Guarded) (l
     plain_listed f v (Address base words) g (address_shown v base words.members (known_at here.values v) e (h.values v)) (λ c l s. address_plain base words.members (known_at here.values v) c l s e) (λ c l s z. absurd cc),
     plain_own f v (Address base words) own (λ c l s z. absurd cc),
   )
-  value_listed f v (fact.GlobalAddress x) e g own = absurd (global_shown x (known_at here.values v) v e (h.values v))
+  value_listed f v (fact.GlobalAddress x) e g own = (
+    plain_listed f v (GlobalAddress x) g (global_shown v x (known_at here.values v) e (h.values v)) (λ c l s. global_plain x (known_at here.values v) c l s e) (λ c l s z. absurd cc),
+    plain_own f v (GlobalAddress x) own (λ c l s z. absurd cc),
+  )
 
   -- a slot is listed
   held_not_null : (slot : SlotFact) (v : Value) → SlotMeans cells (length here.classes) slot v → slot_nonnull here.classes slot ≡ true → v ≢ value.Null
@@ -561,7 +567,7 @@ module _ (heap : Setup) (p : LaidOut) (table : SlotTable) (guarded : Guarded) (l
     meant v (Cell c layout stale) l = record { is = l.is; within = omega (arith, l.within, given.classes_size); refers = l.refers; own = l.own }
     meant v Null l = absurd l
     meant v (Address x w) l = l
-    meant v (GlobalAddress x) l = absurd l
+    meant v (GlobalAddress x) l = l
 
     -- a value that is listed as a reference of another class than a fresh one is not of the class that is fresh here
     covered_value : (q c w d k : ℕ) (st : Bool) (hc hl : ℕ) (hs : Bool) → covers here there q c ≡ true → known_at here.values w ≡ Cell hc hl hs → known_at there.values w ≡ Cell d k st → hc ≡ q → d ≡ c

@@ -1,13 +1,16 @@
--- Loads and stores of addresses keep the discipline.
-use Rattle.std.proofs.Common.{◌≡◌, ◌≢◌, ℕ, zero, suc, ◌<◌, List, length, refl, sym, ap, ◌∙◌, subst, arith, true, false, Bool, Option, Some, None, slice_get}
+-- The words to which addresses lead, and the loads and stores of them that keep the discipline.
+use Rattle.std.proofs.Common.{◌≡◌, ◌≢◌, ℕ, zero, suc, ◌<◌, List, length, refl, sym, ap, ◌∙◌, subst, arith, true, false, Bool, Option, Some, None, slice_get, inr}
 use Rattle.std.specs.Prelude.{◌||◌, not}
+use Rattle.ir_ast.specs.declared.items_of_module.Global.{Global as AGlobal}
 use Rattle.pools.specs.Heap.{Setup, IsOfLayout, kind_of}
 use Rattle.pools.specs.Layouts.{words_of, kind_of_word}
 use Rattle.pools.specs.WordSets.{has_word}
 use Rattle.pools.specs.declared.word_kind.WordKind.{WordKind}
 use Rattle.pools.specs.declared.word_kind.WordKind.TheVariants as word
 use Rattle.pools.specs.declared.word_set.WordSet.{WordSet}
+use Rattle.layout.specs.Globals.{IsHeapFor, word_held, global_word}
 use Rattle.layout.specs.Layouts.{LaidOut}
+use Rattle.types.specs.Globals.{global_named, held_in, held_by}
 use Rattle.shadow_stack.specs.Slots.{SlotTable}
 use Rattle.facts.specs.declared.known.Known.TheVariants.{Cell, Address}
 use Rattle.facts.specs.Facts.{FactSet, known_at, class_at}
@@ -26,24 +29,32 @@ use Rattle.fact_meaning.proofs.Lists.{each_below, equal}
 use Rattle.fact_meaning.proofs.Keep.{known_within}
 
 -- what the words of a cell hold is by its layout
-kind_at : (heap : Setup) (p : LaidOut) (layout cell w : ℕ) → heap.layouts ≡ p.layouts → IsOfLayout heap layout cell → kind_of heap cell w ≡ kind_of_word p.layouts layout w
+pub kind_at : (heap : Setup) (p : LaidOut) (layout cell w : ℕ) → IsHeapFor heap p → IsOfLayout heap layout cell → kind_of heap cell w ≡ kind_of_word p.layouts layout w
 unfolding kind_of
 kind_at heap p layout zero w same of = absurd (omega (arith, of.0))
 kind_at heap p layout (suc c) w same of =
-    ap (λ l. slice_get (words_of heap.layouts l) w) of.2 ∙ ap (λ ls. slice_get (words_of ls layout) w) same
+    ap (λ l. slice_get (words_of heap.layouts l) w) of.2 ∙ ap (λ ls. slice_get (words_of ls layout) w) same.layouts
+
+-- and what the words of cell 0 hold is by the globals
+pub global_kind : (heap : Setup) (p : LaidOut) → IsHeapFor heap p → (symbol g : ℕ) (kind : WordKind) → global_named p.of_module symbol ≡ Some g → global_word p.of_module symbol ≡ Some kind → kind_of heap 0 g ≡ Some kind
+unfolding kind_of
+global_kind heap p same symbol g kind named holds = by (slice_get p.of_module.globals g) refl (sym (ap (λ q. word_held p.of_module (held_by p.of_module q)) named) ∙ holds) where
+  by : (q : Option AGlobal) → slice_get p.of_module.globals g ≡ q → word_held p.of_module (held_in q) ≡ Some kind → slice_get heap.globals g ≡ Some kind
+  by None is e = absurd cc
+  by (Some global) is e = same.globals g global is ∙ e
 
 -- the word of an address whose base is there and not null
 pub record Located (heap : Setup) (p : LaidOut) (log : Log) (layout : ℕ) (words : WordSet) (v : Value) : Type 0 where
   pub at : Reference
   pub word : ℕ
   pub is : v ≡ value.Address (place.Word layout at word)
-  pub held : Held log at.cell
+  pub held : Held log at
   pub has : has_word words.members word ≡ true
   pub within : word < 64
   pub there : kind_of_word p.layouts layout word ≢ None
   pub kind : kind_of heap at.cell word ≡ kind_of_word p.layouts layout word
 
-module _ (heap : Setup) (p : LaidOut) (table : SlotTable) (guarded : Guarded) (log : Log) (cells : Cells) (facts : FactSet) (registers slots : List Value) (same : heap.layouts ≡ p.layouts) (h : Holds heap p table guarded log cells facts registers slots) where
+module _ (heap : Setup) (p : LaidOut) (table : SlotTable) (guarded : Guarded) (log : Log) (cells : Cells) (facts : FactSet) (registers slots : List Value) (same : IsHeapFor heap p) (h : Holds heap p table guarded log cells facts registers slots) where
   located : (layout : ℕ) (words : WordSet) (base v : Value) → base ≢ value.Null → IsReferenceTo heap layout base → IsOwn log guarded base → IsAddressOf p words.members base v → Located heap p log layout words v
   located layout words value.Unset v ne r o a = absurd r
   located layout words (value.Number n) v ne r o a = absurd r
@@ -80,7 +91,7 @@ module _ (heap : Setup) (p : LaidOut) (table : SlotTable) (guarded : Guarded) (l
 
   -- a read of that word keeps the discipline
   pub read_keeps : (layout : ℕ) (words : WordSet) (v : Value) → (l : Located heap p log layout words v) → Keeps heap log (Read l.at l.word)
-  read_keeps layout words v l = (l.held, λ z. l.there (sym l.kind ∙ z))
+  read_keeps layout words v l = (inr l.held, λ z. l.there (sym l.kind ∙ z))
 
   integer_word : (bits : ℕ) (kind : Option WordKind) → holds_wanted (want.Integer bits) kind ≡ true → kind ≡ Some (word.Integer bits)
   integer_word bits None e = absurd cc
@@ -92,4 +103,4 @@ module _ (heap : Setup) (p : LaidOut) (table : SlotTable) (guarded : Guarded) (l
       → Keeps heap log (StorePlain l.at l.word stored)
   store_keeps layout bits below words v stored l e i =
       let k : kind_of heap l.at.cell l.word ≡ Some (word.Integer bits) = l.kind ∙ integer_word bits (kind_of_word p.layouts layout l.word) (holds_as_asked (want.Integer bits) layout l.word words l.within l.has e) in
-      (l.held, subst (λ x. MayBeStored heap log l.at.cell x stored) (sym k) (subst (λ x. MayBeStored heap log l.at.cell (Some (word.Integer bits)) x) (sym i.is) i.fits))
+      (inr l.held, subst (λ x. MayBeStored heap log l.at.cell x stored) (sym k) (subst (λ x. MayBeStored heap log l.at.cell (Some (word.Integer bits)) x) (sym i.is) i.fits))

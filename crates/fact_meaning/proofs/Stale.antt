@@ -13,6 +13,7 @@ use Rattle.facts.specs.declared.known.Known.{Known}
 use Rattle.facts.specs.declared.known.Known.TheVariants.{Nothing, Number, Cell, Null, Address, GlobalAddress}
 use Rattle.facts.specs.declared.known.SlotFact.{SlotFact}
 use Rattle.facts.specs.Facts.{FactSet, known_at, slot_at, class_at, open_slot, lost_class, held_nonnull, slot_nonnull, stale_of, stale_class, end_hold, make_stale}
+use Rattle.machine.specs.declared.value.Reference.{Reference}
 use Rattle.machine.specs.declared.value.Value.{Value}
 use Rattle.machine.specs.declared.value.Value.TheVariants as value
 use Rattle.machine.specs.Kinds.{register_at}
@@ -76,21 +77,21 @@ stale_unfresh facts v c l s e =
 pub all_stale : (facts : FactSet) (v c l : ℕ) (s : Bool) → known_at (make_stale facts).values v ≡ Cell c l s → s ≡ true
 all_stale facts v c l s e = (stale_was v (known_at facts.values v) c l s (sym (stale_at facts.values v) ∙ e)).1
 
--- what is own stays so while no held cell is lost
-pub own_later : (log later : Log) (guarded : Guarded) → ((cell : ℕ) → Held log cell → Held later cell) → (v : Value) → IsOwn log guarded v → IsOwn later guarded v
+-- what is own stays so while nothing held is lost
+pub own_later : (log later : Log) (guarded : Guarded) → ((r : Reference) → Held log r → Held later r) → (v : Value) → IsOwn log guarded v → IsOwn later guarded v
 own_later log later guarded held value.Unset o = o
 own_later log later guarded held (value.Number n) o = o
 own_later log later guarded held value.Null o = o
-own_later log later guarded held (value.Cell own at) o = (held at.cell o.0, o.1)
+own_later log later guarded held (value.Cell own at) o = (held at o.0, o.1)
 own_later log later guarded held (value.Address at) o = o
 
--- what is own stays so where the cells of the roots are held, if it is among them
-pub root_own : (log later : Log) (guarded : Guarded) (roots : List Value) (v : Value) → ((cell : ℕ) → IsReferredTo roots cell → Held later cell) → (v ≡ value.Null) ⊎ Contains roots v → IsOwn log guarded v → IsOwn later guarded v
+-- what is own stays so where what the roots refer to is held, if it is among them
+pub root_own : (log later : Log) (guarded : Guarded) (roots : List Value) (v : Value) → ((r : Reference) → IsReferredTo roots r → Held later r) → (v ≡ value.Null) ⊎ Contains roots v → IsOwn log guarded v → IsOwn later guarded v
 root_own log later guarded roots value.Unset held has o = absurd o
 root_own log later guarded roots (value.Number n) held has o = absurd o
 root_own log later guarded roots value.Null held has o = tt
 root_own log later guarded roots (value.Cell own at) held (inl e) o = absurd cc
-root_own log later guarded roots (value.Cell own at) held (inr c) o = (held at.cell (value.Cell own at, c, refl), o.1)
+root_own log later guarded roots (value.Cell own at) held (inr c) o = (held at (value.Cell own at, c, refl), o.1)
 root_own log later guarded roots (value.Address at) held has o = absurd o
 
 -- ---- what holds behind a safepoint

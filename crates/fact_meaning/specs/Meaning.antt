@@ -5,6 +5,7 @@ use Rattle.pools.specs.Heap.{Setup, IsOfLayout}
 use Rattle.pools.specs.Layouts.{kind_of_word}
 use Rattle.pools.specs.WordSets.{has_word}
 use Rattle.layout.specs.Layouts.{LaidOut}
+use Rattle.types.specs.Globals.{global_named}
 use Rattle.types.specs.References.{referenced_layout}
 use Rattle.shadow_stack.specs.Slots.{SlotTable, held_type}
 use Rattle.facts.specs.declared.known.Class.{Class}
@@ -34,10 +35,10 @@ IsReferenceTo heap layout value.Null = Unit {0}
 IsReferenceTo heap layout (value.Cell own at) = (own ≡ layout) × IsOfLayout heap layout at.cell
 IsReferenceTo heap layout _ = ⊥
 
--- null, or a held cell that no frame below knows to be fresh
+-- null, or a held reference, to a cell that no frame below knows to be fresh
 abbrev pub IsOwn : Log → Guarded → Value → Type 0
 IsOwn log guarded value.Null = Unit {0}
-IsOwn log guarded (value.Cell own at) = Held log at.cell × (guarded at.cell → ⊥)
+IsOwn log guarded (value.Cell own at) = Held log at × (guarded at.cell → ⊥)
 IsOwn log guarded _ = ⊥
 
 -- null, or a fresh cell
@@ -81,6 +82,10 @@ pub record IsMember (heap : Setup) (guarded : Guarded) (log : Log) (cells : Cell
   pub refers : IsReferenceTo heap layout v
   pub own : stale ≡ false → IsOwn log guarded v
 
+-- the address of the global of this name
+abbrev pub IsGlobal : Module → (symbol : ℕ) → Value → Type 0
+IsGlobal m symbol v = (g : ℕ) × (global_named m symbol ≡ Some g) × (v ≡ value.Address (place.Global g))
+
 -- what is known of a value holds of its register
 abbrev pub Means : Setup → LaidOut → Guarded → Log → Cells → (count : ℕ) → List Value → Known → Value → Type 0
 Means heap p guarded log cells count registers Nothing v = Unit {0}
@@ -88,7 +93,7 @@ Means heap p guarded log cells count registers (Number bits below) v = IsInteger
 Means heap p guarded log cells count registers (Cell c layout stale) v = IsMember heap guarded log cells count c layout stale v
 Means heap p guarded log cells count registers Null v = v ≡ value.Null
 Means heap p guarded log cells count registers (Address base words) v = IsAddressOf p words.members (register_at registers base) v
-Means heap p guarded log cells count registers (GlobalAddress g) v = ⊥
+Means heap p guarded log cells count registers (GlobalAddress symbol) v = IsGlobal p.of_module symbol v
 
 -- what is known of a class holds of its value
 pub record ClassMeans (log : Log) (class : Class) (v : Value) : Type 0 where

@@ -258,13 +258,11 @@ impl Facts {
     }
 
     /// A safepoint: each reference is stale, and the slots hold what nobody else is known to name.
-    pub fn make_stale(&mut self, _alloc: Global) -> Result<(), AllocError>
-        ensures ok { OnOk result (self.new ≡ make_stale self.old) }
-        ensures err { OnErr result (self.new ≡ self.old) }
+    pub fn make_stale(&mut self)
+        ensures { self.new ≡ make_stale self.old }
     {
         rows::end_holds(&mut self.slots, &self.values);
         self.values.make_stale();
-        Ok(())
     }
 
     /// This is known of a value besides.

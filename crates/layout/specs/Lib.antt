@@ -3,3 +3,4 @@ pub mod Layouts
 pub mod Offsets
 pub mod Survey
 pub mod Ring
+pub mod Globals

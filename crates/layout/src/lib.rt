@@ -7,8 +7,10 @@ mod ring;
 mod step;
 mod struct_words;
 mod survey;
+mod word;
 
 pub use fault::LayoutFault;
 pub use program::{NotAProgram, Program};
 pub use step::Step;
 pub use struct_words::layouts;
+pub use word::{global_word, word_of};

@@ -1,7 +1,6 @@
 ghost use Rattle.std.specs.Prelude.{◌≡◌, ◌≢◌, ◌⊎◌, List, length, map, position, Some, Ok, Err, IfOk, IfErr};
 ghost use Rattle.layout.specs.Layouts.{AreLayouts, AreSizes, IsLayoutFault};
 ghost use Rattle.layout.specs.Survey.{IsSettled, is_endless, is_large, struct_is_endless, struct_is_large, points_nowhere, known_word, words_of, first_fault, span_of, size_in, mark_at, fields_at, IsWithin};
-ghost use Rattle.layout.specs.Words.{word_of};
 ghost use Rattle.layout.specs.declared.fault.LayoutFault.{LayoutFault as AFault};
 ghost use Rattle.layout.specs.declared.fault.LayoutFault.TheVariants.{Memory};
 ghost use Rattle.pools.specs.declared.word_kind.WordKind.{WordKind as AWord};
@@ -9,25 +8,11 @@ ghost use Rattle.pools.specs.declared.word_kind.WordKind.{WordKind as AWord};
 use crate::fault::LayoutFault;
 use crate::ring::first_ring;
 use crate::survey::{Mark, NO_FIELDS, Span, Survey};
+use crate::word::word_of;
 use ir_ast::{IrType, Module, StructType, TypeId};
 use items::Items;
 use pools::{Layouts, WordKind};
 use std::alloc::{AllocError, Global};
-use types::is_reference;
-
-/// What a scalar field holds: None where it points to no named struct.
-fn word_of(module: &Module, field: TypeId) -> Option<WordKind>
-    ensures { result ≡ word_of «module».now field }
-{
-    match module.types.get(field)? {
-        IrType::Integer(bits) => Some(WordKind::Integer(bits)),
-        IrType::Pointer(_) => match is_reference(module, field) {
-            Some(layout) => Some(WordKind::Reference(layout)),
-            None => None,
-        },
-        _ => None,
-    }
-}
 
 /// What a field holds, where it is a word.
 fn known_word(module: &Module, field: TypeId) -> WordKind

@@ -16,8 +16,6 @@ use Rattle.ir_ast.specs.declared.operand.Operand.{Operand}
 use Rattle.ir_ast.specs.declared.operand.Operand.TheVariants as operand
 use Rattle.ir_ast.specs.declared.runtime.Runtime.{Runtime}
 use Rattle.ir_ast.specs.declared.runtime.Runtime.TheVariants as runtime
-use Rattle.pools.specs.declared.word_kind.WordKind.{WordKind}
-use Rattle.pools.specs.declared.word_kind.WordKind.TheVariants.{Integer, Reference as Referring}
 use Rattle.pools.specs.Layouts.{kind_of_word}
 use Rattle.layout.specs.Layouts.{LaidOut}
 use Rattle.types.specs.Elements.{element_type}
@@ -30,10 +28,10 @@ use Rattle.machine.specs.declared.value.Place.TheVariants as place
 use Rattle.machine.specs.declared.value.Value.{Value}
 use Rattle.machine.specs.declared.value.Value.TheVariants as value
 use Rattle.machine.specs.declared.action.Action.{Action}
-use Rattle.machine.specs.declared.action.Action.TheVariants.{Local, Read, StorePlain, Alloc, Safepoint, End, Wrong}
-use Rattle.machine.specs.Kinds.{is_integer, is_integer_of, is_void, is_byte_pointer, is_place_of_bytes, leads_to, may_refer, may_lead, bits_at, is_set, is_number, is_reference, fits_layout_of, are_of_one_layout, number_in, value_of, is_typed, is_usable, is_usable_number, is_local_of, slot_at_place, address_at_place}
+use Rattle.machine.specs.declared.action.Action.TheVariants.{Local, Read, Write, StorePlain, Alloc, Safepoint, End, Wrong}
+use Rattle.machine.specs.Kinds.{is_integer, is_integer_of, is_void, is_byte_pointer, is_place_of_bytes, leads_to, may_refer, may_lead, refers_to, may_cast_word, bits_at, is_set, is_reference, fits_layout_of, are_of_one_layout, number_in, value_of, is_typed, is_usable, is_usable_number, is_local_of, slot_at_place, address_at_place}
 use Rattle.machine.specs.Integers.{may_resize, is_equality}
-use Rattle.machine.specs.Elements.{element_offset, element_place, is_read_as, takes_integer, refers_to}
+use Rattle.machine.specs.Elements.{element_offset, element_place, globals_cell, global_kind, is_read_as, takes_value}
 use Rattle.machine.specs.Jumps.{phis_of, phis_fit, switch_way, cases_fit}
 
 -- where a condition fails, an instruction has no meaning
@@ -62,16 +60,11 @@ fits_held m (Some held) v = fits_type m held v
 
 -- ---- bitcasts
 
--- an address may be cast to this type: it is one of a word of references of a layout to which the type leads, or it leads to no word
-abbrev pub may_cast_word : Module → (to : ℕ) → Option WordKind → Bool
-may_cast_word m to None = false
-may_cast_word m to (Some (Integer bits)) = false
-may_cast_word m to (Some (Referring layout)) = leads_to (refers_to m layout) (pointee m to)
-
--- the same of a place
+-- an address may be cast to this type as its word may, or where it leads to no word to each type of places of references
 abbrev pub may_cast_place : LaidOut → (to : ℕ) → Place → Bool
 may_cast_place p to place.OfNull = may_lead p.of_module to
 may_cast_place p to (place.Word layout at word) = may_cast_word p.of_module to (kind_of_word p.layouts layout word)
+may_cast_place p to (place.Global g) = may_cast_word p.of_module to (global_kind p.of_module g)
 
 -- a value may be cast to another type: a reference to i8* or to a reference of its layout, null also from place to place, an address as above
 abbrev pub may_cast_value : LaidOut → (from to : ℕ) → Value → Bool
@@ -112,24 +105,32 @@ abbrev pub read_action : LaidOut → (loaded : ℕ) → Option Place → Action
 read_action p loaded None = Wrong
 read_action p loaded (Some place.OfNull) = Wrong
 read_action p loaded (Some (place.Word layout at word)) = only_if (is_read_as p.of_module loaded (kind_of_word p.layouts layout word)) (Read at word)
+read_action p loaded (Some (place.Global g)) = only_if (is_read_as p.of_module loaded (global_kind p.of_module g)) (Read globals_cell g)
 
 -- a load from a slot under its type, or from an address
 abbrev pub load_action : LaidOut → SlotTable → (loaded : ℕ) → Option ℕ → Option Place → Action
 load_action p slots loaded (Some slot) address = only_if (is_held_as p.of_module (held_type slots slot) loaded) Local
 load_action p slots loaded None address = read_action p loaded address
 
--- a store of an integer to the word to which an address leads
-abbrev pub write_action : LaidOut → (stored : ℕ) → Value → Option Place → Action
-write_action p stored v None = Wrong
-write_action p stored v (Some place.OfNull) = Wrong
-write_action p stored v (Some (place.Word layout at word)) =
-    only_if (takes_integer p.of_module stored (kind_of_word p.layouts layout word) && is_number v) (StorePlain at word v)
+-- a store of a value under its type to the word to which an address leads, without the barrier
+abbrev pub plain_action : LaidOut → (stored : ℕ) → Value → Option Place → Action
+plain_action p stored v None = Wrong
+plain_action p stored v (Some place.OfNull) = Wrong
+plain_action p stored v (Some (place.Word layout at word)) = only_if (takes_value p.of_module stored (kind_of_word p.layouts layout word) v) (StorePlain at word v)
+plain_action p stored v (Some (place.Global g)) = only_if (takes_value p.of_module stored (global_kind p.of_module g) v) (StorePlain globals_cell g v)
+
+-- the same behind the barrier
+abbrev pub barrier_action : LaidOut → (stored : ℕ) → Value → Option Place → Action
+barrier_action p stored v None = Wrong
+barrier_action p stored v (Some place.OfNull) = Wrong
+barrier_action p stored v (Some (place.Word layout at word)) = only_if (takes_value p.of_module stored (kind_of_word p.layouts layout word) v) (Write at word v)
+barrier_action p stored v (Some (place.Global g)) = only_if (takes_value p.of_module stored (global_kind p.of_module g) v) (Write globals_cell g v)
 
 -- a store to a slot of a value that fits what the slot holds, or to an address
 abbrev pub store_action : LaidOut → SlotTable → (stored : ℕ) → (usable : Bool) → Value → Option ℕ → Option Place → Action
 store_action p slots stored usable v (Some slot) address =
     only_if (usable && (is_held_as p.of_module (held_type slots slot) stored && fits_held p.of_module (held_type slots slot) v)) Local
-store_action p slots stored usable v None address = if usable then write_action p stored v address else Wrong
+store_action p slots stored usable v None address = if usable then plain_action p stored v address else Wrong
 
 -- ---- getelementptr, integers and references
 
@@ -179,6 +180,17 @@ abbrev pub are_gcroot_types : Module → (returned : ℕ) → List ℕ → Bool
 are_gcroot_types m returned (place ∷ metadata ∷ []) = is_void (slice_get m.types returned) && (is_place_of_bytes m place && is_byte_pointer m metadata)
 are_gcroot_types m returned parameters = false
 
+-- the types of gcread: i8* (i8*, i8**)
+abbrev pub are_gcread_types : Module → (returned : ℕ) → List ℕ → Bool
+are_gcread_types m returned (object ∷ place ∷ []) = is_byte_pointer m returned && (is_byte_pointer m object && is_place_of_bytes m place)
+are_gcread_types m returned parameters = false
+
+-- the types of gcwrite: void (i8*, i8*, i8**)
+abbrev pub are_gcwrite_types : Module → (returned : ℕ) → List ℕ → Bool
+are_gcwrite_types m returned (v ∷ object ∷ place ∷ []) =
+    is_void (slice_get m.types returned) && (is_byte_pointer m v && (is_byte_pointer m object && is_place_of_bytes m place))
+are_gcwrite_types m returned parameters = false
+
 -- the types of dg_alloc: i8* (i32)
 abbrev pub are_alloc_types : Module → (returned : ℕ) → List ℕ → Bool
 are_alloc_types m returned (layout ∷ []) = is_byte_pointer m returned && is_integer_of 32 (slice_get m.types layout)
@@ -214,6 +226,21 @@ gcroot_action m f slots registers returned (place ∷ metadata ∷ []) =
     only_if (are_gcroot_types m returned (place.written ∷ metadata.written ∷ [])
     && (is_root_place m slots (slot_at_place m f slots place.written place.operand) && is_usable m f slots registers metadata.written metadata.operand)) Local
 gcroot_action m f slots registers returned arguments = Wrong
+
+-- gcread reads a place, for an object
+abbrev pub gcread_action : LaidOut → Function → SlotTable → List Value → (returned : ℕ) → List Argument → Action
+gcread_action p f slots registers returned (object ∷ place ∷ []) =
+    only_if (are_gcread_types p.of_module returned (object.written ∷ place.written ∷ []) && is_usable p.of_module f slots registers object.written object.operand)
+    (read_action p returned (address_at_place p.of_module f slots registers place.written place.operand))
+gcread_action p f slots registers returned arguments = Wrong
+
+-- gcwrite puts a value at a place behind the barrier, for an object
+abbrev pub gcwrite_action : LaidOut → Function → SlotTable → List Value → (returned : ℕ) → List Argument → Action
+gcwrite_action p f slots registers returned (v ∷ object ∷ place ∷ []) =
+    only_if (are_gcwrite_types p.of_module returned (v.written ∷ object.written ∷ place.written ∷ [])
+    && (is_usable p.of_module f slots registers v.written v.operand && is_usable p.of_module f slots registers object.written object.operand))
+    (barrier_action p v.written (value_of p.of_module registers v.written v.operand) (address_at_place p.of_module f slots registers place.written place.operand))
+gcwrite_action p f slots registers returned arguments = Wrong
 
 -- the layout that a number stands for
 abbrev pub layout_numbered : Module → (n : ℕ) → Option ℕ
@@ -269,12 +296,18 @@ defined_action m f slots registers returned arguments (Some callee) =
     only_if ((returned == callee.returned) && arguments_pass m f slots registers callee.parameters arguments) Local
 
 -- a call of a function of the runtime, declared and called with its types, or of a defined function; no other callee is known
-abbrev pub call_action : Module → Function → SlotTable → List Value → (returned : ℕ) → List Argument → Option Declare → (callee : Option Function) → Option Runtime → Action
-call_action m f slots registers returned arguments declare callee (Some runtime.Alloc) = only_if (declared_with (are_alloc_types m) declare) (alloc_action m returned arguments)
-call_action m f slots registers returned arguments declare callee (Some runtime.GcRoot) = only_if (declared_with (are_gcroot_types m) declare) (gcroot_action m f slots registers returned arguments)
-call_action m f slots registers returned arguments declare callee (Some runtime.Safepoint) = only_if (declared_with (are_safepoint_types m) declare) (safepoint_action m returned arguments)
-call_action m f slots registers returned arguments declare callee None = defined_action m f slots registers returned arguments callee
-call_action m f slots registers returned arguments declare callee _ = Wrong
+abbrev pub call_action : LaidOut → Function → SlotTable → List Value → (returned : ℕ) → List Argument → Option Declare → (callee : Option Function) → Option Runtime → Action
+call_action p f slots registers returned arguments declare callee (Some runtime.Alloc) =
+    only_if (declared_with (are_alloc_types p.of_module) declare) (alloc_action p.of_module returned arguments)
+call_action p f slots registers returned arguments declare callee (Some runtime.GcRoot) =
+    only_if (declared_with (are_gcroot_types p.of_module) declare) (gcroot_action p.of_module f slots registers returned arguments)
+call_action p f slots registers returned arguments declare callee (Some runtime.GcRead) =
+    only_if (declared_with (are_gcread_types p.of_module) declare) (gcread_action p f slots registers returned arguments)
+call_action p f slots registers returned arguments declare callee (Some runtime.GcWrite) =
+    only_if (declared_with (are_gcwrite_types p.of_module) declare) (gcwrite_action p f slots registers returned arguments)
+call_action p f slots registers returned arguments declare callee (Some runtime.Safepoint) =
+    only_if (declared_with (are_safepoint_types p.of_module) declare) (safepoint_action p.of_module returned arguments)
+call_action p f slots registers returned arguments declare callee None = defined_action p.of_module f slots registers returned arguments callee
 
 -- ---- the end of a block
 
@@ -305,32 +338,57 @@ way_action m f slots from registers op = enter_action m f slots from (target_at 
 
 -- ---- instructions
 
+-- what an instruction asks for that computes a value of others
+abbrev pub value_action : Module → Function → SlotTable → List Value → Op → Action
+value_action m f slots registers (Arithmetic kind written first second) = only_if (are_numbers m f slots registers written first second) Local
+value_action m f slots registers (Resize kind written o to) =
+    only_if (is_usable_number m f slots registers written o && (is_integer (slice_get m.types to) && may_resize kind (bits_at m written) (bits_at m to))) Local
+value_action m f slots registers (Compare kind written first second) = only_if (may_compare m f slots registers kind written first second) Local
+value_action m f slots registers (Select condition_type condition written chosen other) =
+    only_if (is_condition m f slots registers condition_type condition && may_select m f slots registers written chosen other) Local
+value_action m f slots registers _ = Wrong
+
+-- what an instruction asks for that has to do with a place
+abbrev pub place_action : LaidOut → Function → SlotTable → List Value → Op → Action
+place_action p f slots registers (Bitcast written o to) = cast_action p f slots registers written o to (operand_slot slots.names o)
+place_action p f slots registers (Load loaded place_type place) =
+    load_action p slots loaded (slot_at_place p.of_module f slots place_type place) (address_at_place p.of_module f slots registers place_type place)
+place_action p f slots registers (Store stored v place_type place) =
+    store_action p slots stored (is_usable p.of_module f slots registers stored v) (value_of p.of_module registers stored v)
+    (slot_at_place p.of_module f slots place_type place) (address_at_place p.of_module f slots registers place_type place)
+place_action p f slots registers (Element source base_type base indices) = element_action p f slots registers source base_type base indices
+place_action p f slots registers _ = Wrong
+
+-- what an instruction asks for that ends the block with this number
+abbrev pub end_action : Module → Function → SlotTable → (from : ℕ) → List Value → Op → Action
+end_action m f slots from registers (Jump label) = way_action m f slots from registers (Jump label)
+end_action m f slots from registers (Branch condition_type condition taken other) =
+    if is_condition m f slots registers condition_type condition then way_action m f slots from registers (Branch condition_type condition taken other) else Wrong
+end_action m f slots from registers (Switch written v otherwise cases) =
+    if is_usable_number m f slots registers written v && cases_fit m written cases then way_action m f slots from registers (Switch written v otherwise cases) else Wrong
+end_action m f slots from registers Unreachable = End
+end_action m f slots from registers ReturnVoid = only_if (is_void (slice_get m.types f.returned)) End
+end_action m f slots from registers (Return argument) =
+    only_if ((argument.written == f.returned) && is_usable m f slots registers argument.written argument.operand) End
+end_action m f slots from registers _ = Wrong
+
 -- what an instruction asks for, in the block with this number
 abbrev pub op_action : LaidOut → Function → SlotTable → (from : ℕ) → List Value → Op → Action
 op_action p f slots from registers (Alloca held) = Local
-op_action p f slots from registers (Bitcast written o to) = cast_action p f slots registers written o to (operand_slot slots.names o)
-op_action p f slots from registers (Load loaded place_type place) =
-    load_action p slots loaded (slot_at_place p.of_module f slots place_type place) (address_at_place p.of_module f slots registers place_type place)
-op_action p f slots from registers (Store stored v place_type place) =
-    store_action p slots stored (is_usable p.of_module f slots registers stored v) (value_of p.of_module registers stored v)
-    (slot_at_place p.of_module f slots place_type place) (address_at_place p.of_module f slots registers place_type place)
-op_action p f slots from registers (Element source base_type base indices) = element_action p f slots registers source base_type base indices
-op_action p f slots from registers (Arithmetic kind written first second) = only_if (are_numbers p.of_module f slots registers written first second) Local
-op_action p f slots from registers (Resize kind written o to) =
-    only_if (is_usable_number p.of_module f slots registers written o
-    && (is_integer (slice_get p.of_module.types to) && may_resize kind (bits_at p.of_module written) (bits_at p.of_module to))) Local
-op_action p f slots from registers (Compare kind written first second) = only_if (may_compare p.of_module f slots registers kind written first second) Local
-op_action p f slots from registers (Select condition_type condition written chosen other) =
-    only_if (is_condition p.of_module f slots registers condition_type condition && may_select p.of_module f slots registers written chosen other) Local
+op_action p f slots from registers (Bitcast written o to) = place_action p f slots registers (Bitcast written o to)
+op_action p f slots from registers (Load loaded place_type place) = place_action p f slots registers (Load loaded place_type place)
+op_action p f slots from registers (Store stored v place_type place) = place_action p f slots registers (Store stored v place_type place)
+op_action p f slots from registers (Element source base_type base indices) = place_action p f slots registers (Element source base_type base indices)
+op_action p f slots from registers (Arithmetic kind written first second) = value_action p.of_module f slots registers (Arithmetic kind written first second)
+op_action p f slots from registers (Resize kind written o to) = value_action p.of_module f slots registers (Resize kind written o to)
+op_action p f slots from registers (Compare kind written first second) = value_action p.of_module f slots registers (Compare kind written first second)
+op_action p f slots from registers (Select condition_type condition written chosen other) = value_action p.of_module f slots registers (Select condition_type condition written chosen other)
 op_action p f slots from registers (Phi written incoming) = Local
 op_action p f slots from registers (Call returned callee arguments) =
-    call_action p.of_module f slots registers returned arguments (declare_of p.of_module callee) (function_numbered p.of_module (number_called p.of_module callee)) (runtime_called p.of_module callee)
-op_action p f slots from registers (Jump label) = way_action p.of_module f slots from registers (Jump label)
-op_action p f slots from registers (Branch condition_type condition taken other) =
-    if is_condition p.of_module f slots registers condition_type condition then way_action p.of_module f slots from registers (Branch condition_type condition taken other) else Wrong
-op_action p f slots from registers (Switch written v otherwise cases) =
-    if is_usable_number p.of_module f slots registers written v && cases_fit p.of_module written cases then way_action p.of_module f slots from registers (Switch written v otherwise cases) else Wrong
-op_action p f slots from registers Unreachable = End
-op_action p f slots from registers ReturnVoid = only_if (is_void (slice_get p.of_module.types f.returned)) End
-op_action p f slots from registers (Return argument) =
-    only_if ((argument.written == f.returned) && is_usable p.of_module f slots registers argument.written argument.operand) End
+    call_action p f slots registers returned arguments (declare_of p.of_module callee) (function_numbered p.of_module (number_called p.of_module callee)) (runtime_called p.of_module callee)
+op_action p f slots from registers (Jump label) = end_action p.of_module f slots from registers (Jump label)
+op_action p f slots from registers (Branch condition_type condition taken other) = end_action p.of_module f slots from registers (Branch condition_type condition taken other)
+op_action p f slots from registers (Switch written v otherwise cases) = end_action p.of_module f slots from registers (Switch written v otherwise cases)
+op_action p f slots from registers Unreachable = end_action p.of_module f slots from registers Unreachable
+op_action p f slots from registers ReturnVoid = end_action p.of_module f slots from registers ReturnVoid
+op_action p f slots from registers (Return argument) = end_action p.of_module f slots from registers (Return argument)

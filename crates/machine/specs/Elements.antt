@@ -1,15 +1,16 @@
 -- Places in cells: the word to which a getelementptr leads, and what may be read and written there.
-use Rattle.std.specs.Prelude.{ℕ, ◌+◌, ◌*◌, Bool, false, ◌||◌, ◌==◌, List, [], ◌∷◌, slice_get, Option, Some, None, is_some, if◌then◌else◌}
+use Rattle.std.specs.Prelude.{ℕ, ◌+◌, ◌*◌, Bool, false, ◌&&◌, ◌==◌, List, [], ◌∷◌, slice_get, Option, Some, None, is_some, if◌then◌else◌}
 use Rattle.ir_ast.specs.declared.module.Module.{Module}
 use Rattle.ir_ast.specs.declared.op.Argument.{Argument}
 use Rattle.pools.specs.declared.word_kind.WordKind.{WordKind}
 use Rattle.pools.specs.declared.word_kind.WordKind.TheVariants.{Integer, Reference as Referring}
 use Rattle.pools.specs.Layouts.{kind_of_word}
+use Rattle.layout.specs.Globals.{word_held}
 use Rattle.layout.specs.Layouts.{LaidOut}
 use Rattle.layout.specs.Offsets.{size_of, step_of}
 use Rattle.layout.specs.declared.step.Step.{Step}
 use Rattle.layout.specs.declared.step.Step.TheVariants.{Field, Elements}
-use Rattle.types.specs.References.{referenced_layout}
+use Rattle.types.specs.Globals.{held_by}
 use Rattle.machine.specs.declared.value.Reference.{Reference}
 use Rattle.machine.specs.declared.value.Place.{Place}
 use Rattle.machine.specs.declared.value.Place.TheVariants as place
@@ -17,7 +18,7 @@ use Rattle.machine.specs.declared.value.Value.{Value}
 use Rattle.machine.specs.declared.value.Value.TheVariants as value
 use Rattle.machine.specs.declared.action.Answer.{Answer}
 use Rattle.machine.specs.declared.action.Answer.TheVariants as answer
-use Rattle.machine.specs.Kinds.{bits_at, number_in, value_of, wrapped, is_integer_of, is_byte_pointer}
+use Rattle.machine.specs.Kinds.{bits_at, number_in, value_of, wrapped, is_integer_of, is_number, fits_layout, refers_to}
 use Rattle.machine.specs.Integers.{sign_extended}
 
 -- the number of an index, read with its sign and modulo 2 to the 64
@@ -61,12 +62,18 @@ abbrev pub word_behind : LaidOut → (layout : ℕ) → Reference → (word : �
 word_behind p layout at word None = None
 word_behind p layout at word (Some offset) = word_in p layout at (wrapped 64 (word + offset))
 
+-- a global has one word: its place is the only one to which it leads
+abbrev pub global_behind : (g : ℕ) → (offset : Option ℕ) → Option Place
+global_behind g None = None
+global_behind g (Some offset) = if offset == 0 then Some (place.Global g) else None
+
 -- the place so many words behind a base; from null it is no word
 abbrev pub element_place : LaidOut → (offset : Option ℕ) → (base : Value) → Option Place
 element_place p offset value.Null = Some place.OfNull
 element_place p offset (value.Cell layout at) = word_behind p layout at 0 offset
 element_place p offset (value.Address place.OfNull) = Some place.OfNull
 element_place p offset (value.Address (place.Word layout at word)) = word_behind p layout at word offset
+element_place p offset (value.Address (place.Global g)) = global_behind g offset
 element_place p offset _ = None
 
 -- what a getelementptr gives
@@ -74,14 +81,15 @@ abbrev pub address_of : Option Place → Value
 address_of None = value.Unset
 address_of (Some at) = value.Address at
 
--- these are one layout
-abbrev pub is_layout : Option ℕ → ℕ → Bool
-is_layout None layout = false
-is_layout (Some other) layout = other == layout
+-- ---- what is read and written
 
--- a type is i8*, or a reference to this layout
-abbrev pub refers_to : Module → (layout : ℕ) → (written : ℕ) → Bool
-refers_to m layout written = is_byte_pointer m written || is_layout (referenced_layout m written) layout
+-- the cell of the globals, whose birth is the first
+abbrev pub globals_cell : Reference
+globals_cell = record { cell = 0; birth = 0 }
+
+-- what the word of the global with this number holds
+abbrev pub global_kind : Module → (g : ℕ) → Option WordKind
+global_kind m g = word_held m (held_by m (Some g))
 
 -- a word of this kind may be read under this type
 abbrev pub is_read_as : Module → (written : ℕ) → Option WordKind → Bool
@@ -89,11 +97,11 @@ is_read_as m written None = false
 is_read_as m written (Some (Integer bits)) = is_integer_of bits (slice_get m.types written)
 is_read_as m written (Some (Referring layout)) = refers_to m layout written
 
--- a word of this kind takes integers of this type
-abbrev pub takes_integer : Module → (written : ℕ) → Option WordKind → Bool
-takes_integer m written None = false
-takes_integer m written (Some (Integer bits)) = is_integer_of bits (slice_get m.types written)
-takes_integer m written (Some (Referring layout)) = false
+-- a word of this kind takes a value of this type: an integer of its bits, or null or a reference of its layout
+abbrev pub takes_value : Module → (written : ℕ) → Option WordKind → Value → Bool
+takes_value m written None v = false
+takes_value m written (Some (Integer bits)) v = is_integer_of bits (slice_get m.types written) && is_number v
+takes_value m written (Some (Referring layout)) v = refers_to m layout written && fits_layout layout v
 
 -- the value of a word of this kind, by the answer to its read
 abbrev pub read_value : Option WordKind → Answer → Value

@@ -15,7 +15,7 @@ use Rattle.shadow_stack.specs.Slots.{SlotTable}
 use Rattle.machine.specs.declared.frame.Frame.{Frame}
 use Rattle.machine.specs.declared.value.Value.{Value}
 use Rattle.machine.specs.declared.value.Value.TheVariants as value
-use Rattle.machine.specs.Kinds.{is_scalar, is_typed, value_of, constant_value, constant_fits, number_in}
+use Rattle.machine.specs.Kinds.{is_scalar, is_typed, is_no_global, value_of, constant_value, constant_fits, number_in}
 
 -- the instructions of a block; a block that there is not has none
 abbrev pub instructions_in : Option Block → List Instr
@@ -45,10 +45,10 @@ abbrev pub entry_for : Function → (from : ℕ) → List Incoming → Option Op
 entry_for f from [] = None
 entry_for f from (entry ∷ entries) = if is_block from (target_of f entry.from) then Some entry.operand else entry_for f from entries
 
--- an entry is of the written type; where there is none the phi stays unset
+-- an entry is of the written type, and no address of a global; where there is none the phi stays unset
 abbrev pub entry_fits : Module → Function → SlotTable → (written : ℕ) → Option Operand → Bool
 entry_fits m f slots written None = true
-entry_fits m f slots written (Some o) = is_typed m f slots written o
+entry_fits m f slots written (Some o) = is_no_global o && is_typed m f slots written o
 
 -- a phi is an integer or a reference, and its entry for this block is of its type
 abbrev pub phi_fits : Module → Function → SlotTable → (from : ℕ) → Op → Bool

@@ -8,10 +8,15 @@ use Rattle.ir_ast.specs.declared.operand.Constant.{Constant}
 use Rattle.ir_ast.specs.declared.operand.Constant.TheVariants as constant
 use Rattle.ir_ast.specs.declared.operand.Operand.{Operand}
 use Rattle.ir_ast.specs.declared.operand.Operand.TheVariants as operand
+use Rattle.pools.specs.declared.word_kind.WordKind.{WordKind}
+use Rattle.pools.specs.declared.word_kind.WordKind.TheVariants.{Integer as Numeric, Reference as Referring}
+use Rattle.layout.specs.Globals.{global_word}
+use Rattle.types.specs.Globals.{global_named, points_to_global}
 use Rattle.types.specs.References.{pointee, referenced_layout}
 use Rattle.types.specs.ValueTypes.{has_type}
 use Rattle.shadow_stack.specs.Slots.{SlotTable, slot_of, operand_slot}
 use Rattle.machine.specs.declared.value.Place.{Place}
+use Rattle.machine.specs.declared.value.Place.TheVariants as place
 use Rattle.machine.specs.declared.value.Value.{Value}
 use Rattle.machine.specs.declared.value.Value.TheVariants as value
 
@@ -65,6 +70,25 @@ is_scalar m written = is_integer (slice_get m.types written) || may_refer m writ
 -- i8**, or a pointer to references
 abbrev pub may_lead : Module → (written : ℕ) → Bool
 may_lead m written = leads_to (may_refer m) (pointee m written)
+
+-- these are one layout
+abbrev pub is_layout : Option ℕ → ℕ → Bool
+is_layout None layout = false
+is_layout (Some other) layout = other == layout
+
+-- a type is i8*, or a reference to this layout
+abbrev pub refers_to : Module → (layout : ℕ) → (written : ℕ) → Bool
+refers_to m layout written = is_byte_pointer m written || is_layout (referenced_layout m written) layout
+
+-- an address may be cast to this type: it is one of a word of references of a layout to which the type leads
+abbrev pub may_cast_word : Module → (to : ℕ) → Option WordKind → Bool
+may_cast_word m to None = false
+may_cast_word m to (Some (Numeric bits)) = false
+may_cast_word m to (Some (Referring layout)) = leads_to (refers_to m layout) (pointee m to)
+
+-- the address of a global may be written under another type: under its own, or as its word may be cast
+abbrev pub may_cast_global : Module → (from symbol to : ℕ) → Bool
+may_cast_global m from symbol to = (from == to) || may_cast_word m to (global_word m symbol)
 
 -- ---- numbers
 
@@ -144,17 +168,30 @@ constant_value m written (constant.Number n) = value.Number (wrapped (bits_at m 
 constant_value m written constant.Null = value.Null
 constant_value m written (constant.Truth b) = value.Unset
 
+-- the address of the global with this number, if there is one
+abbrev pub global_address : (global : Option ℕ) → Value
+global_address None = value.Unset
+global_address (Some g) = value.Address (place.Global g)
+
 -- the value that an operand of this type has
 abbrev pub value_of : Module → List Value → (written : ℕ) → Operand → Value
 value_of m registers written (operand.Constant c) = constant_value m written c
 value_of m registers written (operand.Local v) = register_at registers v
-value_of m registers written _ = value.Unset
+value_of m registers written (operand.Global symbol) = global_address (global_named m symbol)
+value_of m registers written (operand.CastGlobal from symbol to) = global_address (global_named m symbol)
 
--- an operand is a constant that fits the written type, or a local name of that type that names no slot
+-- an operand is a constant that fits the written type, or a local name of that type that names no slot, or a global to which the type points, which may be cast to it
 abbrev pub is_typed : Module → Function → SlotTable → (written : ℕ) → Operand → Bool
 is_typed m f slots written (operand.Constant c) = constant_fits m written c
 is_typed m f slots written (operand.Local v) = has_type m f written v && is_none (slot_of slots v)
-is_typed m f slots written _ = false
+is_typed m f slots written (operand.Global symbol) = points_to_global m written symbol
+is_typed m f slots written (operand.CastGlobal from symbol to) = (written == to) && (points_to_global m from symbol && may_cast_global m from symbol to)
+
+-- an operand is a constant or a local name, and no address of a global
+abbrev pub is_no_global : Operand → Bool
+is_no_global (operand.Constant c) = true
+is_no_global (operand.Local v) = true
+is_no_global _ = false
 
 -- an operand is a number or a reference of the written type, and set
 abbrev pub is_usable : Module → Function → SlotTable → List Value → (written : ℕ) → Operand → Bool

@@ -26,7 +26,7 @@ use Rattle.machine.specs.declared.action.Answer.TheVariants as answer
 use Rattle.machine.specs.declared.frame.Frame.{Frame}
 use Rattle.machine.specs.Kinds.{is_integer, bits_at, number_in, value_of, slot_at_place, address_at_place}
 use Rattle.machine.specs.Integers.{computed, resized, compares, compares_equal, truth}
-use Rattle.machine.specs.Elements.{element_offset, element_place, address_of, read_value}
+use Rattle.machine.specs.Elements.{element_offset, element_place, address_of, global_kind, read_value}
 use Rattle.machine.specs.Jumps.{put_register, phis_of, enter}
 use Rattle.machine.specs.Asks.{layout_named, number_called, op_action, way_of, target_at}
 
@@ -133,6 +133,7 @@ abbrev pub read_at : LaidOut → Option Place → Answer → Value
 read_at p None given = value.Unset
 read_at p (Some place.OfNull) given = value.Unset
 read_at p (Some (place.Word layout at word)) given = read_value (kind_of_word p.layouts layout word) given
+read_at p (Some (place.Global g)) given = read_value (global_kind p.of_module g) given
 
 -- what a load gives: what the slot holds, or what is read at the address
 abbrev pub loaded_from : LaidOut → List Value → Option ℕ → Option Place → Answer → Value
@@ -176,30 +177,54 @@ abbrev pub root_of_call : Module → Function → SlotTable → List Argument �
 root_of_call m f slots [] = None
 root_of_call m f slots (argument ∷ arguments) = slot_at_place m f slots argument.written argument.operand
 
+-- the address that a call of gcread names
+abbrev pub place_of_call : Module → Function → SlotTable → List Value → List Argument → Option Place
+place_of_call m f slots registers (object ∷ place ∷ arguments) = address_at_place m f slots registers place.written place.operand
+place_of_call m f slots registers _ = None
+
 -- the frame behind a call
-abbrev pub after_call : Module → Function → SlotTable → (name : Option ℕ) → List Argument → Option Runtime → Answer → Frame → Frame
-after_call m f slots name arguments (Some runtime.Alloc) given frame = set_register name (alloc_value (layout_of_call m arguments) given) frame
-after_call m f slots name arguments (Some runtime.GcRoot) given frame = set_slot (root_of_call m f slots arguments) value.Null frame
-after_call m f slots name arguments _ given frame = frame
+abbrev pub after_call : LaidOut → Function → SlotTable → (name : Option ℕ) → List Argument → Option Runtime → Answer → Frame → Frame
+after_call p f slots name arguments (Some runtime.Alloc) given frame = set_register name (alloc_value (layout_of_call p.of_module arguments) given) frame
+after_call p f slots name arguments (Some runtime.GcRoot) given frame = set_slot (root_of_call p.of_module f slots arguments) value.Null frame
+after_call p f slots name arguments (Some runtime.GcRead) given frame = set_register name (read_at p (place_of_call p.of_module f slots frame.registers arguments) given) frame
+after_call p f slots name arguments _ given frame = frame
+
+-- the value that an instruction computes of others
+abbrev pub computed_value : Module → List Value → Op → Value
+computed_value m registers (Arithmetic kind written first second) = arithmetic_value m registers (Arithmetic kind written first second)
+computed_value m registers (Resize kind from o to) = value.Number (resized kind (bits_at m from) (bits_at m to) (number_in (value_of m registers from o)))
+computed_value m registers (Compare kind written first second) = compared kind (bits_at m written) (value_of m registers written first) (value_of m registers written second)
+computed_value m registers (Select condition_type condition written chosen other) =
+    selected (value_of m registers condition_type condition) (value_of m registers written chosen) (value_of m registers written other)
+computed_value m registers _ = value.Unset
+
+-- the address that a getelementptr gives
+abbrev pub element_address : LaidOut → List Value → Op → Value
+element_address p registers (Element source base_type base indices) =
+    address_of (element_place p (element_offset p registers source indices) (value_of p.of_module registers base_type base))
+element_address p registers _ = value.Unset
+
+-- the frame behind a bitcast, a load or a store
+abbrev pub after_place : LaidOut → Function → SlotTable → (name : Option ℕ) → Op → Answer → Frame → Frame
+after_place p f slots name (Bitcast from o to) given frame = after_cast name (value_of p.of_module frame.registers from o) (operand_slot slots.names o) frame
+after_place p f slots name (Load loaded place_type place) given frame =
+    set_register name (loaded_from p frame.slots (slot_at_place p.of_module f slots place_type place) (address_at_place p.of_module f slots frame.registers place_type place) given) frame
+after_place p f slots name (Store stored v place_type place) given frame =
+    set_slot (slot_at_place p.of_module f slots place_type place) (value_of p.of_module frame.registers stored v) frame
+after_place p f slots name _ given frame = frame
 
 -- the frame behind an instruction that stays in its block
 abbrev pub after_op : LaidOut → Function → SlotTable → (name : Option ℕ) → Op → Answer → Frame → Frame
-after_op p f slots name (Bitcast from o to) given frame = after_cast name (value_of p.of_module frame.registers from o) (operand_slot slots.names o) frame
-after_op p f slots name (Load loaded place_type place) given frame =
-    set_register name (loaded_from p frame.slots (slot_at_place p.of_module f slots place_type place) (address_at_place p.of_module f slots frame.registers place_type place) given) frame
-after_op p f slots name (Store stored v place_type place) given frame =
-    set_slot (slot_at_place p.of_module f slots place_type place) (value_of p.of_module frame.registers stored v) frame
-after_op p f slots name (Element source base_type base indices) given frame =
-    set_register name (address_of (element_place p (element_offset p frame.registers source indices) (value_of p.of_module frame.registers base_type base))) frame
-after_op p f slots name (Arithmetic kind written first second) given frame =
-    set_register name (arithmetic_value p.of_module frame.registers (Arithmetic kind written first second)) frame
-after_op p f slots name (Resize kind from o to) given frame =
-    set_register name (value.Number (resized kind (bits_at p.of_module from) (bits_at p.of_module to) (number_in (value_of p.of_module frame.registers from o)))) frame
-after_op p f slots name (Compare kind written first second) given frame =
-    set_register name (compared kind (bits_at p.of_module written) (value_of p.of_module frame.registers written first) (value_of p.of_module frame.registers written second)) frame
+after_op p f slots name (Bitcast from o to) given frame = after_place p f slots name (Bitcast from o to) given frame
+after_op p f slots name (Load loaded place_type place) given frame = after_place p f slots name (Load loaded place_type place) given frame
+after_op p f slots name (Store stored v place_type place) given frame = after_place p f slots name (Store stored v place_type place) given frame
+after_op p f slots name (Element source base_type base indices) given frame = set_register name (element_address p frame.registers (Element source base_type base indices)) frame
+after_op p f slots name (Arithmetic kind written first second) given frame = set_register name (computed_value p.of_module frame.registers (Arithmetic kind written first second)) frame
+after_op p f slots name (Resize kind from o to) given frame = set_register name (computed_value p.of_module frame.registers (Resize kind from o to)) frame
+after_op p f slots name (Compare kind written first second) given frame = set_register name (computed_value p.of_module frame.registers (Compare kind written first second)) frame
 after_op p f slots name (Select condition_type condition written chosen other) given frame =
-    set_register name (selected (value_of p.of_module frame.registers condition_type condition) (value_of p.of_module frame.registers written chosen) (value_of p.of_module frame.registers written other)) frame
-after_op p f slots name (Call returned callee arguments) given frame = after_call p.of_module f slots name arguments (runtime_called p.of_module callee) given frame
+    set_register name (computed_value p.of_module frame.registers (Select condition_type condition written chosen other)) frame
+after_op p f slots name (Call returned callee arguments) given frame = after_call p f slots name arguments (runtime_called p.of_module callee) given frame
 after_op p f slots name _ given frame = frame
 
 -- the next place

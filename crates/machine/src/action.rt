@@ -14,6 +14,12 @@ pub enum Action {
         at: Reference,
         word: u32,
     },
+    /// This reference, or null, is put into a word of a cell, behind the barrier.
+    Write {
+        at: Reference,
+        word: u32,
+        value: Value,
+    },
     /// This value is put into a word of a cell, without the barrier.
     StorePlain {
         at: Reference,

@@ -1,7 +1,8 @@
-ghost use Rattle.std.specs.Prelude.{◌≡◌, ◌&&◌, slice_get};
+ghost use Rattle.std.specs.Prelude.{◌≡◌, ◌&&◌, if◌then◌else◌, slice_get};
+ghost use Rattle.machine.specs.declared.action.Action.TheVariants.{Wrong};
 ghost use Rattle.machine.specs.Kinds.{is_integer, bits_at, is_usable_number};
 ghost use Rattle.machine.specs.Integers.{may_resize};
-ghost use Rattle.machine.specs.Asks.{are_indices, are_numbers, are_references, may_compare, may_select, is_condition, element_action, enter_action, branch_way, way_of, target_at, way_action, op_action};
+ghost use Rattle.machine.specs.Asks.{are_indices, are_numbers, are_references, may_compare, may_select, is_condition, element_action, enter_action, branch_way, way_of, target_at, way_action, value_action, place_action, end_action, op_action};
 
 use crate::action::{Action, only_if};
 use crate::calls::call_action;
@@ -166,12 +167,49 @@ fn way_action(scene: &Scene<'_>, from: usize, op: &Op) -> Action
     }
 }
 
-/// What an instruction of this block asks for.
-pub fn op_action(scene: &Scene<'_>, block: usize, op: &Op) -> Action
-    ensures { result ≡ op_action scene.now.program.now scene.now.function.now scene.now.slots.now block scene.now.registers.now op.now }
+/// What an instruction asks for that computes a value of others.
+fn value_action(scene: &Scene<'_>, op: &Op) -> Action
+    ensures { result ≡ value_action scene.now.program.now.of_module scene.now.function.now scene.now.slots.now scene.now.registers.now op.now }
+{
+    let has_meaning = match op {
+        Op::Arithmetic {
+            written,
+            first,
+            second,
+            ..
+        } => are_numbers(scene, *written, first, second),
+        Op::Resize {
+            kind,
+            from,
+            operand,
+            to,
+        } => may_resize_to(scene, *kind, *from, operand, *to),
+        Op::Compare {
+            kind,
+            written,
+            first,
+            second,
+        } => may_compare(scene, *kind, *written, first, second),
+        Op::Select {
+            condition_type,
+            condition,
+            written,
+            chosen,
+            other,
+        } => {
+            is_condition(scene, *condition_type, condition)
+                && may_select(scene, *written, chosen, other)
+        }
+        _ => false,
+    };
+    only_if(has_meaning, Action::Local)
+}
+
+/// What an instruction asks for that has to do with a place.
+fn place_action(scene: &Scene<'_>, op: &Op) -> Action
+    ensures { result ≡ place_action scene.now.program.now scene.now.function.now scene.now.slots.now scene.now.registers.now op.now }
 {
     match op {
-        Op::Alloca(_) | Op::Phi { .. } => Action::Local,
         Op::Bitcast { from, operand, to } => cast_action(scene, *from, operand, *to),
         Op::Load {
             loaded,
@@ -190,61 +228,34 @@ pub fn op_action(scene: &Scene<'_>, block: usize, op: &Op) -> Action
             base,
             indices,
         } => { element_action(scene, *source, *base_type, base, indices.as_slice()) }
-        Op::Arithmetic {
-            written,
-            first,
-            second,
-            ..
-        } => { only_if(are_numbers(scene, *written, first, second), Action::Local) }
-        Op::Resize {
-            kind,
-            from,
-            operand,
-            to,
-        } => {
-            only_if(
-                may_resize_to(scene, *kind, *from, operand, *to),
-                Action::Local,
-            )
-        }
-        Op::Compare {
-            kind,
-            written,
-            first,
-            second,
-        } => {
-            only_if(
-                may_compare(scene, *kind, *written, first, second),
-                Action::Local,
-            )
-        }
-        Op::Select {
-            condition_type,
-            condition,
-            written,
-            chosen,
-            other,
-        } => only_if(
-            is_condition(scene, *condition_type, condition)
-                && may_select(scene, *written, chosen, other),
-            Action::Local,
-        ),
-        Op::Call {
-            returned,
-            callee,
-            arguments,
-        } => { call_action(scene, *returned, *callee, arguments.as_slice()) }
+        _ => Action::Wrong,
+    }
+}
+
+/// What a br or a switch of this block asks for, if its operands have a meaning.
+fn way_action_if(scene: &Scene<'_>, block: usize, op: &Op, has_meaning: bool) -> Action
+    ensures { result ≡ (if has_meaning then way_action scene.now.program.now.of_module scene.now.function.now scene.now.slots.now block scene.now.registers.now op.now else Wrong) }
+{
+    if has_meaning {
+        way_action(scene, block, op)
+    } else {
+        Action::Wrong
+    }
+}
+
+/// What an instruction asks for that ends this block.
+fn end_action(scene: &Scene<'_>, block: usize, op: &Op) -> Action
+    ensures { result ≡ end_action scene.now.program.now.of_module scene.now.function.now scene.now.slots.now block scene.now.registers.now op.now }
+{
+    match op {
         Op::Jump(_) => way_action(scene, block, op),
         Op::Branch {
             condition_type,
             condition,
             ..
         } => {
-            if is_condition(scene, *condition_type, condition) {
-                way_action(scene, block, op)
-            } else {
-                Action::Wrong
-            }
+            let has_meaning = is_condition(scene, *condition_type, condition);
+            way_action_if(scene, block, op, has_meaning)
         }
         Op::Switch {
             written,
@@ -252,13 +263,9 @@ pub fn op_action(scene: &Scene<'_>, block: usize, op: &Op) -> Action
             cases,
             ..
         } => {
-            if is_usable_number(scene, *written, value)
-                && cases_fit(scene.of_module(), *written, cases.as_slice())
-            {
-                way_action(scene, block, op)
-            } else {
-                Action::Wrong
-            }
+            let has_meaning = is_usable_number(scene, *written, value)
+                && cases_fit(scene.of_module(), *written, cases.as_slice());
+            way_action_if(scene, block, op, has_meaning)
         }
         Op::Unreachable => Action::End,
         Op::ReturnVoid => {
@@ -272,5 +279,32 @@ pub fn op_action(scene: &Scene<'_>, block: usize, op: &Op) -> Action
                 && is_usable(scene, argument.written, &argument.operand),
             Action::End,
         ),
+        _ => Action::Wrong,
+    }
+}
+
+/// What an instruction of this block asks for.
+pub fn op_action(scene: &Scene<'_>, block: usize, op: &Op) -> Action
+    ensures { result ≡ op_action scene.now.program.now scene.now.function.now scene.now.slots.now block scene.now.registers.now op.now }
+{
+    match op {
+        Op::Alloca(_) | Op::Phi { .. } => Action::Local,
+        Op::Bitcast { .. } | Op::Load { .. } | Op::Store { .. } | Op::Element { .. } => {
+            place_action(scene, op)
+        }
+        Op::Arithmetic { .. } | Op::Resize { .. } | Op::Compare { .. } | Op::Select { .. } => {
+            value_action(scene, op)
+        }
+        Op::Call {
+            returned,
+            callee,
+            arguments,
+        } => { call_action(scene, *returned, *callee, arguments.as_slice()) }
+        Op::Jump(_)
+        | Op::Branch { .. }
+        | Op::Switch { .. }
+        | Op::Unreachable
+        | Op::ReturnVoid
+        | Op::Return(_) => end_action(scene, block, op),
     }
 }

@@ -2,14 +2,16 @@
 ghost use Rattle.std.specs.Prelude.{◌≡◌, slice_get};
 ghost use Rattle.std.specs.Option.{option_copied};
 ghost use Rattle.types.specs.RuntimeCall.{runtime_called};
-ghost use Rattle.machine.specs.Kinds.{slot_at_place};
-ghost use Rattle.machine.specs.Machine.{layout_of_call, root_of_call};
-ghost use Rattle.machine.specs.Asks.{are_gcroot_types, are_alloc_types, are_safepoint_types, declare_of, declared_with, is_root_place, gcroot_action, layout_numbered, layout_named, alloc_of, alloc_action, safepoint_action, number_called, function_numbered, arguments_pass, defined_action, call_action};
+ghost use Rattle.machine.specs.Kinds.{slot_at_place, address_at_place};
+ghost use Rattle.machine.specs.Machine.{layout_of_call, root_of_call, place_of_call};
+ghost use Rattle.machine.specs.Asks.{are_gcroot_types, are_gcread_types, are_gcwrite_types, are_alloc_types, are_safepoint_types, declare_of, declared_with, is_root_place, gcroot_action, gcread_action, gcwrite_action, layout_numbered, layout_named, alloc_of, alloc_action, safepoint_action, number_called, function_numbered, arguments_pass, defined_action, call_action};
 
 use crate::action::{Action, only_if};
 use crate::kinds::{is_byte_pointer, is_integer_of, is_place_of_bytes, is_void};
-use crate::operands::{is_usable, slot_at_place};
+use crate::moves::{barrier_action, read_action};
+use crate::operands::{address_at_place, is_usable, slot_at_place, value_of};
 use crate::scene::Scene;
+use crate::value::Place;
 use ir_ast::{
     Argument, Constant, Declare, FuncId, Function, Module, Operand, Parameter, Runtime, SymbolId,
     SymbolSort, TypeId,
@@ -25,6 +27,32 @@ fn are_gcroot_types(of_module: &Module, returned: TypeId, parameters: &[TypeId])
         [place, metadata] => {
             is_void(of_module, returned)
                 && (is_place_of_bytes(of_module, *place) && is_byte_pointer(of_module, *metadata))
+        }
+        _ => false,
+    }
+}
+
+fn are_gcread_types(of_module: &Module, returned: TypeId, parameters: &[TypeId]) -> bool
+    ensures { result ≡ are_gcread_types of_module.now returned parameters.now }
+{
+    match parameters {
+        [object, place] => {
+            is_byte_pointer(of_module, returned)
+                && (is_byte_pointer(of_module, *object) && is_place_of_bytes(of_module, *place))
+        }
+        _ => false,
+    }
+}
+
+fn are_gcwrite_types(of_module: &Module, returned: TypeId, parameters: &[TypeId]) -> bool
+    ensures { result ≡ are_gcwrite_types of_module.now returned parameters.now }
+{
+    match parameters {
+        [value, object, place] => {
+            is_void(of_module, returned)
+                && (is_byte_pointer(of_module, *value)
+                    && (is_byte_pointer(of_module, *object)
+                        && is_place_of_bytes(of_module, *place)))
         }
         _ => false,
     }
@@ -83,6 +111,48 @@ fn gcroot_action(scene: &Scene<'_>, returned: TypeId, arguments: &[Argument]) ->
     }
 }
 
+fn gcread_action(scene: &Scene<'_>, returned: TypeId, arguments: &[Argument]) -> Action
+    ensures { result ≡ gcread_action scene.now.program.now scene.now.function.now scene.now.slots.now scene.now.registers.now returned arguments.now }
+{
+    match arguments {
+        [object, place] => only_if(
+            are_gcread_types(
+                scene.of_module(),
+                returned,
+                &[object.written, place.written],
+            ) && is_usable(scene, object.written, &object.operand),
+            read_action(
+                scene.program,
+                returned,
+                address_at_place(scene, place.written, &place.operand),
+            ),
+        ),
+        _ => Action::Wrong,
+    }
+}
+
+fn gcwrite_action(scene: &Scene<'_>, returned: TypeId, arguments: &[Argument]) -> Action
+    ensures { result ≡ gcwrite_action scene.now.program.now scene.now.function.now scene.now.slots.now scene.now.registers.now returned arguments.now }
+{
+    match arguments {
+        [value, object, place] => only_if(
+            are_gcwrite_types(
+                scene.of_module(),
+                returned,
+                &[value.written, object.written, place.written],
+            ) && (is_usable(scene, value.written, &value.operand)
+                && is_usable(scene, object.written, &object.operand)),
+            barrier_action(
+                scene.program,
+                value.written,
+                value_of(scene, value.written, &value.operand),
+                address_at_place(scene, place.written, &place.operand),
+            ),
+        ),
+        _ => Action::Wrong,
+    }
+}
+
 /// The layout that an operand numbers: a constant of 32 bits.
 fn layout_named(of_module: &Module, operand: &Operand) -> Option<LayoutId>
     ensures { result ≡ layout_named of_module.now operand.now }
@@ -123,6 +193,16 @@ pub fn root_of_call(scene: &Scene<'_>, arguments: &[Argument]) -> Option<SlotId>
     }
 }
 
+/// The address that a call of gcread names.
+pub fn place_of_call(scene: &Scene<'_>, arguments: &[Argument]) -> Option<Place>
+    ensures { result ≡ place_of_call scene.now.program.now.of_module scene.now.function.now scene.now.slots.now scene.now.registers.now arguments.now }
+{
+    match arguments {
+        [_, place, ..] => address_at_place(scene, place.written, &place.operand),
+        _ => None,
+    }
+}
+
 fn alloc_of(layout: Option<LayoutId>) -> Action
     ensures { result ≡ alloc_of layout }
 {
@@ -151,6 +231,30 @@ fn declares_gcroot(of_module: &Module, declare: Option<&Declare>) -> bool
     match declare {
         Some(declare) => {
             are_gcroot_types(of_module, declare.returned, declare.parameters.as_slice())
+        }
+        None => false,
+    }
+}
+
+/// Whether a name is declared as gcread has to be.
+fn declares_gcread(of_module: &Module, declare: Option<&Declare>) -> bool
+    ensures { result ≡ declared_with (are_gcread_types of_module.now) (option_copied declare.entry) }
+{
+    match declare {
+        Some(declare) => {
+            are_gcread_types(of_module, declare.returned, declare.parameters.as_slice())
+        }
+        None => false,
+    }
+}
+
+/// Whether a name is declared as gcwrite has to be.
+fn declares_gcwrite(of_module: &Module, declare: Option<&Declare>) -> bool
+    ensures { result ≡ declared_with (are_gcwrite_types of_module.now) (option_copied declare.entry) }
+{
+    match declare {
+        Some(declare) => {
+            are_gcwrite_types(of_module, declare.returned, declare.parameters.as_slice())
         }
         None => false,
     }
@@ -255,7 +359,7 @@ pub fn call_action(
     callee: SymbolId,
     arguments: &[Argument],
 ) -> Action
-    ensures { let m = scene.now.program.now.of_module in result ≡ call_action m scene.now.function.now scene.now.slots.now scene.now.registers.now returned arguments.now (declare_of m callee) (function_numbered m (number_called m callee)) (runtime_called m callee) }
+    ensures { let m = scene.now.program.now.of_module in result ≡ call_action scene.now.program.now scene.now.function.now scene.now.slots.now scene.now.registers.now returned arguments.now (declare_of m callee) (function_numbered m (number_called m callee)) (runtime_called m callee) }
 {
     let of_module = scene.of_module();
     let declare = declare_of(of_module, callee);
@@ -272,7 +376,14 @@ pub fn call_action(
             declares_safepoint(of_module, declare),
             safepoint_action(of_module, returned, arguments),
         ),
-        Some(Runtime::GcRead | Runtime::GcWrite) => Action::Wrong,
+        Some(Runtime::GcRead) => only_if(
+            declares_gcread(of_module, declare),
+            gcread_action(scene, returned, arguments),
+        ),
+        Some(Runtime::GcWrite) => only_if(
+            declares_gcwrite(of_module, declare),
+            gcwrite_action(scene, returned, arguments),
+        ),
         None => defined_action(
             scene,
             returned,

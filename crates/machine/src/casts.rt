@@ -2,31 +2,19 @@
 ghost use Rattle.std.specs.Prelude.{◌≡◌};
 ghost use Rattle.pools.specs.Layouts.{kind_of_word};
 ghost use Rattle.shadow_stack.specs.Slots.{operand_slot};
-ghost use Rattle.machine.specs.Elements.{refers_to, is_layout};
-ghost use Rattle.machine.specs.Asks.{may_cast_word, may_cast_place, may_cast_value, may_cast, is_slot_under, held_layout, may_cast_slot, cast_action};
+ghost use Rattle.machine.specs.Elements.{global_kind};
+ghost use Rattle.machine.specs.Asks.{may_cast_place, may_cast_value, may_cast, is_slot_under, held_layout, may_cast_slot, cast_action};
 
 use crate::action::{Action, only_if};
-use crate::elements::{kind_of_word, refers_to};
-use crate::kinds::{is_set, may_lead, may_refer};
+use crate::elements::{global_kind, kind_of_word};
+use crate::kinds::{is_set, may_cast_word, may_lead, may_refer, refers_to};
 use crate::operands::{is_local_of, is_typed, operand_slot, value_of};
 use crate::scene::Scene;
 use crate::value::{Place, Value};
 use ir_ast::{Module, Operand, TypeId};
 use layout::Program;
-use pools::{LayoutId, WordKind};
+use pools::LayoutId;
 use types::{is_reference, pointee};
-
-fn may_cast_word(of_module: &Module, to: TypeId, kind: Option<WordKind>) -> bool
-    ensures { result ≡ may_cast_word of_module.now to kind }
-{
-    let Some(WordKind::Reference(layout)) = &kind else {
-        return false;
-    };
-    match pointee(of_module, to) {
-        Some(part) => refers_to(of_module, *layout, part),
-        None => false,
-    }
-}
 
 fn may_cast_place(program: &Program, to: TypeId, place: &Place) -> bool
     ensures { result ≡ may_cast_place program.now to place.now }
@@ -35,6 +23,9 @@ fn may_cast_place(program: &Program, to: TypeId, place: &Place) -> bool
         Place::OfNull => may_lead(program.module(), to),
         Place::Word { layout, word, .. } => {
             may_cast_word(program.module(), to, kind_of_word(program, *layout, *word))
+        }
+        Place::Global(global) => {
+            may_cast_word(program.module(), to, global_kind(program.module(), *global))
         }
     }
 }

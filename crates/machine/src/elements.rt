@@ -2,23 +2,39 @@
 ghost use Rattle.std.specs.Prelude.{◌≡◌, ◌+◌, ◌*◌, Some};
 ghost use Rattle.pools.specs.Layouts.{kind_of_word};
 ghost use Rattle.machine.specs.Kinds.{wrapped};
-ghost use Rattle.machine.specs.Elements.{index_value, stepped, offset_behind, first_place, element_offset, word_in, word_behind, element_place, is_layout, refers_to, is_read_as, takes_integer, read_value};
+ghost use Rattle.machine.specs.Elements.{index_value, stepped, offset_behind, first_place, element_offset, word_in, word_behind, global_behind, element_place, globals_cell, global_kind, is_read_as, takes_value, read_value};
 
 use crate::action::Answer;
 use crate::integers::{read_signed, wrapped_wide};
-use crate::kinds::{bits_at, is_byte_pointer, is_integer_of, number_in};
+use crate::kinds::{bits_at, fits_layout, is_integer_of, is_number, number_in, refers_to};
 use crate::operands::operand_value;
 use crate::value::{Place, Reference, Value};
-use ir_ast::{Argument, Module, TypeId};
-use layout::{Program, Step};
+use ir_ast::{Argument, GlobalId, Module, TypeId};
+use layout::{Program, Step, word_of};
 use pools::{LayoutId, WordKind};
-use types::is_reference;
 
 /// What a word of a layout holds, if the layout has it.
 pub fn kind_of_word(program: &Program, layout: LayoutId, word: u32) -> Option<WordKind>
     ensures { result ≡ kind_of_word program.now.layouts layout word }
 {
     program.layouts().words(layout).get(word as usize).copied()
+}
+
+/// What the word of a global holds.
+pub fn global_kind(of_module: &Module, global: GlobalId) -> Option<WordKind>
+    ensures { result ≡ global_kind of_module.now global }
+{
+    match of_module.globals.get(global.number() as usize) {
+        Some(global) => word_of(of_module, global.held),
+        None => None,
+    }
+}
+
+/// The cell of the globals, whose birth is the first.
+pub fn globals_cell() -> Reference
+    ensures { result ≡ globals_cell }
+{
+    Reference { cell: 0, birth: 0 }
 }
 
 /// The number of an index, read with its sign and modulo 2 to the 64.
@@ -124,6 +140,17 @@ fn word_behind(
     word_in(program, layout, at, behind(u64::from(word), offset?))
 }
 
+/// A global has one word: its place is the only one to which it leads.
+fn global_behind(global: GlobalId, offset: Option<u64>) -> Option<Place>
+    ensures { result ≡ global_behind global offset }
+{
+    if offset? == 0 {
+        Some(Place::Global(global))
+    } else {
+        None
+    }
+}
+
 fn element_place(program: &Program, offset: Option<u64>, base: &Value) -> Option<Place>
     ensures { result ≡ element_place program.now offset base.now }
 {
@@ -133,6 +160,7 @@ fn element_place(program: &Program, offset: Option<u64>, base: &Value) -> Option
         Value::Address(Place::Word { layout, at, word }) => {
             word_behind(program, *layout, *at, *word, offset)
         }
+        Value::Address(Place::Global(global)) => global_behind(*global, offset),
         Value::Unset | Value::Number(_) => None,
     }
 }
@@ -154,19 +182,6 @@ pub fn element_place_of(
     )
 }
 
-/// Whether a type is `i8*`, or a reference to this layout.
-pub fn refers_to(of_module: &Module, layout: LayoutId, written: TypeId) -> bool
-    ensures { result ≡ refers_to of_module.now layout written }
-{
-    if is_byte_pointer(of_module, written) {
-        return true;
-    }
-    match is_reference(of_module, written) {
-        Some(other) => other == layout,
-        None => false,
-    }
-}
-
 /// Whether a word of this kind may be read under this type.
 pub fn is_read_as(of_module: &Module, written: TypeId, kind: Option<WordKind>) -> bool
     ensures { result ≡ is_read_as of_module.now written kind }
@@ -178,13 +193,23 @@ pub fn is_read_as(of_module: &Module, written: TypeId, kind: Option<WordKind>) -
     }
 }
 
-/// Whether a word of this kind takes integers of this type.
-pub fn takes_integer(of_module: &Module, written: TypeId, kind: Option<WordKind>) -> bool
-    ensures { result ≡ takes_integer of_module.now written kind }
+/// Whether a word of this kind takes a value of this type.
+pub fn takes_value(
+    of_module: &Module,
+    written: TypeId,
+    kind: Option<WordKind>,
+    value: &Value,
+) -> bool
+    ensures { result ≡ takes_value of_module.now written kind value.now }
 {
-    match kind {
-        Some(WordKind::Integer(bits)) => is_integer_of(of_module, bits, written),
-        _ => false,
+    match &kind {
+        Some(WordKind::Integer(bits)) => {
+            is_integer_of(of_module, *bits, written) && is_number(value)
+        }
+        Some(WordKind::Reference(layout)) => {
+            refers_to(of_module, *layout, written) && fits_layout(*layout, value)
+        }
+        None => false,
     }
 }
 

@@ -2,17 +2,14 @@ ghost use Rattle.std.specs.Prelude.{◌≡◌, ◌≤◌, length, map, take, sli
 ghost use Rattle.types.specs.RuntimeCall.{runtime_called};
 ghost use Rattle.machine.specs.Kinds.{value_of};
 ghost use Rattle.machine.specs.Jumps.{put_register, put_each, phi_value, phis_of, enter};
-ghost use Rattle.machine.specs.Machine.{initial, set_register, set_slot, loaded_from, after_call, after_op};
+ghost use Rattle.machine.specs.Machine.{initial, set_register, set_slot, loaded_from, after_call, after_place, after_op};
 
 use crate::action::Answer;
-use crate::calls::{layout_of_call, root_of_call};
-use crate::elements::element_place_of;
+use crate::calls::{layout_of_call, place_of_call, root_of_call};
 use crate::jumps::{phi_value, phis_of};
-use crate::kinds::{bits_at, is_integer};
+use crate::kinds::is_integer;
 use crate::operands::{address_at_place, operand_slot, slot_at_place, value_of};
-use crate::results::{
-    address_of, alloc_value, arithmetic_value, compared, loaded_from, resized_value, selected,
-};
+use crate::results::{alloc_value, computed_value, element_address, loaded_from, read_at};
 use crate::scene::Scene;
 use crate::value::Value;
 use ir_ast::{
@@ -68,6 +65,49 @@ impl Frame {
     )
         ensures { self.new ≡ after_op program.now function.now slots.now name op.now answer self.old }
     {
+        match op {
+            Op::Bitcast { .. } | Op::Load { .. } | Op::Store { .. } => {
+                self.after_place(program, function, slots, name, op, answer);
+            }
+            Op::Element { .. } => {
+                let value = element_address(&self.scene(program, function, slots), op);
+                self.set_register(name, value);
+            }
+            Op::Arithmetic { .. } | Op::Resize { .. } | Op::Compare { .. } | Op::Select { .. } => {
+                let value = computed_value(&self.scene(program, function, slots), op);
+                self.set_register(name, value);
+            }
+            Op::Call {
+                callee,
+                arguments,
+                ..
+            } => {
+                self.after_call(
+                    program,
+                    function,
+                    slots,
+                    name,
+                    arguments.as_slice(),
+                    *callee,
+                    answer,
+                );
+            }
+            _ => {}
+        }
+    }
+
+    /// The same of a bitcast, a load or a store.
+    fn after_place(
+        &mut self,
+        program: &Program,
+        function: &Function,
+        slots: &Slots,
+        name: Option<ValueId>,
+        op: &Op,
+        answer: Answer,
+    )
+        ensures { self.new ≡ after_place program.now function.now slots.now name op.now answer self.old }
+    {
         let scene = self.scene(program, function, slots);
         match op {
             Op::Bitcast { from, operand, .. } => {
@@ -96,82 +136,6 @@ impl Frame {
                 let value = value_of(&scene, *stored, value);
                 self.set_slot(slot, value);
             }
-            Op::Element {
-                source,
-                base_type,
-                base,
-                indices,
-            } => {
-                let base = value_of(&scene, *base_type, base);
-                let place = element_place_of(
-                    program,
-                    scene.registers,
-                    *source,
-                    &base,
-                    indices.as_slice(),
-                );
-                self.set_register(name, address_of(place));
-            }
-            Op::Arithmetic {
-                kind,
-                written,
-                first,
-                second,
-            } => {
-                let value = arithmetic_value(&scene, *kind, *written, first, second);
-                self.set_register(name, value);
-            }
-            Op::Resize {
-                kind,
-                from,
-                operand,
-                to,
-            } => {
-                let value = resized_value(&scene, *kind, *from, operand, *to);
-                self.set_register(name, value);
-            }
-            Op::Compare {
-                kind,
-                written,
-                first,
-                second,
-            } => {
-                let bits = bits_at(program.module(), *written);
-                let (first, second) = (
-                    value_of(&scene, *written, first),
-                    value_of(&scene, *written, second),
-                );
-                self.set_register(name, compared(*kind, bits, first, second));
-            }
-            Op::Select {
-                condition_type,
-                condition,
-                written,
-                chosen,
-                other,
-            } => {
-                let condition = value_of(&scene, *condition_type, condition);
-                let (chosen, other) = (
-                    value_of(&scene, *written, chosen),
-                    value_of(&scene, *written, other),
-                );
-                self.set_register(name, selected(condition, chosen, other));
-            }
-            Op::Call {
-                callee,
-                arguments,
-                ..
-            } => {
-                self.after_call(
-                    program,
-                    function,
-                    slots,
-                    name,
-                    arguments.as_slice(),
-                    *callee,
-                    answer,
-                );
-            }
             _ => {}
         }
     }
@@ -186,16 +150,21 @@ impl Frame {
         callee: SymbolId,
         answer: Answer,
     )
-        ensures { let m = program.now.of_module in self.new ≡ after_call m function.now slots.now name arguments.now (runtime_called m callee) answer self.old }
+        ensures { self.new ≡ after_call program.now function.now slots.now name arguments.now (runtime_called program.now.of_module callee) answer self.old }
     {
+        let scene = self.scene(program, function, slots);
         match runtime_called(program.module(), callee) {
             Some(Runtime::Alloc) => {
                 let layout = layout_of_call(program.module(), arguments);
                 self.set_register(name, alloc_value(layout, answer));
             }
             Some(Runtime::GcRoot) => {
-                let slot = root_of_call(&self.scene(program, function, slots), arguments);
+                let slot = root_of_call(&scene, arguments);
                 self.set_slot(slot, Value::Null);
+            }
+            Some(Runtime::GcRead) => {
+                let place = place_of_call(&scene, arguments);
+                self.set_register(name, read_at(program, place, answer));
             }
             _ => {}
         }

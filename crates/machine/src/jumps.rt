@@ -4,7 +4,7 @@ ghost use Rattle.std.specs.List.{take_while};
 ghost use Rattle.machine.specs.Jumps.{is_block, is_phi_op, is_phi, phis_of, entry_for, entry_fits, phi_fits, phis_fit, entry_value, phi_value, switch_way, cases_fit};
 
 use crate::kinds::{is_scalar, number_in};
-use crate::operands::{constant_fits, constant_value, is_typed, operand_value};
+use crate::operands::{constant_fits, constant_value, is_no_global, is_typed, operand_value};
 use crate::scene::Scene;
 use crate::value::Value;
 use ir_ast::{
@@ -74,7 +74,7 @@ fn entry_fits(scene: &Scene<'_>, written: TypeId, entry: Option<Operand>) -> boo
     ensures { result ≡ entry_fits scene.now.program.now.of_module scene.now.function.now scene.now.slots.now written entry }
 {
     match entry {
-        Some(operand) => is_typed(scene, written, &operand),
+        Some(operand) => is_no_global(&operand) && is_typed(scene, written, &operand),
         None => true,
     }
 }

@@ -1,10 +1,10 @@
 //! Kinds of types and of values.
 ghost use Rattle.std.specs.Prelude.{◌≡◌, slice_get};
-ghost use Rattle.machine.specs.Kinds.{is_integer, is_integer_of, is_void, bits_at, leads_to, is_byte_pointer, is_place_of_bytes, may_refer, is_scalar, may_lead, is_set, is_plain, is_number, number_in, is_null, is_reference, fits_layout, fits_layout_of, are_of_one_layout, address_in};
+ghost use Rattle.machine.specs.Kinds.{is_integer, is_integer_of, is_void, bits_at, leads_to, is_byte_pointer, is_place_of_bytes, may_refer, is_scalar, may_lead, is_layout, refers_to, may_cast_word, is_set, is_plain, is_number, number_in, is_null, is_reference, fits_layout, fits_layout_of, are_of_one_layout, address_in};
 
 use crate::value::{Place, Value};
 use ir_ast::{IrType, Module, TypeId};
-use pools::LayoutId;
+use pools::{LayoutId, WordKind};
 use types::{is_reference as referenced_layout, pointee};
 
 /// An integer.
@@ -85,6 +85,32 @@ pub fn may_lead(of_module: &Module, written: TypeId) -> bool
     }
 }
 
+/// Whether a type is `i8*`, or a reference to this layout.
+pub fn refers_to(of_module: &Module, layout: LayoutId, written: TypeId) -> bool
+    ensures { result ≡ refers_to of_module.now layout written }
+{
+    if is_byte_pointer(of_module, written) {
+        return true;
+    }
+    match referenced_layout(of_module, written) {
+        Some(other) => other == layout,
+        None => false,
+    }
+}
+
+/// Whether the address of a word of this kind may be cast to a type.
+pub fn may_cast_word(of_module: &Module, to: TypeId, kind: Option<WordKind>) -> bool
+    ensures { result ≡ may_cast_word of_module.now to kind }
+{
+    let Some(WordKind::Reference(layout)) = &kind else {
+        return false;
+    };
+    match pointee(of_module, to) {
+        Some(part) => refers_to(of_module, *layout, part),
+        None => false,
+    }
+}
+
 /// Something was put there.
 pub fn is_set(value: &Value) -> bool
     ensures { result ≡ is_set value.now }
@@ -123,7 +149,8 @@ pub fn is_reference(value: &Value) -> bool
     matches!(value, Value::Null | Value::Cell(..))
 }
 
-fn fits_layout(layout: LayoutId, value: &Value) -> bool
+/// Null, or a reference of this layout.
+pub fn fits_layout(layout: LayoutId, value: &Value) -> bool
     ensures { result ≡ fits_layout layout value.now }
 {
     match value {

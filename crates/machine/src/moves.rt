@@ -1,12 +1,12 @@
 //! What loads and stores ask for.
 ghost use Rattle.std.specs.Prelude.{◌≡◌};
-ghost use Rattle.machine.specs.Elements.{is_read_as, takes_integer};
+ghost use Rattle.machine.specs.Elements.{is_read_as, takes_value};
 ghost use Rattle.machine.specs.Kinds.{slot_at_place, address_at_place, is_usable, value_of};
-ghost use Rattle.machine.specs.Asks.{is_slot_type, is_held_as, fits_type, fits_held, read_action, load_action, write_action, store_action};
+ghost use Rattle.machine.specs.Asks.{is_slot_type, is_held_as, fits_type, fits_held, read_action, load_action, plain_action, barrier_action, store_action};
 
 use crate::action::{Action, only_if};
-use crate::elements::{is_read_as, kind_of_word, takes_integer};
-use crate::kinds::{fits_layout_of, is_byte_pointer, is_number};
+use crate::elements::{global_kind, globals_cell, is_read_as, kind_of_word, takes_value};
+use crate::kinds::{fits_layout_of, is_byte_pointer};
 use crate::operands::{address_at_place, is_usable, slot_at_place, value_of};
 use crate::scene::Scene;
 use crate::value::{Place, Value};
@@ -40,7 +40,8 @@ fn fits_held(of_module: &Module, held: Option<TypeId>, value: &Value) -> bool
     }
 }
 
-fn read_action(program: &Program, loaded: TypeId, address: Option<Place>) -> Action
+/// What a read of the word to which an address leads asks for.
+pub fn read_action(program: &Program, loaded: TypeId, address: Option<Place>) -> Action
     ensures { result ≡ read_action program.now loaded address }
 {
     match &address {
@@ -53,6 +54,17 @@ fn read_action(program: &Program, loaded: TypeId, address: Option<Place>) -> Act
             Action::Read {
                 at: *at,
                 word: *word,
+            },
+        ),
+        Some(Place::Global(global)) => only_if(
+            is_read_as(
+                program.module(),
+                loaded,
+                global_kind(program.module(), *global),
+            ),
+            Action::Read {
+                at: globals_cell(),
+                word: global.number(),
             },
         ),
         _ => Action::Wrong,
@@ -76,19 +88,33 @@ pub fn load_action(scene: &Scene<'_>, loaded: TypeId, place_type: TypeId, place:
     }
 }
 
-fn write_action(program: &Program, stored: TypeId, value: Value, address: Option<Place>) -> Action
-    ensures { result ≡ write_action program.now stored value address }
+fn plain_action(program: &Program, stored: TypeId, value: Value, address: Option<Place>) -> Action
+    ensures { result ≡ plain_action program.now stored value address }
 {
     match &address {
         Some(Place::Word { layout, at, word }) => only_if(
-            takes_integer(
+            takes_value(
                 program.module(),
                 stored,
                 kind_of_word(program, *layout, *word),
-            ) && is_number(&value),
+                &value,
+            ),
             Action::StorePlain {
                 at: *at,
                 word: *word,
+                value,
+            },
+        ),
+        Some(Place::Global(global)) => only_if(
+            takes_value(
+                program.module(),
+                stored,
+                global_kind(program.module(), *global),
+                &value,
+            ),
+            Action::StorePlain {
+                at: globals_cell(),
+                word: global.number(),
                 value,
             },
         ),
@@ -96,7 +122,47 @@ fn write_action(program: &Program, stored: TypeId, value: Value, address: Option
     }
 }
 
-/// What a store asks for: nothing of a slot, an integer's store of the word of an address.
+/// What a store behind the barrier asks for, to the word to which an address leads.
+pub fn barrier_action(
+    program: &Program,
+    stored: TypeId,
+    value: Value,
+    address: Option<Place>,
+) -> Action
+    ensures { result ≡ barrier_action program.now stored value address }
+{
+    match &address {
+        Some(Place::Word { layout, at, word }) => only_if(
+            takes_value(
+                program.module(),
+                stored,
+                kind_of_word(program, *layout, *word),
+                &value,
+            ),
+            Action::Write {
+                at: *at,
+                word: *word,
+                value,
+            },
+        ),
+        Some(Place::Global(global)) => only_if(
+            takes_value(
+                program.module(),
+                stored,
+                global_kind(program.module(), *global),
+                &value,
+            ),
+            Action::Write {
+                at: globals_cell(),
+                word: global.number(),
+                value,
+            },
+        ),
+        _ => Action::Wrong,
+    }
+}
+
+/// What a store asks for: nothing of a slot, a plain store of the word of an address.
 pub fn store_action(
     scene: &Scene<'_>,
     stored: TypeId,
@@ -120,7 +186,7 @@ pub fn store_action(
         }
         None => {
             if usable {
-                write_action(
+                plain_action(
                     scene.program,
                     stored,
                     value,

@@ -1,15 +1,16 @@
 //! The values of operands, and whether an operand is of its written type.
 ghost use Rattle.std.specs.Prelude.{◌≡◌};
-ghost use Rattle.machine.specs.Kinds.{register_at, constant_fits, constant_value, value_of, is_typed, is_usable, is_usable_number, is_local_of, slot_at_place, address_at_place};
+ghost use Rattle.machine.specs.Kinds.{register_at, constant_fits, constant_value, may_cast_global, global_address, value_of, is_typed, is_no_global, is_usable, is_usable_number, is_local_of, slot_at_place, address_at_place};
 ghost use Rattle.shadow_stack.specs.Slots.{operand_slot};
 
 use crate::integers::wrapped;
-use crate::kinds::{address_in, bits_at, is_integer, is_number, is_plain};
+use crate::kinds::{address_in, bits_at, is_integer, is_number, is_plain, may_cast_word};
 use crate::scene::Scene;
 use crate::value::{Place, Value};
-use ir_ast::{Constant, Module, Operand, TypeId, ValueId};
+use ir_ast::{Constant, GlobalId, Module, Operand, SymbolId, TypeId, ValueId};
+use layout::global_word;
 use shadow_stack::{SlotId, Slots};
-use types::{has_type, pointee};
+use types::{global_named, has_type, pointee, points_to_global};
 
 fn register_at(registers: &[Value], value: ValueId) -> Value
     ensures { result ≡ register_at registers.now value }
@@ -42,6 +43,16 @@ pub fn constant_value(of_module: &Module, written: TypeId, constant: Constant) -
     }
 }
 
+/// The address of the global with this number, if there is one.
+fn global_address(global: Option<GlobalId>) -> Value
+    ensures { result ≡ global_address global }
+{
+    match global {
+        Some(global) => Value::Address(Place::Global(global)),
+        None => Value::Unset,
+    }
+}
+
 /// The value that an operand of this type has in these registers.
 pub fn operand_value(
     of_module: &Module,
@@ -54,7 +65,9 @@ pub fn operand_value(
     match operand {
         Operand::Constant(constant) => constant_value(of_module, written, *constant),
         Operand::Local(value) => register_at(registers, *value),
-        Operand::Global(_) | Operand::CastGlobal { .. } => Value::Unset,
+        Operand::Global(global) | Operand::CastGlobal { global, .. } => {
+            global_address(global_named(of_module, *global))
+        }
     }
 }
 
@@ -65,7 +78,14 @@ pub fn value_of(scene: &Scene<'_>, written: TypeId, operand: &Operand) -> Value
     operand_value(scene.of_module(), scene.registers, written, operand)
 }
 
-/// Whether an operand is a constant that fits the written type, or a local name of that type that names no slot.
+/// Whether the address of a global may be written under another type.
+fn may_cast_global(of_module: &Module, from: TypeId, global: SymbolId, to: TypeId) -> bool
+    ensures { result ≡ may_cast_global of_module.now from global to }
+{
+    from == to || may_cast_word(of_module, to, global_word(of_module, global))
+}
+
+/// Whether an operand is a constant that fits the written type, or a local name of that type that names no slot, or a global to which the type points, which may be cast to it.
 pub fn is_typed(scene: &Scene<'_>, written: TypeId, operand: &Operand) -> bool
     ensures { result ≡ is_typed scene.now.program.now.of_module scene.now.function.now scene.now.slots.now written operand.now }
 {
@@ -75,8 +95,20 @@ pub fn is_typed(scene: &Scene<'_>, written: TypeId, operand: &Operand) -> bool
             has_type(scene.of_module(), scene.function, written, *value)
                 && scene.slots.slot_of(*value).is_none()
         }
-        Operand::Global(_) | Operand::CastGlobal { .. } => false,
+        Operand::Global(global) => points_to_global(scene.of_module(), written, *global),
+        Operand::CastGlobal { from, global, to } => {
+            written == *to
+                && (points_to_global(scene.of_module(), *from, *global)
+                    && may_cast_global(scene.of_module(), *from, *global, *to))
+        }
     }
+}
+
+/// Whether an operand is a constant or a local name, and no address of a global.
+pub fn is_no_global(operand: &Operand) -> bool
+    ensures { result ≡ is_no_global operand.now }
+{
+    matches!(operand, Operand::Constant(_) | Operand::Local(_))
 }
 
 /// Whether an operand is a number or a reference of the written type, and set.

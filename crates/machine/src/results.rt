@@ -3,12 +3,12 @@ ghost use Rattle.std.specs.Prelude.{◌≡◌, IfOk};
 ghost use Rattle.machine.specs.Kinds.{value_of, bits_at, number_in};
 ghost use Rattle.machine.specs.Integers.{resized};
 ghost use Rattle.machine.specs.Elements.{address_of};
-ghost use Rattle.machine.specs.Machine.{slot_value, read_at, loaded_from, arithmetic_value, are_equal, compared, selected, alloc_value, values_of, result_of};
+ghost use Rattle.machine.specs.Machine.{slot_value, read_at, loaded_from, arithmetic_value, are_equal, compared, selected, alloc_value, computed_value, element_address, values_of, result_of};
 ghost use Rattle.ir_ast.specs.declared.op.Op.TheVariants as op;
 ghost use Rattle.machine.specs.declared.value.Value.TheVariants as value;
 
 use crate::action::Answer;
-use crate::elements::{kind_of_word, read_value};
+use crate::elements::{element_place_of, global_kind, kind_of_word, read_value};
 use crate::integers::{compares, compares_equal, computed, resized, truth};
 use crate::kinds::{bits_at, number_in};
 use crate::operands::{operand_value, value_of};
@@ -30,12 +30,16 @@ pub fn slot_value(slots: &[Value], slot: SlotId) -> Value
     }
 }
 
-fn read_at(program: &Program, address: Option<Place>, answer: Answer) -> Value
+/// What is read at an address.
+pub fn read_at(program: &Program, address: Option<Place>, answer: Answer) -> Value
     ensures { result ≡ read_at program.now address answer }
 {
     match &address {
         Some(Place::Word { layout, word, .. }) => {
             read_value(kind_of_word(program, *layout, *word), answer)
+        }
+        Some(Place::Global(global)) => {
+            read_value(global_kind(program.module(), *global), answer)
         }
         _ => Value::Unset,
     }
@@ -68,7 +72,7 @@ pub fn address_of(place: Option<Place>) -> Value
 }
 
 /// What an integer instruction of two operands gives.
-pub fn arithmetic_value(
+fn arithmetic_value(
     scene: &Scene<'_>,
     kind: Arithmetic,
     written: TypeId,
@@ -86,7 +90,7 @@ pub fn arithmetic_value(
 }
 
 /// What a change of an integer's width gives.
-pub fn resized_value(
+fn resized_value(
     scene: &Scene<'_>,
     kind: Resize,
     from: TypeId,
@@ -114,7 +118,7 @@ fn are_equal(first: Value, second: Value) -> bool
 }
 
 /// What an icmp of operands of so many bits gives: of two integers, or else of references.
-pub fn compared(kind: Comparison, bits: u32, first: Value, second: Value) -> Value
+fn compared(kind: Comparison, bits: u32, first: Value, second: Value) -> Value
     ensures { result ≡ compared kind bits first second }
 {
     match (first, second) {
@@ -126,13 +130,77 @@ pub fn compared(kind: Comparison, bits: u32, first: Value, second: Value) -> Val
 }
 
 /// What a select gives.
-pub fn selected(condition: Value, chosen: Value, other: Value) -> Value
+fn selected(condition: Value, chosen: Value, other: Value) -> Value
     ensures { result ≡ selected condition chosen other }
 {
     if number_in(&condition) == 0 {
         other
     } else {
         chosen
+    }
+}
+
+/// The value that an instruction computes of others.
+pub fn computed_value(scene: &Scene<'_>, op: &Op) -> Value
+    ensures { result ≡ computed_value scene.now.program.now.of_module scene.now.registers.now op.now }
+{
+    match op {
+        Op::Arithmetic {
+            kind,
+            written,
+            first,
+            second,
+        } => arithmetic_value(scene, *kind, *written, first, second),
+        Op::Resize {
+            kind,
+            from,
+            operand,
+            to,
+        } => resized_value(scene, *kind, *from, operand, *to),
+        Op::Compare {
+            kind,
+            written,
+            first,
+            second,
+        } => compared(
+            *kind,
+            bits_at(scene.of_module(), *written),
+            value_of(scene, *written, first),
+            value_of(scene, *written, second),
+        ),
+        Op::Select {
+            condition_type,
+            condition,
+            written,
+            chosen,
+            other,
+        } => selected(
+            value_of(scene, *condition_type, condition),
+            value_of(scene, *written, chosen),
+            value_of(scene, *written, other),
+        ),
+        _ => Value::Unset,
+    }
+}
+
+/// The address that a getelementptr gives.
+pub fn element_address(scene: &Scene<'_>, op: &Op) -> Value
+    ensures { result ≡ element_address scene.now.program.now scene.now.registers.now op.now }
+{
+    match op {
+        Op::Element {
+            source,
+            base_type,
+            base,
+            indices,
+        } => address_of(element_place_of(
+            scene.program,
+            scene.registers,
+            *source,
+            &value_of(scene, *base_type, base),
+            indices.as_slice(),
+        )),
+        _ => Value::Unset,
     }
 }
 

@@ -1,3 +1,4 @@
+use ir_ast::GlobalId;
 use pools::LayoutId;
 
 /// A cell, and the birth that its user knows. Real threads know no births: theirs are 0.
@@ -18,6 +19,8 @@ pub enum Place {
         at: Reference,
         word: u32,
     },
+    /// The word of a global, in the cell of the globals.
+    Global(GlobalId),
 }
 
 /// What a register or a slot holds.

@@ -1,7 +1,6 @@
 -- A module that is accepted is not refused.
-use Rattle.std.proofs.Common.{◌≡◌, ℕ, Err, List, Option, length, refl, sym, ap, subst}
+use Rattle.std.proofs.Common.{◌≡◌, Err, List, length, refl, sym, subst}
 use Rattle.ir_ast.specs.declared.module.Module.{Module}
-use Rattle.pools.specs.declared.word_kind.WordKind.{WordKind}
 use Rattle.certificate.specs.declared.section.Section.{Section}
 use Rattle.layout.specs.Layouts.{LaidOut, AreLayouts, AreSizes}
 use Rattle.certified.specs.declared.block_fault.BlockFault.{BlockFault}

@@ -1,3 +1,3 @@
 pub mod OneLayout
 pub mod Exclusive
-pub mod Disciplined
+pub mod Threads

@@ -1,9 +1,9 @@
 -- A module has one list of layouts, and one of sizes.
-use Rattle.std.proofs.Common.{◌≡◌, ℕ, zero, suc, ◌+◌, ◌<◌, ◌≤◌, List, [], ◌∷◌, length, slice_get, refl, sym, ap, ap₂, ◌∙◌, subst, arith, Option, Some, None}
+use Rattle.std.proofs.Common.{◌≡◌, ℕ, zero, suc, ◌+◌, List, [], ◌∷◌, length, slice_get, refl, sym, ap, ap₂, ◌∙◌, subst, arith, Option, Some, None}
 use Rattle.ir_ast.specs.declared.module.Module.{Module}
 use Rattle.ir_ast.specs.declared.items_of_module.StructType.{StructType}
 use Rattle.pools.specs.declared.word_kind.WordKind.{WordKind}
-use Rattle.layout.specs.Words.{Scalars, word_of, AreWords}
+use Rattle.layout.specs.Words.{AreWords}
 use Rattle.layout.specs.Layouts.{IsLayout, AreLayouts, AreLayoutsOf, IsSize, AreSizes}
 use Rattle.layout.proofs.Rings.{one_list}
 

@@ -1,8 +1,12 @@
 ghost use Rattle.std.specs.Prelude.{◌≡◌, length};
 ghost use Rattle.module_check.specs.Accepted.{IsModuleCertified};
+ghost use Rattle.module_check.specs.Discipline.{AreDisciplined};
+ghost use Rattle.program_safety.specs.Safety.{IsSafeProgram};
 
 use certificate::Certs;
 use layout::Program;
+use program_safety::program_law;
+use soundness::discipline_law;
 use std::marker::Model;
 
 /// A module whose blocks are certified, each with its layouts and its certificates.
@@ -32,11 +36,15 @@ impl Accepted {
         Accepted { program, certs }
     }
 
-    /// The module with its layouts.
+    /// The module with its layouts. Its threads keep to the discipline, and all runs of them and the collector are safe.
     pub fn program(&self) -> &Program
         ensures program { result.now ≡ self.now.program }
         ensures certified { IsModuleCertified result.now self.now.certs (length result.now.of_module.functions) }
+        ensures disciplined { AreDisciplined result.now self.now.certs }
+        ensures safe { IsSafeProgram result.now self.now.certs }
     {
+        discipline_law();
+        program_law();
         &self.program
     }
 

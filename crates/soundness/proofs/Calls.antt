@@ -1,5 +1,5 @@
 -- Calls of defined functions: what the caller knows while it waits, and what the called function begins with.
-use Rattle.std.proofs.Common.{◌≡◌, ◌≢◌, ℕ, List, [], ◌∷◌, length, refl, sym, ap, ◌∙◌, subst, arith, true, false, Bool, Option, None, inl, inr}
+use Rattle.std.proofs.Common.{◌≡◌, ◌≢◌, ℕ, List, [], ◌∷◌, length, refl, sym, ap, ◌∙◌, subst, arith, true, false, Bool, Option, Some, None, inl, inr}
 use Rattle.std.specs.Prelude.{◌==◌, ◌⊎◌}
 use Rattle.std.specs.List.{list_all, zip}
 use Rattle.ir_ast.specs.declared.function.Function.{Function}
@@ -15,10 +15,11 @@ use Rattle.certificate.specs.declared.section.Mark.TheVariants as mark
 use Rattle.certificate.specs.declared.section.Promise.{Promise}
 use Rattle.certificate.specs.declared.section.Section.{Section}
 use Rattle.facts.specs.declared.known.Known.TheVariants.{Cell}
-use Rattle.facts.specs.Facts.{FactSet, known_at, class_at, drop_fresh_of}
-use Rattle.block_rules.specs.Calls.{all_available, all_values, all_current, no_slots, is_written_for, drop_arguments, after_mark}
+use Rattle.facts.specs.Facts.{FactSet, known_at, slot_at, class_at, drop_fresh_of}
+use Rattle.safepoints.specs.Marks.{is_may, after_mark}
+use Rattle.block_rules.specs.Calls.{all_available, all_values, all_current, no_slots, is_written_for, drop_arguments}
 use Rattle.block_rules.specs.Operands as o
-use Rattle.block_rules.specs.Promises.{given_by, is_may, keeps_promise, shows_promise, show_promises}
+use Rattle.block_rules.specs.Promises.{given_by, keeps_promise, shows_promise, show_promises}
 use Rattle.block_rules.specs.TypeKinds.{kind_of}
 use Rattle.machine.specs.declared.frame.Frame.{Frame}
 use Rattle.machine.specs.declared.value.Value.{Value}
@@ -26,9 +27,10 @@ use Rattle.machine.specs.declared.value.Value.TheVariants as value
 use Rattle.machine.specs.Asks as a
 use Rattle.machine.specs.Kinds.{value_of}
 use Rattle.machine.specs.Machine.{values_of}
-use Rattle.machine.specs.Log.{Log, IsFresh, RefersTo}
+use Rattle.machine.specs.Log.{Log, IsFresh, RefersToCell}
 use Rattle.fact_meaning.specs.Meaning.{Cells, Guarded, IsOwn, IsNullOrFresh, AreApart, Holds}
 use Rattle.fact_meaning.proofs.Lists.{both, equal}
+use Rattle.fact_meaning.proofs.Named.{IsNamed, named_cells, by_named, named_keeps}
 use Rattle.fact_meaning.proofs.Phis.{drop_one, drop_of_values, drop_of_keeps}
 use Rattle.fact_meaning.proofs.Stale.{IsStill, stale_cells, stale_keeps, stale_still, stale_unfresh}
 use Rattle.step_soundness.specs.Goes.{HaveMembers}
@@ -65,7 +67,7 @@ dropped_values [] facts = refl
 dropped_values (argument ∷ arguments) facts = dropped_values arguments (drop_fresh_of (o.known_of facts argument.operand) facts) ∙ drop_of_values (o.known_of facts argument.operand) facts
 
 -- two values that refer to one cell are not apart
-not_apart : (a b : Value) (cell : ℕ) → AreApart a b → RefersTo a cell → RefersTo b cell → ⊥
+not_apart : (a b : Value) (cell : ℕ) → AreApart a b → RefersToCell a cell → RefersToCell b cell → ⊥
 not_apart (value.Cell l at) (value.Cell m there) cell apart x y = apart (x ∙ sym y)
 not_apart (value.Cell l at) value.Unset cell apart x y = y
 not_apart (value.Cell l at) (value.Number n) cell apart x y = y
@@ -77,7 +79,7 @@ not_apart value.Null b cell apart x y = x
 not_apart (value.Address place) b cell apart x y = x
 
 -- a value that refers to a cell, and is null or fresh, is fresh
-refers_fresh : (log : Log) (v : Value) (cell : ℕ) → IsNullOrFresh log v → RefersTo v cell → IsFresh log cell
+refers_fresh : (log : Log) (v : Value) (cell : ℕ) → IsNullOrFresh log v → RefersToCell v cell → IsFresh log cell
 refers_fresh log value.Unset cell fresh refers = absurd refers
 refers_fresh log (value.Number n) cell fresh refers = absurd refers
 refers_fresh log value.Null cell fresh refers = absurd refers
@@ -92,27 +94,48 @@ module _ (heap : Setup) (p : LaidOut) (certs : List Section) (f : Function) (tab
   arguments_keep (argument ∷ arguments) before b =
       arguments_keep arguments (drop_fresh_of (o.known_of before argument.operand) before) (drop_of_keeps heap p table guarded log frame.slots cells (o.known_of before argument.operand) before frame.registers b)
 
-  -- its facts hold, of no argument is known that it is fresh, and under a function that may reach a safepoint all is stale
+  -- its facts hold, of no argument is known that it is fresh, each fresh class that has a cell has a value, and under a function that may reach a safepoint all is stale
   pub record Waits (called : Mark) (arguments : List Argument) : Type 0 where
     pub more : Cells
     pub holds : Holds heap p table guarded log more (after_mark called (drop_arguments arguments facts)) frame.registers frame.slots
     pub still : is_may called ≡ true → IsStill more (after_mark called (drop_arguments arguments facts))
+    pub named : (c cell : ℕ) → (class_at (after_mark called (drop_arguments arguments facts)).classes c).fresh ≡ true → RefersToCell (more c) cell → FreshIn (record { facts = after_mark called (drop_arguments arguments facts); cells = more }) cell
     pub fresh : (cell : ℕ) → FreshIn (record { facts = after_mark called (drop_arguments arguments facts); cells = more }) cell → FreshIn (record { facts = drop_arguments arguments facts; cells = cells }) cell
 
+  -- a slot holds a fresh class only while some value is of it
+  slots_named : (next : FactSet) → HaveMembers next → (s c : ℕ) → (slot_at next.slots s).holds ≡ Some c → (class_at next.classes c).fresh ≡ true → IsNamed next.values c
+  slots_named next all s c e fr = elim (all.0 s c e) [ inl n ↦ n | inr other ↦ absurd (let z = other.1 in cc) ]
+
   pub waits : (called : Mark) (arguments : List Argument) → Waits called arguments
-  waits mark.None arguments = record {
-    more = cells;
-    holds = arguments_keep arguments facts h;
-    still = λ z. absurd cc;
-    fresh = λ cell x. x;
-  }
+  waits mark.None arguments =
+      let next = drop_arguments arguments facts in
+      record {
+        more = named_cells next cells;
+        holds = named_keeps heap p table guarded log cells next frame.registers frame.slots (arguments_keep arguments facts h) (slots_named next (arguments_members arguments facts members));
+        still = λ z. absurd cc;
+        named = λ c cell fr refers.
+            let n = by_named (λ v. RefersToCell v cell → IsNamed next.values c) next cells c (λ z. absurd z) (λ e n z. n) (λ e z. absurd cc) refers in
+            record { name = n.0; class = c; layout = n.1; stale = n.2; is = n.3; fresh = fr; refers = refers };
+        fresh = λ cell x. record {
+          name = x.name;
+          class = x.class;
+          layout = x.layout;
+          stale = x.stale;
+          is = x.is;
+          fresh = x.fresh;
+          refers = by_named (λ v. RefersToCell v cell → RefersToCell (cells x.class) cell) next cells x.class (λ z. absurd z) (λ e n z. z) (λ e z. z) x.refers;
+        };
+      }
   waits mark.May arguments =
       let b = arguments_keep arguments facts h in
+      let next = drop_arguments arguments facts in
+      let still = stale_still heap p table guarded log cells next frame.registers frame.slots b in
       record {
-        more = stale_cells heap p table guarded log cells (drop_arguments arguments facts) frame.registers frame.slots b;
-        holds = stale_keeps heap p table guarded log cells (drop_arguments arguments facts) frame.registers frame.slots b log (arguments_members arguments facts members).1 (λ s reference own. own);
-        still = λ z. stale_still heap p table guarded log cells (drop_arguments arguments facts) frame.registers frame.slots b;
-        fresh = λ cell x. absurd (let z = stale_unfresh (drop_arguments arguments facts) x.name x.class x.layout x.stale x.is in let y = sym z ∙ x.fresh in cc);
+        more = stale_cells heap p table guarded log cells next frame.registers frame.slots b;
+        holds = stale_keeps heap p table guarded log cells next frame.registers frame.slots b log (arguments_members arguments facts members).1 (λ s reference own. own);
+        still = λ z. still;
+        named = λ c cell fr refers. absurd (refers_fresh [] (stale_cells heap p table guarded log cells next frame.registers frame.slots b c) cell (still.unfresh [] c fr) refers);
+        fresh = λ cell x. absurd (let z = stale_unfresh next x.name x.class x.layout x.stale x.is in let y = sym z ∙ x.fresh in cc);
       }
 
   -- such a cell is fresh
@@ -172,7 +195,7 @@ module _ (heap : Setup) (p : LaidOut) (certs : List Section) (f : Function) (tab
         let was : known_at facts.values y.name ≡ Cell y.class y.layout y.stale = ap (λ values. known_at values y.name) (sym (dropped_values arguments facts)) ∙ y.is in
         let fr = (dropped arguments facts facts refl y.class y.fresh).0 in
         let other : y.class ≢ c = λ e. none y.class y.fresh l false (is ∙ ap (λ d. Cell d l false) (sym e)) in
-        not_apart (cells y.class) (cells c) there.cell (h.alone y.name u.0 y.class c y.layout l y.stale was u.1 fr other) y.refers (subst (λ z. RefersTo z there.cell) at refl)
+        not_apart (cells y.class) (cells c) there.cell (h.alone y.name u.0 y.class c y.layout l y.stale was u.1 fr other) y.refers (subst (λ z. RefersToCell z there.cell) at refl)
 
   -- each parameter takes its argument
   pub all_given : (arguments : List Argument) (parameters : List Parameter) (promises : List (Option Promise)) (rest : List Argument) → AllPass rest → ((c : ℕ) → (class_at (drop_arguments arguments facts).classes c).fresh ≡ true → NotOf facts rest c)

@@ -76,8 +76,8 @@ module _ (p : LaidOut) (certs : List Section) (f : Function) (table : SlotTable)
   value_typed written v (Some (sort.Element block place)) e = absurd cc
   value_typed written v (Some (sort.Block block)) e = absurd cc
 
-  -- an entry that the rules let come in has the written type
-  operand_typed : (written : ℕ) (x : Operand) → may_come_in p.of_module f table written x ≡ true → k.is_typed p.of_module f table written x ≡ true
+  -- an entry that the rules let come in has the written type, and is no global
+  operand_typed : (written : ℕ) (x : Operand) → may_come_in p.of_module f table written x ≡ true → j.entry_fits p.of_module f table written (Some x) ≡ true
   operand_typed written (operand.Constant c) e = constant_passes p.of_module written c e
   operand_typed written (operand.Local v) e =
       let b = both (is_entry f written v (slice_get f.sorts v)) (not (is_some (slot_of table v))) e in
@@ -90,7 +90,7 @@ module _ (p : LaidOut) (certs : List Section) (f : Function) (table : SlotTable)
   entry_typed written from (entry ∷ incoming) e =
       let b = both (may_come_in p.of_module f table written entry.operand) (all_come_in p.of_module f table written incoming) e in
       pick (j.is_block from (target_of f entry.from)) (operand_typed written entry.operand b.0) (entry_typed written from incoming b.1) where
-        pick : (b : Bool) → k.is_typed p.of_module f table written entry.operand ≡ true → j.entry_fits p.of_module f table written (j.entry_for f from incoming) ≡ true
+        pick : (b : Bool) → j.entry_fits p.of_module f table written (Some entry.operand) ≡ true → j.entry_fits p.of_module f table written (j.entry_for f from incoming) ≡ true
             → j.entry_fits p.of_module f table written (if b then Some entry.operand else j.entry_for f from incoming) ≡ true
         pick true first rest = first
         pick false first rest = rest

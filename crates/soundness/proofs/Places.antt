@@ -114,12 +114,12 @@ module _ (p : LaidOut) (f : Function) (table : SlotTable) (names : NamesRoots p.
   call_root [] s e reference = absurd cc
   call_root (argument ∷ arguments) s e reference = place_root argument.written argument.operand s e reference
 
-  call_place : (name : Option ℕ) (arguments : List Argument) (called : Option Runtime) (given : Answer) (frame : Frame) → SamePlace p.of_module table frame (mc.after_call p.of_module f table name arguments called given frame)
+  call_place : (name : Option ℕ) (arguments : List Argument) (called : Option Runtime) (given : Answer) (frame : Frame) → SamePlace p.of_module table frame (mc.after_call p f table name arguments called given frame)
   call_place name arguments None given frame = same_place frame
   call_place name arguments (Some runtime.Alloc) given frame = register_place name _ frame
   call_place name arguments (Some runtime.Safepoint) given frame = same_place frame
   call_place name arguments (Some runtime.GcRoot) given frame = slot_place _ _ frame (call_root arguments)
-  call_place name arguments (Some runtime.GcRead) given frame = same_place frame
+  call_place name arguments (Some runtime.GcRead) given frame = register_place name _ frame
   call_place name arguments (Some runtime.GcWrite) given frame = same_place frame
 
   pub op_place : (name : Option ℕ) (op : Op) (given : Answer) (frame : Frame) → SamePlace p.of_module table frame (mc.after_op p f table name op given frame)

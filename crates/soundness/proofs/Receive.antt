@@ -157,7 +157,7 @@ module _ (heap : Setup) (p : LaidOut) (certs : List Section) (f : Function) (tab
   reference_known more kind layout nonnull Null v may means there fits current reference same shown =
       (subst (IsReferenceTo heap layout) (sym means) tt, subst (IsOwn log more) (sym means) tt, λ z. absurd (let y = shown z in cc))
   reference_known more kind layout nonnull (Address base words) v may means there fits current reference same shown = absurd cc
-  reference_known more kind layout nonnull (GlobalAddress g) v may means there fits current reference same shown = absurd means
+  reference_known more kind layout nonnull (GlobalAddress g) v may means there fits current reference same shown = absurd cc
 
   -- an operand of a reference type
   reference_given : (more : Guarded) (layout : ℕ) (nonnull : Bool) (x : Operand) → MayGive more x → Passes x → may_be_reference (kind_of p.of_module written) ≡ true
@@ -168,8 +168,8 @@ module _ (heap : Setup) (p : LaidOut) (certs : List Section) (f : Function) (tab
   reference_given more layout nonnull (operand.Local u) may k reference same shown =
       let b = both (has_type p.of_module f written u) (o.known_fits (kind_of p.of_module written) (known_at facts.values u)) k.typed in
       reference_known more (kind_of p.of_module written) layout nonnull (known_at facts.values u) (register_at frame.registers u) may (h.values u) (available heap p certs false f table guarded log cells facts frame h u k.no_slot k.there) b.1 k.current reference same shown
-  reference_given more layout nonnull (operand.Global g) may k reference same shown = absurd (let x = k.typed in cc)
-  reference_given more layout nonnull (operand.CastGlobal a b c) may k reference same shown = absurd (let x = k.typed in cc)
+  reference_given more layout nonnull (operand.Global g) may k reference same shown = absurd (let x = (both (o.is_typed p.of_module f written (operand.Global g)) false k.typed).1 in cc)
+  reference_given more layout nonnull (operand.CastGlobal a b c) may k reference same shown = absurd (let x = (both (o.is_typed p.of_module f written (operand.CastGlobal a b c)) false k.typed).1 in cc)
 
   -- the layout of a value of a reference type to one is that one
   layout_fits : (layout : ℕ) (known : Known) → o.known_fits (Reference layout) known ≡ true → (l : ℕ) → known_layout known ≡ Some l → layout ≡ l

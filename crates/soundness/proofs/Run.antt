@@ -15,6 +15,7 @@ use Rattle.ir_ast.specs.declared.op.Op.{Op}
 use Rattle.ir_ast.specs.declared.op.Op.TheVariants.{Call, Unreachable, ReturnVoid, Return}
 use Rattle.ir_ast.specs.declared.runtime.Runtime.{Runtime}
 use Rattle.pools.specs.Heap.{Setup}
+use Rattle.layout.specs.Globals.{IsHeapFor}
 use Rattle.layout.specs.Layouts.{LaidOut}
 use Rattle.types.specs.RuntimeCall.{runtime_of_sort}
 use Rattle.shadow_stack.specs.Slots.{SlotTable, slots_of, held_type, is_reference_held}
@@ -24,14 +25,15 @@ use Rattle.certificate.specs.declared.section.Promise.{Promise}
 use Rattle.certificate.specs.declared.section.Section.{Section}
 use Rattle.facts.specs.declared.known.Given.TheVariants as given
 use Rattle.facts.specs.Facts.{FactSet}
+use Rattle.safepoints.specs.Marks.{is_may, marks_agree, after_mark}
 use Rattle.block_rules.specs.declared.callee.Callee.{Callee}
 use Rattle.block_rules.specs.declared.callee.Callee.TheVariants.{OfRuntime, OfModule, NoFunction}
 use Rattle.block_rules.specs.declared.standing.Standing.{Standing}
 use Rattle.block_rules.specs.declared.type_kind.TypeKind.{TypeKind}
 use Rattle.block_rules.specs.declared.type_kind.TypeKind.TheVariants.{NoValue, Bits, Reference, AnyReference, Address, Other}
-use Rattle.block_rules.specs.Calls.{all_values, is_written_with, is_written_for, defined_conditions, unknown_conditions, call_conditions, drop_arguments, after_mark, receive_result, after_call}
+use Rattle.block_rules.specs.Calls.{all_values, is_written_with, is_written_for, defined_conditions, unknown_conditions, call_conditions, drop_arguments, receive_result, after_call}
 use Rattle.block_rules.specs.Operands as o
-use Rattle.block_rules.specs.Promises.{given_by, promises_in, promised_in, own_mark, callee_mark, is_may, marks_agree}
+use Rattle.block_rules.specs.Promises.{given_by, promises_in, promised_in, own_mark, callee_mark}
 use Rattle.block_rules.specs.Rules.{first_failing, op_conditions, after, after_op, may_hold}
 use Rattle.block_rules.specs.Signature.{callee_of}
 use Rattle.block_rules.specs.Standing.{block_instructions, instructions_of}
@@ -42,19 +44,19 @@ use Rattle.machine.specs.declared.frame.Frame.{Frame}
 use Rattle.machine.specs.declared.value.Value.{Value}
 use Rattle.machine.specs.declared.value.Value.TheVariants as value
 use Rattle.machine.specs.declared.action.Action.{Action}
-use Rattle.machine.specs.declared.action.Action.TheVariants.{Local, Read, StorePlain, Alloc, Safepoint, End, Wrong}
+use Rattle.machine.specs.declared.action.Action.TheVariants.{Local, Read, StorePlain, Write, Alloc, Safepoint, End, Wrong}
 use Rattle.machine.specs.declared.action.Answer.{Answer}
 use Rattle.machine.specs.Asks as a
 use Rattle.machine.specs.Jumps as j
 use Rattle.machine.specs.Machine as mc
 use Rattle.machine.specs.Machine.{slot_value}
 use Rattle.machine.specs.Start.{argument_values}
-use Rattle.machine.specs.Log.{Log, IsFresh, RefersTo, Possible, Keeps, IsSafe, Safe}
+use Rattle.machine.specs.Log.{Log, IsFresh, RefersToCell, Possible, Keeps, IsSafe, Safe}
 use Rattle.fact_meaning.specs.Meaning.{Guarded, IsOwn, AreApart, Holds}
 use Rattle.fact_meaning.proofs.KindLemmas.{void_same}
 use Rattle.fact_meaning.proofs.Lists.{both, equal}
 use Rattle.step_soundness.specs.Goes.{HaveMembers, HasRoots}
-use Rattle.step_soundness.proofs.Calls.{IsDefined, callee_is, defined_is}
+use Rattle.step_soundness.proofs.Callees.{IsDefined, callee_is, defined_is}
 use Rattle.step_soundness.proofs.Members.{members_stay, line_members, parameter_members, arguments_members, mark_members, result_members}
 use Rattle.step_soundness.proofs.Rows.{instructions_go}
 use Rattle.step_soundness.proofs.Steps.{AllHold, all_hold, none_of, usable}
@@ -92,10 +94,10 @@ one_sort m (Some (symbol.Defined d)) n called e r = absurd cc
 
 -- a step without an effect on the heap lets a log grow
 local_grows : (log : Log) (given : Answer) (roots : List Value) → Grows log (record { asked = Local; given = given; roots = roots } ∷ log)
-local_grows log given roots = record { held = λ cell x. inr x; fresh = λ cell x. x }
+local_grows log given roots = record { held = λ r x. inr x; fresh = λ cell x. x }
 
 end_grows : (log : Log) (given : Answer) (roots : List Value) → Grows log (record { asked = End; given = given; roots = roots } ∷ log)
-end_grows log given roots = record { held = λ cell x. inr x; fresh = λ cell x. x }
+end_grows log given roots = record { held = λ r x. inr x; fresh = λ cell x. x }
 
 -- what is own where more is guarded is own
 own_of_more : (log : Log) (w : Saved) (guarded : Guarded) (v : Value) → IsOwn log (λ cell. FreshIn w cell ⊎ guarded cell) v → IsOwn log guarded v
@@ -106,7 +108,7 @@ own_of_more log w guarded (value.Cell l at) o = (o.0, λ g. o.1 (inr g))
 own_of_more log w guarded (value.Address at) o = o
 
 -- and apart from what the facts know to be fresh
-own_apart : (log : Log) (guarded : Guarded) (cell_of v : Value) → ((cell : ℕ) → RefersTo cell_of cell → guarded cell) → IsOwn log guarded v → AreApart cell_of v
+own_apart : (log : Log) (guarded : Guarded) (cell_of v : Value) → ((cell : ℕ) → RefersToCell cell_of cell → guarded cell) → IsOwn log guarded v → AreApart cell_of v
 own_apart log guarded value.Unset v g o = tt
 own_apart log guarded (value.Number n) v g o = tt
 own_apart log guarded value.Null v g o = tt
@@ -142,12 +144,13 @@ all_has : (m : Module) (asked : Action) (table : SlotTable) (slots roots : List 
 all_has m Local table slots roots has = tt
 all_has m (Read at word) table slots roots has = tt
 all_has m (StorePlain at word v) table slots roots has = tt
+all_has m (Write at word v) table slots roots has = tt
 all_has m (Alloc layout) table slots roots has = tt
 all_has m Safepoint table slots roots has = has
 all_has m End table slots roots has = tt
 all_has m Wrong table slots roots has = tt
 
-module _ (heap : Setup) (program : LaidOut) (layouts : heap.layouts ≡ program.layouts) (certs : List Section) (certified : AreCertified program certs) where
+module _ (heap : Setup) (program : LaidOut) (heap_is : IsHeapFor heap program) (certs : List Section) (certified : AreCertified program certs) where
   -- ---- what is certified
 
   -- a function with its certificate
@@ -310,7 +313,7 @@ module _ (heap : Setup) (program : LaidOut) (layouts : heap.layouts ≡ program.
 
     stays_in : mc.onward_of program.of_module instr.op ≡ mc.Next → Onward log roots (mc.instr_action program f frame (Some instr)) (λ given. mc.after_onward program f instr given frame below mc.Next)
     stays_in next =
-        let g = instructions_go (GuardedBy x.saves) heap program certs f log x.now.cells facts frame here instr x.guards layouts x.standing.size x.standing.holds x.standing.members keeps.allowed next in
+        let g = instructions_go (GuardedBy x.saves) heap program certs f log x.now.cells facts frame here instr x.guards heap_is x.standing.size x.standing.holds x.standing.members keeps.allowed next in
         let asked = mc.instr_action program f frame (Some instr) in (
           g.keeps,
           λ given possible.
@@ -320,11 +323,11 @@ module _ (heap : Setup) (program : LaidOut) (layouts : heap.layouts ≡ program.
               let later : Log = record { asked = asked; given = given; roots = roots } ∷ log in
               live later behind (record { facts = after program certs table facts instr; cells = led.0 }) same
               (next_place (GuardedBy x.saves) later behind (record { facts = after program certs table facts instr; cells = led.0 }) (after program certs table facts instr) same led.1 (members_stay program certs table facts instr x.standing.members) refl)
-              (elim (log_after heap log (is_may here.mark) roots asked given g.spares possible) [
-                | inl grows ↦ (below_keeps heap program certs log later frame.into frame.function f below x.saves grows x.under, λ cell y. grows.fresh cell (x.guards cell y))
+              (elim (log_after heap log (is_may here.mark) (GuardedBy x.saves) roots asked given g.spares possible) [
+                | inl spared ↦ (below_keeps heap program certs log later frame.into frame.function f below x.saves spared x.under, λ cell y. spared.fresh cell y (x.guards cell y))
                 | inr staged ↦ (
                   below_stays heap program certs log later frame.into frame.function f below x.saves staged.0
-                      (λ cell y. staged.1 cell (y.0, Contains-append_left (mc.roots_of program.of_module below) (mc.frame_roots program.of_module frame (slice_get program.of_module.functions frame.function)) y.0 y.1, y.2)) x.under,
+                      (λ r y. staged.1 r (y.0, Contains-append_left (mc.roots_of program.of_module below) (mc.frame_roots program.of_module frame (slice_get program.of_module.functions frame.function)) y.0 y.1, y.2)) x.under,
                   λ cell y. absurd (no_guards heap program certs log frame.into frame.function f below x.saves staged.0 x.under cell y),
                 )
               ]),
@@ -409,7 +412,7 @@ module _ (heap : Setup) (program : LaidOut) (layouts : heap.layouts ≡ program.
     is_called : (returned callee : ℕ) (arguments : List Argument) (n : ℕ) → mc.onward_of_call (a.number_called program.of_module callee) ≡ mc.Into n
         → first_failing (op_conditions program certs f table here facts instr.result (Call returned callee arguments)) ≡ None → callee_of program.of_module callee (length arguments) ≡ OfModule n
     is_called returned callee arguments n into allowed = by (callee_of program.of_module callee (length arguments)) refl allowed where
-      by : (called : Callee) → callee_of program.of_module callee (length arguments) ≡ called → first_failing (call_conditions program.of_module certs f table here facts returned arguments called) ≡ None → callee_of program.of_module callee (length arguments) ≡ OfModule n
+      by : (called : Callee) → callee_of program.of_module callee (length arguments) ≡ called → first_failing (call_conditions program certs f table here facts returned arguments called) ≡ None → callee_of program.of_module callee (length arguments) ≡ OfModule n
       by NoFunction e allowed = let k18 = (all_hold (unknown_conditions program.of_module f table here facts arguments) allowed).1.1.1.1.1.0 in absurd cc
       by (OfRuntime called) e allowed =
           absurd (one_sort program.of_module (slice_get program.of_module.sorts callee) n called (into_called (a.number_called program.of_module callee) n into) (callee_is program.of_module callee (length arguments) called e).1)
@@ -434,7 +437,7 @@ module _ (heap : Setup) (program : LaidOut) (layouts : heap.layouts ≡ program.
       all : AllHold (defined_conditions program.of_module f table here facts returned arguments (Some q) section)
       all = all_hold (defined_conditions program.of_module f table here facts returned arguments (Some q) section)
           (subst (λ g. first_failing (defined_conditions program.of_module f table here facts returned arguments g section) ≡ None) d.there
-          (subst (λ c. first_failing (call_conditions program.of_module certs f table here facts returned arguments c) ≡ None) e allowed))
+          (subst (λ c. first_failing (call_conditions program certs f table here facts returned arguments c) ≡ None) e allowed))
 
       k2 : (all_values program.of_module f facts arguments ≡ true) × (is_written_with returned arguments (Some q) ≡ true)
       k2 = both (all_values program.of_module f facts arguments) (is_written_with returned arguments (Some q)) all.1.0
@@ -465,7 +468,7 @@ module _ (heap : Setup) (program : LaidOut) (layouts : heap.layouts ≡ program.
 
       -- behind the call its facts are those with the result
       behind_is : after program certs table facts instr ≡ receive_result program.of_module instr.result q.returned (promised_in section) w.facts
-      behind_is = behind ∙ ap (λ c. after_call program.of_module certs table instr.result returned arguments c facts) e
+      behind_is = behind ∙ ap (λ c. after_call program certs table instr.result returned arguments c facts) e
           ∙ ap (λ t. receive_result program.of_module instr.result t (promised_in section) w.facts) (equal returned q.returned types.0)
 
       abbrev suspended : Suspended heap program certs (GuardedBy x.saves) log instr.result n q (mc.go_on frame) w
@@ -476,6 +479,7 @@ module _ (heap : Setup) (program : LaidOut) (layouts : heap.layouts ≡ program.
             (mark_members (callee_mark section) (drop_arguments arguments facts) (arguments_members arguments facts x.standing.members)) behind_is;
         marks = λ z. agrees here.mark (callee_mark section) all.1.1.1.1.1.1.0 (own_called section z);
         still = λ z. wait.still (own_called section z);
+        named = wait.named;
       }
 
       -- the frame of the called function
@@ -506,7 +510,7 @@ module _ (heap : Setup) (program : LaidOut) (layouts : heap.layouts ≡ program.
           (λ given. mc.frames_called program.of_module instr.result (mc.values_of program.of_module frame.registers arguments) n (slice_get program.of_module.functions n) frame below)
       calls =
           let local : a.op_action program f table frame.block frame.registers (Call returned callee arguments) ≡ Local =
-          ap (λ r. a.call_action program.of_module f table frame.registers returned arguments (a.declare_of program.of_module callee) (a.function_numbered program.of_module (a.number_called program.of_module callee)) r) d.no_runtime
+          ap (λ r. a.call_action program f table frame.registers returned arguments (a.declare_of program.of_module callee) (a.function_numbered program.of_module (a.number_called program.of_module callee)) r) d.no_runtime
           ∙ ap (λ k. a.defined_action program.of_module f table frame.registers returned arguments (a.function_numbered program.of_module k)) d.named
           ∙ ap (λ g. a.defined_action program.of_module f table frame.registers returned arguments g) d.there
           ∙ rw (types.0, passed) refl in
@@ -572,10 +576,10 @@ module _ (heap : Setup) (program : LaidOut) (layouts : heap.layouts ≡ program.
 -- ---- from the start
 
 pub never_wrong : CertifiedIsNeverWrong
-never_wrong program certs func f heap arguments answers there layouts certified start =
+never_wrong program certs func f heap arguments answers there heap_is certified start =
     let fit = integers_given heap program (slots_of program.of_module f) (GuardedBy []) [] f.parameters (promises_in (slice_get certs func)) arguments start.takes_integers start.fit start.meet in
-    let at = entered heap program layouts certs certified [] [] None func f (argument_values arguments) there fit in
-    run heap program layouts certs certified answers (mc.entry_frame program.of_module f func None (argument_values arguments) ∷ []) [] (record {
+    let at = entered heap program heap_is certs certified [] [] None func f (argument_values arguments) there fit in
+    run heap program heap_is certs certified answers (mc.entry_frame program.of_module f func None (argument_values arguments) ∷ []) [] (record {
       function = f;
       saves = [];
       now = at.0;

@@ -1,5 +1,5 @@
 -- What holds of the frames of a thread.
-use Rattle.std.proofs.Common.{◌≡◌, ℕ, List, [], ◌∷◌, ◌++◌, length, map, drop, sym, ◌∙◌, subst, arith, true, Bool, Option, Some, inl, inr, slice_get}
+use Rattle.std.proofs.Common.{◌≡◌, ℕ, List, [], ◌∷◌, ◌++◌, length, map, drop, refl, sym, ◌∙◌, subst, arith, true, Bool, Option, Some, inl, inr, slice_get}
 use Rattle.std.proofs.lemmas.List.Elements.{Contains-append_left, Contains-append_right, Contains-append_cases}
 use Rattle.std.specs.Prelude.{◌⊎◌}
 use Rattle.std.specs.List.{Contains}
@@ -10,22 +10,25 @@ use Rattle.shadow_stack.specs.Slots.{slots_of, held_type, is_reference_held}
 use Rattle.certificate.specs.declared.section.Section.{Section}
 use Rattle.facts.specs.Facts.{FactSet, known_at, class_at}
 use Rattle.facts.specs.declared.known.Known.TheVariants.{Cell}
+use Rattle.safepoints.specs.Marks.{is_may}
 use Rattle.block_rules.specs.Calls.{receive_result}
-use Rattle.block_rules.specs.Promises.{promised_in, own_mark, is_may}
+use Rattle.block_rules.specs.Promises.{promised_in, own_mark}
 use Rattle.block_rules.specs.Standing.{instructions_of}
 use Rattle.certified.specs.Certified.{Follows, scene_of}
 use Rattle.machine.specs.declared.action.Action.{Action}
-use Rattle.machine.specs.declared.action.Action.TheVariants.{Local, Read, StorePlain, Alloc, Safepoint, End, Wrong}
+use Rattle.machine.specs.declared.action.Action.TheVariants.{Local, Read, StorePlain, Write, Alloc, Safepoint, End, Wrong}
 use Rattle.machine.specs.declared.action.Answer.{Answer}
 use Rattle.machine.specs.declared.action.Answer.TheVariants as answer
 use Rattle.machine.specs.declared.frame.Frame.{Frame}
+use Rattle.machine.specs.declared.value.Reference.{Reference}
 use Rattle.machine.specs.declared.value.Value.{Value}
+use Rattle.machine.specs.declared.value.Value.TheVariants as value
 use Rattle.machine.specs.Machine.{slot_value, frame_roots, roots_of}
-use Rattle.machine.specs.Log.{Log, Held, IsFresh, RefersTo, IsReferredTo, IsNullOrHeld, Possible}
-use Rattle.fact_meaning.specs.Meaning.{Cells, Guarded, IsOwn, Holds}
-use Rattle.fact_meaning.proofs.Keep.{log_keeps}
+use Rattle.machine.specs.Log.{Log, Held, IsFresh, RefersToCell, IsReferredTo, IsNullOrHeld, Possible}
+use Rattle.fact_meaning.specs.Meaning.{Cells, Guarded, IsOwn, IsNullOrFresh, Holds}
+use Rattle.fact_meaning.proofs.Keep.{log_keeps, classes_log_keeps}
 use Rattle.fact_meaning.proofs.Stale.{IsStill, root_own, still_keeps}
-use Rattle.step_soundness.specs.Goes.{HaveMembers, Spares}
+use Rattle.step_soundness.specs.Goes.{HaveMembers, IsSpare, Spares}
 use Rattle.soundness.proofs.Roots.{rooted}
 use Rattle.soundness.proofs.Slots.{AreRooted, has_roots}
 
@@ -44,7 +47,7 @@ pub record FreshIn (w : Saved) (cell : ℕ) : Type 0 where
   pub stale : Bool
   pub is : known_at w.facts.values name ≡ Cell class layout stale
   pub fresh : (class_at w.facts.classes class).fresh ≡ true
-  pub refers : RefersTo (w.cells class) cell
+  pub refers : RefersToCell (w.cells class) cell
 
 -- the cells that frames of these facts know to be fresh
 abbrev pub GuardedBy : List Saved → Guarded
@@ -73,6 +76,7 @@ pub record Suspended (heap : Setup) (program : LaidOut) (certs : List Section) (
   pub standing : IsAt heap program certs guarded log frame function w (receive_result program.of_module into called.returned (promised_in (slice_get certs number)) w.facts)
   pub marks : Reaches certs number → Reaches certs frame.function
   pub still : Reaches certs number → IsStill w.cells w.facts
+  pub named : (c cell : ℕ) → (class_at w.facts.classes c).fresh ≡ true → RefersToCell (w.cells c) cell → FreshIn w cell
 
 -- the frames under one of a function, each with its facts
 abbrev pub Below : Setup → LaidOut → List Section → Log → (into : Option ℕ) → (number : ℕ) → (called : Function) → List Frame → List Saved → Type 0
@@ -98,25 +102,47 @@ IsSound heap program certs (frame ∷ below) log = Live heap program certs frame
 
 -- ---- how logs grow
 
--- no held cell and no fresh one is lost
+-- nothing held and no fresh cell is lost
 pub record Grows (log later : Log) : Type 0 where
-  pub held : (cell : ℕ) → Held log cell → Held later cell
+  pub held : (r : Reference) → Held log r → Held later r
   pub fresh : (cell : ℕ) → IsFresh log cell → IsFresh later cell
 
--- what an instruction's step does to the log: it grows, or a stage was answered, and the roots are held
-pub log_after : (heap : Setup) (log : Log) (reaches : Bool) (roots : List Value) (asked : Action) (given : Answer) → Spares reaches asked → Possible heap log asked given
-    → Grows log (record { asked = asked; given = given; roots = roots } ∷ log) ⊎ ((reaches ≡ true) × ((cell : ℕ) → IsReferredTo roots cell → Held (record { asked = asked; given = given; roots = roots } ∷ log) cell))
-log_after heap log reaches roots Local given spares p = inl (record { held = λ cell x. inr x; fresh = λ cell x. x })
-log_after heap log reaches roots (Read at word) given spares p = inl (record { held = λ cell x. inr x; fresh = λ cell x. x })
-log_after heap log reaches roots (StorePlain at word v) given spares p = inl (record { held = λ cell x. inr x; fresh = λ cell x. (λ refers. spares cell refers, x) })
-log_after heap log reaches roots (Alloc layout) given spares p = inl (record { held = λ cell x. inr x; fresh = λ cell x. inr x })
-log_after heap log reaches roots Safepoint answer.Done spares p = inl (record { held = λ cell x. inr x; fresh = λ cell x. x })
-log_after heap log reaches roots Safepoint answer.Answered spares p = inr (spares, λ cell x. x)
-log_after heap log reaches roots Safepoint (answer.Number n) spares p = absurd p
-log_after heap log reaches roots Safepoint answer.Null spares p = absurd p
-log_after heap log reaches roots Safepoint (answer.Cell at) spares p = absurd p
-log_after heap log reaches roots End given spares p = inl (record { held = λ cell x. inr x; fresh = λ cell x. x })
-log_after heap log reaches roots Wrong given spares p = inl (record { held = λ cell x. inr x; fresh = λ cell x. x })
+-- nothing held is lost, and no guarded cell that is fresh
+pub record Spared (guarded : Guarded) (log later : Log) : Type 0 where
+  pub held : (r : Reference) → Held log r → Held later r
+  pub fresh : (cell : ℕ) → guarded cell → IsFresh log cell → IsFresh later cell
+
+-- a guarded cell is not that of a value which is spare
+no_guarded : (guarded : Guarded) (v : Value) (cell : ℕ) → IsSpare guarded v → guarded cell → RefersToCell v cell → ⊥
+no_guarded guarded value.Unset cell spare g refers = refers
+no_guarded guarded (value.Number n) cell spare g refers = refers
+no_guarded guarded value.Null cell spare g refers = refers
+no_guarded guarded (value.Cell l at) cell spare g refers = spare at refl (subst guarded (sym refers) g)
+no_guarded guarded (value.Address at) cell spare g refers = refers
+
+-- what an instruction's step does to the log: it spares what is guarded, or a stage was answered, and what the roots refer to is held
+pub log_after : (heap : Setup) (log : Log) (reaches : Bool) (guarded : Guarded) (roots : List Value) (asked : Action) (given : Answer) → Spares reaches guarded asked → Possible heap log asked given
+    → Spared guarded log (record { asked = asked; given = given; roots = roots } ∷ log) ⊎ ((reaches ≡ true) × ((r : Reference) → IsReferredTo roots r → Held (record { asked = asked; given = given; roots = roots } ∷ log) r))
+log_after heap log reaches guarded roots Local given spares p = inl (record { held = λ r x. inr x; fresh = λ cell g x. x })
+log_after heap log reaches guarded roots (Read at word) given spares p = inl (record { held = λ r x. inr x; fresh = λ cell g x. x })
+log_after heap log reaches guarded roots (StorePlain at word v) given spares p = inl (record { held = λ r x. inr x; fresh = λ cell g x. (no_guarded guarded v cell spares g, x) })
+log_after heap log reaches guarded roots (Write at word v) given spares p = inl (record { held = λ r x. inr x; fresh = λ cell g x. (no_guarded guarded v cell spares g, x) })
+log_after heap log reaches guarded roots (Alloc layout) given spares p = inl (record { held = λ r x. inr x; fresh = λ cell g x. inr x })
+log_after heap log reaches guarded roots Safepoint answer.Done spares p = inl (record { held = λ r x. inr x; fresh = λ cell g x. x })
+log_after heap log reaches guarded roots Safepoint answer.Answered spares p = inr (spares, λ r x. x)
+log_after heap log reaches guarded roots Safepoint (answer.Number n) spares p = absurd p
+log_after heap log reaches guarded roots Safepoint answer.Null spares p = absurd p
+log_after heap log reaches guarded roots Safepoint (answer.Cell at) spares p = absurd p
+log_after heap log reaches guarded roots End given spares p = inl (record { held = λ r x. inr x; fresh = λ cell g x. x })
+log_after heap log reaches guarded roots Wrong given spares p = inl (record { held = λ r x. inr x; fresh = λ cell g x. x })
+
+-- a value whose cell is guarded stays null or fresh
+fresh_spared : (guarded : Guarded) (log later : Log) → Spared guarded log later → (v : Value) → ((cell : ℕ) → RefersToCell v cell → guarded cell) → IsNullOrFresh log v → IsNullOrFresh later v
+fresh_spared guarded log later spared value.Unset guards fresh = fresh
+fresh_spared guarded log later spared (value.Number n) guards fresh = fresh
+fresh_spared guarded log later spared value.Null guards fresh = fresh
+fresh_spared guarded log later spared (value.Cell l at) guards fresh = spared.fresh at.cell (guards at.cell refl) fresh
+fresh_spared guarded log later spared (value.Address at) guards fresh = fresh
 
 -- ---- what frames below keep
 
@@ -130,15 +156,18 @@ module _ (heap : Setup) (program : LaidOut) (certs : List Section) where
   stands_on guarded log later frame f w next grows s =
       with_holds guarded log later frame f w next s (log_keeps heap program (slots_of program.of_module f) guarded log w.cells w.facts frame.registers frame.slots s.holds later grows.held grows.fresh)
 
-  -- while no stage is answered
-  pub below_keeps : (log later : Log) (into : Option ℕ) (number : ℕ) (called : Function) (below : List Frame) (saves : List Saved) → Grows log later → Below heap program certs log into number called below saves → Below heap program certs later into number called below saves
-  below_keeps log later into number called [] [] grows b = tt
-  below_keeps log later into number called [] (w ∷ saves) grows b = absurd b
-  below_keeps log later into number called (frame ∷ below) [] grows b = absurd b
-  below_keeps log later into number called (frame ∷ below) (w ∷ saves) grows b =
-      let s = b.0 in (
-        record { function = s.function; standing = stands_on (GuardedBy saves) log later frame s.function w (receive_result program.of_module into called.returned (promised_in (slice_get certs number)) w.facts) grows s.standing; marks = s.marks; still = s.still },
-        below_keeps log later frame.into frame.function s.function below saves grows b.1,
+  -- while no stage is answered, and what they know to be fresh is spared
+  pub below_keeps : (log later : Log) (into : Option ℕ) (number : ℕ) (called : Function) (below : List Frame) (saves : List Saved) → Spared (GuardedBy saves) log later → Below heap program certs log into number called below saves → Below heap program certs later into number called below saves
+  below_keeps log later into number called [] [] spared b = tt
+  below_keeps log later into number called [] (w ∷ saves) spared b = absurd b
+  below_keeps log later into number called (frame ∷ below) [] spared b = absurd b
+  below_keeps log later into number called (frame ∷ below) (w ∷ saves) spared b =
+      let s = b.0 in
+      let next = receive_result program.of_module into called.returned (promised_in (slice_get certs number)) w.facts in
+      let kept = classes_log_keeps heap program (slots_of program.of_module s.function) (GuardedBy saves) log w.cells w.facts frame.registers frame.slots s.standing.holds later spared.held
+      (λ c fresh. fresh_spared (GuardedBy (w ∷ saves)) log later spared (w.cells c) (λ cell refers. inl (s.named c cell fresh refers))) in (
+        record { function = s.function; standing = with_holds (GuardedBy saves) log later frame s.function w next s.standing kept; marks = s.marks; still = s.still; named = s.named },
+        below_keeps log later frame.into frame.function s.function below saves (record { held = spared.held; fresh = λ cell g. spared.fresh cell (inr g) }) b.1,
       )
 
   -- the roots of a frame are those of its table
@@ -147,7 +176,7 @@ module _ (heap : Setup) (program : LaidOut) (certs : List Section) where
   roots_there frame f v there c = subst (λ q. Contains (frame_roots program.of_module frame q) v) (sym there) c
 
   -- where a stage is answered
-  pub below_stays : (log later : Log) (into : Option ℕ) (number : ℕ) (called : Function) (below : List Frame) (saves : List Saved) → Reaches certs number → ((cell : ℕ) → IsReferredTo (roots_of program.of_module below) cell → Held later cell)
+  pub below_stays : (log later : Log) (into : Option ℕ) (number : ℕ) (called : Function) (below : List Frame) (saves : List Saved) → Reaches certs number → ((r : Reference) → IsReferredTo (roots_of program.of_module below) r → Held later r)
       → Below heap program certs log into number called below saves → Below heap program certs later into number called below saves
   below_stays log later into number called [] [] reaches held b = tt
   below_stays log later into number called [] (w ∷ saves) reaches held b = absurd b
@@ -168,8 +197,9 @@ module _ (heap : Setup) (program : LaidOut) (certs : List Section) where
           standing = with_holds (GuardedBy saves) log later frame s.function w (receive_result program.of_module into called.returned (promised_in (slice_get certs number)) w.facts) s.standing kept;
           marks = s.marks;
           still = s.still;
+          named = s.named;
         },
-        below_stays log later frame.into frame.function s.function below saves (s.marks reaches) (λ cell x. held cell (x.0, Contains-append_left (roots_of program.of_module below) own x.0 x.1, x.2)) b.1,
+        below_stays log later frame.into frame.function s.function below saves (s.marks reaches) (λ r x. held r (x.0, Contains-append_left (roots_of program.of_module below) own x.0 x.1, x.2)) b.1,
       )
 
   -- under a function that may reach a safepoint nothing is known to be fresh
@@ -213,7 +243,7 @@ module _ (heap : Setup) (program : LaidOut) (certs : List Section) where
     saves = x.saves;
     now = x.now;
     standing = stands_on (GuardedBy x.saves) log later frame x.function x.now x.now.facts grows x.standing;
-    under = below_keeps log later frame.into frame.function x.function below x.saves grows x.under;
+    under = below_keeps log later frame.into frame.function x.function below x.saves (record { held = grows.held; fresh = λ cell g. grows.fresh cell }) x.under;
     guards = λ cell g. grows.fresh cell (x.guards cell g);
   }
 

@@ -2,6 +2,7 @@
 use Rattle.std.specs.Prelude.{◌≡◌, ◌<◌, ℕ, true, false, List, [], ◌∷◌, length, Option, Some, slice_get}
 use Rattle.ir_ast.specs.declared.function.Function.{Function}
 use Rattle.pools.specs.Heap.{Setup}
+use Rattle.layout.specs.Globals.{IsHeapFor}
 use Rattle.layout.specs.Layouts.{LaidOut}
 use Rattle.certificate.specs.declared.section.Promise.{Promise}
 use Rattle.certificate.specs.declared.section.Section.{Section}
@@ -30,9 +31,9 @@ pub record IsStart (program : LaidOut) (f : Function) (section : Option Section)
 abbrev pub AreCertified : LaidOut → List Section → Type 0
 AreCertified program certs = (function : ℕ) (f : Function) → slice_get program.of_module.functions function ≡ Some f → (block : ℕ) → block < length f.blocks → BlockCertified program certs function block
 
--- where each function of a program is certified, a thread that starts at one of them is safe, over every heap of the program's layouts and for every list of possible answers
+-- where each function of a program is certified, a thread that starts at one of them is safe, over every heap of the program and for every list of possible answers
 abbrev pub CertifiedIsNeverWrong : Type 0
 CertifiedIsNeverWrong =
     (program : LaidOut) (certs : List Section) (func : ℕ) (f : Function) (heap : Setup) (arguments : List ℕ) (answers : List Answer) → slice_get program.of_module.functions func ≡ Some f
-    → heap.layouts ≡ program.layouts → AreCertified program certs → IsStart program f (slice_get certs func) arguments
+    → IsHeapFor heap program → AreCertified program certs → IsStart program f (slice_get certs func) arguments
     → Safe heap program (start program.of_module (Some f) func (argument_values arguments)) [] answers

@@ -1,19 +1,17 @@
 -- Bitcasts.
 use Rattle.std.proofs.Common.{◌≡◌, ◌≢◌, ℕ, ◌<◌, ◌^◌, length, map, refl, sym, ap, ◌∙◌, subst, arith, true, false, Bool, Option, Some, None, slice_set, List}
-use Rattle.std.specs.Prelude.{◌==◌, ◌||◌, ◌&&◌, if◌then◌else◌}
+use Rattle.std.specs.Prelude.{◌==◌, ◌||◌, if◌then◌else◌}
 use Rattle.ir_ast.specs.declared.function.Function.{Function}
-use Rattle.ir_ast.specs.declared.module.Module.{Module}
 use Rattle.ir_ast.specs.declared.op.Op.TheVariants.{Bitcast}
 use Rattle.ir_ast.specs.declared.operand.Constant.{Constant}
 use Rattle.ir_ast.specs.declared.operand.Constant.TheVariants as constant
+use Rattle.ir_ast.specs.declared.operand.Operand.{Operand}
 use Rattle.ir_ast.specs.declared.operand.Operand.TheVariants as operand
 use Rattle.pools.specs.Heap.{Setup}
 use Rattle.pools.specs.Layouts.{kind_of_word}
-use Rattle.pools.specs.declared.word_kind.WordKind.{WordKind}
-use Rattle.pools.specs.declared.word_kind.WordKind.TheVariants as word
 use Rattle.pools.specs.declared.word_set.WordSet.{WordSet}
+use Rattle.layout.specs.Globals.{IsHeapFor, global_word}
 use Rattle.layout.specs.Layouts.{LaidOut}
-use Rattle.types.specs.References.{pointee, referenced_layout}
 use Rattle.types.specs.ValueTypes.{has_type}
 use Rattle.shadow_stack.specs.Slots.{SlotTable, slot_of, held_type}
 use Rattle.certificate.specs.declared.section.Section.{Section}
@@ -24,101 +22,29 @@ use Rattle.block_rules.specs.declared.type_kind.TypeKind.{TypeKind}
 use Rattle.block_rules.specs.declared.type_kind.TypeKind.TheVariants.{NoValue, Bits, Reference, AnyReference, Address as AddressKind, Other}
 use Rattle.block_rules.specs.Casts as c
 use Rattle.block_rules.specs.Operands as o
-use Rattle.block_rules.specs.Places.{define_held, first_layout, cell_words, wanted_by_load, holds_wanted, each_word}
+use Rattle.block_rules.specs.Places.{define_held, first_layout, cell_words, wanted_by_load, each_word}
 use Rattle.block_rules.specs.Rules.{after_op}
-use Rattle.block_rules.specs.TypeKinds.{kind_of, kind_at, place_kind, fits_layout, layout_of_kind, is_any_reference, may_be_reference}
+use Rattle.block_rules.specs.TypeKinds.{kind_of, place_kind, fits_layout, may_be_reference}
 use Rattle.machine.specs.declared.value.Value.{Value}
 use Rattle.machine.specs.declared.value.Value.TheVariants as value
 use Rattle.machine.specs.declared.frame.Frame.{Frame}
 use Rattle.machine.specs.Asks as a
-use Rattle.machine.specs.Elements.{refers_to, is_layout}
 use Rattle.machine.specs.Kinds as k
 use Rattle.machine.specs.Kinds.{register_at, wrapped, bits_at, value_of, constant_value}
 use Rattle.machine.specs.Machine as mc
 use Rattle.machine.specs.Log.{Log}
-use Rattle.fact_meaning.specs.Meaning.{Cells, Guarded, IsReferenceTo, IsOwn, IsAddressOf, AreApart, Means, Holds}
-use Rattle.fact_meaning.proofs.Lists.{both, either_true, other_true, equal, turned, at_other, at_map}
-use Rattle.fact_meaning.proofs.KindLemmas.{refers_same, layout_same, bytes_same, leads_same, constant_passes, bits_are}
+use Rattle.fact_meaning.specs.Meaning.{Cells, Guarded, IsReferenceTo, IsOwn, IsAddressOf, IsGlobal, AreApart, Means, Holds}
+use Rattle.fact_meaning.proofs.Lists.{both, either_true, equal, at_other, at_map}
+use Rattle.fact_meaning.proofs.KindLemmas.{refers_same, leads_same, constant_passes, bits_are}
 use Rattle.fact_meaning.proofs.Keep.{Beside, unequal, forget_cell, off_cell, without_same, means_without, known_within}
 use Rattle.fact_meaning.proofs.Change.{apart_turned, define_keeps, define_plain, new_keeps}
 use Rattle.fact_meaning.proofs.Edges.{wrapped_fits, wrapped_le}
 use Rattle.fact_meaning.proofs.SlotsKeep.{same_written}
 use Rattle.fact_meaning.proofs.Places.{holds_as_asked}
 use Rattle.step_soundness.specs.Goes.{Goes}
+use Rattle.step_soundness.proofs.Globals.{word_is, word_casts_to}
+use Rattle.step_soundness.proofs.SameKinds.{first_holds, part_refers, null_casts, layout_refers, held_casts, word_casts}
 use Rattle.step_soundness.proofs.Steps.{goes_local, chosen, below_itself, available, base_is, known_set}
-
--- ---- what the rules let pass is no other kind
-
--- of two tests of which the second fails the first passes
-first_holds : (b : Bool) → (b || false) ≡ true → b ≡ true
-first_holds true e = refl
-first_holds false e = absurd cc
-
-module _ (m : Module) where
-  -- a type of a reference to a layout
-  pub part_refers : (layout part : ℕ) → fits_layout layout (kind_of m part) ≡ true → refers_to m layout part ≡ true
-  part_refers layout part e = by (kind_of m part) refl e where
-    by : (x : TypeKind) → kind_of m part ≡ x → fits_layout layout x ≡ true → refers_to m layout part ≡ true
-    by NoValue is e = absurd cc
-    by (Bits bits) is e = absurd cc
-    by (Reference other) is e = other_true (k.is_byte_pointer m part) (is_layout (referenced_layout m part) layout) (ap (λ x. is_layout x layout) (sym (layout_same m part) ∙ ap layout_of_kind is) ∙ e)
-    by AnyReference is e = either_true (k.is_byte_pointer m part) (is_layout (referenced_layout m part) layout) (sym (bytes_same m part) ∙ ap is_any_reference is)
-    by AddressKind is e = absurd cc
-    by Other is e = absurd cc
-
-  -- a type of a place of references to a layout
-  pub place_refers : (layout to : ℕ) → fits_layout layout (place_kind m to) ≡ true → k.leads_to (refers_to m layout) (pointee m to) ≡ true
-  place_refers layout to e = by (pointee m to) e where
-    by : (q : Option ℕ) → fits_layout layout (kind_at m q) ≡ true → k.leads_to (refers_to m layout) q ≡ true
-    by None e = absurd cc
-    by (Some part) e = part_refers layout part e
-
-  -- the rules let null pass to no other type than the machine does
-  null_casts : (from to : ℕ) → c.casts_null m from to ≡ true → (k.may_refer m to || (k.may_lead m from && k.may_lead m to)) ≡ true
-  null_casts from to e = pick (may_be_reference (kind_of m from) && may_be_reference (kind_of m to)) refl e where
-    pick : (b : Bool) → (may_be_reference (kind_of m from) && may_be_reference (kind_of m to)) ≡ b → (b || (may_be_reference (place_kind m from) && may_be_reference (place_kind m to))) ≡ true
-        → (k.may_refer m to || (k.may_lead m from && k.may_lead m to)) ≡ true
-    pick true is e = either_true (k.may_refer m to) _ (sym (refers_same m to) ∙ (both (may_be_reference (kind_of m from)) (may_be_reference (kind_of m to)) is).1)
-    pick false is e =
-        let b = both (may_be_reference (place_kind m from)) (may_be_reference (place_kind m to)) e in
-        other_true (k.may_refer m to) (k.may_lead m from && k.may_lead m to) (rw (sym (leads_same m from) ∙ b.0, sym (leads_same m to) ∙ b.1) refl)
-
-  -- a kind to which a layout fits is one of references
-  layout_refers : (layout : ℕ) (x : TypeKind) → fits_layout layout x ≡ true → may_be_reference x ≡ true
-  layout_refers layout NoValue e = absurd cc
-  layout_refers layout (Bits bits) e = absurd cc
-  layout_refers layout (Reference other) e = refl
-  layout_refers layout AnyReference e = refl
-  layout_refers layout AddressKind e = absurd cc
-  layout_refers layout Other e = absurd cc
-
-  -- a slot that holds references to a layout, under another type
-  held_casts : (to : ℕ) (held : Option ℕ) → c.casts_held m to held ≡ true → k.leads_to (a.is_slot_under m (a.held_layout m held)) (pointee m to) ≡ true
-  held_casts to None e = absurd cc
-  held_casts to (Some held) e = by (kind_of m held) refl e where
-    by : (x : TypeKind) → kind_of m held ≡ x → c.casts_slot x (place_kind m to) ≡ true → k.leads_to (a.is_slot_under m (referenced_layout m held)) (pointee m to) ≡ true
-    by NoValue is e = absurd cc
-    by (Bits bits) is e = absurd cc
-    by (Reference layout) is e = subst (λ l. k.leads_to (a.is_slot_under m l) (pointee m to) ≡ true) (sym (sym (layout_same m held) ∙ ap layout_of_kind is)) (place_refers layout to e)
-    by AnyReference is e = absurd cc
-    by AddressKind is e = absurd cc
-    by Other is e = absurd cc
-
-  -- a word that may be loaded under a kind may be named as a place of it
-  word_casts : (to : ℕ) (kind : TypeKind) (first : Option ℕ) (q : Option WordKind) → place_kind m to ≡ kind → holds_wanted (wanted_by_load kind first) q ≡ true → may_be_reference kind ≡ true → a.may_cast_word m to q ≡ true
-  word_casts to NoValue first q is e r = absurd cc
-  word_casts to (Bits bits) first q is e r = absurd cc
-  word_casts to (Reference layout) first None is e r = absurd cc
-  word_casts to (Reference layout) first (Some (word.Integer bits)) is e r = absurd cc
-  word_casts to (Reference layout) first (Some (word.Reference other)) is e r = place_refers other to (ap (fits_layout other) is ∙ turned other layout e)
-  word_casts to AnyReference None None is e r = absurd cc
-  word_casts to AnyReference None (Some (word.Integer bits)) is e r = absurd cc
-  word_casts to AnyReference None (Some (word.Reference other)) is e r = absurd cc
-  word_casts to AnyReference (Some layout) None is e r = absurd cc
-  word_casts to AnyReference (Some layout) (Some (word.Integer bits)) is e r = absurd cc
-  word_casts to AnyReference (Some layout) (Some (word.Reference other)) is e r = place_refers other to (ap (fits_layout other) is)
-  word_casts to AddressKind first q is e r = absurd cc
-  word_casts to Other first q is e r = absurd cc
 
 module _ (heap : Setup) (p : LaidOut) (certs : List Section) (reaches : Bool) (f : Function) (table : SlotTable) (guarded : Guarded) (log : Log) (cells : Cells) (facts : FactSet) (frame : Frame) (h : Holds heap p table guarded log cells facts frame.registers frame.slots) where
   -- v is a reference of a new class that is not fresh, where a layout is known
@@ -137,7 +63,7 @@ module _ (heap : Setup) (p : LaidOut) (certs : List Section) (reaches : Bool) (f
   pub null_keeps : (v : ℕ) (layout : Option ℕ) → (more : Cells) × Holds heap p table guarded log more (define_held v layout false facts) (slice_set frame.registers v value.Null) frame.slots
   null_keeps v layout = held_keeps v layout false value.Null (λ l e. (tt, tt)) (λ z. absurd cc) (λ w d l s is fr. apart_turned value.Null (cells d) tt)
 
-  module _ (same : heap.layouts ≡ p.layouts) (from to : ℕ) where
+  module _ (fits : IsHeapFor heap p) (from to : ℕ) where
     -- ---- constants
 
     number_keeps : (v n : ℕ) → from ≡ to → Holds heap p table guarded log cells (c.cast_number v n (kind_of p.of_module to) facts) (slice_set frame.registers v (value.Number (wrapped (bits_at p.of_module from) n))) frame.slots
@@ -207,9 +133,14 @@ module _ (heap : Setup) (p : LaidOut) (certs : List Section) (reaches : Bool) (f
     address_casts layout words value.Null v r is e = ap (a.may_cast_value p from to) is ∙ sym (leads_same p.of_module to) ∙ (both (may_be_reference (place_kind p.of_module to)) _ e).0
     address_casts layout words (value.Cell own at) v r is e =
         let b = both (may_be_reference (place_kind p.of_module to)) (each_word (wanted_by_load (place_kind p.of_module to) (first_layout p.layouts layout words cell_words)) p.layouts layout words) e in
-        let w = holds_as_asked heap p table guarded log cells facts frame.registers frame.slots same h (wanted_by_load (place_kind p.of_module to) (first_layout p.layouts layout words cell_words)) layout is.0 words is.3 is.2 b.1 in
-        ap (a.may_cast_value p from to) is.1 ∙ ap (λ l. a.may_cast_word p.of_module to (kind_of_word p.layouts l is.0)) r.0 ∙ word_casts p.of_module to (place_kind p.of_module to) (first_layout p.layouts layout words cell_words) (kind_of_word p.layouts layout is.0) refl w b.0
+        let w = holds_as_asked heap p table guarded log cells facts frame.registers frame.slots fits h (wanted_by_load (place_kind p.of_module to) (first_layout p.layouts layout words cell_words)) layout is.0 words is.3 is.2 b.1 in
+        ap (a.may_cast_value p from to) is.1 ∙ ap (λ l. k.may_cast_word p.of_module to (kind_of_word p.layouts l is.0)) r.0 ∙ word_casts p.of_module to (place_kind p.of_module to) (first_layout p.layouts layout words cell_words) (kind_of_word p.layouts layout is.0) refl w b.0
     address_casts layout words (value.Address at) v r is e = absurd r
+
+    -- a global, as its word
+    global_casts : (symbol : ℕ) (v : Value) → IsGlobal p.of_module symbol v → c.casts_global p.of_module to symbol ≡ true → a.may_cast_value p from to v ≡ true
+    global_casts symbol v global e =
+        ap (a.may_cast_value p from to) global.2 ∙ ap (k.may_cast_word p.of_module to) (sym (word_is p.of_module symbol global.0 global.1)) ∙ word_casts_to p.of_module to (global_word p.of_module symbol) e
 
     known_casts : (known : Known) (v : Value) → Means heap p guarded log cells (length facts.classes) frame.registers known v → o.is_known facts known ≡ true → c.casts_known p facts to known ≡ true → a.may_cast_value p from to v ≡ true
     known_casts Nothing v means is e = absurd cc
@@ -220,7 +151,7 @@ module _ (heap : Setup) (p : LaidOut) (certs : List Section) (reaches : Bool) (f
         let b = base_is heap p certs reaches f table guarded log cells facts frame h base (known_at facts.values base) refl is in
         let member = known_within heap p table guarded log cells facts frame.registers frame.slots h base b.0 b.1 b.2 b.3 in
         address_casts b.1 words (register_at frame.registers base) v member.refers means (subst (λ x. c.casts_base p to words x ≡ true) b.3 e)
-    known_casts (GlobalAddress g) v means is e = absurd means
+    known_casts (GlobalAddress symbol) v means is e = global_casts symbol v means e
 
     -- a value under another name
     module _ (u v : ℕ) (other : u ≢ v) where
@@ -262,3 +193,24 @@ module _ (heap : Setup) (p : LaidOut) (certs : List Section) (reaches : Bool) (f
           kept : (result : Option ℕ) → (more : Cells) × Holds heap p table guarded log more (after_op p certs table result (Bitcast from (operand.Local u) to) facts) (mc.set_register result (register_at frame.registers u) frame).registers (mc.set_register result (register_at frame.registers u) frame).slots
           kept None = (cells, h)
           kept (Some v) = rw none (cells, named_so v (u == v) refl)
+
+    -- ---- globals
+
+    -- a global as an operand
+    pub global_goes : (result : Option ℕ) (x : Operand) (symbol : ℕ) (next : Option ℕ → FactSet) → next None ≡ facts → ((v : ℕ) → next (Some v) ≡ define v (GlobalAddress symbol) facts)
+        → k.is_typed p.of_module f table from x ≡ true → IsGlobal p.of_module symbol (value_of p.of_module frame.registers from x) → ((from == to) || c.casts_global p.of_module to symbol) ≡ true
+        → Goes heap p table frame.slots reaches guarded log (next result) (a.cast_action p f table frame.registers from x to None) (λ given. mc.set_register result (value_of p.of_module frame.registers from x) frame)
+    global_goes result x symbol next none some typed global k19 = goes_local heap p table frame.slots reaches guarded log _ _ _ (rw (typed, ap k.is_set global.2, casts) refl) (kept result) where
+      new : Value
+      new = value_of p.of_module frame.registers from x
+
+      casts : ((from == to) || a.may_cast_value p from to (value_of p.of_module frame.registers from x)) ≡ true
+      casts = chosen (from == to) (c.casts_global p.of_module to symbol) _ k19 (global_casts symbol (value_of p.of_module frame.registers from x) global)
+
+      kept : (result : Option ℕ) → (more : Cells) × Holds heap p table guarded log more (next result) (mc.set_register result new frame).registers (mc.set_register result new frame).slots
+      kept None = (cells, subst (λ y. Holds heap p table guarded log cells y frame.registers frame.slots) (sym none) h)
+      kept (Some v) = (
+        cells,
+        subst (λ y. Holds heap p table guarded log cells y (slice_set frame.registers v new) frame.slots) (sym (some v))
+            (define_plain heap p table guarded log cells facts frame.registers frame.slots h v (GlobalAddress symbol) new (λ d l s e. cc) global),
+      )

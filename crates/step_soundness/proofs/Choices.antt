@@ -36,7 +36,7 @@ use Rattle.fact_meaning.proofs.Phis.{drop_one, drop_of_values, drop_of_keeps}
 use Rattle.step_soundness.proofs.Casts.{held_keeps}
 use Rattle.fact_meaning.proofs.Numbers.{chosen_below}
 use Rattle.step_soundness.specs.Goes.{Goes}
-use Rattle.step_soundness.proofs.Steps.{goes_local, no_number, null_fits, available, integer_is, number_usable}
+use Rattle.step_soundness.proofs.Steps.{goes_local, no_value, no_number, null_fits, available, integer_is, number_usable}
 use Rattle.step_soundness.proofs.Sums.{defines, numbers_usable, references_usable}
 
 -- a kind that passes as one of some bits is it
@@ -101,7 +101,7 @@ module _ (heap : Setup) (p : LaidOut) (certs : List Section) (reaches : Bool) (f
   known_fits Other (Cell c l false) v e means is fits current = absurd cc
   known_fits kind Null v e means is fits current = null_fits heap guarded log _ v means
   known_fits kind (Address b w) v e means is fits current = absurd cc
-  known_fits kind (GlobalAddress g) v e means is fits current = absurd means
+  known_fits kind (GlobalAddress g) v e means is fits current = absurd cc
 
   -- an operand of a choice: available, of the type, not stale, and no slot
   pub record IsChoice (written : ℕ) (x : Operand) : Type 0 where
@@ -119,8 +119,8 @@ module _ (heap : Setup) (p : LaidOut) (certs : List Section) (reaches : Bool) (f
   operand_fits written (operand.Local u) e i =
       let b = both (has_type p.of_module f written u) (o.known_fits (kind_of p.of_module written) (known_at facts.values u)) i.typed in
       known_fits (kind_of p.of_module written) (known_at facts.values u) (register_at frame.registers u) e (h.values u) (available heap p certs reaches f table guarded log cells facts frame h u i.no_slot i.there) b.1 i.current
-  operand_fits written (operand.Global g) e i = absurd (let t = i.typed in cc)
-  operand_fits written (operand.CastGlobal x y z) e i = absurd (let t = i.typed in cc)
+  operand_fits written (operand.Global g) e i = absurd (no_value _ i.typed)
+  operand_fits written (operand.CastGlobal x y z) e i = absurd (no_value _ i.typed)
 
   -- a fresh class is apart from an operand of another class
   operand_apart : (written : ℕ) (x : Operand) → IsChoice written x → (w d l : ℕ) (s : Bool) → known_at facts.values w ≡ Cell d l s → (class_at facts.classes d).fresh ≡ true → ((m : ℕ) (t : Bool) → o.known_of facts x ≡ Cell d m t → ⊥)
@@ -128,8 +128,8 @@ module _ (heap : Setup) (p : LaidOut) (certs : List Section) (reaches : Bool) (f
   operand_apart written (operand.Constant (constant.Number n)) i w d l s is fr other = apart_turned (value.Number _) (cells d) tt
   operand_apart written (operand.Constant (constant.Truth b)) i w d l s is fr other = apart_turned value.Unset (cells d) tt
   operand_apart written (operand.Constant constant.Null) i w d l s is fr other = apart_turned value.Null (cells d) tt
-  operand_apart written (operand.Global g) i w d l s is fr other = apart_turned value.Unset (cells d) tt
-  operand_apart written (operand.CastGlobal x y z) i w d l s is fr other = apart_turned value.Unset (cells d) tt
+  operand_apart written (operand.Global g) i w d l s is fr other = absurd (no_value _ i.typed)
+  operand_apart written (operand.CastGlobal x y z) i w d l s is fr other = absurd (no_value _ i.typed)
   operand_apart written (operand.Local u) i w d l s is fr other =
       let b = both (has_type p.of_module f written u) (o.known_fits (kind_of p.of_module written) (known_at facts.values u)) i.typed in
       by (known_at facts.values u) refl (h.values u) (available heap p certs reaches f table guarded log cells facts frame h u i.no_slot i.there) b.1 i.current where
@@ -141,7 +141,7 @@ module _ (heap : Setup) (p : LaidOut) (certs : List Section) (reaches : Bool) (f
         by (Cell c m false) at means known fits current = subst (AreApart (cells d)) (sym means.is) (h.alone w u d c l m s is at fr (λ e. other m false (at ∙ ap (λ y. Cell y m false) (sym e))))
         by Null at means known fits current = subst (AreApart (cells d)) (sym means) (apart_turned value.Null (cells d) tt)
         by (Address x y) at means known fits current = absurd cc
-        by (GlobalAddress g) at means known fits current = absurd means
+        by (GlobalAddress g) at means known fits current = absurd cc
 
   -- an operand that is known to be no null is none
   operand_nonnull : (written : ℕ) (x : Operand) → o.is_nonnull facts (o.known_of facts x) ≡ true → value_of p.of_module frame.registers written x ≢ value.Null
@@ -155,7 +155,7 @@ module _ (heap : Setup) (p : LaidOut) (certs : List Section) (reaches : Bool) (f
     by (Cell c l s) means e = λ z. (h.classes c).nonnull e (sym means.is ∙ z)
     by Null means e = absurd cc
     by (Address x y) means e = absurd cc
-    by (GlobalAddress g) means e = absurd means
+    by (GlobalAddress g) means e = absurd cc
 
   -- one of two references
   reference_chosen : (v written : ℕ) (chosen other : Operand) → may_be_reference (kind_of p.of_module written) ≡ true → IsChoice written chosen → IsChoice written other → r.one_layout (r.known_layout (o.known_of facts chosen)) (r.known_layout (o.known_of facts other)) ≡ true

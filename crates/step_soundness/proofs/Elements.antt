@@ -22,6 +22,7 @@ use Rattle.layout.specs.Offsets.{step_of, step_into, to_elements, to_field, to_f
 use Rattle.layout.specs.declared.step.Step.{Step}
 use Rattle.layout.specs.declared.step.Step.TheVariants.{Field, Elements}
 use Rattle.types.specs.Elements as t
+use Rattle.types.specs.Globals.{points_to_global}
 use Rattle.types.specs.ValueTypes.{has_type}
 use Rattle.shadow_stack.specs.Slots.{SlotTable}
 use Rattle.certificate.specs.declared.section.Section.{Section}
@@ -29,9 +30,9 @@ use Rattle.facts.specs.declared.known.Known.{Known}
 use Rattle.facts.specs.declared.known.Known.TheVariants.{Nothing, Number, Cell, Null, Address, GlobalAddress}
 use Rattle.facts.specs.Facts.{FactSet, known_at, off_base, define}
 use Rattle.block_rules.specs.declared.stride.Stride.{Stride}
-use Rattle.block_rules.specs.declared.type_kind.TypeKind.{TypeKind}
-use Rattle.block_rules.specs.declared.type_kind.TypeKind.TheVariants.{NoValue, Bits, Reference, AnyReference, Address as AddressKind, Other}
+use Rattle.block_rules.specs.declared.type_kind.TypeKind.TheVariants.{Bits}
 use Rattle.block_rules.specs.Calls.{no_slots}
+use Rattle.block_rules.specs.Casts.{casts_operand}
 use Rattle.block_rules.specs.Elements as r
 use Rattle.block_rules.specs.Integers.{below_known, known_layout}
 use Rattle.block_rules.specs.Operands as o
@@ -51,13 +52,15 @@ use Rattle.machine.specs.Kinds as k
 use Rattle.machine.specs.Kinds.{modulus, wrapped, bits_at, register_at, number_in, value_of}
 use Rattle.machine.specs.Machine as mc
 use Rattle.machine.specs.Log.{Log}
-use Rattle.fact_meaning.specs.Meaning.{Cells, Guarded, IsReferenceTo, IsInteger, IsAddressOf, Means, Holds}
+use Rattle.fact_meaning.specs.Meaning.{Cells, Guarded, IsReferenceTo, IsInteger, IsAddressOf, IsGlobal, Means, Holds}
 use Rattle.fact_meaning.proofs.Lists.{both, equal, by_equal, at_same, at_other, each_below, lt_true, lt_false}
 use Rattle.fact_meaning.proofs.KindLemmas.{integer_same, constant_passes, bits_are}
 use Rattle.fact_meaning.proofs.Keep.{off_cell, means_without, known_within}
 use Rattle.fact_meaning.proofs.Change.{define_plain}
 use Rattle.step_soundness.specs.Goes.{Goes}
-use Rattle.step_soundness.proofs.Steps.{goes_local, none_of, available, base_is, integer_is, number_usable, kind_bits}
+use Rattle.step_soundness.proofs.Globals.{has_address}
+use Rattle.step_soundness.proofs.Touches.{typed_so}
+use Rattle.step_soundness.proofs.Steps.{goes_local, no_value, no_pointer, none_of, available, base_is, integer_is, number_usable, kind_bits}
 
 -- ---- the numbers of indices, read with their sign
 
@@ -222,17 +225,20 @@ module _ (p : LaidOut) where
   none_behind facts (Some written) [] = refl
   none_behind facts (Some written) (index ∷ indices) = refl
 
+  -- a word of a set that lies below a count does
+  lies_below : (count : ℕ) (set : WordSet) (w : ℕ) → r.lie_below count set ≡ true → w < 64 → has_word set.members w ≡ true → w < count
+  lies_below count set w lies lt has = ltb-true w count (pick (has_word set.members w) (each_below (λ v. not (has_word set.members v) || nat_lt v count) 64 w lt lies) has) where
+    pick : (b : Bool) → (not b || nat_lt w count) ≡ true → b ≡ true → nat_lt w count ≡ true
+    pick true e z = e
+    pick false e z = absurd cc
+
   -- a word of a set that lies in a layout is one of it
   in_layout : (layout : ℕ) (set : WordSet) (w : ℕ) → r.lie_below (length (words_of p.layouts layout)) set ≡ true → w < 64 → has_word set.members w ≡ true → is_some (kind_of_word p.layouts layout w) ≡ true
-  in_layout layout set w lies lt has = gets (words_of p.layouts layout) w (ltb-true w (length (words_of p.layouts layout)) (pick (has_word set.members w) (each_below (λ v. not (has_word set.members v) || nat_lt v (length (words_of p.layouts layout))) 64 w lt lies) has)) where
+  in_layout layout set w lies lt has = gets (words_of p.layouts layout) w (lies_below (length (words_of p.layouts layout)) set w lies lt has) where
     gets : {X : Type 0} (xs : List X) (i : ℕ) → i < length xs → is_some (slice_get xs i) ≡ true
     gets [] i lt = absurd (omega (arith, lt))
     gets (x ∷ xs) zero lt = refl
     gets (x ∷ xs) (suc i) lt = gets xs i (omega (arith, lt))
-
-    pick : (b : Bool) → (not b || nat_lt w (length (words_of p.layouts layout))) ≡ true → b ≡ true → nat_lt w (length (words_of p.layouts layout)) ≡ true
-    pick true e z = e
-    pick false e z = absurd cc
 
 -- ---- the walk along the indices
 
@@ -356,8 +362,8 @@ module _ (heap : Setup) (p : LaidOut) (certs : List Section) (reaches : Bool) (f
   array_leads size count part written bits (operand.Local v) stride is k1 k2 none e =
       bounded_leads size count part bits (bits_at p.of_module written) (register_at frame.registers v) stride (bits_are p.of_module written bits is) (below_known (known_at facts.values v))
       (integer_is heap p certs reaches f table guarded log cells facts frame h written bits (operand.Local v) is k1 k2 none) e
-  array_leads size count part written bits (operand.Global g) stride is k1 k2 none e = absurd cc
-  array_leads size count part written bits (operand.CastGlobal x y z) stride is k1 k2 none e = absurd cc
+  array_leads size count part written bits (operand.Global g) stride is k1 k2 none e = absurd (no_value _ k2)
+  array_leads size count part written bits (operand.CastGlobal x y z) stride is k1 k2 none e = absurd (no_value _ k2)
 
   -- an index that the rules let stand leads by one of the numbers of its stride
   index_leads : (index : Argument) → Fit p f table facts index → (step : Step) (stride : Stride) → r.step_stride facts (kind_of p.of_module index.written) index (Some step) ≡ Some stride → Leads stride step (index_value p.of_module frame.registers index)
@@ -497,11 +503,24 @@ module _ (heap : Setup) (p : LaidOut) (certs : List Section) (reaches : Bool) (f
         record { at = place.Word own cell (means.0 + w.0); is = ap (element_place p (element_offset p frame.registers source indices)) means.1 ∙ ap (word_behind p own cell means.0) w.1 ∙ q.0; means = q.1 }
     address_placed (value.Address x) v refers means = absurd refers
 
+  -- from a global the indices lead to its word
+  global_placed : (source : ℕ) (indices : List Argument) (from to : WordSet) → Led source indices from to → r.lie_below 1 to ≡ true → has_word from.members 0 ≡ true → (g : ℕ) (v : Value) → v ≡ value.Address (place.Global g)
+      → element_place p (element_offset p frame.registers source indices) v ≡ Some (place.Global g)
+  global_placed source indices from to l lies has g v is =
+      let w = l.walked 0 (omega arith) has in
+      let low = lies_below p 1 to (0 + w.0) lies w.2 w.3 in
+      let first : w.0 ≡ 0 = omega (arith, low) in
+      ap (λ n. element_place p n v) (w.1 ∙ ap Some first) ∙ ap (element_place p (Some 0)) is
+
   -- v is an address on u, which may be v itself
   addressed : (v u : ℕ) (words : WordSet) (new : Value) → IsAddressOf p words.members (register_at frame.registers u) new → Holds heap p table guarded log cells (define v (off_base v (Address u words)) facts) (slice_set frame.registers v new) frame.slots
   addressed v u words new is =
       define_plain heap p table guarded log cells facts frame.registers frame.slots h v (off_base v (Address u words)) new (λ c l s e. absurd (let x = off_cell v (Address u words) c l s e in cc))
       (means_without heap p table guarded log cells (length facts.classes) frame.registers v new (Address u words) new is)
+
+  -- v is the address of a global
+  global_address : (v symbol : ℕ) (new : Value) → IsGlobal p.of_module symbol new → Holds heap p table guarded log cells (define v (GlobalAddress symbol) facts) (slice_set frame.registers v new) frame.slots
+  global_address v symbol new is = define_plain heap p table guarded log cells facts frame.registers frame.slots h v (GlobalAddress symbol) new (λ c l s e. cc) is
 
   -- nothing is known of v
   unknown : (v : ℕ) (new : Value) → Holds heap p table guarded log cells (define v Nothing facts) (slice_set frame.registers v new) frame.slots
@@ -527,35 +546,43 @@ module _ (heap : Setup) (p : LaidOut) (certs : List Section) (reaches : Bool) (f
   words_are layout None e = absurd cc
   words_are layout (Some words) e = (words, refl, e)
 
-  -- no number is of the kind of a pointer
-  no_pointer : (n : ℕ) (kind : TypeKind) → o.fits_bits n kind ≡ true → is_pointer kind ≡ true → ⊥
-  no_pointer n NoValue e z = absurd cc
-  no_pointer n (Bits bits) e z = absurd cc
-  no_pointer n (Reference l) e z = absurd cc
-  no_pointer n AnyReference e z = absurd cc
-  no_pointer n AddressKind e z = absurd cc
-  no_pointer n Other e z = absurd cc
+  -- of a global's, that there are words, and that they are its one
+  first_words : (q : Option WordSet) → r.stays_at_first q ≡ true → (words : WordSet) × (q ≡ Some words) × (r.lie_below 1 words ≡ true)
+  first_words None e = absurd cc
+  first_words (Some words) e = (words, refl, e)
 
   -- a getelementptr whose conditions hold goes
   pub element_goes : (result : Option ℕ) (source base_type : ℕ) (base : Operand) (indices : List Argument) → o.is_available table facts base ≡ true → list_all (λ index. o.is_available table facts index.operand) indices ≡ true
       → o.is_typed p.of_module f base_type base ≡ true → is_pointer (kind_of p.of_module base_type) ≡ true → r.may_be_base (o.known_of facts base) ≡ true → r.are_indices p.of_module f facts indices ≡ true → no_slots table indices ≡ true
-      → r.may_lead p facts source indices (o.known_of facts base) ≡ true → o.slot_named table base ≡ None
+      → r.may_lead p facts source indices (o.known_of facts base) ≡ true → o.slot_named table base ≡ None → casts_operand p.of_module base ≡ true
       → Goes heap p table frame.slots reaches guarded log (after_op p certs table result (Element source base_type base indices) facts) (a.op_action p f table frame.block frame.registers (Element source base_type base indices))
       (λ given. mc.after_op p f table result (Element source base_type base indices) given frame)
-  element_goes result source base_type base indices k1 k1s k2 pointer may k2s nones k5 none = by base k1 k2 may k5 none where
+  element_goes result source base_type base indices k1 k1s k2 pointer may k2s nones k5 none k19 = by base k1 k2 may k5 none k19 where
     fit : AllFit p f table facts indices
     fit = all_fit p f table facts indices k1s k2s nones
 
-    by : (base : Operand) → o.is_available table facts base ≡ true → o.is_typed p.of_module f base_type base ≡ true → r.may_be_base (o.known_of facts base) ≡ true → r.may_lead p facts source indices (o.known_of facts base) ≡ true → o.slot_named table base ≡ None
+    -- a global that stands there
+    of_global : (x : Operand) (symbol : ℕ) → k.is_typed p.of_module f table base_type x ≡ true → IsGlobal p.of_module symbol (value_of p.of_module frame.registers base_type x) → r.may_lead p facts source indices (GlobalAddress symbol) ≡ true
+        → ((v : ℕ) → r.after_element p v source x indices facts ≡ define v (GlobalAddress symbol) facts)
+        → Goes heap p table frame.slots reaches guarded log (after_op p certs table result (Element source base_type x indices) facts) (a.op_action p f table frame.block frame.registers (Element source base_type x indices))
+        (λ given. mc.after_op p f table result (Element source base_type x indices) given frame)
+    of_global x symbol typed global k5 next =
+        let w = first_words (r.element_words p facts source indices (r.start_of (GlobalAddress symbol))) k5 in
+        let l = led source indices (r.start_of (GlobalAddress symbol)) w.0 fit w.1 in
+        let new = value.Address (place.Global global.0) in
+        placed_goes result source base_type x indices fit typed l.typed (place.Global global.0) (global_placed source indices (r.start_of (GlobalAddress symbol)) w.0 l w.2 refl global.0 (value_of p.of_module frame.registers base_type x) global.2)
+        (λ v. subst (λ y. Holds heap p table guarded log cells y (slice_set frame.registers v new) frame.slots) (sym (next v)) (global_address v symbol new (global.0, global.1, refl)))
+
+    by : (base : Operand) → o.is_available table facts base ≡ true → o.is_typed p.of_module f base_type base ≡ true → r.may_be_base (o.known_of facts base) ≡ true → r.may_lead p facts source indices (o.known_of facts base) ≡ true → o.slot_named table base ≡ None → casts_operand p.of_module base ≡ true
         → Goes heap p table frame.slots reaches guarded log (after_op p certs table result (Element source base_type base indices) facts) (a.op_action p f table frame.block frame.registers (Element source base_type base indices))
         (λ given. mc.after_op p f table result (Element source base_type base indices) given frame)
-    by (operand.Constant (constant.Number n)) k1 k2 may k5 none = absurd (no_pointer n (kind_of p.of_module base_type) k2 pointer)
-    by (operand.Constant (constant.Truth b)) k1 k2 may k5 none = absurd cc
-    by (operand.Constant constant.Null) k1 k2 may k5 none =
+    by (operand.Constant (constant.Number n)) k1 k2 may k5 none k19 = absurd (no_pointer n (kind_of p.of_module base_type) k2 pointer)
+    by (operand.Constant (constant.Truth b)) k1 k2 may k5 none k19 = absurd cc
+    by (operand.Constant constant.Null) k1 k2 may k5 none k19 =
         let w = words_are None (r.element_words p facts source indices (r.start_of Nothing)) k5 in
         let l = led source indices (r.start_of Nothing) w.0 fit w.1 in
         placed_goes result source base_type (operand.Constant constant.Null) indices fit (constant_passes p.of_module base_type constant.Null k2) l.typed place.OfNull refl (λ v. unknown v (value.Address place.OfNull))
-    by (operand.Local u) k1 k2 may k5 none = of_known (known_at facts.values u) refl (available heap p certs reaches f table guarded log cells facts frame h u none k1) may k5 where
+    by (operand.Local u) k1 k2 may k5 none k19 = of_known (known_at facts.values u) refl (available heap p certs reaches f table guarded log cells facts frame h u none k1) may k5 where
       typed : k.is_typed p.of_module f table base_type (operand.Local u) ≡ true
       typed = rw (k2, none) refl
 
@@ -595,6 +622,14 @@ module _ (heap : Setup) (p : LaidOut) (certs : List Section) (reaches : Bool) (f
           (subst (λ x. Means heap p guarded log cells (length facts.classes) frame.registers x (register_at frame.registers u)) is (h.values u)) in
           goes (Address on words) is l.typed q.at q.is
           (λ v. subst (λ x. Holds heap p table guarded log cells (r.define_words v u (Address on words) x facts) (slice_set frame.registers v (value.Address q.at)) frame.slots) (sym w.1) (addressed v on w.0 (value.Address q.at) q.means))
-      of_known (GlobalAddress g) is has may k5 = absurd cc
-    by (operand.Global g) k1 k2 may k5 none = absurd cc
-    by (operand.CastGlobal x y z) k1 k2 may k5 none = absurd cc
+      of_known (GlobalAddress symbol) is has may k5 =
+          let w = first_words (r.element_words p facts source indices (r.start_of (GlobalAddress symbol))) k5 in
+          let l = led source indices (r.start_of (GlobalAddress symbol)) w.0 fit w.1 in
+          let global : IsGlobal p.of_module symbol (register_at frame.registers u) = subst (λ x. Means heap p guarded log cells (length facts.classes) frame.registers x (register_at frame.registers u)) is (h.values u) in
+          let new = value.Address (place.Global global.0) in
+          goes (GlobalAddress symbol) is l.typed (place.Global global.0) (global_placed source indices (r.start_of (GlobalAddress symbol)) w.0 l w.2 refl global.0 (register_at frame.registers u) global.2)
+          (λ v. subst (λ x. Holds heap p table guarded log cells (r.define_words v u (GlobalAddress symbol) x facts) (slice_set frame.registers v new) frame.slots) (sym w.1) (global_address v symbol new (global.0, global.1, refl)))
+    by (operand.Global symbol) k1 k2 may k5 none k19 = of_global (operand.Global symbol) symbol (typed_so p f table base_type (operand.Global symbol) k2 k19 refl) (has_address p.of_module base_type symbol k2) k5 (λ v. refl)
+    by (operand.CastGlobal from symbol to) k1 k2 may k5 none k19 =
+        of_global (operand.CastGlobal from symbol to) symbol (typed_so p f table base_type (operand.CastGlobal from symbol to) k2 k19 refl)
+        (has_address p.of_module from symbol (both (base_type == to) (points_to_global p.of_module from symbol) k2).1) k5 (λ v. refl)

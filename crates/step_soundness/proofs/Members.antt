@@ -16,6 +16,7 @@ use Rattle.ir_ast.specs.declared.operand.Operand.TheVariants as operand
 use Rattle.ir_ast.specs.declared.runtime.Runtime.TheVariants as runtime
 use Rattle.pools.specs.declared.word_kind.WordKind.{WordKind}
 use Rattle.pools.specs.declared.word_set.WordSet.{WordSet}
+use Rattle.layout.specs.Globals.{global_word}
 use Rattle.layout.specs.Layouts.{LaidOut}
 use Rattle.shadow_stack.specs.Slots.{SlotTable, slot_of, held_type}
 use Rattle.certificate.specs.declared.section.Fact.TheVariants as fact
@@ -25,6 +26,7 @@ use Rattle.certificate.specs.declared.section.Mark.{Mark}
 use Rattle.certificate.specs.declared.section.Mark.TheVariants as mark
 use Rattle.certificate.specs.declared.section.Promise.{Promise}
 use Rattle.certificate.specs.declared.section.Section.{Section}
+use Rattle.safepoints.specs.Marks.{after_mark}
 use Rattle.facts.specs.declared.known.Class.{Class}
 use Rattle.facts.specs.declared.known.Given.{Given}
 use Rattle.facts.specs.declared.known.Given.TheVariants as given
@@ -37,14 +39,15 @@ use Rattle.block_rules.specs.declared.callee.Callee.{Callee}
 use Rattle.block_rules.specs.declared.callee.Callee.TheVariants.{OfRuntime, OfModule, NoFunction}
 use Rattle.block_rules.specs.declared.type_kind.TypeKind.{TypeKind}
 use Rattle.block_rules.specs.declared.type_kind.TypeKind.TheVariants.{NoValue, Bits, Reference, AnyReference, Address as AddressKind, Other}
+use Rattle.block_rules.specs.Barriers.{after_read, after_read_call, after_write}
 use Rattle.block_rules.specs.Bounds.{below_next}
-use Rattle.block_rules.specs.Calls.{after_root, after_root_call, alloc_numbered, alloc_layout, after_alloc_call, drop_arguments, after_mark, receive_result, after_defined, after_call}
+use Rattle.block_rules.specs.Calls.{after_root, after_root_call, alloc_numbered, alloc_layout, after_alloc_call, drop_arguments, receive_result, after_defined, after_call}
 use Rattle.block_rules.specs.Promises.{given_by, promised_in, callee_mark}
 use Rattle.block_rules.specs.Casts.{layout_of_null, cast_number, cast_constant, cast_local, after_cast}
 use Rattle.block_rules.specs.Elements.{element_words, start_of, define_element, define_words, after_element}
 use Rattle.block_rules.specs.Integers.{below_of, larger, arithmetic_below, define_number, resized_below, after_compare, chosen_layout, choose_reference, after_select}
 use Rattle.block_rules.specs.Operands.{slot_named, known_of, is_nonnull}
-use Rattle.block_rules.specs.Places.{first_layout, cell_words, define_held, load_kind, load_held_type, load_words, load_base, load_known, load_place, after_store}
+use Rattle.block_rules.specs.Places.{first_layout, cell_words, define_held, load_kind, load_held_type, layout_of_word, load_word, load_words, load_base, load_known, load_place, after_store}
 use Rattle.block_rules.specs.Rules.{after_alloca, after_named, after_op}
 use Rattle.block_rules.specs.Signature.{callee_of}
 use Rattle.block_rules.specs.TypeKinds.{kind_of}
@@ -261,8 +264,8 @@ module _ (facts : FactSet) (members : HaveMembers facts) where
   cast_members : (m : Module) (table : SlotTable) (v from to : ℕ) (x : Operand) → HaveMembers (after_cast m table v from to x facts)
   cast_members m table v from to (operand.Constant c) = cast_constant_members m v from to c
   cast_members m table v from to (operand.Local u) = cast_local_members v u (known_at facts.values u) (slot_of table u)
-  cast_members m table v from to (operand.Global g) = define_members v Nothing facts members
-  cast_members m table v from to (operand.CastGlobal a b c) = define_members v Nothing facts members
+  cast_members m table v from to (operand.Global g) = define_members v (GlobalAddress g) facts members
+  cast_members m table v from to (operand.CastGlobal a g c) = define_members v (GlobalAddress g) facts members
 
   -- ---- loads and stores
 
@@ -298,6 +301,15 @@ module _ (facts : FactSet) (members : HaveMembers facts) where
   load_base_members p v kind words (Address b w) = define_members v Nothing facts members
   load_base_members p v kind words (GlobalAddress g) = define_members v Nothing facts members
 
+  -- a value is what the word of a global holds
+  load_word_members : (v : ℕ) (kind : TypeKind) (q : Option WordKind) → HaveMembers (load_word v kind q facts)
+  load_word_members v (Bits bits) q = define_members v (Number bits None) facts members
+  load_word_members v (Reference l) q = held_members v (Some l) false
+  load_word_members v AnyReference q = held_members v (layout_of_word q) false
+  load_word_members v NoValue q = define_members v Nothing facts members
+  load_word_members v AddressKind q = define_members v Nothing facts members
+  load_word_members v Other q = define_members v Nothing facts members
+
   -- by what is known of the place
   load_known_members : (p : LaidOut) (v : ℕ) (kind : TypeKind) (known : Known) → HaveMembers (load_known p v kind known facts)
   load_known_members p v kind (Address base words) = load_base_members p v kind words (known_at facts.values base)
@@ -305,7 +317,7 @@ module _ (facts : FactSet) (members : HaveMembers facts) where
   load_known_members p v kind (Number n b) = define_members v Nothing facts members
   load_known_members p v kind Null = define_members v Nothing facts members
   load_known_members p v kind (Cell c l s) = define_members v Nothing facts members
-  load_known_members p v kind (GlobalAddress g) = define_members v Nothing facts members
+  load_known_members p v kind (GlobalAddress g) = load_word_members v kind (global_word p.of_module g)
 
   -- behind a load
   load_place_members : (p : LaidOut) (table : SlotTable) (v loaded : ℕ) (place : Operand) (slot : Option ℕ) → HaveMembers (load_place p table v loaded place slot facts)
@@ -314,7 +326,7 @@ module _ (facts : FactSet) (members : HaveMembers facts) where
 
   -- behind a store
   stored_members : (x : Operand) (slot : Option ℕ) → HaveMembers (after_store (known_of facts x) slot facts)
-  stored_members x None = members
+  stored_members x None = drop_of_members (known_of facts x) facts members
   stored_members (operand.Local u) (Some s) = store_members u s facts members
   stored_members (operand.Constant c) (Some s) = clear_members s facts members
   stored_members (operand.Global g) (Some s) = clear_members s facts members
@@ -329,7 +341,7 @@ module _ (facts : FactSet) (members : HaveMembers facts) where
   element_members v u Nothing words = define_members v Nothing facts members
   element_members v u (Number n b) words = define_members v Nothing facts members
   element_members v u Null words = define_members v Nothing facts members
-  element_members v u (GlobalAddress g) words = define_members v Nothing facts members
+  element_members v u (GlobalAddress g) words = define_members v (GlobalAddress g) facts members
 
   -- if there are words
   words_members : (v u : ℕ) (base : Known) (words : Option WordSet) → HaveMembers (define_words v u base words facts)
@@ -340,8 +352,8 @@ module _ (facts : FactSet) (members : HaveMembers facts) where
   after_element_members : (p : LaidOut) (v source : ℕ) (base : Operand) (indices : List Argument) → HaveMembers (after_element p v source base indices facts)
   after_element_members p v source (operand.Local u) indices = words_members v u (known_at facts.values u) (element_words p facts source indices (start_of (known_at facts.values u)))
   after_element_members p v source (operand.Constant c) indices = define_members v Nothing facts members
-  after_element_members p v source (operand.Global g) indices = define_members v Nothing facts members
-  after_element_members p v source (operand.CastGlobal a b c) indices = define_members v Nothing facts members
+  after_element_members p v source (operand.Global g) indices = define_members v (GlobalAddress g) facts members
+  after_element_members p v source (operand.CastGlobal a g c) indices = define_members v (GlobalAddress g) facts members
 
   -- ---- comparisons and choices
 
@@ -446,15 +458,32 @@ module _ (facts : FactSet) (members : HaveMembers facts) where
     by None = members
     by (Some s) = root_members s facts members
 
+  -- behind a call of gcread
+  read_members : (p : LaidOut) (v : ℕ) (arguments : List Argument) → HaveMembers (after_read p v arguments facts)
+  read_members p v [] = define_members v Nothing facts members
+  read_members p v (object ∷ []) = define_members v Nothing facts members
+  read_members p v (object ∷ place ∷ []) = load_known_members facts members p v AnyReference (known_of facts place.operand)
+  read_members p v (object ∷ place ∷ other ∷ rest) = define_members v Nothing facts members
+
+  -- whose result may have no name
+  read_call_members : (p : LaidOut) (result : Option ℕ) (arguments : List Argument) → HaveMembers (after_read_call p result arguments facts)
+  read_call_members p None arguments = members
+  read_call_members p (Some v) arguments = read_members p v arguments
+
+  -- behind a call of gcwrite
+  write_members : (arguments : List Argument) → HaveMembers (after_write arguments facts)
+  write_members [] = members
+  write_members (value ∷ rest) = drop_of_members (known_of facts value.operand) facts members
+
   -- behind any call
-  call_members : (m : Module) (certs : List Section) (table : SlotTable) (result : Option ℕ) (returned : ℕ) (arguments : List Argument) (callee : Callee) → HaveMembers (after_call m certs table result returned arguments callee facts)
-  call_members m certs table result returned arguments NoFunction = members
-  call_members m certs table result returned arguments (OfModule called) = defined_members m result returned arguments (slice_get certs called) facts members
-  call_members m certs table result returned arguments (OfRuntime runtime.Alloc) = alloc_members result arguments
-  call_members m certs table result returned arguments (OfRuntime runtime.Safepoint) = stale_members facts members
-  call_members m certs table result returned arguments (OfRuntime runtime.GcRoot) = root_call_members table arguments
-  call_members m certs table result returned arguments (OfRuntime runtime.GcRead) = members
-  call_members m certs table result returned arguments (OfRuntime runtime.GcWrite) = members
+  call_members : (p : LaidOut) (certs : List Section) (table : SlotTable) (result : Option ℕ) (returned : ℕ) (arguments : List Argument) (callee : Callee) → HaveMembers (after_call p certs table result returned arguments callee facts)
+  call_members p certs table result returned arguments NoFunction = members
+  call_members p certs table result returned arguments (OfModule called) = defined_members p.of_module result returned arguments (slice_get certs called) facts members
+  call_members p certs table result returned arguments (OfRuntime runtime.Alloc) = alloc_members result arguments
+  call_members p certs table result returned arguments (OfRuntime runtime.Safepoint) = stale_members facts members
+  call_members p certs table result returned arguments (OfRuntime runtime.GcRoot) = root_call_members table arguments
+  call_members p certs table result returned arguments (OfRuntime runtime.GcRead) = read_call_members p result arguments
+  call_members p certs table result returned arguments (OfRuntime runtime.GcWrite) = write_members arguments
 
   -- behind an alloca
   alloca_members : (slot : Option ℕ) → HaveMembers (after_alloca slot facts)
@@ -487,7 +516,7 @@ module _ (p : LaidOut) (certs : List Section) (table : SlotTable) (facts : FactS
   -- by what an instruction does
   op_members : (result : Option ℕ) (op : Op) → HaveMembers (after_op p certs table result op facts)
   op_members result (Store stored x place_type place) = stored_members facts members x (slot_named table place)
-  op_members result (Call returned callee arguments) = call_members facts members p.of_module certs table result returned arguments (callee_of p.of_module callee (length arguments))
+  op_members result (Call returned callee arguments) = call_members facts members p certs table result returned arguments (callee_of p.of_module callee (length arguments))
   op_members None (Alloca held) = members
   op_members None (Bitcast from x to) = members
   op_members None (Load loaded place_type place) = members

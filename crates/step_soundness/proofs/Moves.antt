@@ -39,7 +39,7 @@ use Rattle.fact_meaning.proofs.Keep.{forget_keeps, put_keeps}
 use Rattle.fact_meaning.proofs.Change.{apart_turned, extend, extend_new, define_plain, learn_keeps, add_keeps}
 use Rattle.fact_meaning.proofs.SlotsKeep.{other_class, Fits, slot_keeps, fact_keeps}
 use Rattle.step_soundness.specs.Goes.{Goes, IsNamed, HasMember, HaveMembers}
-use Rattle.step_soundness.proofs.Steps.{goes_local, usable, integer_is, available}
+use Rattle.step_soundness.proofs.Steps.{goes_local, no_value, usable, integer_is, available}
 
 -- a place that the rules take for a slot is that slot
 module _ (p : LaidOut) (f : Function) (table : SlotTable) where
@@ -214,7 +214,7 @@ module _ (heap : Setup) (p : LaidOut) (certs : List Section) (reaches : Bool) (f
   known_reference layout (Cell c l false) v means is fits current = (subst (λ x. IsReferenceTo heap x v) (sym (equal layout l fits)) means.refers, means.own refl)
   known_reference layout Null v means is fits current = subst (λ x. IsReferenceTo heap layout x × IsOwn log guarded x) (sym means) (tt, tt)
   known_reference layout (Address base words) v means is fits current = absurd cc
-  known_reference layout (GlobalAddress g) v means is fits current = absurd means
+  known_reference layout (GlobalAddress g) v means is fits current = absurd cc
 
   -- what is stored under the type of a slot of references is one, and is own
   reference_stored : (stored held layout : ℕ) (x : Operand) → kind_of p.of_module held ≡ Reference layout → o.is_available table facts x ≡ true → o.is_value p.of_module f facts stored x ≡ true → o.is_current facts (o.known_of facts x) ≡ true → o.slot_named table x ≡ None
@@ -224,8 +224,8 @@ module _ (heap : Setup) (p : LaidOut) (certs : List Section) (reaches : Bool) (f
   reference_stored stored held layout (operand.Constant (constant.Truth b)) is k1 k2 k3 none moves fits = absurd cc
   reference_stored stored held layout (operand.Constant constant.Null) is k1 k2 k3 none moves fits = (tt, tt)
   reference_stored stored held layout (operand.Local u) is k1 k2 k3 none moves fits = known_reference layout (known_at facts.values u) (register_at frame.registers u) (h.values u) (available heap p certs reaches f table guarded log cells facts frame h u none k1) fits k3
-  reference_stored stored held layout (operand.Global g) is k1 k2 k3 none moves fits = absurd cc
-  reference_stored stored held layout (operand.CastGlobal a b c) is k1 k2 k3 none moves fits = absurd cc
+  reference_stored stored held layout (operand.Global g) is k1 k2 k3 none moves fits = absurd (no_value _ k2)
+  reference_stored stored held layout (operand.CastGlobal a b c) is k1 k2 k3 none moves fits = absurd (no_value _ k2)
 
   -- what is stored fits the slot
   module _ (stored held : ℕ) (x : Operand) (k1 : o.is_available table facts x ≡ true) (k2 : o.is_value p.of_module f facts stored x ≡ true) (k3 : o.is_current facts (o.known_of facts x) ≡ true) (none : o.slot_named table x ≡ None)
@@ -286,8 +286,8 @@ module _ (heap : Setup) (p : LaidOut) (certs : List Section) (reaches : Bool) (f
   stored_keeps stored s (operand.Constant (constant.Number n)) k1 k2 k3 none fits = slot_keeps heap p table guarded log cells facts frame.registers frame.slots h s _ _ fits (apart_plain s _ (apart_number _ _ refl))
   stored_keeps stored s (operand.Constant (constant.Truth b)) k1 k2 k3 none fits = absurd cc
   stored_keeps stored s (operand.Constant constant.Null) k1 k2 k3 none fits = slot_keeps heap p table guarded log cells facts frame.registers frame.slots h s _ _ fits (apart_plain s _ (apart_null _ refl))
-  stored_keeps stored s (operand.Global g) k1 k2 k3 none fits = absurd cc
-  stored_keeps stored s (operand.CastGlobal a b c) k1 k2 k3 none fits = absurd cc
+  stored_keeps stored s (operand.Global g) k1 k2 k3 none fits = absurd (no_value _ k2)
+  stored_keeps stored s (operand.CastGlobal a b c) k1 k2 k3 none fits = absurd (no_value _ k2)
   stored_keeps stored s (operand.Local u) k1 k2 k3 none fits = by (known_at facts.values u) refl (h.values u) (available heap p certs reaches f table guarded log cells facts frame h u none k1) (both (has_type p.of_module f stored u) (o.known_fits (kind_of p.of_module stored) (known_at facts.values u)) k2).1 k3 where
     new : Value
     new = register_at frame.registers u
@@ -303,7 +303,7 @@ module _ (heap : Setup) (p : LaidOut) (certs : List Section) (reaches : Bool) (f
     })
     by Null is means known fits2 current = slot_keeps heap p table guarded log cells facts frame.registers frame.slots h s _ new fits (apart_plain s new (apart_null new means))
     by (Address base words) is means known fits2 current = absurd cc
-    by (GlobalAddress g) is means known fits2 current = absurd means
+    by (GlobalAddress g) is means known fits2 current = absurd cc
 
   -- a store to a slot
   pub slot_store_goes : (result : Option ℕ) (stored : ℕ) (x : Operand) (place_type u s : ℕ) → o.is_available table facts x ≡ true → o.is_value p.of_module f facts stored x ≡ true → o.is_current facts (o.known_of facts x) ≡ true → o.slot_named table x ≡ None

@@ -1,6 +1,6 @@
 -- The step of any instruction that the rules allow, and behind which a thread goes on in its block.
-use Rattle.std.proofs.Common.{◌≡◌, ℕ, List, refl, true, false, Option, Some, None, Bool}
-use Rattle.std.specs.Prelude.{◌&&◌, ◌||◌, not, is_some}
+use Rattle.std.proofs.Common.{◌≡◌, ℕ, List, refl, true, Option, Some, None, Bool}
+use Rattle.std.specs.Prelude.{◌&&◌, not}
 use Rattle.std.specs.List.{list_all}
 use Rattle.ir_ast.specs.declared.function.Function.{Function}
 use Rattle.ir_ast.specs.declared.op.Argument.{Argument}
@@ -12,23 +12,23 @@ use Rattle.ir_ast.specs.declared.op.Resize.{Resize as Width}
 use Rattle.ir_ast.specs.declared.operand.Operand.{Operand}
 use Rattle.ir_ast.specs.declared.operand.Operand.TheVariants as operand
 use Rattle.pools.specs.Heap.{Setup}
+use Rattle.layout.specs.Globals.{IsHeapFor}
 use Rattle.layout.specs.Layouts.{LaidOut}
 use Rattle.types.specs.ValueTypes.{has_type}
+use Rattle.safepoints.specs.Marks.{is_may}
 use Rattle.shadow_stack.specs.Slots.{SlotTable, slots_of, slot_of}
 use Rattle.certificate.specs.declared.section.Section.{Section}
-use Rattle.facts.specs.declared.known.Known.{Known}
-use Rattle.facts.specs.declared.known.Known.TheVariants.{Nothing, Number, Cell, Null, Address, GlobalAddress}
 use Rattle.facts.specs.Facts.{FactSet, known_at}
 use Rattle.block_rules.specs.declared.standing.Standing.{Standing}
+use Rattle.block_rules.specs.Barriers.{needs_no_barrier}
 use Rattle.block_rules.specs.Calls.{no_slots}
 use Rattle.block_rules.specs.Casts as c
 use Rattle.block_rules.specs.Elements as g
 use Rattle.block_rules.specs.Integers as r
 use Rattle.block_rules.specs.Operands as o
 use Rattle.block_rules.specs.Places as q
-use Rattle.block_rules.specs.Promises.{is_may}
 use Rattle.block_rules.specs.Rules.{first_failing, op_conditions, after_op, is_condition}
-use Rattle.block_rules.specs.TypeKinds.{kind_of, is_integer, is_bits, is_pointer, may_be_reference}
+use Rattle.block_rules.specs.TypeKinds.{kind_of, is_integer, is_bits, is_pointer}
 use Rattle.machine.specs.declared.frame.Frame.{Frame}
 use Rattle.machine.specs.Asks as a
 use Rattle.machine.specs.Machine as mc
@@ -36,14 +36,16 @@ use Rattle.machine.specs.Log.{Log, IsFresh}
 use Rattle.fact_meaning.specs.Meaning.{Cells, Guarded, Holds}
 use Rattle.fact_meaning.proofs.Lists.{both, negated}
 use Rattle.step_soundness.specs.Goes.{Goes, HaveMembers, InstructionsGo}
-use Rattle.step_soundness.proofs.Steps.{goes_local, all_hold, none_of, available, alloca_goes}
-use Rattle.step_soundness.proofs.Casts.{constant_goes, slot_goes, value_goes}
+use Rattle.step_soundness.proofs.Steps.{goes_local, all_hold, none_of, alloca_goes}
+use Rattle.step_soundness.proofs.Casts.{constant_goes, slot_goes, value_goes, global_goes}
 use Rattle.step_soundness.proofs.Moves.{slot_load_goes, slot_store_goes}
-use Rattle.step_soundness.proofs.CellWords.{address_load_goes, address_store_goes}
+use Rattle.step_soundness.proofs.WordReads.{load_goes}
+use Rattle.step_soundness.proofs.WordStores.{IsStored, store_goes}
+use Rattle.step_soundness.proofs.Touches.{typed_so, operand_means}
 use Rattle.step_soundness.proofs.Elements.{element_goes}
 use Rattle.step_soundness.proofs.Sums.{arithmetic_goes, resize_goes, compare_goes}
 use Rattle.step_soundness.proofs.Choices.{select_goes}
-use Rattle.step_soundness.proofs.Calls.{call_goes}
+use Rattle.step_soundness.proofs.AnyCall.{call_goes}
 use Rattle.step_soundness.proofs.Members.{forget_members}
 
 -- the step of an instruction
@@ -51,7 +53,7 @@ abbrev pub Step : (heap : Setup) (p : LaidOut) (certs : List Section) (reaches :
 Step heap p certs reaches f table guarded log facts frame result op =
     Goes heap p table frame.slots reaches guarded log (after_op p certs table result op facts) (a.op_action p f table frame.block frame.registers op) (λ given. mc.after_op p f table result op given frame)
 
-module _ (heap : Setup) (p : LaidOut) (certs : List Section) (reaches : Bool) (f : Function) (table : SlotTable) (guarded : Guarded) (log : Log) (guards : (cell : ℕ) → guarded cell → IsFresh log cell) (same : heap.layouts ≡ p.layouts) (here : Standing) (marked : is_may here.mark ≡ true → reaches ≡ true) (cells : Cells) (facts : FactSet) (frame : Frame)
+module _ (heap : Setup) (p : LaidOut) (certs : List Section) (reaches : Bool) (f : Function) (table : SlotTable) (guarded : Guarded) (log : Log) (guards : (cell : ℕ) → guarded cell → IsFresh log cell) (fits : IsHeapFor heap p) (here : Standing) (marked : is_may here.mark ≡ true → reaches ≡ true) (cells : Cells) (facts : FactSet) (frame : Frame)
     (h : Holds heap p table guarded log cells facts frame.registers frame.slots) (members : HaveMembers facts) where
   -- an instruction goes where its conditions hold
   abbrev GoesOn : Option ℕ → Op → Type 0
@@ -61,54 +63,46 @@ module _ (heap : Setup) (p : LaidOut) (certs : List Section) (reaches : Bool) (f
   bitcast_by : (result : Option ℕ) (from : ℕ) (x : Operand) (to : ℕ) → GoesOn result (Bitcast from x to)
   bitcast_by result from x to e =
       let all = all_hold (op_conditions p certs f table here facts result (Bitcast from x to)) e in
-      by x all.0 all.1.0 all.1.1.1.1.0 where
+      let k19 = both (c.casts_operand p.of_module x) (c.may_cast p table facts from to x) all.1.1.1.1.0 in
+      by x all.0 all.1.0 k19.0 k19.1 where
         of_name : (u : ℕ) → o.is_available table facts (operand.Local u) ≡ true → has_type p.of_module f from u ≡ true → c.may_cast p table facts from to (operand.Local u) ≡ true → (slot : Option ℕ) → slot_of table u ≡ slot
             → Step heap p certs reaches f table guarded log facts frame result (Bitcast from (operand.Local u) to)
-        of_name u k1 k2 k19 None none = value_goes heap p certs reaches f table guarded log cells facts frame h same from to result u none k1 k2 k19
-        of_name u k1 k2 k19 (Some s) is = slot_goes heap p certs reaches f table guarded log cells facts frame h same from to result u s is k2 k19
+        of_name u k1 k2 k19 None none = value_goes heap p certs reaches f table guarded log cells facts frame h fits from to result u none k1 k2 k19
+        of_name u k1 k2 k19 (Some s) is = slot_goes heap p certs reaches f table guarded log cells facts frame h fits from to result u s is k2 k19
 
-        by : (x : Operand) → o.is_available table facts x ≡ true → o.is_typed p.of_module f from x ≡ true → c.may_cast p table facts from to x ≡ true → Step heap p certs reaches f table guarded log facts frame result (Bitcast from x to)
-        by (operand.Constant d) k1 k2 k19 = constant_goes heap p certs reaches f table guarded log cells facts frame h same from to result d k2 k19
-        by (operand.Local u) k1 k2 k19 = of_name u k1 k2 k19 (slot_of table u) refl
-        by (operand.Global g) k1 k2 k19 = absurd cc
-        by (operand.CastGlobal y g z) k1 k2 k19 = absurd cc
+        by : (x : Operand) → o.is_available table facts x ≡ true → o.is_typed p.of_module f from x ≡ true → c.casts_operand p.of_module x ≡ true → c.may_cast p table facts from to x ≡ true → Step heap p certs reaches f table guarded log facts frame result (Bitcast from x to)
+        by (operand.Constant d) k1 k2 casts k19 = constant_goes heap p certs reaches f table guarded log cells facts frame h fits from to result d k2 k19
+        by (operand.Local u) k1 k2 casts k19 = of_name u k1 k2 k19 (slot_of table u) refl
+        by (operand.Global symbol) k1 k2 casts k19 =
+            global_goes heap p certs reaches f table guarded log cells facts frame h fits from to result (operand.Global symbol) symbol (λ name. after_op p certs table name (Bitcast from (operand.Global symbol) to) facts) refl (λ v. refl)
+            (typed_so p f table from (operand.Global symbol) k2 casts refl) (operand_means heap p certs reaches f table guarded log fits cells facts frame h from (operand.Global symbol) k2) k19
+        by (operand.CastGlobal own symbol other) k1 k2 casts k19 =
+            global_goes heap p certs reaches f table guarded log cells facts frame h fits from to result (operand.CastGlobal own symbol other) symbol (λ name. after_op p certs table name (Bitcast from (operand.CastGlobal own symbol other) to) facts) refl (λ v. refl)
+            (typed_so p f table from (operand.CastGlobal own symbol other) k2 casts refl) (operand_means heap p certs reaches f table guarded log fits cells facts frame h from (operand.CastGlobal own symbol other) k2) k19
 
-  -- a load: from a slot, or from an address
+  -- a load: from a slot, or from what stands as a place
   load_by : (result : Option ℕ) (loaded place_type : ℕ) (place : Operand) → GoesOn result (Load loaded place_type place)
   load_by result loaded place_type place e =
       let all = all_hold (op_conditions p certs f table here facts result (Load loaded place_type place)) e in
       let k2 = both (o.is_typed p.of_module f place_type place) (q.may_load p table facts loaded place) all.1.0 in
       let k4 = both (not (o.is_null place)) (o.base_nonnull facts (o.known_of facts place)) all.1.1.1.0 in
-      by place all.0 k2.0 k2.1 all.1.1.0 k4.0 k4.1 where
-        of_known : (u : ℕ) → slot_of table u ≡ None → has_type p.of_module f place_type u ≡ true → o.is_current facts (known_at facts.values u) ≡ true → o.base_nonnull facts (known_at facts.values u) ≡ true → o.is_known facts (known_at facts.values u) ≡ true
-            → q.loads_known p facts (kind_of p.of_module loaded) (known_at facts.values u) ≡ true → (known : Known) → known_at facts.values u ≡ known → Step heap p certs reaches f table guarded log facts frame result (Load loaded place_type (operand.Local u))
-        of_known u none k2 k3 k4 k1 may Nothing is = absurd (let x = rw is at k1 in cc)
-        of_known u none k2 k3 k4 k1 may (Number n b) is = absurd (let x = rw is at may in cc)
-        of_known u none k2 k3 k4 k1 may (Cell d l s) is = absurd (let x = rw is at may in cc)
-        of_known u none k2 k3 k4 k1 may Null is = absurd (let x = rw is at may in cc)
-        of_known u none k2 k3 k4 k1 may (Address base words) is = address_load_goes heap p certs reaches f table guarded log guards same cells facts frame h result loaded place_type u base words none is k2 k3 k1 k4 may
-        of_known u none k2 k3 k4 k1 may (GlobalAddress g) is = absurd (let x = rw is at may in cc)
-
+      by place all.0 k2.0 k2.1 all.1.1.0 k4.0 k4.1 all.1.1.1.1.1.0 where
         of_name : (u : ℕ) → o.is_available table facts (operand.Local u) ≡ true → has_type p.of_module f place_type u ≡ true → q.loads_local p table facts (known_at facts.values u) loaded (slot_of table u) ≡ true → o.is_current facts (known_at facts.values u) ≡ true
             → o.base_nonnull facts (known_at facts.values u) ≡ true → (slot : Option ℕ) → slot_of table u ≡ slot → Step heap p certs reaches f table guarded log facts frame result (Load loaded place_type (operand.Local u))
-        of_name u k1 k2 may k3 k4 None none = of_known u none k2 k3 k4 (available heap p certs reaches f table guarded log cells facts frame h u none k1) (rw none at may) (known_at facts.values u) refl
+        of_name u k1 k2 may k3 k4 None none =
+            load_goes heap p certs reaches f table guarded log guards fits cells facts frame h result loaded place_type (operand.Local u) (record { there = k1; typed = k2; current = k3; based = k4; casts = refl; varies = refl; no_slot = none }) (rw none at may)
         of_name u k1 k2 may k3 k4 (Some s) is = slot_load_goes heap p certs reaches f table guarded log cells facts frame h result loaded place_type u s (λ v named. forget_members v facts members) is k2 (rw is at may)
 
         by : (x : Operand) → o.is_available table facts x ≡ true → o.is_typed p.of_module f place_type x ≡ true → q.may_load p table facts loaded x ≡ true → o.is_current facts (o.known_of facts x) ≡ true → not (o.is_null x) ≡ true → o.base_nonnull facts (o.known_of facts x) ≡ true
-            → Step heap p certs reaches f table guarded log facts frame result (Load loaded place_type x)
-        by (operand.Constant d) k1 k2 may k3 some k4 = absurd (let x = negated (o.is_null_constant d) some in cc)
-        by (operand.Local u) k1 k2 may k3 some k4 = of_name u k1 k2 may k3 k4 (slot_of table u) refl
-        by (operand.Global g) k1 k2 may k3 some k4 = absurd cc
-        by (operand.CastGlobal y g z) k1 k2 may k3 some k4 = absurd cc
+            → c.casts_operand p.of_module x ≡ true → Step heap p certs reaches f table guarded log facts frame result (Load loaded place_type x)
+        by (operand.Constant d) k1 k2 may k3 some k4 k19 = absurd (let x = negated (o.is_null_constant d) some in cc)
+        by (operand.Local u) k1 k2 may k3 some k4 k19 = of_name u k1 k2 may k3 k4 (slot_of table u) refl
+        by (operand.Global symbol) k1 k2 may k3 some k4 k19 =
+            load_goes heap p certs reaches f table guarded log guards fits cells facts frame h result loaded place_type (operand.Global symbol) (record { there = k1; typed = k2; current = k3; based = k4; casts = k19; varies = refl; no_slot = refl }) may
+        by (operand.CastGlobal own symbol other) k1 k2 may k3 some k4 k19 =
+            load_goes heap p certs reaches f table guarded log guards fits cells facts frame h result loaded place_type (operand.CastGlobal own symbol other) (record { there = k1; typed = k2; current = k3; based = k4; casts = k19; varies = refl; no_slot = refl }) may
 
-  -- what a store asks of the value that it stores
-  record MayStore (stored : ℕ) (x : Operand) : Type 0 where
-    there : o.is_available table facts x ≡ true
-    typed : o.is_value p.of_module f facts stored x ≡ true
-    current : o.is_current facts (o.known_of facts x) ≡ true
-    no_slot : o.slot_named table x ≡ None
-
-  -- a store: to a slot, or to an address
+  -- a store: to a slot, or to what stands as a place
   store_by : (result : Option ℕ) (stored : ℕ) (x : Operand) (place_type : ℕ) (place : Operand) → GoesOn result (Store stored x place_type place)
   store_by result stored x place_type place e =
       let all = all_hold (op_conditions p certs f table here facts result (Store stored x place_type place)) e in
@@ -117,31 +111,22 @@ module _ (heap : Setup) (p : LaidOut) (certs : List Section) (reaches : Bool) (f
       let t = both (o.is_value p.of_module f facts stored x) (o.is_typed p.of_module f place_type place) k2.0 in
       let k3 = both (o.is_current facts (o.known_of facts x)) (o.is_current facts (o.known_of facts place)) all.1.1.0 in
       let k4 = both (not (o.is_null place)) (o.base_nonnull facts (o.known_of facts place)) all.1.1.1.0 in
-      by (record { there = k1.0; typed = t.0; current = k3.0; no_slot = none_of (o.slot_named table x) all.1.1.1.1.1.0 }) place k1.1 t.1 k2.1 k3.1 k4.0 k4.1 all.1.1.1.1.0 where
-        of_known : MayStore stored x → (u : ℕ) → slot_of table u ≡ None → has_type p.of_module f place_type u ≡ true → o.is_current facts (known_at facts.values u) ≡ true → o.base_nonnull facts (known_at facts.values u) ≡ true → o.is_known facts (known_at facts.values u) ≡ true
-            → may_be_reference (kind_of p.of_module stored) ≡ false → q.stores_known p facts (kind_of p.of_module stored) (o.known_of facts x) (known_at facts.values u) ≡ true → (known : Known) → known_at facts.values u ≡ known
-            → Step heap p certs reaches f table guarded log facts frame result (Store stored x place_type (operand.Local u))
-        of_known v u none k2 k3 k4 k1 plain may Nothing is = absurd (let y = rw is at k1 in cc)
-        of_known v u none k2 k3 k4 k1 plain may (Number n b) is = absurd (let y = rw is at may in cc)
-        of_known v u none k2 k3 k4 k1 plain may (Cell d l s) is = absurd (let y = rw is at may in cc)
-        of_known v u none k2 k3 k4 k1 plain may Null is = absurd (let y = rw is at may in cc)
-        of_known v u none k2 k3 k4 k1 plain may (Address base words) is =
-            address_store_goes heap p certs reaches f table guarded log guards same cells facts frame h result stored x place_type u base words v.there v.typed v.no_slot plain none is k2 k3 k1 k4 may
-        of_known v u none k2 k3 k4 k1 plain may (GlobalAddress g) is = absurd (let y = rw is at may in cc)
-
-        of_name : MayStore stored x → (u : ℕ) → o.is_available table facts (operand.Local u) ≡ true → has_type p.of_module f place_type u ≡ true → q.stores_local p table facts (known_at facts.values u) stored (o.known_of facts x) (slot_of table u) ≡ true
-            → o.is_current facts (known_at facts.values u) ≡ true → o.base_nonnull facts (known_at facts.values u) ≡ true → (is_some (slot_of table u) || not (may_be_reference (kind_of p.of_module stored))) ≡ true → (slot : Option ℕ) → slot_of table u ≡ slot
+      by (record { there = k1.0; typed = t.0; current = k3.0; no_slot = none_of (o.slot_named table x) all.1.1.1.1.1.0 }) place k1.1 t.1 k2.1 k3.1 k4.0 k4.1 all.1.1.1.1.0 all.1.1.1.1.1.1.1.0 where
+        of_name : IsStored p f table facts stored x → (u : ℕ) → o.is_available table facts (operand.Local u) ≡ true → has_type p.of_module f place_type u ≡ true → q.stores_local p table facts (known_at facts.values u) stored (o.known_of facts x) (slot_of table u) ≡ true
+            → o.is_current facts (known_at facts.values u) ≡ true → o.base_nonnull facts (known_at facts.values u) ≡ true → needs_no_barrier p.of_module table facts stored (operand.Local u) ≡ true → (slot : Option ℕ) → slot_of table u ≡ slot
             → Step heap p certs reaches f table guarded log facts frame result (Store stored x place_type (operand.Local u))
         of_name v u k1 k2 may k3 k4 k6 None none =
-            of_known v u none k2 k3 k4 (available heap p certs reaches f table guarded log cells facts frame h u none k1) (negated (may_be_reference (kind_of p.of_module stored)) (rw none at k6)) (rw none at may) (known_at facts.values u) refl
+            store_goes heap p certs reaches f table guarded log fits cells facts frame h members result stored x place_type (operand.Local u) v (record { there = k1; typed = k2; current = k3; based = k4; casts = refl; varies = refl; no_slot = none }) (rw none at may) k6
         of_name v u k1 k2 may k3 k4 k6 (Some s) is = slot_store_goes heap p certs reaches f table guarded log cells facts frame h result stored x place_type u s v.there v.typed v.current v.no_slot is k2 (rw is at may)
 
-        by : MayStore stored x → (y : Operand) → o.is_available table facts y ≡ true → o.is_typed p.of_module f place_type y ≡ true → q.may_store p table facts stored (o.known_of facts x) y ≡ true → o.is_current facts (o.known_of facts y) ≡ true → not (o.is_null y) ≡ true
-            → o.base_nonnull facts (o.known_of facts y) ≡ true → (is_some (o.slot_named table y) || not (may_be_reference (kind_of p.of_module stored))) ≡ true → Step heap p certs reaches f table guarded log facts frame result (Store stored x place_type y)
-        by v (operand.Constant d) k1 k2 may k3 some k4 k6 = absurd (let y = negated (o.is_null_constant d) some in let z = (both (o.is_null_constant d) _ may).0 in cc)
-        by v (operand.Local u) k1 k2 may k3 some k4 k6 = of_name v u k1 k2 may k3 k4 k6 (slot_of table u) refl
-        by v (operand.Global g) k1 k2 may k3 some k4 k6 = absurd cc
-        by v (operand.CastGlobal w g z) k1 k2 may k3 some k4 k6 = absurd cc
+        by : IsStored p f table facts stored x → (y : Operand) → o.is_available table facts y ≡ true → o.is_typed p.of_module f place_type y ≡ true → q.may_store p table facts stored (o.known_of facts x) y ≡ true → o.is_current facts (o.known_of facts y) ≡ true → not (o.is_null y) ≡ true
+            → o.base_nonnull facts (o.known_of facts y) ≡ true → needs_no_barrier p.of_module table facts stored y ≡ true → c.casts_operand p.of_module y ≡ true → Step heap p certs reaches f table guarded log facts frame result (Store stored x place_type y)
+        by v (operand.Constant d) k1 k2 may k3 some k4 k6 k19 = absurd (let y = negated (o.is_null_constant d) some in let z = (both (o.is_null_constant d) _ may).0 in cc)
+        by v (operand.Local u) k1 k2 may k3 some k4 k6 k19 = of_name v u k1 k2 may k3 k4 k6 (slot_of table u) refl
+        by v (operand.Global symbol) k1 k2 may k3 some k4 k6 k19 =
+            store_goes heap p certs reaches f table guarded log fits cells facts frame h members result stored x place_type (operand.Global symbol) v (record { there = k1; typed = k2; current = k3; based = k4; casts = k19; varies = refl; no_slot = refl }) may k6
+        by v (operand.CastGlobal own symbol other) k1 k2 may k3 some k4 k6 k19 =
+            store_goes heap p certs reaches f table guarded log fits cells facts frame h members result stored x place_type (operand.CastGlobal own symbol other) v (record { there = k1; typed = k2; current = k3; based = k4; casts = k19; varies = refl; no_slot = refl }) may k6
 
   -- a getelementptr
   element_by : (result : Option ℕ) (source base_type : ℕ) (base : Operand) (indices : List Argument) → GoesOn result (Element source base_type base indices)
@@ -152,7 +137,7 @@ module _ (heap : Setup) (p : LaidOut) (certs : List Section) (reaches : Bool) (f
       let i = both (o.is_typed p.of_module f base_type base && is_pointer (kind_of p.of_module base_type) && g.may_be_base (o.known_of facts base)) (g.are_indices p.of_module f facts indices) k2.0 in
       let b = both (o.is_typed p.of_module f base_type base && is_pointer (kind_of p.of_module base_type)) (g.may_be_base (o.known_of facts base)) i.0 in
       let t = both (o.is_typed p.of_module f base_type base) (is_pointer (kind_of p.of_module base_type)) b.0 in
-      element_goes heap p certs reaches f table guarded log cells facts frame h result source base_type base indices k1.0 k1.1 t.0 t.1 b.1 i.1 k2.1 all.1.1.1.0 (none_of (o.slot_named table base) all.1.1.1.1.0)
+      element_goes heap p certs reaches f table guarded log cells facts frame h result source base_type base indices k1.0 k1.1 t.0 t.1 b.1 i.1 k2.1 all.1.1.1.0 (none_of (o.slot_named table base) all.1.1.1.1.0) all.1.1.1.1.1.1.0
 
   -- an arithmetic instruction
   arithmetic_by : (result : Option ℕ) (kind : Operation) (written : ℕ) (first second : Operand) → GoesOn result (Arithmetic kind written first second)
@@ -214,7 +199,7 @@ module _ (heap : Setup) (p : LaidOut) (certs : List Section) (reaches : Bool) (f
   op_goes result (Select condition_type condition written chosen other) onward e = select_by result condition_type condition written chosen other e
   op_goes None (Phi written incoming) onward e = goes_local heap p table frame.slots reaches guarded log _ _ _ refl (cells, h)
   op_goes (Some v) (Phi written incoming) onward e = goes_local heap p table frame.slots reaches guarded log _ _ _ refl (cells, h)
-  op_goes result (Call returned callee arguments) onward e = call_goes heap p certs reaches f table guarded log guards here marked cells facts frame h members.1 result returned callee arguments onward e
+  op_goes result (Call returned callee arguments) onward e = call_goes heap p certs reaches f table guarded log guards fits here marked cells facts frame h members result returned callee arguments onward e
   op_goes result (Jump target) onward e = absurd cc
   op_goes result (Branch condition_type condition taken other) onward e = absurd cc
   op_goes result (Switch written x otherwise cases) onward e = absurd cc
@@ -224,5 +209,5 @@ module _ (heap : Setup) (p : LaidOut) (certs : List Section) (reaches : Bool) (f
 
 -- whatever frames below know to be fresh
 pub instructions_go : (guarded : Guarded) → InstructionsGo guarded
-instructions_go guarded heap p certs f log cells facts frame here instr guards same size h members e onward =
-    op_goes heap p certs (is_may here.mark) f (slots_of p.of_module f) guarded log guards same here (λ may. may) cells facts frame h members instr.result instr.op onward e
+instructions_go guarded heap p certs f log cells facts frame here instr guards fits size h members e onward =
+    op_goes heap p certs (is_may here.mark) f (slots_of p.of_module f) guarded log guards fits here (λ may. may) cells facts frame h members instr.result instr.op onward e

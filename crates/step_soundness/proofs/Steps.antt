@@ -1,6 +1,6 @@
 -- What operands are, and steps without an effect on the heap.
 use Rattle.std.proofs.Common.{◌≡◌, ℕ, suc, ◌<◌, ◌^◌, List, [], ◌∷◌, length, refl, sym, ap, ◌∙◌, subst, arith, true, false, Bool, Option, Some, None, inr, slice_set}
-use Rattle.std.specs.Prelude.{◌||◌, not, is_some, if◌then◌else◌, nat_lt}
+use Rattle.std.specs.Prelude.{◌||◌, ◌&&◌, not, is_some, if◌then◌else◌, nat_lt}
 use Rattle.ir_ast.specs.declared.function.Function.{Function}
 use Rattle.ir_ast.specs.declared.op.Op.TheVariants.{Alloca}
 use Rattle.ir_ast.specs.declared.operand.Constant.{Constant}
@@ -22,7 +22,7 @@ use Rattle.block_rules.specs.Bounds.{below_next}
 use Rattle.block_rules.specs.Integers.{below_of, below_known}
 use Rattle.block_rules.specs.Operands as o
 use Rattle.block_rules.specs.Rules.{first_failing, after_op, after_alloca}
-use Rattle.block_rules.specs.TypeKinds.{kind_of, is_integer, may_be_reference}
+use Rattle.block_rules.specs.TypeKinds.{kind_of, is_integer, is_pointer, may_be_reference}
 use Rattle.machine.specs.declared.value.Reference.{Reference as Ref}
 use Rattle.machine.specs.declared.value.Value.{Value}
 use Rattle.machine.specs.declared.value.Value.TheVariants as value
@@ -72,6 +72,11 @@ pub chosen : (a b c : Bool) → (a || b) ≡ true → (b ≡ true → c ≡ true
 chosen true b c e f = refl
 chosen false b c e f = f e
 
+-- the address of a global is no value
+pub no_value : (typed : Bool) → (typed && false) ≡ true → ⊥
+no_value true e = absurd cc
+no_value false e = absurd cc
+
 -- a number is of no reference type
 pub no_number : (n : ℕ) (kind : TypeKind) → o.fits_bits n kind ≡ true → may_be_reference kind ≡ true → ⊥
 no_number n NoValue e z = absurd cc
@@ -80,6 +85,15 @@ no_number n (Reference l) e z = absurd cc
 no_number n AnyReference e z = absurd cc
 no_number n AddressKind e z = absurd cc
 no_number n Other e z = absurd cc
+
+-- no number is of the kind of a pointer
+pub no_pointer : (n : ℕ) (kind : TypeKind) → o.fits_bits n kind ≡ true → is_pointer kind ≡ true → ⊥
+no_pointer n NoValue e z = absurd cc
+no_pointer n (Bits bits) e z = absurd cc
+no_pointer n (Reference l) e z = absurd cc
+no_pointer n AnyReference e z = absurd cc
+no_pointer n AddressKind e z = absurd cc
+no_pointer n Other e z = absurd cc
 
 -- null fits each layout
 pub null_fits : (heap : Setup) (guarded : Guarded) (log : Log) (layout : Option ℕ) (v : Value) → v ≡ value.Null → FitsReference heap guarded log layout v
@@ -140,7 +154,7 @@ module _ (heap : Setup) (p : LaidOut) (certs : List Section) (reaches : Bool) (f
   known_plain kind (Cell c l s) v means is fits = reference_plain l v means.refers
   known_plain kind Null v means is fits = ap k.is_plain means
   known_plain kind (Address base words) v means is fits = absurd cc
-  known_plain kind (GlobalAddress g) v means is fits = absurd means
+  known_plain kind (GlobalAddress g) v means is fits = absurd cc
 
   -- an address was set
   address_set : (words : List Bool) (base v : Value) (layout : ℕ) → IsReferenceTo heap layout base → IsAddressOf p words base v → k.is_set v ≡ true
@@ -168,7 +182,7 @@ module _ (heap : Setup) (p : LaidOut) (certs : List Section) (reaches : Bool) (f
   known_set (Address base words) v means is =
       let b = base_is base (known_at facts.values base) refl is in
       address_set words.members (register_at frame.registers base) v b.1 (known_within heap p table guarded log cells facts frame.registers frame.slots h base b.0 b.1 b.2 b.3).refers means
-  known_set (GlobalAddress g) v means is = absurd means
+  known_set (GlobalAddress g) v means is = ap k.is_set means.2
 
   -- a constant that fits its type is plain
   constant_plain : (written : ℕ) (c : Constant) → o.constant_fits c (kind_of p.of_module written) ≡ true → k.is_plain (constant_value p.of_module written c) ≡ true
@@ -184,15 +198,8 @@ module _ (heap : Setup) (p : LaidOut) (certs : List Section) (reaches : Bool) (f
   usable written (operand.Local v) k1 k2 none =
       let b = both (has_type p.of_module f written v) (o.known_fits (kind_of p.of_module written) (known_at facts.values v)) k2 in
       rw (b.0, none, known_plain (kind_of p.of_module written) (known_at facts.values v) (register_at frame.registers v) (h.values v) (available v none k1) b.1) refl
-  usable written (operand.Global g) k1 k2 none = absurd cc
-  usable written (operand.CastGlobal a b c) k1 k2 none = absurd cc
-
-  -- what is known of an operand holds of its value
-  pub operand_means : (written : ℕ) (x : Operand) → Means heap p guarded log cells (length facts.classes) frame.registers (o.known_of facts x) (value_of p.of_module frame.registers written x)
-  operand_means written (operand.Constant c) = tt
-  operand_means written (operand.Local v) = h.values v
-  operand_means written (operand.Global g) = tt
-  operand_means written (operand.CastGlobal a b c) = tt
+  usable written (operand.Global g) k1 k2 none = absurd (no_value _ k2)
+  usable written (operand.CastGlobal a b c) k1 k2 none = absurd (no_value _ k2)
 
   -- ---- integers
 
@@ -204,7 +211,7 @@ module _ (heap : Setup) (p : LaidOut) (certs : List Section) (reaches : Bool) (f
   number_known n (Cell c l s) v means is fits = absurd cc
   number_known n Null v means is fits = absurd cc
   number_known n (Address base words) v means is fits = absurd cc
-  number_known n (GlobalAddress g) v means is fits = absurd means
+  number_known n (GlobalAddress g) v means is fits = absurd cc
 
   -- an operand that the rules let stand at an integer type is an integer of it
   pub integer_is : (written bits : ℕ) (x : Operand) → kind_of p.of_module written ≡ Bits bits → o.is_available table facts x ≡ true → o.is_value p.of_module f facts written x ≡ true → o.slot_named table x ≡ None
@@ -218,8 +225,8 @@ module _ (heap : Setup) (p : LaidOut) (certs : List Section) (reaches : Bool) (f
   integer_is written bits (operand.Local v) is k1 k2 none =
       let b = both (has_type p.of_module f written v) (o.known_fits (kind_of p.of_module written) (known_at facts.values v)) k2 in
       number_known bits (known_at facts.values v) (register_at frame.registers v) (h.values v) (available v none k1) (subst (λ x. o.known_fits x (known_at facts.values v) ≡ true) is b.1)
-  integer_is written bits (operand.Global g) is k1 k2 none = absurd cc
-  integer_is written bits (operand.CastGlobal a b c) is k1 k2 none = absurd cc
+  integer_is written bits (operand.Global g) is k1 k2 none = absurd (no_value _ k2)
+  integer_is written bits (operand.CastGlobal a b c) is k1 k2 none = absurd (no_value _ k2)
 
   -- an integer kind is one of some bits
   pub kind_bits : (x : TypeKind) → is_integer x ≡ true → (bits : ℕ) × (x ≡ Bits bits)

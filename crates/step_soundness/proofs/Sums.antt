@@ -47,7 +47,7 @@ use Rattle.fact_meaning.proofs.Change.{define_plain}
 use Rattle.fact_meaning.proofs.Edges.{wrapped_le}
 use Rattle.fact_meaning.proofs.Numbers.{computed_fits, and_below, resized_fits, resized_stays, truth_fits}
 use Rattle.step_soundness.specs.Goes.{Goes}
-use Rattle.step_soundness.proofs.Steps.{goes_local, no_number, below_itself, available, usable, integer_is, number_usable, kind_bits}
+use Rattle.step_soundness.proofs.Steps.{goes_local, no_value, no_number, below_itself, available, usable, integer_is, number_usable, kind_bits}
 
 -- what a comparison gives is an i1
 pub compared_fits : (kind : Comparison) (bits : ℕ) (first second : Value) → IsInteger 1 None (compared kind bits first second)
@@ -200,7 +200,7 @@ module _ (heap : Setup) (p : LaidOut) (certs : List Section) (reaches : Bool) (f
     refers layout (value.Address at) q = absurd q
   reference_known kind Null v means is fits e = ap k.is_reference means
   reference_known kind (Address base words) v means is fits e = absurd cc
-  reference_known kind (GlobalAddress g) v means is fits e = absurd means
+  reference_known kind (GlobalAddress g) v means is fits e = absurd cc
 
   -- an operand that the rules let stand at a reference type is a reference
   pub reference_usable : (written : ℕ) (x : Operand) → may_be_reference (kind_of p.of_module written) ≡ true → o.is_available table facts x ≡ true → o.is_value p.of_module f facts written x ≡ true → o.slot_named table x ≡ None
@@ -213,8 +213,8 @@ module _ (heap : Setup) (p : LaidOut) (certs : List Section) (reaches : Bool) (f
     by (operand.Local v) k1 k2 none =
         let b = both (has_type p.of_module f written v) (o.known_fits (kind_of p.of_module written) (known_at facts.values v)) k2 in
         reference_known (kind_of p.of_module written) (known_at facts.values v) (register_at frame.registers v) (h.values v) (available heap p certs reaches f table guarded log cells facts frame h v none k1) b.1 refers
-    by (operand.Global g) k1 k2 none = absurd cc
-    by (operand.CastGlobal a b c) k1 k2 none = absurd cc
+    by (operand.Global g) k1 k2 none = absurd (no_value _ k2)
+    by (operand.CastGlobal a b c) k1 k2 none = absurd (no_value _ k2)
 
   -- two operands of an integer type, or of a reference type
   pub numbers_usable : (written bits : ℕ) (first second : Operand) → kind_of p.of_module written ≡ Bits bits → o.is_available table facts first ≡ true → o.is_available table facts second ≡ true → o.is_value p.of_module f facts written first ≡ true

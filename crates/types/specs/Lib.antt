@@ -2,3 +2,4 @@ pub mod References
 pub mod RuntimeCall
 pub mod Elements
 pub mod ValueTypes
+pub mod Globals

@@ -1,0 +1,27 @@
+-- The words of a module's globals, and heaps of a program.
+use Rattle.std.specs.Prelude.{◌≡◌, ℕ, List, Option, Some, None, slice_get}
+use Rattle.ir_ast.specs.declared.items_of_module.Global.{Global}
+use Rattle.ir_ast.specs.declared.module.Module.{Module}
+use Rattle.pools.specs.Heap.{Setup}
+use Rattle.pools.specs.declared.word_kind.WordKind.{WordKind}
+use Rattle.types.specs.Globals.{global_held}
+use Rattle.layout.specs.Layouts.{LaidOut}
+use Rattle.layout.specs.Words.{word_of}
+
+-- what a word of this type holds, if one is given
+abbrev pub word_held : Module → (held : Option ℕ) → Option WordKind
+word_held m None = None
+word_held m (Some held) = word_of m held
+
+-- what the word of the global of this name holds
+abbrev pub global_word : Module → (symbol : ℕ) → Option WordKind
+global_word m symbol = word_held m (global_held m symbol)
+
+-- these are the words of the module's globals, in their order
+abbrev pub AreGlobals : Module → List WordKind → Type 0
+AreGlobals m words = (g : ℕ) (global : Global) → slice_get m.globals g ≡ Some global → slice_get words g ≡ word_of m global.held
+
+-- a heap is one of a program: its cells have the program's layouts, and the cell of the globals has their words
+pub record IsHeapFor (heap : Setup) (p : LaidOut) : Type 0 where
+  pub layouts : heap.layouts ≡ p.layouts
+  pub globals : AreGlobals p.of_module heap.globals

@@ -1,0 +1,22 @@
+-- What a certified module promises: its threads keep to the discipline, and all their runs are safe.
+use Rattle.std.proofs.Common.{◌<◌, List, length, sym, subst}
+use Rattle.std.specs.Option.{option_map_or}
+use Rattle.layout.specs.Layouts.{LaidOut}
+use Rattle.certificate.specs.declared.section.Section.{Section}
+use Rattle.fact_meaning.proofs.Lists.{has_place}
+use Rattle.soundness.specs.Discipline.{AreCertified, CertifiedIsNeverWrong}
+use Rattle.program_safety.specs.Safety.{CertifiedIsSafe, IsSafeProgram}
+use Rattle.module_check.specs.Accepted.{IsModuleCertified}
+use Rattle.module_check.specs.Discipline.{AreDisciplined}
+
+-- each block of each function is certified
+all_certified : (program : LaidOut) (certs : List Section) → IsModuleCertified program certs (length program.of_module.functions) → AreCertified program certs
+all_certified program certs all function g at block within =
+    all function (has_place program.of_module.functions function g at) block (subst (λ q. block < option_map_or (λ called. length called.blocks) q 0) (sym at) within)
+
+pub disciplined : CertifiedIsNeverWrong → (program : LaidOut) (certs : List Section) → IsModuleCertified program certs (length program.of_module.functions) → AreDisciplined program certs
+disciplined law program certs all func f heap arguments answers there for begins =
+    law program certs func f heap arguments answers there for (all_certified program certs all) begins
+
+pub safe : CertifiedIsSafe → (program : LaidOut) (certs : List Section) → IsModuleCertified program certs (length program.of_module.functions) → IsSafeProgram program certs
+safe law program certs all = law program certs (all_certified program certs all)

@@ -1,0 +1,3 @@
+pub mod Roots
+pub mod Steps
+pub mod Threads

@@ -1,0 +1,3 @@
+pub mod Threads
+pub mod Sound
+pub mod Safety

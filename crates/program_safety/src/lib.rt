@@ -1,0 +1,8 @@
+//! Why the runs of a certified program's threads, over a heap with its collector, are safe.
+#![tactic(auto)]
+
+mod law;
+mod program_machine;
+
+pub use law::program_law;
+pub use program_machine::ProgramMachine;

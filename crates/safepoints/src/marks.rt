@@ -1,0 +1,31 @@
+ghost use Rattle.std.specs.Prelude.{◌≡◌};
+ghost use Rattle.safepoints.specs.Marks.{is_may, marks_agree, after_mark, EndsOthers};
+
+use certificate::Mark;
+use facts::{Facts, safepoint_law};
+
+/// Whether a function may reach a safepoint.
+pub fn is_may(mark: Mark) -> bool
+    ensures { result ≡ is_may mark }
+{
+    matches!(mark, Mark::May)
+}
+
+/// Whether a function that is marked so may call one with the other mark.
+pub fn marks_agree(own: Mark, called: Mark) -> bool
+    ensures { result ≡ marks_agree own called }
+{
+    is_may(own) || !is_may(called)
+}
+
+/// Goes on behind a call of a function that is marked so.
+pub fn after_call(facts: &mut Facts, mark: Mark)
+    ensures facts { facts.new ≡ after_mark mark facts.old }
+    ensures statements { EndsOthers mark facts.old facts.new }
+{
+    safepoint_law();
+    match mark {
+        Mark::May => facts.make_stale(),
+        Mark::None => {}
+    }
+}
