@@ -72,7 +72,6 @@ fn lets_only_fresh_cells_be_filled_without_the_barrier(rt: HostRuntime) -> Resul
     let alloc = rt.alloc();
     let six = [HEAD, SIX, CLAIM, FILLED, PUBLISHED, ENDED];
     let again = [HEAD, SIX, CLAIM, FILLED, PUBLISHED, STORED_AGAIN, ENDED];
-    let seven = [HEAD, SEVEN, CLAIM, PUBLISHED_BY_ALIAS];
     let rows = [
         (
             [HEAD, FIVE].as_slice(),
@@ -94,6 +93,21 @@ fn lets_only_fresh_cells_be_filled_without_the_barrier(rt: HostRuntime) -> Resul
             STATUS_NO,
             "no @six %ok 3 K6\n",
         ),
+    ];
+    for (module, certificate, status, out) in rows {
+        assert!(rt;
+            prints(alloc, module, certificate, status, out, "")?,
+            "{out}"
+        );
+    }
+    Ok(())
+}
+
+#[test]
+fn goes_by_each_name_of_a_cell(rt: HostRuntime) -> Result<(), Fail> {
+    let alloc = rt.alloc();
+    let seven = [HEAD, SEVEN, CLAIM, PUBLISHED_BY_ALIAS];
+    let rows = [
         (
             seven.as_slice(),
             SEVEN_CERTIFIED,

@@ -1,6 +1,6 @@
 //! Whole checks of functions with several blocks, with true certificates and with lying ones.
 use crate::reading_tests::{CLAIM, NINE, TWO, TWO_CERTIFIED, TWO_ENDED};
-use crate::report::{STATUS_NO, STATUS_YES};
+use crate::report::{STATUS_NO, STATUS_UNREADABLE, STATUS_YES};
 use crate::tests::{HEAD, prints};
 use std::test::Fail;
 
@@ -80,6 +80,61 @@ fn goes_by_what_is_shown_below(rt: HostRuntime) -> Result<(), Fail> {
         assert!(rt;
             prints(alloc, module.as_slice(), certificate, status, out, "")?,
             "{out}"
+        );
+    }
+    Ok(())
+}
+
+/// The address of a word, and the claim that it is that of a global.
+const ELEVEN: &str =
+    "define void @eleven(%Node* %n) gc \"shadow-stack\" {\nentry:\n  %p = getelementptr %Node, %Node* %n, i32 0, i32 0\n  br label %next\nnext:\n  ret void\n}\n";
+
+/// No block leads to the one where the claim is made.
+const ELEVEN_APART: &str =
+    "define void @eleven(%Node* %n) gc \"shadow-stack\" {\nentry:\n  %p = getelementptr %Node, %Node* %n, i32 0, i32 0\n  ret void\nnext:\n  ret void\n}\n";
+
+#[test]
+fn reads_the_address_of_a_global(rt: HostRuntime) -> Result<(), Fail> {
+    let alloc = rt.alloc();
+    let unread = STATUS_UNREADABLE;
+    let rows = [
+        (
+            ELEVEN,
+            "%p addr @g",
+            STATUS_NO,
+            "no @eleven %entry 1 K15 %next %p addr @g\n",
+            "",
+        ),
+        (
+            ELEVEN,
+            "%p addr @\"g\"",
+            STATUS_NO,
+            "no @eleven %entry 1 K15 %next %p addr @g\n",
+            "",
+        ),
+        (ELEVEN_APART, "%p addr @g", STATUS_YES, "yes 1\n", ""),
+        (ELEVEN, "%p addr @h", unread, "", "error C3 4:9\n"),
+        (ELEVEN, "%p addr @eleven", unread, "", "error C3 4:9\n"),
+        (ELEVEN, "%p addr @dg_alloc", unread, "", "error C3 4:9\n"),
+        (ELEVEN, "%p addr @5", unread, "", "error C1 4:9\n"),
+        (ELEVEN, "%p addr @g 0", unread, "", "error C1 4:12\n"),
+        (ELEVEN, "%p addr @g addr", unread, "", "error C4 4:12\n"),
+        (ELEVEN, "%n addr @g", unread, "", "error C1 4:4\n"),
+    ];
+    for (function, line, status, out, err) in rows {
+        let certificate = format!(in alloc;
+            "cert 1\nfunction @eleven none\nblock %next\n{line}\nend\n"
+        )?;
+        assert!(rt;
+            prints(
+                alloc,
+                [HEAD, function].as_slice(),
+                &certificate,
+                status,
+                out,
+                err
+            )?,
+            "{line}"
         );
     }
     Ok(())

@@ -12,6 +12,8 @@ mod failure;
 mod machine_tests;
 mod name;
 #[cfg(test)]
+mod printing_tests;
+#[cfg(test)]
 mod reading_tests;
 mod report;
 #[cfg(test)]

@@ -68,39 +68,41 @@ fn accepts(rt: HostRuntime) -> Result<(), Fail> {
     Ok(())
 }
 
+/// Functions that are not read, and what is printed of them.
+const UNREAD_FUNCTIONS: [(&str, &str); 7] = [
+    (
+        "define void @f() {\nentry:\n  %s = alloca ~\n",
+        "error L1 10:15\n",
+    ),
+    (
+        "define void @f() {\nentry:\n  ret void\n",
+        "error L2 11:1\n",
+    ),
+    (
+        "define void @f() {\nentry:\n  ret ret\n}\n",
+        "error L3 10:7\n",
+    ),
+    (
+        "define void @f() {\nentry:\n  ret void\n}\ndefine void @f() {\nentry:\n  ret void\n}\n",
+        "error L4 12:13\n",
+    ),
+    (
+        "define void @f() {\nentry:\n  call void @h()\n  ret void\n}\n",
+        "error L5 10:13\n",
+    ),
+    (
+        "define void @f() {\nentry:\n  %a = call i8* @dg_alloc(i32 4294967296)\n  ret void\n}\n",
+        "error L6 10:31\n",
+    ),
+    (
+        "define void @f() {\nentry:\n  %q = sdiv i64 1, 2\n  ret void\n}\n",
+        "error L7 10:8 sdiv\n",
+    ),
+];
+
 #[test]
 fn names_the_fault_of_a_module(rt: HostRuntime) -> Result<(), Fail> {
-    let rows = [
-        (
-            "define void @f() {\nentry:\n  %s = alloca ~\n",
-            "error L1 10:15\n",
-        ),
-        (
-            "define void @f() {\nentry:\n  ret void\n",
-            "error L2 11:1\n",
-        ),
-        (
-            "define void @f() {\nentry:\n  ret ret\n}\n",
-            "error L3 10:7\n",
-        ),
-        (
-            "define void @f() {\nentry:\n  ret void\n}\ndefine void @f() {\nentry:\n  ret void\n}\n",
-            "error L4 12:13\n",
-        ),
-        (
-            "define void @f() {\nentry:\n  call void @h()\n  ret void\n}\n",
-            "error L5 10:13\n",
-        ),
-        (
-            "define void @f() {\nentry:\n  %a = call i8* @dg_alloc(i32 4294967296)\n  ret void\n}\n",
-            "error L6 10:31\n",
-        ),
-        (
-            "define void @f() {\nentry:\n  %q = sdiv i64 1, 2\n  ret void\n}\n",
-            "error L7 10:8 sdiv\n",
-        ),
-    ];
-    for (function, fault) in rows {
+    for (function, fault) in UNREAD_FUNCTIONS {
         let module = [HEAD, function];
         assert!(rt;
             prints(
@@ -185,77 +187,82 @@ fn names_the_fault_of_the_layouts(rt: HostRuntime) -> Result<(), Fail> {
     Ok(())
 }
 
+const COLLECTED: &str = "define void @f() gc \"shadow-stack\" {\nentry:\n";
+
+const ROOT: &str =
+    "  %s = alloca %Node*\n  %r = bitcast %Node** %s to i8**\n  call void @llvm.gcroot(i8** %r, i8* null)\n";
+
+const ALLOC: &str = "  %a = call i8* @dg_alloc(i32 0)\n";
+
+/// How a function begins, two parts of it, and what is printed of it.
+const REFUSED: [(&str, &str, &str, &str); 10] = [
+    (
+        COLLECTED,
+        "",
+        "  %b = bitcast i8* %a to %Node*\n  %a = call i8* @dg_alloc(i32 0)\n",
+        "no @f %entry 0 K1\n",
+    ),
+    (
+        COLLECTED,
+        ALLOC,
+        "  %b = bitcast %Node* %a to i8*\n",
+        "no @f %entry 1 K2\n",
+    ),
+    (
+        COLLECTED,
+        "",
+        "  %x = load i8*, i8** @g\n",
+        "no @f %entry 0 K2\n",
+    ),
+    (
+        COLLECTED,
+        ALLOC,
+        "  call void @llvm.gcwrite(i8* %a, i8* %a, i8** bitcast (%Node** @g to i8**))\n",
+        "no @f %entry 1 K7\n",
+    ),
+    (
+        COLLECTED,
+        "",
+        "  %s = alloca %Node*\n",
+        "no @f %entry 0 K8\n",
+    ),
+    (
+        COLLECTED,
+        ROOT,
+        "  call void @llvm.gcroot(i8** %r, i8* null)\n",
+        "no @f %entry 3 K9\n",
+    ),
+    (
+        COLLECTED,
+        ROOT,
+        "  %x = call i8* @llvm.gcread(i8* null, i8** %r)\n",
+        "no @f %entry 3 K10\n",
+    ),
+    (
+        "define void @f() {\nentry:\n",
+        ALLOC,
+        "",
+        "no @f %entry 0 K12\n",
+    ),
+    (
+        COLLECTED,
+        "",
+        "  %a = call i8* @dg_alloc(i32 0, i32 0)\n",
+        "no @f %entry 0 K18\n",
+    ),
+    (
+        "%Other = type { i64 }\ndefine void @f() gc \"shadow-stack\" {\nentry:\n",
+        ALLOC,
+        "  %x = bitcast i8* %a to %Other*\n",
+        "no @f %entry 1 K19\n",
+    ),
+];
+
 #[test]
 fn names_the_first_refusal(rt: HostRuntime) -> Result<(), Fail> {
-    let collected = "define void @f() gc \"shadow-stack\" {\nentry:\n";
-    let root =
-        "  %s = alloca %Node*\n  %r = bitcast %Node** %s to i8**\n  call void @llvm.gcroot(i8** %r, i8* null)\n";
-    let claim = "  %a = call i8* @dg_alloc(i32 0)\n";
-    let rows = [
-        (
-            collected,
-            "",
-            "  %b = bitcast i8* %a to %Node*\n  %a = call i8* @dg_alloc(i32 0)\n",
-            "no @f %entry 0 K1\n",
-        ),
-        (
-            collected,
-            claim,
-            "  %b = bitcast %Node* %a to i8*\n",
-            "no @f %entry 1 K2\n",
-        ),
-        (
-            collected,
-            "",
-            "  %x = load i8*, i8** @g\n",
-            "no @f %entry 0 K2\n",
-        ),
-        (
-            collected,
-            claim,
-            "  call void @llvm.gcwrite(i8* %a, i8* %a, i8** bitcast (%Node** @g to i8**))\n",
-            "no @f %entry 1 K7\n",
-        ),
-        (
-            collected,
-            "",
-            "  %s = alloca %Node*\n",
-            "no @f %entry 0 K8\n",
-        ),
-        (
-            collected,
-            root,
-            "  call void @llvm.gcroot(i8** %r, i8* null)\n",
-            "no @f %entry 3 K9\n",
-        ),
-        (
-            collected,
-            root,
-            "  %x = call i8* @llvm.gcread(i8* null, i8** %r)\n",
-            "no @f %entry 3 K10\n",
-        ),
-        (
-            "define void @f() {\nentry:\n",
-            claim,
-            "",
-            "no @f %entry 0 K12\n",
-        ),
-        (
-            collected,
-            "",
-            "  %a = call i8* @dg_alloc(i32 0, i32 0)\n",
-            "no @f %entry 0 K18\n",
-        ),
-        (
-            "%Other = type { i64 }\ndefine void @f() gc \"shadow-stack\" {\nentry:\n",
-            claim,
-            "  %x = bitcast i8* %a to %Other*\n",
-            "no @f %entry 1 K19\n",
-        ),
-    ];
-    for (begin, first, second, answer) in rows {
+    let certificate = "cert 1\nfunction @f none\nend\n";
+    for (begin, first, second, answer) in REFUSED {
         let module = [HEAD, begin, first, second, "  ret void\n}\n"];
-        let certificate = "cert 1\nfunction @f none\nend\n";
         assert!(rt;
             prints(
                 rt.alloc(),
@@ -268,11 +275,16 @@ fn names_the_first_refusal(rt: HostRuntime) -> Result<(), Fail> {
             "{answer}"
         );
     }
+    Ok(())
+}
+
+#[test]
+fn names_the_function_that_is_refused(rt: HostRuntime) -> Result<(), Fail> {
     let second = [
         HEAD,
         ONE,
         "define void @two() {\nentry:\n",
-        claim,
+        ALLOC,
         "  ret void\n}\n",
     ];
     let certificate = "cert 1\nfunction @one none\nend\nfunction @two none\nend\n";

@@ -16,7 +16,7 @@ use Rattle.ir_parts.specs.Names.{used_value, used_global}
 use Rattle.ir_parts.specs.declared.written.WrittenType.{WrittenType}
 use Rattle.ir_parts.specs.Written.{pointer_type}
 
--- constant expressions and aggregates
+-- constant expressions, vectors and packed structs
 abbrev pub begins_unread_operand : Kind → Bool
 begins_unread_operand k.Bitcast = true
 begins_unread_operand k.Getelementptr = true
@@ -31,8 +31,6 @@ begins_unread_operand k.Sext = true
 begins_unread_operand k.Trunc = true
 begins_unread_operand k.Icmp = true
 begins_unread_operand k.Select = true
-begins_unread_operand k.OpenBrace = true
-begins_unread_operand k.OpenSquare = true
 begins_unread_operand k.Less = true
 begins_unread_operand _ = false
 

@@ -9,7 +9,7 @@ use ir_cursor::{Fault, constant};
 use ir_tokens::Kind;
 use std::alloc::Global;
 
-/// Kinds of tokens with which an operand begins that is not read yet, or is left out.
+/// Kinds of tokens with which an operand begins that is left out: a constant expression, a vector or a packed struct.
 pub fn begins_unread_operand(kind: Kind) -> bool
     ensures { result ≡ form.begins_unread_operand kind }
 {
@@ -28,8 +28,6 @@ pub fn begins_unread_operand(kind: Kind) -> bool
             | Kind::Trunc
             | Kind::Icmp
             | Kind::Select
-            | Kind::OpenBrace
-            | Kind::OpenSquare
             | Kind::Less
     )
 }

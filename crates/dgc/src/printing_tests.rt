@@ -1,0 +1,68 @@
+//! Modules as they are printed.
+use crate::reading_tests::{CLAIM, TWO, TWO_ENDED};
+use crate::report::{STATUS_UNREADABLE, STATUS_YES};
+use crate::tests::{HEAD, joined, prints};
+use ir_print::print;
+use ir_text::read;
+use std::alloc::{AllocError, Global};
+use std::test::Fail;
+
+/// As a compiler prints it.
+const ADDS: &str =
+    "define dso_local i64 @\"a b\"(i64 %0) #0 {\n  %2 = add nsw i64 %0, -1, !dbg !7 ; x\n  ret i64 %2\n}\n";
+
+const ADDS_OUT_OF_TURN: &str =
+    "define dso_local i64 @\"a b\"(i64 %0) #0 {\n  %3 = add nsw i64 %0, -1, !dbg !7 ; x\n  ret i64 %2\n}\n";
+
+/// And as it is printed here.
+const ADDS_PRINTED: &str =
+    "define i64 @\"a b\"(i64 %0) {\n1:\n  %2 = add i64 %0, 18446744073709551615\n  ret i64 %2\n}\n";
+
+/// Whether a text is read, and printed so.
+fn is_printed_as(alloc: Global, text: &[u8], printed: &[u8]) -> Result<bool, AllocError> {
+    match read(alloc, text) {
+        Ok(module) => {
+            let own = print(alloc, &module)?;
+            Ok(own.as_slice() == printed)
+        }
+        Err(_) => Ok(false),
+    }
+}
+
+#[test]
+fn prints_without_decorations(rt: HostRuntime) -> Result<(), Fail> {
+    let alloc = rt.alloc();
+    assert!(rt; is_printed_as(alloc, ADDS.as_bytes(), ADDS_PRINTED.as_bytes())?);
+    assert!(rt; is_printed_as(alloc, ADDS_PRINTED.as_bytes(), ADDS_PRINTED.as_bytes())?);
+    let certificate = "cert 1\nfunction @\"a b\" none\nend\n";
+    assert!(rt;
+        prints(
+            alloc,
+            [ADDS_PRINTED].as_slice(),
+            certificate,
+            STATUS_YES,
+            "yes 1\n",
+            ""
+        )?
+    );
+    assert!(rt;
+        prints(
+            alloc,
+            [ADDS_OUT_OF_TURN].as_slice(),
+            certificate,
+            STATUS_UNREADABLE,
+            "",
+            "error L9 2:3\n"
+        )?
+    );
+    Ok(())
+}
+
+#[test]
+fn prints_its_own_form_again(rt: HostRuntime) -> Result<(), Fail> {
+    let alloc = rt.alloc();
+    // Written in the form that is printed: one item or instruction a line, without decorations.
+    let text = joined(alloc, [HEAD, TWO, CLAIM, TWO_ENDED].as_slice())?;
+    assert!(rt; is_printed_as(alloc, text.as_slice(), text.as_slice())?);
+    Ok(())
+}

@@ -1,0 +1,77 @@
+-- Where a token ends: what stands behind it goes on with no name, and makes no label of it.
+use Rattle.std.proofs.Common.{◌≡◌, ℕ, Bool, true, false, [], ◌∷◌, ◌++◌, refl, ap, sym, ◌∙◌}
+use Rattle.std.specs.Prelude.{◌==◌, ◌&&◌, ◌||◌}
+use Rattle.std.specs.List.{list_all}
+use Rattle.std.proofs.lemmas.Bool.{eqb-true}
+use Rattle.ir_tokens.specs.declared.class.Class.{Class}
+use Rattle.ir_tokens.specs.declared.class.Class.TheVariants as c
+use Rattle.ir_tokens.specs.declared.token.Kind.{Kind}
+use Rattle.ir_tokens.specs.Bytes.{Text, is_letter, is_digit, class_of, first_class, is_name, is_name_class}
+use Rattle.ir_tokens.specs.Form.{Passes, begins}
+use Rattle.ir_tokens.specs.Tokens.{label_or}
+use Rattle.ir_print.specs.Names.{begins_plain}
+use Rattle.ir_print.specs.Standing.{ends_token, IsSeam}
+
+pub both : (a b : Bool) → (a && b) ≡ true → (a ≡ true) × (b ≡ true)
+both true b e = (refl, e)
+both false b e = absurd cc
+
+no_name_class : (x : Class) → ends_token x ≡ true → is_name_class x ≡ false
+no_name_class c.Letter e = absurd cc
+no_name_class c.Digit e = absurd cc
+no_name_class _ e = refl
+
+pub no_name : (rest : Text) → IsSeam rest → begins is_name rest ≡ false
+unfolding is_name
+no_name [] e = refl
+no_name (b ∷ bytes) e = no_name_class (class_of b) e
+
+digit_by : (b : ℕ) (t u : Bool) → is_letter b ≡ t → is_digit b ≡ u → ends_token (class_of b) ≡ true → u ≡ false
+unfolding class_of
+digit_by b t false x y e = refl
+digit_by b true true x y e = absurd (let q : ends_token (class_of b) ≡ false = rw x refl in cc)
+digit_by b false true x y e = absurd (let q : ends_token (class_of b) ≡ false = rw (x, y) refl in cc)
+
+pub no_digit : (rest : Text) → IsSeam rest → begins is_digit rest ≡ false
+no_digit [] e = refl
+no_digit (b ∷ bytes) e = digit_by b (is_letter b) (is_digit b) refl refl e
+
+no_label_by : (x : Class) → ends_token x ≡ true → (colon other : Kind) (i : Text) → (label_or colon other x).says i other i
+no_label_by c.Colon e colon other i = absurd cc
+no_label_by _ e colon other i = (refl, refl)
+
+pub no_label : (rest : Text) → IsSeam rest → (colon other : Kind) → (label_or colon other (first_class rest)).says rest other rest
+no_label rest e colon other = no_label_by (first_class rest) e colon other rest
+
+-- a byte that passes a test is not one that does not
+apart_by : (f : ℕ → Bool) (v b : ℕ) (t : Bool) → b == v ≡ t → f v ≡ false → f b ≡ true → b == v ≡ false
+apart_by f v b false e none is = e
+apart_by f v b true e none is =
+    let other : f b ≡ false = ap f (eqb-true b v e) ∙ none in
+    absurd (let both_ways = sym is ∙ other in cc)
+
+pub apart : (f : ℕ → Bool) (v b : ℕ) → f v ≡ false → f b ≡ true → b == v ≡ false
+apart f v b = apart_by f v b (b == v) refl
+
+-- ---- plain names
+
+pub letter_class : (b : ℕ) → is_letter b ≡ true → class_of b ≡ c.Letter
+unfolding class_of
+letter_class b e = rw e refl
+
+pub digit_class : (b : ℕ) → is_letter b ≡ false → is_digit b ≡ true → class_of b ≡ c.Digit
+unfolding class_of
+digit_class b e f = rw (e, f) refl
+
+is_name_by : (b : ℕ) (t : Bool) → is_letter b ≡ t → (is_letter b || is_digit b) ≡ true → is_name b ≡ true
+unfolding is_name class_of
+is_name_by b true e plain = rw e refl
+is_name_by b false e plain = let digit : is_digit b ≡ true = rw e at plain in rw (e, digit) refl
+
+pub passes : (name : Text) → list_all (λ byte. is_letter byte || is_digit byte) name ≡ true → Passes is_name name
+passes [] e = tt
+passes (b ∷ name) e = let parts = both (is_letter b || is_digit b) _ e in (is_name_by b (is_letter b) refl parts.0, passes name parts.1)
+
+pub first_letter : (name rest : Text) → begins_plain name ≡ true → first_class (name ++ rest) ≡ c.Letter
+first_letter [] rest e = absurd cc
+first_letter (b ∷ name) rest e = letter_class b e

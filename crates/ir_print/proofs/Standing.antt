@@ -1,0 +1,86 @@
+-- Where reading stands in a text, and the token that comes next there.
+use Rattle.std.proofs.Common.{◌≡◌, ℕ, zero, suc, ◌+◌, ◌-◌, ◌<◌, ◌≤◌, Bool, false, List, [], ◌∷◌, ◌++◌, length, take, drop, Some, None, refl, ap, sym, ◌∙◌, arith, append_assoc, length-append}
+use Rattle.std.specs.Prelude.{◌||◌}
+use Rattle.std.proofs.lemmas.List.{take_at, drop_at}
+use Rattle.ir_tokens.specs.declared.token.Kind.{Kind}
+use Rattle.ir_tokens.specs.declared.token.Token.{Token}
+use Rattle.ir_tokens.specs.declared.lexed.Lexed.{Lexed}
+use Rattle.ir_tokens.specs.Bytes.{Text}
+use Rattle.ir_tokens.specs.Form.{Outcome}
+use Rattle.ir_tokens.specs.Names.{bare, unquoted}
+use Rattle.ir_tokens.specs.Tokens.{token, past_gap, ends_line, before, make, ended, on_token, lex_at, lex_from}
+use Rattle.ir_cursor.specs.Place.{Place}
+use Rattle.ir_print.specs.Standing.{Stands}
+use Rattle.ir_cursor.specs.Cursor.{kind, kind_first, spelling, spelled, spelled_first, start, start_first, size, size_first, next, rest_of}
+
+-- tokens before those that are read
+abbrev behind : List Token → Lexed → Lexed
+behind tokens l = record { tokens = tokens ++ l.tokens; bad = l.bad }
+
+ended_behind : (total : ℕ) (tokens found : List Token) (at : Text) → ended total (tokens ++ found) at ≡ behind tokens (ended total found at)
+ended_behind total tokens found [] = refl
+ended_behind total tokens found (b ∷ bytes) = refl
+
+-- what was found before stays before what is read
+lex_behind : (n total : ℕ) (first : Bool) (tokens found : List Token) (bytes : Text) → lex_from n total first (tokens ++ found) bytes ≡ behind tokens (lex_from n total first found bytes)
+unfolding lex_from
+lex_behind zero total first tokens found bytes = ended_behind total tokens found (past_gap false bytes)
+lex_behind (suc n) total first tokens found bytes = at_by (past_gap false bytes) (first || ends_line (before bytes (past_gap false bytes)))
+    (λ t rest. ap (λ (x : List Token). lex_from n total false x rest) (append_assoc tokens found (t ∷ [])) ∙ lex_behind n total false tokens (found ++ t ∷ []) rest) where
+      at_by : (at : Text) (begins : Bool) → ((t : Token) (rest : Text) → lex_from n total false ((tokens ++ found) ++ t ∷ []) rest ≡ behind tokens (lex_from n total false (found ++ t ∷ []) rest))
+          → lex_at total begins (tokens ++ found) at (lex_from n total false) ≡ behind tokens (lex_at total begins found at (lex_from n total false))
+      at_by [] begins more = refl
+      at_by (b ∷ bytes) begins more = token_is (token.read (b ∷ bytes)) where
+        token_is : (r : Outcome Kind)
+            → on_token r (record { tokens = tokens ++ found; bad = Some (total - length (b ∷ bytes)) }) (λ x rest. lex_from n total false ((tokens ++ found) ++ make total begins (b ∷ bytes) x rest ∷ []) rest)
+            ≡ behind tokens (on_token r (record { tokens = found; bad = Some (total - length (b ∷ bytes)) }) (λ x rest. lex_from n total false (found ++ make total begins (b ∷ bytes) x rest ∷ []) rest))
+        token_is None = refl
+        token_is (Some p) = more (make total begins (b ∷ bytes) p.0 p.1) p.1
+
+-- one token comes, and those behind it
+lex_one : (n total : ℕ) (first : Bool) (bytes : Text) (b : ℕ) (bs rest : Text) (x : Kind) → past_gap false bytes ≡ b ∷ bs → token.read (b ∷ bs) ≡ Some (x, rest)
+    → lex_from (suc n) total first [] bytes ≡ behind (make total (first || ends_line (before bytes (b ∷ bs))) (b ∷ bs) x rest ∷ []) (lex_from n total false [] rest)
+unfolding lex_from
+lex_one n total first bytes b bs rest x gap read =
+    rw (gap, read) (lex_behind n total false (make total (first || ends_line (before bytes (b ∷ bs))) (b ∷ bs) x rest ∷ []) [] rest)
+
+-- the token of this kind comes next, spelled by this word, and the rest stands behind it
+abbrev pub Comes : Place → Kind → Text → Text → Type 0
+Comes c x word rest = (kind c ≡ x) × (spelling c ≡ word) × (spelled c ≡ unquoted (bare x word)) × Stands (next c) rest
+
+spelled_at : (front word rest : Text) (place long : ℕ) → place ≡ length front → long ≡ length word → take long (drop place (front ++ (word ++ rest))) ≡ word
+spelled_at front word rest place long e f =
+    ap (λ (x : Text). take long x) (drop_at front (word ++ rest) place (sym e)) ∙ take_at word rest long (sym f)
+
+come_by : (c : Place) (front word rest : Text) (n : ℕ) (x : Kind) (t : Token) → c.text ≡ front ++ (word ++ rest) → length rest ≤ n → t.kind ≡ x → t.start ≡ length front → t.length ≡ length word
+    → c.rest ≡ t ∷ (lex_from n (length c.text) false [] rest).tokens → c.bad ≡ (lex_from n (length c.text) false [] rest).bad → Comes c x word rest
+unfolding kind spelling spelled start size next
+come_by c front word rest n x t text fits is from long there bad =
+    let spelled_so : take t.length (drop t.start c.text) ≡ word = ap (λ (y : Text). take t.length (drop t.start y)) text ∙ spelled_at front word rest t.start t.length from long in (
+      ap kind_first there ∙ is,
+      ap (λ (ts : List Token). take (size_first ts) (drop (start_first ts (length c.text)) c.text)) there ∙ spelled_so,
+      ap (spelled_first c.text) there ∙ ap (λ (y : Text). unquoted (bare t.kind y)) spelled_so ∙ ap (λ (y : Kind). unquoted (bare y word)) is,
+      (front ++ word, n, false, text ∙ sym (append_assoc front word rest), fits, ap rest_of there, bad),
+    )
+
+-- behind a gap the token comes that the bytes are read as
+pub comes : (c : Place) (gap : Text) (b : ℕ) (bs word rest : Text) (x : Kind) → past_gap false (gap ++ b ∷ bs) ≡ b ∷ bs → token.read (b ∷ bs) ≡ Some (x, rest) → b ∷ bs ≡ word ++ rest → 0 < length word
+    → Stands c (gap ++ b ∷ bs) → Comes c x word rest
+comes c gap b bs word rest x past read parts some at = by at.1 at.4 at.5 at.6 where
+  whole : c.text ≡ (at.0 ++ gap) ++ (word ++ rest)
+  whole = at.3 ∙ sym (append_assoc at.0 gap (b ∷ bs)) ∙ ap (λ (y : Text). (at.0 ++ gap) ++ y) parts
+
+  by : (n : ℕ) → length (gap ++ b ∷ bs) ≤ n → c.rest ≡ (lex_from n (length c.text) at.2 [] (gap ++ b ∷ bs)).tokens → c.bad ≡ (lex_from n (length c.text) at.2 [] (gap ++ b ∷ bs)).bad → Comes c x word rest
+  by zero fits tokens bad = absurd (let size = length-append gap (b ∷ bs) in omega (arith, fits, size))
+  by (suc n) fits tokens bad =
+      let total = length c.text in
+      let t = make total (at.2 || ends_line (before (gap ++ b ∷ bs) (b ∷ bs))) (b ∷ bs) x rest in
+      let e = lex_one n total at.2 (gap ++ b ∷ bs) b bs rest x past read in
+      let long : length (b ∷ bs) ≡ length word + length rest = ap length parts ∙ length-append word rest in
+      let front_gap = length-append at.0 gap in
+      let gap_rest = length-append gap (b ∷ bs) in
+      let all : length c.text ≡ length (at.0 ++ gap) + (length word + length rest) = ap length whole ∙ length-append (at.0 ++ gap) (word ++ rest) ∙ ap (λ (y : ℕ). length (at.0 ++ gap) + y) (length-append word rest) in
+      let fits_behind : length rest ≤ n = omega (arith, fits, long, some, gap_rest) in
+      let from : length c.text - length (b ∷ bs) ≡ length (at.0 ++ gap) = omega (arith, all, long) in
+      let size : (length c.text - length rest) - (length c.text - length (b ∷ bs)) ≡ length word = omega (arith, all, long) in
+      come_by c (at.0 ++ gap) word rest n x t whole fits_behind refl from size (tokens ∙ ap (λ (y : Lexed). y.tokens) e) (bad ∙ ap (λ (y : Lexed). y.bad) e)

@@ -1,0 +1,50 @@
+-- A module and its text, by computation.
+use Rattle.std.proofs.Common.{◌≡◌, [], ◌∷◌, ◌++◌, Some, None, refl}
+use Rattle.std.specs.Prelude.{codes}
+use Rattle.ir_ast.specs.declared.function.Function.{Function}
+use Rattle.ir_ast.specs.declared.function.LocalSort.TheVariants as local
+use Rattle.ir_ast.specs.declared.ir_type.IrType.TheVariants as type
+use Rattle.ir_ast.specs.declared.items_of_module.SymbolSort.TheVariants as symbol
+use Rattle.ir_ast.specs.declared.module.Module.{Module}
+use Rattle.ir_ast.specs.declared.op.Arithmetic.TheVariants as arithmetic
+use Rattle.ir_ast.specs.declared.op.Op.TheVariants as op
+use Rattle.ir_ast.specs.declared.operand.Constant.TheVariants as constant
+use Rattle.ir_ast.specs.declared.operand.Operand.TheVariants as operand
+use Rattle.std.specs.Fmt.{digits}
+use Rattle.ir_print.specs.Types.{type_within, fields_text}
+use Rattle.ir_print.specs.Items.{text_of}
+
+-- a function that takes an i64 without a name and gives one less
+abbrev one_less : Function
+one_less = record {
+  symbol = 0;
+  returned = 0;
+  parameters = record { written = 0; value = 0 } ∷ [];
+  collector = None;
+  locals = codes "0" ∷ codes "1" ∷ codes "2" ∷ [];
+  sorts = local.Value 0 ∷ local.Block 0 ∷ local.Value 0 ∷ [];
+  blocks = record {
+    label = 1;
+    instructions = record { result = Some 2; op = op.Arithmetic arithmetic.Add 0 (operand.Local 0) (operand.Constant (constant.Number 18446744073709551615)) }
+        ∷ record { result = None; op = op.Return (record { written = 0; operand = operand.Local 2 }) } ∷ [];
+  } ∷ [];
+}
+
+abbrev module_of_one : Module
+module_of_one = record {
+  types = type.Integer 64 ∷ [];
+  struct_names = [];
+  struct_of = [];
+  symbols = codes "a b" ∷ [];
+  sorts = symbol.Defined 0 ∷ [];
+  structs = [];
+  globals = [];
+  declares = [];
+  functions = one_less ∷ [];
+}
+
+-- its name stands in quotes, its block has its label, and its constant has no sign
+printed : text_of module_of_one ≡
+    codes "define i64 @" ++ 34 ∷ codes "a b" ++ 34 ∷ codes "(i64 %0) {\n1:\n  %2 = add i64 %0, 18446744073709551615\n  ret i64 %2\n}\n"
+unfolding type_within fields_text digits
+printed = refl

@@ -1,0 +1,36 @@
+-- What is printed of the stars of a type is read as pointer types.
+use Rattle.std.specs.Prelude.{◌≡◌, ℕ, zero, suc, ◌+◌, ◌-◌, ◌<◌, ◌≤◌, ◌^◌, false, List, [], ◌∷◌, ◌++◌, length}
+use Rattle.ir_ast.specs.Types.{number_of_type, numbered_type}
+use Rattle.ir_ast.specs.declared.ir_type.IrType.{IrType}
+use Rattle.ir_ast.specs.declared.ir_type.IrType.TheVariants.{Pointer}
+use Rattle.ir_tokens.specs.declared.token.Kind.TheVariants as k
+use Rattle.ir_tokens.specs.Bytes.{Text}
+use Rattle.ir_cursor.specs.Cursor.{sees}
+use Rattle.ir_parts.specs.declared.input.Input.{Input}
+use Rattle.ir_parts.specs.Written.{pointers}
+use Rattle.ir_print.specs.Standing.{Stands}
+
+-- so many stars
+abbrev pub stars : ℕ → Text
+stars zero = []
+stars (suc count) = 42 ∷ stars count
+
+-- the number of the type with so many stars behind the one with this number
+abbrev pub starred_number : (count number : ℕ) → List IrType → ℕ
+starred_number zero number types = number
+starred_number (suc count) number types = starred_number count (number_of_type (Pointer number) types) (numbered_type (Pointer number) types)
+
+-- the table of types then
+abbrev pub starred_types : (count number : ℕ) → List IrType → List IrType
+starred_types zero number types = types
+starred_types (suc count) number types = starred_types count (number_of_type (Pointer number) types) (numbered_type (Pointer number) types)
+
+-- no star comes where reading stands before these bytes
+abbrev pub EndsStars : Text → Type 0
+EndsStars rest = (i : Input) → Stands i.cursor rest → sees k.Star i.cursor ≡ false
+
+-- so many stars behind a type are read as the pointers to it, where the type may have so many levels more
+abbrev pub StarsAreRead : Type 0
+StarsAreRead =
+    (count room number : ℕ) (i : Input) (rest : Text) → count ≤ room → length i.types + count < 2 ^ 32 → EndsStars rest → Stands i.cursor (stars count ++ rest)
+    → (o : Input) × (pointers room number).says i (room - count, starred_number count number i.types) o × (o.types ≡ starred_types count number i.types) × Stands o.cursor rest
