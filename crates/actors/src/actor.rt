@@ -1,0 +1,7 @@
+/// Who makes a step.
+#[derive(Clone, Copy, Debug, PartialEq, Eq)]
+pub enum Actor {
+    /// The thread with this number, from 0.
+    Thread(u32),
+    Collector,
+}

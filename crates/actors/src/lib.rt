@@ -1,0 +1,30 @@
+//! The run that a list of actors makes, threads of one machine and the collector over one heap; and, in code, the next move of
+//! a thread, what it leaves in the shared words, and where the thread stands behind it.
+#![tactic(auto)]
+
+mod actor;
+mod call;
+mod cause;
+mod going;
+mod laws;
+mod moves;
+mod moving;
+mod next;
+mod reference;
+mod rows;
+mod runner;
+mod shared;
+mod stand;
+
+pub use actor::Actor;
+pub use call::{Answer, Call};
+pub use cause::{Cause, broken_by};
+pub use going::go_on;
+pub use laws::{drawn_law, sight_law, touch_law};
+pub use moves::Move;
+pub use next::next_move;
+pub use reference::{NULL, Reference};
+pub use rows::Rows;
+pub use runner::Runner;
+pub use shared::Shared;
+pub use stand::{Stance, Stand};

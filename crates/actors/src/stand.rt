@@ -1,0 +1,47 @@
+use crate::reference::Reference;
+
+/// Where a thread stands in the call that it asks for.
+#[derive(Clone, Copy, Debug, PartialEq, Eq)]
+pub enum Stance {
+    /// Between two calls.
+    Ready,
+    /// In a barriered store, with the old value to mark.
+    MarkingOld {
+        cell: u64,
+        word: u32,
+        old: u64,
+    },
+    /// The old value is marked, or null.
+    MarkingNew {
+        cell: u64,
+        word: u32,
+        old: u64,
+    },
+    /// The new value is marked too.
+    Writing {
+        cell: u64,
+        word: u32,
+        old: u64,
+        new: u64,
+    },
+    /// So many cells of a pool, from its first one on, were tried, each in vain.
+    Trying {
+        first: u64,
+        tried: u64,
+    },
+    /// This stage is posted, and so many roots that are not null are marked.
+    Answering {
+        stage: u64,
+        marked: usize,
+    },
+    Ended,
+}
+
+/// A thread: the state of its machine, the stage that it stored last, where it stands, and what a write under way has read.
+#[derive(Debug, Drop)]
+pub struct Stand<M> {
+    pub state: M,
+    pub stage: u64,
+    pub stance: Stance,
+    pub replaced: Reference,
+}
