@@ -8,6 +8,8 @@ mod calling_tests;
 #[cfg(test)]
 mod checking_tests;
 mod failure;
+#[cfg(test)]
+mod machine_tests;
 mod name;
 #[cfg(test)]
 mod printing_tests;
