@@ -1,6 +1,7 @@
 -- The shared words and births, as they stand.
-use Rattle.std.specs.Prelude.{ℕ, ◌≡◌, ◌<◌, ◌^◌, max, true, List, [], length, slice_set, slice_index, slice_index_or}
-use Rattle.pools.specs.Heap.{Setup}
+use Rattle.std.specs.Prelude.{ℕ, ◌≡◌, ◌<◌, ◌^◌, max, true, Some, List, [], length, slice_set, slice_index, slice_index_or}
+use Rattle.pools.specs.declared.word_kind.WordKind.{WordKind}
+use Rattle.pools.specs.Heap.{Setup, cells, kind_of, words_of_cell}
 use Rattle.colours.specs.declared.place.Place.{Place}
 use Rattle.colours.specs.declared.place.Place.TheVariants.{Posted, Stage, Colour, Word}
 use Rattle.colours.specs.Colours.{mark_at, claim_at, done}
@@ -9,6 +10,7 @@ use Rattle.schedules.specs.ModuleRuns.{Happening, heap_of, birth_of, birth_in}
 use Rattle.actors.specs.declared.moves.Move.{Move}
 use Rattle.actors.specs.declared.moves.Move.TheVariants.{Marks, StoresBehindBarrier, StoresPlain, Claims, Answers, Ends}
 use Rattle.actors.specs.declared.shared.Shared.{Shared}
+use Rattle.actors.specs.Kinds.{MayHold}
 use Rattle.actors.specs.Rows.{word_at, with_word}
 
 -- the number that a place holds
@@ -32,11 +34,25 @@ with_number h (Stage thread) n = record h { stages = slice_set h.stages thread n
 with_number h (Colour cell) n = record h { colours = slice_set h.colours cell n }
 with_number h (Word cell word) n = record h { words = with_word h.words cell word (record { cell = n; birth = 0 }) }
 
+-- there is a place for each thread, each cell and each word of this heap, and words hold what fits their kinds
+pub record HasShape (s : Setup) (h : Shared) : Type 0 where
+  pub stages : length h.stages ≡ s.threads
+  pub colours : length h.colours ≡ cells s
+  pub births : length h.births ≡ cells s
+  pub rows : length h.words ≡ cells s
+  pub row : (cell : ℕ) → cell < cells s → length (slice_index_or h.words cell []) ≡ length (words_of_cell s cell)
+  pub kinds : (cell word : ℕ) (kind : WordKind) → cell < cells s → kind_of s cell word ≡ Some kind → MayHold s (Some kind) (word_at h.words cell word)
+
 -- they are what stands behind a run
 pub record AreBehind (s : Setup) (run : List Happening) (h : Shared) : Type 0 where
   pub words : (p : Place) → held_at h p ≡ word_after s (heap_of run) p
   pub word_births : (cell word : ℕ) → (word_at h.words cell word).birth ≡ birth_in run cell word
   pub births : (cell : ℕ) → slice_index h.births cell ≡ birth_of s run cell
+
+-- so, with a place for each thread, cell and word of the heap
+pub record StandBehind (s : Setup) (run : List Happening) (h : Shared) : Type 0 where
+  pub shape : HasShape s h
+  pub behind : AreBehind s run h
 
 -- ---- what a thread's move leaves
 

@@ -1,13 +1,19 @@
 ghost use Rattle.std.specs.Prelude.{◌≡◌, IfOk, OnOk, OnErr};
+ghost use Rattle.pools.specs.Heap.{Setup};
 ghost use Rattle.actors.specs.Calls.{action_of, answer_in};
+ghost use Rattle.actors.specs.Kinds.{KeepsKinds};
 
 use crate::call::{Answer, Call};
 use crate::reference::Reference;
 use schedules::Machine;
 use std::alloc::AllocError;
 
-/// A thread's machine that runs: code that tells what the machine says.
+/// A thread's machine that runs. Over a heap whose words it fits it asks for words that are there, and puts into each what fits
+/// its kind.
 pub trait Runner: Machine {
+    /// Each reference that the state holds is to a cell of its layout.
+    ghost fits: { Setup → Self → Type 0 };
+
     /// What the thread asks for.
     fn call(&self) -> Call
         ensures { action_of result ≡ Self.action self.now };
@@ -20,4 +26,6 @@ pub trait Runner: Machine {
     fn answer(&mut self, answer: Answer) -> Result<(), AllocError>
         ensures ok { OnOk result (self.new ≡ Self.after_answer self.old (answer_in answer)) }
         ensures err { OnErr result (self.new ≡ self.old) };
+
+    ghost keeps_kinds: { (s : Setup) (state : Self) → fits s state → KeepsKinds s Self.action Self.after_answer Self.roots (fits s) state };
 }

@@ -1,15 +1,13 @@
--- Lists of predecessors: what each step adds to them, and that K16 looks at no other blocks.
-use Rattle.std.proofs.Common.{◌≡◌, ◌<◌, ◌≤◌, ◌+◌, ◌⊎◌, inl, inr, ℕ, zero, suc, List, [], ◌∷◌, length, map, take, get_or, slice_get, refl, sym, ap, ◌∙◌, subst, arith, true, false, Bool, Option, Some, None}
-use Rattle.std.proofs.lemmas.Bool.{eqb-true, eq-eqb, ne_eqb, ltb-true, lt-ltb, le-ltb, cases_eq, cases_lt, cases_Bool, and_from, and_parts, or_cases, or_left, or_right, not-true, not_from_false, both_ways}
+-- Lists of predecessors: what each step adds to them.
+use Rattle.std.proofs.Common.{◌≡◌, ◌<◌, ◌≤◌, ◌+◌, ◌⊎◌, inl, inr, ℕ, zero, suc, List, [], ◌∷◌, length, map, take, get_or, slice_get, refl, sym, ap, ◌∙◌, subst, arith, true, false, Bool, None}
+use Rattle.std.proofs.lemmas.Bool.{eq-eqb, ne_eqb, ltb-true, lt-ltb, le-ltb, cases_eq, cases_lt}
 use Rattle.std.proofs.lemmas.List.Folds.{list_any_more}
-use Rattle.std.specs.Prelude.{◌==◌, ◌&&◌, ◌||◌, not, nat_lt, slice_index_or}
-use Rattle.std.specs.List.{list_any, list_all, range_with_len}
+use Rattle.std.specs.Prelude.{◌==◌, ◌&&◌, ◌||◌, nat_lt}
+use Rattle.std.specs.List.{list_any}
 use Rattle.ir_ast.specs.declared.function.Function.{Function}
-use Rattle.ir_ast.specs.declared.op.Incoming.{Incoming}
-use Rattle.types.specs.ValueTypes.{target_of}
 use Rattle.block_rules.specs.Standing.{block_instructions, instructions_of}
-use Rattle.certified.specs.Ways.{operand_from, instruction_leads, is_predecessor, precedes, agrees_from, is_entry_of, is_there, has_each, are_entries}
-use Rattle.block_check.specs.Predecessors.{is_in, is_listed, Adds, ArePredecessors, is_target_in, is_entry_among, has_each_of}
+use Rattle.certified.specs.Ways.{instruction_leads, is_predecessor}
+use Rattle.block_check.specs.Predecessors.{is_listed, Adds, ArePredecessors}
 
 -- ---- truth values
 
@@ -39,7 +37,7 @@ and_false true = refl
 and_false false = refl
 
 -- two truth values are one where each follows from the other
-same_truth : (a b : Bool) → (a ≡ true → b ≡ true) → (b ≡ true → a ≡ true) → a ≡ b
+pub same_truth : (a b : Bool) → (a ≡ true → b ≡ true) → (b ≡ true → a ≡ true) → a ≡ b
 same_truth true true f g = refl
 same_truth true false f g = sym (f refl)
 same_truth false true f g = g refl
@@ -121,7 +119,7 @@ below_more f n a b h k = record {
       ∙ ap (λ x. x && is_predecessor f to other) (same_truth (nat_lt other n) (nat_lt other (n + 1)) (λ t. lt-ltb other (n + 1) (omega (arith, ltb-true other n t))) (λ t. lt-ltb other n (nearer other (ltb-true other (n + 1) t) ne)))
 
 -- a block that there is not leads nowhere
-beyond : (f : Function) (to from : ℕ) → length f.blocks ≤ from → is_predecessor f to from ≡ false
+pub beyond : (f : Function) (to from : ℕ) → length f.blocks ≤ from → is_predecessor f to from ≡ false
 beyond f to from ge = ap (λ b. list_any (instruction_leads f to) (block_instructions b)) (none_past f.blocks from ge)
 
 -- at the end each is noted
@@ -133,80 +131,3 @@ all_below f lists n len h = record {
   pick : (to other : ℕ) → (other < n) ⊎ (n ≤ other) → (nat_lt other n && is_predecessor f to other) ≡ is_predecessor f to other
   pick to other (inl lt) = ap (λ x. x && is_predecessor f to other) (lt-ltb other n lt)
   pick to other (inr ge) = ap (λ x. nat_lt other n && x) (beyond f to other (omega (arith, len, ge))) ∙ and_false (nat_lt other n) ∙ sym (beyond f to other (omega (arith, len, ge)))
-
--- ---- K16
-
--- an entry is looked up among the blocks of a list
-entry_is : (f : Function) (blocks : List ℕ) (to : ℕ) (incoming : List Incoming) → ((from : ℕ) → is_in blocks from ≡ is_predecessor f to from) → (entry : Incoming) → is_entry_among f blocks incoming entry ≡ is_entry_of f to incoming entry
-entry_is f blocks to incoming same entry = ap (λ x. x && agrees_from f incoming entry.operand (target_of f entry.from)) (by (target_of f entry.from))
-  where
-    by : (from : Option ℕ) → is_target_in blocks from ≡ precedes f to from
-    by None = refl
-    by (Some from) = same from
-
-all_same : {X : Type 0} (p q : X → Bool) (xs : List X) → ((x : X) → p x ≡ q x) → list_all p xs ≡ list_all q xs
-all_same p q [] same = refl
-all_same p q (x ∷ xs) same = ap (λ e. e && list_all p xs) (same x) ∙ ap (λ e. q x && e) (all_same p q xs same)
-
--- a test holds of each number of a list
-in_all : (q : ℕ → Bool) (xs : List ℕ) → ((x : ℕ) → is_in xs x ≡ true → q x ≡ true) → list_all q xs ≡ true
-in_all q [] each = refl
-in_all q (x ∷ xs) each =
-    and_from (q x) (list_all q xs) (each x (or_left (x == x) (is_in xs x) (eq-eqb x x refl))) (in_all q xs (λ y t. each y (or_right (x == y) (is_in xs y) t)))
-
-all_in : (q : ℕ → Bool) (xs : List ℕ) (x : ℕ) → list_all q xs ≡ true → is_in xs x ≡ true → q x ≡ true
-all_in q [] x all there = absurd cc
-all_in q (y ∷ ys) x all there =
-    let parts : (q y ≡ true) × (list_all q ys ≡ true) = and_parts (q y) (list_all q ys) all in
-    elim (or_cases (y == x) (is_in ys x) there) [
-      | inl e ↦ subst (λ z. q z ≡ true) (eqb-true y x e) parts.0
-      | inr later ↦ all_in q ys x parts.1 later
-    ]
-
--- a test holds of each number of a range
-range_all : (q : ℕ → Bool) (a n : ℕ) → ((x : ℕ) → x < a + n → q x ≡ true) → list_all q (range_with_len a n) ≡ true
-range_all q a zero each = refl
-range_all q a (suc n) each = and_from (q a) (list_all q (range_with_len (a + 1) n)) (each a (omega arith)) (range_all q (a + 1) n (λ x lt. each x (omega (arith, lt))))
-
-all_range : (q : ℕ → Bool) (a n x : ℕ) → list_all q (range_with_len a n) ≡ true → a ≤ x → x < a + n → q x ≡ true
-all_range q a zero x all ge lt = absurd (omega (arith, ge, lt))
-all_range q a (suc n) x all ge lt =
-    let parts : (q a ≡ true) × (list_all q (range_with_len (a + 1) n) ≡ true) = and_parts (q a) (list_all q (range_with_len (a + 1) n)) all in
-    elim (cases_lt a x) [
-      | inl l ↦ all_range q (a + 1) n x parts.1 (omega (arith, l)) (omega (arith, lt))
-      | inr g ↦ let e : a ≡ x = omega (arith, ge, g) in subst (λ z. q z ≡ true) e parts.0
-    ]
-
--- each block of a list has an entry exactly where each predecessor has one
-each_is : (f : Function) (blocks : List ℕ) (to : ℕ) (incoming : List Incoming) → ((from : ℕ) → is_in blocks from ≡ is_predecessor f to from) → has_each_of f blocks incoming ≡ has_each f to incoming
-each_is f blocks to incoming same = same_truth (has_each_of f blocks incoming) (has_each f to incoming) there back
-  where
-    has : ℕ → Bool
-    has from = is_there (operand_from f from incoming)
-
-    there : list_all has blocks ≡ true → has_each f to incoming ≡ true
-    there all = range_all (λ from. not (is_predecessor f to from) || has from) 0 (length f.blocks) (λ from lt. by from (cases_Bool (is_predecessor f to from)))
-      where
-        by : (from : ℕ) → (is_predecessor f to from ≡ true) ⊎ (is_predecessor f to from ≡ false) → (not (is_predecessor f to from) || has from) ≡ true
-        by from (inl t) = or_right (not (is_predecessor f to from)) (has from) (all_in has blocks from all (same from ∙ t))
-        by from (inr e) = or_left (not (is_predecessor f to from)) (has from) (not_from_false (is_predecessor f to from) e)
-
-    back : has_each f to incoming ≡ true → list_all has blocks ≡ true
-    back all = in_all has blocks (λ from t. by from (sym (same from) ∙ t) (cases_lt from (length f.blocks)))
-      where
-        by : (from : ℕ) → is_predecessor f to from ≡ true → (from < length f.blocks) ⊎ (length f.blocks ≤ from) → has from ≡ true
-        by from t (inl lt) = found from t (or_cases (not (is_predecessor f to from)) (has from) (all_range (λ x. not (is_predecessor f to x) || has x) 0 (length f.blocks) from all (omega arith) (omega (arith, lt))))
-          where
-            found : (from : ℕ) → is_predecessor f to from ≡ true → (not (is_predecessor f to from) ≡ true) ⊎ (has from ≡ true) → has from ≡ true
-            found from t (inl no_way) = absurd (both_ways (is_predecessor f to from) (not-true (is_predecessor f to from) no_way) t)
-            found from t (inr e) = e
-        by from t (inr ge) = absurd (both_ways (is_predecessor f to from) (beyond f to from ge) t)
-
--- K16 by the list of predecessors
-pub entries_are : (f : Function) (lists : List (List ℕ)) (to : ℕ) (blocks : List ℕ) (incoming : List Incoming) → ArePredecessors f lists → to < length f.blocks → blocks ≡ slice_index_or lists to [] → (list_all (is_entry_among f blocks incoming) incoming && has_each_of f blocks incoming) ≡ are_entries f to incoming
-entries_are f lists to blocks incoming h lt e =
-    ap (λ x. x && has_each_of f blocks incoming) (all_same (is_entry_among f blocks incoming) (is_entry_of f to incoming) incoming (entry_is f blocks to incoming same))
-    ∙ ap (λ x. list_all (is_entry_of f to incoming) incoming && x) (each_is f blocks to incoming same)
-  where
-    same : (from : ℕ) → is_in blocks from ≡ is_predecessor f to from
-    same from = ap (λ l. is_in l from) e ∙ h.are to from lt

@@ -1,3 +1,6 @@
 mod Follows
 mod Leads
+mod NotedEntries
+mod Operands
+mod PhiSteps
 pub mod Exact

@@ -2,3 +2,5 @@ pub mod Subject
 pub mod Tables
 pub mod Decided
 pub mod Predecessors
+pub mod PhiOperands
+pub mod Entries

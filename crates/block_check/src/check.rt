@@ -176,7 +176,7 @@ fn walk(
             place,
         );
         let exit = Exit { block, facts };
-        match breach(alloc, subject, rooms, here, &exit, instr)? {
+        match breach(alloc, subject, rooms, here, &exit, place, instr)? {
             Some(broken) => return Ok(Some((place, broken))),
             None => advance(&subject.scene, facts, instr)?,
         }

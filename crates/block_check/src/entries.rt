@@ -1,79 +1,66 @@
 //! K16: whether the entries of a phi are those of its block's predecessors.
 ghost use Rattle.std.specs.Prelude.{◌≡◌, ◌<◌, ◌&&◌, length};
 ghost use Rattle.std.specs.List.{list_all};
-ghost use Rattle.certified.specs.Ways.{operand_from, is_same_constant, is_same_operand, is_operand, is_there, are_entries};
-ghost use Rattle.block_check.specs.Predecessors.{is_in, is_entry_among, has_each_of, ArePredecessors};
+ghost use Rattle.block_rules.specs.Standing.{instructions_of};
+ghost use Rattle.certified.specs.Ways.{is_same_constant, is_same_operand, is_operand, are_entries};
+ghost use Rattle.block_check.specs.Entries.{noted_from, is_entry_noted, has_each_noted};
+ghost use Rattle.block_check.specs.PhiOperands.{entries_at};
+ghost use Rattle.block_check.specs.Subject.{IsReady};
 
-use crate::phis::operand_from;
-use crate::predecessors::Predecessors;
-use ir_ast::{BlockId, Constant, Function, Incoming, Operand};
+use crate::subject::Subject;
+use ir_ast::{BlockId, Constant, Incoming, Operand};
 use types::target_of;
 
-/// Whether the entries of a phi are those of the predecessors of its block.
-pub fn are_entries(
-    function: &Function,
-    predecessors: &Predecessors,
-    to: BlockId,
-    incoming: &[Incoming],
-) -> bool
-    requires predecessors { ArePredecessors function.now predecessors.now }
-    requires within { to < length function.now.blocks }
-    ensures { result ≡ are_entries function.now to incoming.now }
+/// Whether the entries of the phi at a place of a block are those of the predecessors of the block.
+pub fn are_entries(subject: &Subject, to: BlockId, place: usize, incoming: &[Incoming]) -> bool
+    requires ready { IsReady subject.now }
+    requires within { to < length subject.now.scene.function.now.blocks }
+    requires at { entries_at (instructions_of subject.now.scene.function.now to) place ≡ incoming.now }
+    ensures { result ≡ are_entries subject.now.scene.function.now to incoming.now }
 {
-    are_entries_of(function, predecessors.list(to), incoming)
+    are_noted(subject, to, place, incoming)
 }
 
-fn are_entries_of(function: &Function, blocks: &[BlockId], incoming: &[Incoming]) -> bool
-    ensures { result ≡ (list_all (is_entry_among function.now blocks.now incoming.now) incoming.now && has_each_of function.now blocks.now incoming.now) }
+fn are_noted(subject: &Subject, to: BlockId, place: usize, incoming: &[Incoming]) -> bool
+    ensures { result ≡ (list_all (is_entry_noted subject.now to place) incoming.now && has_each_noted subject.now to place) }
 {
-    all_among(function, blocks, incoming) && has_each(function, blocks, incoming)
+    all_noted(subject, to, place, incoming) && has_each(subject, to, place)
 }
 
-fn all_among(function: &Function, blocks: &[BlockId], incoming: &[Incoming]) -> bool
-    ensures { result ≡ list_all (is_entry_among function.now blocks.now incoming.now) incoming.now }
+fn all_noted(subject: &Subject, to: BlockId, place: usize, incoming: &[Incoming]) -> bool
+    ensures { result ≡ list_all (is_entry_noted subject.now to place) incoming.now }
 {
     incoming
         .iter()
-        .all(|entry| is_entry_of(function, blocks, incoming, *entry))
+        .all(|entry| is_entry_noted(subject, to, place, *entry))
 }
 
-fn is_entry_of(
-    function: &Function,
-    blocks: &[BlockId],
-    incoming: &[Incoming],
-    entry: Incoming,
-) -> bool
-    ensures { result ≡ is_entry_among function.now blocks.now incoming.now entry }
+fn is_entry_noted(subject: &Subject, to: BlockId, place: usize, entry: Incoming) -> bool
+    ensures { result ≡ is_entry_noted subject.now to place entry }
 {
-    match target_of(function, entry.from) {
+    match target_of(subject.scene.function, entry.from) {
         Some(from) => {
-            is_in(blocks, from) && agrees_from(function, incoming, &entry.operand, from)
+            subject.predecessors.has(to, from) && is_noted(subject, to, place, &entry.operand, from)
         }
         None => false,
     }
 }
 
-fn is_in(blocks: &[BlockId], block: BlockId) -> bool
-    ensures { result ≡ is_in blocks.now block }
+fn is_noted(subject: &Subject, to: BlockId, place: usize, operand: &Operand, from: BlockId) -> bool
+    ensures { result ≡ is_operand operand.now (noted_from subject.now to place from) }
 {
-    blocks.iter().any(|other| *other == block)
-}
-
-fn agrees_from(function: &Function, incoming: &[Incoming], operand: &Operand, from: BlockId) -> bool
-    ensures { result ≡ is_operand operand.now (operand_from function.now from incoming.now) }
-{
-    match operand_from(function, from, incoming) {
+    match subject.noted_from(to, place, from) {
         Some(other) => is_same_operand(&other, operand),
         None => true,
     }
 }
 
-fn has_each(function: &Function, blocks: &[BlockId], incoming: &[Incoming]) -> bool
-    ensures { result ≡ has_each_of function.now blocks.now incoming.now }
+fn has_each(subject: &Subject, to: BlockId, place: usize) -> bool
+    ensures { result ≡ has_each_noted subject.now to place }
 {
-    blocks
-        .iter()
-        .all(|from| operand_from(function, *from, incoming).is_some())
+    subject.predecessors.list(to).iter().all(|from| {
+        subject.noted_from(to, place, BlockId::new(*from)).is_some()
+    })
 }
 
 fn is_same_constant(one: Constant, other: Constant) -> bool

@@ -1,10 +1,12 @@
 //! One block, or each block of a function, against its certificate: the rules of every instruction, and what each way out shows.
 #![tactic(auto)]
 
+mod block_set;
 mod breach;
 mod check;
 mod entries;
 mod given;
+mod phi_operands;
 mod phis;
 mod predecessors;
 mod subject;

@@ -1,36 +1,16 @@
-//! What the phis of a block take where it is entered from another, and whether their entries are those of its predecessors.
-ghost use Rattle.std.specs.Prelude.{◌≡◌, ◌++◌, OnOk};
-ghost use Rattle.certified.specs.Ways.{is_number, operand_from, number_comes_in, constant_comes_in, known_comes_in, comes_in};
+//! What the phis of a block take where it is entered from another.
+ghost use Rattle.std.specs.Prelude.{◌≡◌, OnOk};
+ghost use Rattle.block_rules.specs.Standing.{instructions_of};
+ghost use Rattle.certified.specs.Ways.{operand_from, number_comes_in, constant_comes_in, known_comes_in, comes_in};
+ghost use Rattle.block_check.specs.PhiOperands.{entries_at};
+ghost use Rattle.block_check.specs.Subject.{IsReady};
 
-use crate::subject::instructions_of;
+use crate::subject::{Subject, instructions_of};
 use block_rules::{TypeKind, below_next, known_of};
 use facts::{Entry, Facts, Known};
-use ir_ast::{BlockId, Constant, Function, Incoming, Instr, Module, Op, Operand};
+use ir_ast::{BlockId, Constant, Op, Operand};
 use items::Items;
 use std::alloc::AllocError;
-use types::target_of;
-
-/// Whether this is the block, if there is one.
-pub fn is_block(block: BlockId, other: Option<BlockId>) -> bool
-    ensures { result ≡ is_number block other }
-{
-    match other {
-        Some(other) => other == block,
-        None => false,
-    }
-}
-
-/// The operand that comes in from a block: the first that is named for it.
-pub fn operand_from(function: &Function, from: BlockId, incoming: &[Incoming]) -> Option<Operand>
-    ensures { result ≡ operand_from function.now from incoming.now }
-{
-    for entry in incoming {
-        if is_block(from, target_of(function, entry.from)) {
-            return Some(entry.operand);
-        }
-    }
-    None
-}
 
 fn number_comes_in(n: u64, kind: TypeKind) -> Known
     ensures { result ≡ number_comes_in n kind }
@@ -64,24 +44,34 @@ fn known_comes_in(facts: &Facts, kind: TypeKind, operand: &Option<Operand>) -> K
     }
 }
 
+/// The operand that comes in from a block to the phi at a place of another: the first that is named for it.
+fn operand_from(subject: &Subject, to: BlockId, place: usize, from: BlockId) -> Option<Operand>
+    requires { IsReady subject.now }
+    ensures { result ≡ operand_from subject.now.scene.function.now from (entries_at (instructions_of subject.now.scene.function.now to) place) }
+{
+    subject.noted_from(to, place, from)
+}
+
 /// The phis at the front of a block, each with what is known of what comes in from another.
 pub fn note_entries(
-    module: &Module,
-    function: &Function,
+    subject: &Subject,
     from: BlockId,
     facts: &Facts,
-    instructions: &[Instr],
+    to: BlockId,
     entries: &mut Items<Entry>,
 ) -> Result<(), AllocError>
-    ensures { OnOk result (entries.new ≡ comes_in «module».now function.now from facts.now instructions.now) }
+    requires { IsReady subject.now }
+    ensures { OnOk result (entries.new ≡ comes_in subject.now.scene.program.now.of_module subject.now.scene.function.now from facts.now (instructions_of subject.now.scene.function.now to)) }
 {
     entries.clear();
-    for instr in instructions {
+    let instructions = instructions_of(subject.scene.function, to);
+    for (place, instr) in instructions.iter().enumerate() {
         match &instr.op {
-            Op::Phi { written, incoming } => {
+            Op::Phi { written, .. } => {
                 if let Some(phi) = instr.result {
-                    let operand = operand_from(function, from, incoming.as_slice());
-                    let known = known_comes_in(facts, TypeKind::of(module, *written), &operand);
+                    let operand = operand_from(subject, to, place, from);
+                    let kind = TypeKind::of(subject.scene.module(), *written);
+                    let known = known_comes_in(facts, kind, &operand);
                     entries.push(Entry { phi, known })?;
                 }
             }

@@ -1,13 +1,13 @@
 //! The blocks from which each block is entered.
-ghost use Rattle.std.specs.Prelude.{ℕ, ◌≡◌, ◌==◌, ◌||◌, true, [], Some, map, length, slice_index_or, OnOk, IfOk};
+ghost use Rattle.std.specs.Prelude.{◌≡◌, [], Some, map, length, slice_index_or, OnOk, IfOk};
 ghost use Rattle.std.specs.List.{list_any};
 ghost use Rattle.types.specs.ValueTypes.{target_of};
 ghost use Rattle.certified.specs.Ways.{is_number, ways, open_way, instruction_leads};
-ghost use Rattle.block_check.specs.Predecessors.{is_in, Adds, ArePredecessors};
+ghost use Rattle.block_check.specs.Predecessors.{is_listed, Adds, ArePredecessors};
 
+use crate::block_set::BlockSet;
 use crate::subject::instructions_of;
 use ir_ast::{Block, BlockId, Case, Function, Instr, Op, ValueId};
-use items::Items;
 use std::alloc::{AllocError, Global};
 use std::marker::Model;
 use types::target_of;
@@ -15,7 +15,7 @@ use types::target_of;
 /// For each block, the blocks from which it is entered.
 #[derive(Drop)]
 pub struct Predecessors {
-    lists: Vec<Items<BlockId>>,
+    lists: Vec<BlockSet>,
 }
 
 impl Model for Predecessors {
@@ -40,33 +40,39 @@ impl Predecessors {
         Ok(Predecessors { lists })
     }
 
-    /// The predecessors of a block.
-    pub fn list(&self, to: BlockId) -> &[BlockId]
+    /// The numbers of a block's predecessors.
+    pub fn list(&self, to: BlockId) -> &[u32]
         ensures { result.now ≡ slice_index_or self.now to [] }
     {
         match self.lists.get(to.number() as usize) {
-            Some(list) => list.as_slice(),
+            Some(list) => list.numbers(),
             None => &[],
+        }
+    }
+
+    /// Whether a block is a predecessor of another.
+    pub fn has(&self, to: BlockId, from: BlockId) -> bool
+        ensures { result ≡ is_listed self.now to from }
+    {
+        match self.lists.get(to.number() as usize) {
+            Some(list) => list.has(from),
+            None => false,
         }
     }
 }
 
 /// No block is noted.
-fn no_blocks(alloc: Global, blocks: &[Block]) -> Result<Vec<Items<BlockId>>, AllocError>
+fn no_blocks(alloc: Global, blocks: &[Block]) -> Result<Vec<BlockSet>, AllocError>
     ensures { IfOk result (λ lists. lists.items ≡ map (λ _. []) blocks.now) }
 {
     let mut lists = Vec::new(alloc);
     for _block in blocks {
-        lists.push(Items::new(alloc))?;
+        lists.push(BlockSet::new(alloc))?;
     }
     Ok(lists)
 }
 
-fn note_blocks(
-    lists: &mut [Items<BlockId>],
-    function: &Function,
-    count: u32,
-) -> Result<(), AllocError>
+fn note_blocks(lists: &mut [BlockSet], function: &Function, count: u32) -> Result<(), AllocError>
     requires blocks { length function.now.blocks ≡ count }
     requires none { lists.old ≡ map (λ _. []) function.now.blocks }
     ensures { OnOk result (ArePredecessors function.now lists.new) }
@@ -79,7 +85,7 @@ fn note_blocks(
 }
 
 fn note_instructions(
-    lists: &mut [Items<BlockId>],
+    lists: &mut [BlockSet],
     function: &Function,
     from: BlockId,
     instructions: &[Instr],
@@ -93,7 +99,7 @@ fn note_instructions(
 }
 
 fn note_ways(
-    lists: &mut [Items<BlockId>],
+    lists: &mut [BlockSet],
     function: &Function,
     from: BlockId,
     op: &Op,
@@ -119,7 +125,7 @@ fn note_ways(
 }
 
 fn note_cases(
-    lists: &mut [Items<BlockId>],
+    lists: &mut [BlockSet],
     function: &Function,
     from: BlockId,
     cases: &[Case],
@@ -133,7 +139,7 @@ fn note_cases(
 }
 
 /// Notes a block as a predecessor of another, if there is one.
-fn note(lists: &mut [Items<BlockId>], from: BlockId, to: Option<BlockId>) -> Result<(), AllocError>
+fn note(lists: &mut [BlockSet], from: BlockId, to: Option<BlockId>) -> Result<(), AllocError>
     ensures { OnOk result (Adds lists.old lists.new from (λ other. is_number other to)) }
 {
     match to {
@@ -142,32 +148,12 @@ fn note(lists: &mut [Items<BlockId>], from: BlockId, to: Option<BlockId>) -> Res
     }
 }
 
-fn note_at(lists: &mut [Items<BlockId>], from: BlockId, to: BlockId) -> Result<(), AllocError>
+fn note_at(lists: &mut [BlockSet], from: BlockId, to: BlockId) -> Result<(), AllocError>
     ensures { OnOk result (Adds lists.old lists.new from (λ other. is_number other (Some to))) }
 {
     let at = to.number() as usize;
     if at >= lists.len() {
         return Ok(());
     }
-    let list = &mut lists[at];
-    note_last(list, from)
-}
-
-/// Notes a block, unless it is the last one.
-fn note_last(list: &mut Items<BlockId>, from: BlockId) -> Result<(), AllocError>
-    ensures { OnOk result ((other : ℕ) → is_in list.new other ≡ (is_in list.old other || (from == other))) }
-{
-    if is_last(list.as_slice(), from) {
-        return Ok(());
-    }
-    list.push(from)
-}
-
-fn is_last(list: &[BlockId], block: BlockId) -> bool
-    ensures { result ≡ true → (other : ℕ) → is_in list.now other ≡ (is_in list.now other || (block == other)) }
-{
-    match list {
-        [.., last] => *last == block,
-        [] => false,
-    }
+    lists[at].add(from)
 }

@@ -2,12 +2,14 @@ ghost use Rattle.std.specs.Prelude.{◌≡◌, slice_get};
 ghost use Rattle.block_rules.specs.Standing.{instructions_of};
 ghost use Rattle.block_rules.specs.Promises.{promises_in, promised_in, own_mark};
 ghost use Rattle.certified.specs.Ways.{lines_in};
+ghost use Rattle.block_check.specs.Entries.{noted_from};
 
+use crate::phi_operands::PhiOperands;
 use crate::predecessors::Predecessors;
 use block_rules::Scene;
 use certificate::{Line, Mark, Promise};
 use facts::Facts;
-use ir_ast::{BlockId, FuncId, Function, Instr};
+use ir_ast::{BlockId, FuncId, Function, Instr, Operand};
 
 /// The function that is checked, with what is found of it once.
 #[derive(Clone, Copy)]
@@ -17,6 +19,8 @@ pub struct Subject<'a> {
     /// Nothing is known of its values and slots.
     pub blank: &'a Facts,
     pub predecessors: &'a Predecessors,
+    /// What comes in to the phis of each block.
+    pub operands: &'a [PhiOperands],
 }
 
 impl<'a> Subject<'a> {
@@ -30,6 +34,16 @@ impl<'a> Subject<'a> {
                 None => &[],
             },
             None => &[],
+        }
+    }
+
+    /// The operand that is noted for a block, at a place of another.
+    pub fn noted_from(&self, to: BlockId, place: usize, from: BlockId) -> Option<Operand>
+        ensures { result ≡ noted_from self.now to place from }
+    {
+        match self.operands.get(to.number() as usize) {
+            Some(operands) => operands.operand_from(place, from),
+            None => None,
         }
     }
 

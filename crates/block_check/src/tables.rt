@@ -2,6 +2,7 @@ ghost use Rattle.std.specs.Prelude.{◌≡◌, Some, slice_get, IfOk};
 ghost use Rattle.block_check.specs.Tables.{IsOf};
 ghost use Rattle.block_check.specs.Subject.{IsReady};
 
+use crate::phi_operands::{PhiOperands, operands_of};
 use crate::predecessors::Predecessors;
 use crate::subject::Subject;
 use block_rules::Scene;
@@ -16,6 +17,7 @@ pub struct Tables {
     pub slots: Slots,
     pub blank: Facts,
     pub predecessors: Predecessors,
+    pub operands: Vec<PhiOperands>,
 }
 
 impl Tables {
@@ -25,10 +27,12 @@ impl Tables {
         let slots = Slots::of(alloc, module, function)?;
         let blank = Facts::new(alloc, function.locals.count(), slots.count())?;
         let predecessors = Predecessors::of(alloc, function)?;
+        let operands = operands_of(alloc, function)?;
         Ok(Tables {
             slots,
             blank,
             predecessors,
+            operands,
         })
     }
 
@@ -47,6 +51,7 @@ impl Tables {
             scene,
             blank: &self.blank,
             predecessors: &self.predecessors,
+            operands: self.operands.as_slice(),
         }
     }
 }

@@ -8,7 +8,7 @@ ghost use Rattle.block_check.specs.Decided.{decided_by};
 
 use crate::given::begin_lines;
 use crate::phis::note_entries;
-use crate::subject::{Subject, instructions_of};
+use crate::subject::Subject;
 use certificate::Line;
 use certified::Detail;
 use facts::{Entry, Facts};
@@ -177,18 +177,12 @@ impl Rooms {
         decided: Option<(ValueId, bool)>,
         to: BlockId,
     ) -> Result<(), AllocError>
+        requires { IsReady subject.now }
         ensures { OnOk result (self.new.way ≡ entered (seen subject.now) exit.now.block to (decided_facts decided exit.now.facts.now)) }
     {
         self.way.set_from(alloc, exit.facts)?;
         learn(&mut self.way, decided)?;
-        note_entries(
-            subject.scene.module(),
-            subject.scene.function,
-            exit.block,
-            &self.way,
-            instructions_of(subject.scene.function, to),
-            &mut self.entries,
-        )?;
+        note_entries(subject, exit.block, &self.way, to, &mut self.entries)?;
         self.way.after_phis(self.entries.as_slice())
     }
 }

@@ -17,6 +17,7 @@ use Rattle.certificate.specs.declared.section.Promise.{Promise}
 use Rattle.certificate.specs.declared.fault.Found.{Found}
 use Rattle.certificate.specs.declared.fault.Found.TheVariants.{Memory}
 
+-- what is left of a text, and what was read before it
 pub record Input : Type 0 where
   pub rest : Text
   pub sections : List (Option Kept)  -- by the numbers of the functions

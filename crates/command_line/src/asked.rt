@@ -15,6 +15,18 @@ pub enum Line<'a> {
         module_path: &'a str,
         certificate_path: &'a str,
     },
+    /// Make the steps of a trace of a module.
+    Replay {
+        module_path: &'a str,
+        trace_path: &'a str,
+    },
+    /// From the start of a trace of a module, make so many steps by the schedule of each of so many seeds.
+    Soak {
+        module_path: &'a str,
+        trace_path: &'a str,
+        seeds: u32,
+        steps: u32,
+    },
 }
 
 /// Why a command line asks for nothing.
@@ -58,6 +70,15 @@ impl<'a> Line<'a> {
                 module_path,
                 certificate_path,
             } => vec![in alloc; module_path, certificate_path]?,
+            Line::Replay {
+                module_path,
+                trace_path,
+            } => vec![in alloc; module_path, trace_path]?,
+            Line::Soak {
+                module_path,
+                trace_path,
+                ..
+            } => vec![in alloc; module_path, trace_path]?,
         };
         Ok(paths)
     }

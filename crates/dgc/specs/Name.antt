@@ -2,6 +2,7 @@
 use Rattle.std.specs.Prelude.{◌&&◌, ◌||◌, ◌==◌, ℕ, Bool, false, not, List, [], ◌∷◌, nat_le}
 use Rattle.std.specs.List.{list_all}
 
+-- a byte is one of those from the first to the last
 abbrev pub is_between : ℕ → ℕ → ℕ → Bool
 is_between first last byte = nat_le first byte && nat_le byte last
 
@@ -14,10 +15,12 @@ is_name_start byte =
 unfoldable pub is_name_byte : ℕ → Bool
 is_name_byte byte = is_name_start byte || is_between 48 57 byte
 
+-- a name begins as a plain one does
 abbrev pub begins_plain : List ℕ → Bool
 begins_plain [] = false
 begins_plain (first ∷ rest) = is_name_start first
 
+-- all bytes of a name are those of plain names
 abbrev pub has_plain_bytes : List ℕ → Bool
 has_plain_bytes = list_all is_name_byte
 

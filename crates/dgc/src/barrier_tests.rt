@@ -6,23 +6,23 @@ use std::alloc::{AllocError, Global};
 use std::test::Fail;
 
 /// Puts null in a cell of its caller's, without the barrier.
-const FIVE: &str =
+pub(crate) const FIVE: &str =
     "define void @five(%Node* %n) gc \"shadow-stack\" {\nentry:\n  %p = getelementptr %Node, %Node* %n, i32 0, i32 1\n  store %Node* null, %Node** %p\n  ret void\n}\n";
 
 const FIVE_CERTIFIED: &str = "cert 1\nfunction @five none\nparam %n nonnull\nend\n";
 
 /// Fills a cell that it claimed, and then puts it in the global.
-const SIX: &str = "define void @six(i64 %k) gc \"shadow-stack\" {\nentry:\n";
+pub(crate) const SIX: &str = "define void @six(i64 %k) gc \"shadow-stack\" {\nentry:\n";
 
-const FILLED: &str =
+pub(crate) const FILLED: &str =
     "  %v = getelementptr %Node, %Node* %x, i32 0, i32 0\n  store i64 %k, i64* %v\n  %f = getelementptr %Node, %Node* %x, i32 0, i32 1\n  store %Node* null, %Node** %f\n  %b = bitcast %Node* %x to i8*\n";
 
-const PUBLISHED: &str =
+pub(crate) const PUBLISHED: &str =
     "  call void @llvm.gcwrite(i8* %b, i8* null, i8** bitcast (%Node** @g to i8**))\n";
 
 const STORED_AGAIN: &str = "  store %Node* null, %Node** %f\n";
 
-const ENDED: &str = "  ret void\n}\n";
+pub(crate) const ENDED: &str = "  ret void\n}\n";
 
 const SIX_CERTIFIED: &str =
     "cert 1\nfunction @six none\nblock %no\nblock %ok\n%x ref Node nonnull fresh\n%k i64\nend\n";
@@ -96,7 +96,7 @@ fn lets_only_fresh_cells_be_filled_without_the_barrier(rt: HostRuntime) -> Resul
     ];
     for (module, certificate, status, out) in rows {
         assert!(rt;
-            prints(alloc, module, certificate, status, out, "")?,
+            prints(&rt, alloc, module, certificate, status, out, "")?,
             "{out}"
         );
     }
@@ -123,7 +123,7 @@ fn goes_by_each_name_of_a_cell(rt: HostRuntime) -> Result<(), Fail> {
     ];
     for (module, certificate, status, out) in rows {
         assert!(rt;
-            prints(alloc, module, certificate, status, out, "")?,
+            prints(&rt, alloc, module, certificate, status, out, "")?,
             "{out}"
         );
     }
@@ -157,7 +157,7 @@ fn reads_behind_the_test_for_null(rt: HostRuntime) -> Result<(), Fail> {
     ];
     for (module, certificate, status, out) in rows {
         assert!(rt;
-            prints(alloc, module, certificate, status, out, "")?,
+            prints(&rt, alloc, module, certificate, status, out, "")?,
             "{out}"
         );
     }
@@ -194,6 +194,7 @@ fn names_the_first_of_many_functions(rt: HostRuntime) -> Result<(), Fail> {
     let (functions, certificates) = three_hundred(alloc)?;
     assert!(rt;
         prints(
+            &rt,
             alloc,
             [HEAD, functions.as_str()].as_slice(),
             certificates.as_str(),

@@ -5,23 +5,23 @@ use crate::tests::{HEAD, prints};
 use std::test::Fail;
 
 /// Keeps a register over safepoints.
-const THREE: &str =
+pub(crate) const THREE: &str =
     "define void @three() gc \"shadow-stack\" {\nentry:\n  %s = alloca %Node*\n  %r = bitcast %Node** %s to i8**\n  call void @llvm.gcroot(i8** %r, i8* null)\n";
 
-const THREE_ENDED: &str =
+pub(crate) const THREE_ENDED: &str =
     "  call void @dg_safepoint()\n  call void @dg_safepoint()\n  call void @dg_safepoint()\n  %p = getelementptr %Node, %Node* %x, i32 0, i32 0\n  %v = load i64, i64* %p\n  ret void\n}\n";
 
-const LATE: &str =
+pub(crate) const LATE: &str =
     "define void @late() gc \"shadow-stack\" {\nentry:\n  call void @dg_safepoint()\n  call void @dg_safepoint()\n  call void @dg_safepoint()\n  %a = call i8* @dg_alloc(i32 0)\n  ret void\n}\n";
 
 const THREE_CERTIFIED: &str =
     "cert 1\nfunction @three may\nblock %no\nblock %ok\n%x ref Node nonnull\nend\nfunction @late may\nend\n";
 
 /// Loads its root again behind the safepoints.
-const FOUR: &str =
+pub(crate) const FOUR: &str =
     "define void @four() gc \"shadow-stack\" {\nentry:\n  %s = alloca %Node*\n  %r = bitcast %Node** %s to i8**\n  call void @llvm.gcroot(i8** %r, i8* null)\n";
 
-const FOUR_ENDED: &str =
+pub(crate) const FOUR_ENDED: &str =
     "  store %Node* %x, %Node** %s\n  call void @dg_safepoint()\n  call void @dg_safepoint()\n  call void @dg_safepoint()\n  %y = load %Node*, %Node** %s\n  %p = getelementptr %Node, %Node* %y, i32 0, i32 0\n  %v = load i64, i64* %p\n  ret void\n}\n";
 
 const FOUR_MAY: &str =
@@ -62,7 +62,7 @@ fn refuses_registers_kept_over_safepoints(rt: HostRuntime) -> Result<(), Fail> {
     ];
     for (module, certificate, status, out) in rows {
         assert!(rt;
-            prints(alloc, module, certificate, status, out, "")?,
+            prints(&rt, alloc, module, certificate, status, out, "")?,
             "{out}"
         );
     }
@@ -79,7 +79,7 @@ fn goes_by_the_mark_of_a_called_function(rt: HostRuntime) -> Result<(), Fail> {
     ];
     for (certificate, status, out) in rows {
         assert!(rt;
-            prints(alloc, module.as_slice(), certificate, status, out, "")?,
+            prints(&rt, alloc, module.as_slice(), certificate, status, out, "")?,
             "{out}"
         );
     }

@@ -54,7 +54,7 @@ fn goes_by_what_edges_show(rt: HostRuntime) -> Result<(), Fail> {
     ];
     for (module, certificate, status, out) in rows {
         assert!(rt;
-            prints(alloc, module, certificate, status, out, "")?,
+            prints(&rt, alloc, module, certificate, status, out, "")?,
             "{out}"
         );
     }
@@ -78,7 +78,7 @@ fn goes_by_what_is_shown_below(rt: HostRuntime) -> Result<(), Fail> {
     for (function, certificate, status, out) in rows {
         let module = [HEAD, function];
         assert!(rt;
-            prints(alloc, module.as_slice(), certificate, status, out, "")?,
+            prints(&rt, alloc, module.as_slice(), certificate, status, out, "")?,
             "{out}"
         );
     }
@@ -127,6 +127,7 @@ fn reads_the_address_of_a_global(rt: HostRuntime) -> Result<(), Fail> {
         )?;
         assert!(rt;
             prints(
+                &rt,
                 alloc,
                 [HEAD, function].as_slice(),
                 &certificate,

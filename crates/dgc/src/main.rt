@@ -5,9 +5,11 @@
 mod barrier_tests;
 #[cfg(test)]
 mod calling_tests;
+mod checking;
 #[cfg(test)]
 mod checking_tests;
 mod failure;
+mod files;
 #[cfg(test)]
 mod machine_tests;
 mod name;
@@ -15,7 +17,11 @@ mod name;
 mod printing_tests;
 #[cfg(test)]
 mod reading_tests;
+mod replaying;
+#[cfg(test)]
+mod replaying_tests;
 mod report;
+mod soaking;
 #[cfg(test)]
 mod tests;
 mod work;
@@ -23,12 +29,15 @@ mod work;
 use command_line::{Line, LineFault, line};
 use failure::Failure;
 use report::{STATUS_USAGE, STATUS_YES};
+use std::io::Write;
 use std::process::ExitCode;
+use std::rt::Runtime;
+use std::thread::Threads;
 use std::{env, fs};
 use work::work;
 
 /// The bytes of a file, if it can be read.
-fn bytes_of(rt: &HostRuntime, path: &str) -> Result<Option<Vec<u8>>, Failure> {
+fn bytes_of(rt: &(impl Runtime + AllocGlobal), path: &str) -> Result<Option<Vec<u8>>, Failure> {
     match fs::read(rt, path) {
         Ok(bytes) => Ok(Some(bytes)),
         Err(error) => match Failure::from(error) {
@@ -39,27 +48,30 @@ fn bytes_of(rt: &HostRuntime, path: &str) -> Result<Option<Vec<u8>>, Failure> {
 }
 
 /// Does what a line asks for.
-fn answer(rt: &HostRuntime, line: &Line<'_>) -> Result<u8, Failure> {
+fn answer<O: Write, E: Write>(
+    rt: &(impl Runtime + AllocGlobal + Threads + Sync),
+    line: &Line<'_>,
+    out: &mut O,
+    err: &mut E,
+) -> Result<u8, Failure> {
     let mut files = Vec::new(rt.alloc());
     for path in line.paths(rt.alloc())? {
         files.push(bytes_of(rt, path)?)?;
     }
-    Ok(work(
-        rt.alloc(),
-        line,
-        files.as_slice(),
-        &mut rt.stdout(),
-        &mut rt.stderr(),
-    ))
+    Ok(work(rt, rt.alloc(), line, files.as_slice(), out, err))
 }
 
 /// Reads the command line and does what it asks for.
-fn run(rt: &HostRuntime) -> Result<u8, Failure> {
+fn run<O: Write, E: Write>(
+    rt: &(impl Runtime + AllocGlobal + Threads + Sync),
+    out: &mut O,
+    err: &mut E,
+) -> Result<u8, Failure> {
     let alloc = rt.alloc();
     let owned: Vec<String> = env::args(rt)?.collect(alloc)?;
     let words: Vec<&str> = owned.iter().map(|word| word.as_str()).collect(alloc)?;
     match line(alloc, words.as_slice()) {
-        Ok(line) => answer(rt, &line),
+        Ok(line) => answer(rt, &line, out, err),
         Err(LineFault::Words(error)) => {
             error.print(rt)?;
             Ok(if error.use_stderr() {
@@ -74,11 +86,15 @@ fn run(rt: &HostRuntime) -> Result<u8, Failure> {
 }
 
 /// The status with which the program ends.
-fn ended(rt: &HostRuntime) -> u8 {
-    match run(rt) {
+fn ended<O: Write, E: Write>(
+    rt: &(impl Runtime + AllocGlobal + Threads + Sync),
+    out: &mut O,
+    err: &mut E,
+) -> u8 {
+    match run(rt, out, err) {
         Ok(status) => status,
         Err(Failure::Outside) => STATUS_USAGE,
-        Err(Failure::Memory) => match report::memory(&mut rt.stderr()) {
+        Err(Failure::Memory) => match report::memory(err) {
             Ok(status) => status,
             Err(_) => STATUS_USAGE,
         },
@@ -86,5 +102,5 @@ fn ended(rt: &HostRuntime) -> u8 {
 }
 
 fn main(rt: HostRuntime) -> ExitCode {
-    ExitCode::from(ended(&rt))
+    ExitCode::from(ended(&rt, &mut rt.stdout(), &mut rt.stderr()))
 }

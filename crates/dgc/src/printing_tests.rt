@@ -37,6 +37,7 @@ fn prints_without_decorations(rt: HostRuntime) -> Result<(), Fail> {
     let certificate = "cert 1\nfunction @\"a b\" none\nend\n";
     assert!(rt;
         prints(
+            &rt,
             alloc,
             [ADDS_PRINTED].as_slice(),
             certificate,
@@ -47,6 +48,7 @@ fn prints_without_decorations(rt: HostRuntime) -> Result<(), Fail> {
     );
     assert!(rt;
         prints(
+            &rt,
             alloc,
             [ADDS_OUT_OF_TURN].as_slice(),
             certificate,

@@ -29,6 +29,7 @@ fn asks_for_each_block_of_a_function(rt: HostRuntime) -> Result<(), Fail> {
         "cert 1\nfunction @nine none\nparam %n nonnull\nblock %loop\n%p ref Node nonnull\n%k i64\nend\n";
     assert!(rt;
         prints(
+            &rt,
             alloc,
             module.as_slice(),
             without_a_block,
@@ -39,7 +40,17 @@ fn asks_for_each_block_of_a_function(rt: HostRuntime) -> Result<(), Fail> {
     );
     let whole =
         "cert 1\nfunction @nine none\nparam %n nonnull\nblock %loop\n%p ref Node nonnull\n%k i64\nblock %out\nend\n";
-    assert!(rt; prints(alloc, module.as_slice(), whole, STATUS_YES, "yes 1\n", "")?);
+    assert!(rt;
+        prints(
+            &rt,
+            alloc,
+            module.as_slice(),
+            whole,
+            STATUS_YES,
+            "yes 1\n",
+            ""
+        )?
+    );
     Ok(())
 }
 
@@ -49,6 +60,7 @@ fn names_a_second_definition_and_a_form_left_out(rt: HostRuntime) -> Result<(), 
     let twice = [HEAD, TWO, CLAIM, TWO_ENDED, TWO, CLAIM, TWO_ENDED];
     assert!(rt;
         prints(
+            &rt,
             alloc,
             twice.as_slice(),
             TWO_CERTIFIED,
@@ -63,6 +75,7 @@ fn names_a_second_definition_and_a_form_left_out(rt: HostRuntime) -> Result<(), 
     ];
     assert!(rt;
         prints(
+            &rt,
             alloc,
             divided.as_slice(),
             "cert 1\n",
@@ -89,7 +102,15 @@ fn names_the_type_without_words(rt: HostRuntime) -> Result<(), Fail> {
     for (module, status, out, err) in rows {
         let module = [module];
         assert!(rt;
-            prints(rt.alloc(), module.as_slice(), "cert 1\n", status, out, err)?,
+            prints(
+                &rt,
+                rt.alloc(),
+                module.as_slice(),
+                "cert 1\n",
+                status,
+                out,
+                err
+            )?,
             "{out}{err}"
         );
     }
@@ -214,6 +235,7 @@ fn names_what_is_left_out_of_compiled_code(rt: HostRuntime) -> Result<(), Fail> 
         let module = [module];
         assert!(rt;
             prints(
+                &rt,
                 rt.alloc(),
                 module.as_slice(),
                 "cert 1\n",
@@ -253,6 +275,7 @@ fn expects_no_struct_and_no_array_for_an_operand(rt: HostRuntime) -> Result<(), 
         let module = [module];
         assert!(rt;
             prints(
+                &rt,
                 rt.alloc(),
                 module.as_slice(),
                 "cert 1\n",

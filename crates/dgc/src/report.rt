@@ -2,26 +2,30 @@
 //! standard output, a fault to the standard error.
 ghost use Rattle.std.specs.Prelude.{◌≡◌, IfOk};
 ghost use Rattle.std.specs.Option.{option_copied};
-ghost use Rattle.dgc.specs.Report.{name_of_block, name_of_function, name_of_struct};
+ghost use Rattle.dgc.specs.Report.{name_of_block, name_of_function, name_of_struct, status_of, status_of_soak};
 
+use crate::files::Untraced;
 use crate::name::{write_local, write_name};
 use certificate::{CertFault, Certs, print_line};
 use ir_ast::{BlockId, FuncId, Module};
 use ir_text::ReadFault;
 use ir_tokens::Position;
 use layout::LayoutFault;
+use machine::Value;
 use module_check::{Detail, Refusal};
+use replay::{Break, Outcome, ReplayFault, Report, SeedBreak, SoakOutcome, ThreadEnd};
 use std::alloc::{AllocError, Global};
 use std::io;
 use std::io::Write;
+use trace_text::{Actor, TraceFault};
 
-/// The answer is yes, or help or the version was asked for.
+/// The answer is yes, no run was broken, or help or the version was asked for.
 pub const STATUS_YES: u8 = 0;
 
-/// The answer is no.
+/// The answer is no, or a run was broken.
 pub const STATUS_NO: u8 = 1;
 
-/// A text is no module or no certificate, or the module has no layouts.
+/// A text is no module, no certificate or no trace, the module has no layouts, or a thread does not begin.
 pub const STATUS_UNREADABLE: u8 = 2;
 
 /// Memory was refused.
@@ -247,5 +251,125 @@ pub fn no_layouts<W: Write>(err: &mut W, of_module: &Module, fault: LayoutFault)
             Ok(STATUS_UNREADABLE)
         }
         LayoutFault::Memory => memory(err),
+    }
+}
+
+/// A text that is no trace of the program.
+fn no_trace<W: Write>(err: &mut W, fault: TraceFault) -> io::Result<u8> {
+    match fault {
+        TraceFault::Syntax(position) => at_place(err, "P1", position),
+        TraceFault::NoThread(position) => at_place(err, "P2", position),
+        TraceFault::TooManySteps(position) => at_place(err, "P3", position),
+        TraceFault::TooManyCells => {
+            writeln!(err, "error Y4")?;
+            Ok(STATUS_UNREADABLE)
+        }
+        TraceFault::Memory => memory(err),
+    }
+}
+
+/// A module and a trace that are not read.
+pub fn untraced<W: Write>(err: &mut W, untraced: &Untraced<'_>) -> io::Result<u8> {
+    match untraced {
+        Untraced::NoFile(path) => no_file(err, path),
+        Untraced::NoModule(fault) => no_module(err, fault),
+        Untraced::NoLayouts(refused) => no_layouts(err, &refused.of_module, refused.fault),
+        Untraced::NoTrace(fault) => no_trace(err, *fault),
+    }
+}
+
+/// A thread that does not begin: `error K13 t 0`.
+pub fn no_threads<W: Write>(err: &mut W, fault: ReplayFault) -> io::Result<u8> {
+    match fault {
+        ReplayFault::WrongArguments(thread) => writeln!(err, "error K13 t {thread}")?,
+        ReplayFault::ReferenceParameter(thread) => writeln!(err, "error K20 t {thread}")?,
+        ReplayFault::Memory => return memory(err),
+    }
+    Ok(STATUS_UNREADABLE)
+}
+
+/// The first step behind which a run is broken, behind the word: `broken 32 t 0 touch-blue 1`.
+fn broken<W: Write>(out: &mut W, broken: &Break) -> io::Result<u8>
+    ensures { IfOk result (λ status. status ≡ STATUS_NO) }
+{
+    let Break { step, actor, cause } = *broken;
+    match actor {
+        Actor::Thread(thread) => writeln!(out, "{step} t {thread} {cause}")?,
+        Actor::Collector => writeln!(out, "{step} c {cause}")?,
+    }
+    Ok(STATUS_NO)
+}
+
+/// What a thread returned: ` 7`, ` null` or ` ref 1`.
+fn write_returned<W: Write>(out: &mut W, value: Value) -> io::Result<()> {
+    match value {
+        Value::Number(number) => write!(out, " {number}"),
+        Value::Null => write!(out, " null"),
+        Value::Cell(_, at) => write!(out, " ref {}", at.cell),
+        Value::Unset | Value::Address(_) => Ok(()),
+    }
+}
+
+/// Where a thread stands: `t 0 returned`, `t 0 ended`, `t 0 running 3`.
+fn write_end<W: Write>(out: &mut W, thread: usize, end: &ThreadEnd) -> io::Result<()> {
+    write!(out, "t {thread}")?;
+    match *end {
+        ThreadEnd::Returned(value) => {
+            write!(out, " returned")?;
+            if let Some(value) = value {
+                write_returned(out, value)?;
+            }
+        }
+        ThreadEnd::Ended => write!(out, " ended")?,
+        ThreadEnd::Running(stage) => write!(out, " running {stage}")?,
+    }
+    writeln!(out, "")
+}
+
+/// Where the actors stand behind a run that no step broke: a line for the steps, one for each thread, and one for what was
+/// counted.
+fn sound<W: Write>(out: &mut W, report: &Report) -> io::Result<u8>
+    ensures { IfOk result (λ status. status ≡ STATUS_YES) }
+{
+    writeln!(out, "sound {}", report.steps)?;
+    for (thread, end) in report.threads.as_slice().iter().enumerate() {
+        write_end(out, thread, end)?;
+    }
+    let Report {
+        claims,
+        frees,
+        posted,
+        ..
+    } = *report;
+    writeln!(out, "claims {claims} frees {frees} posted {posted}")?;
+    Ok(STATUS_YES)
+}
+
+/// What came of a trace.
+pub fn replayed<W: Write>(out: &mut W, outcome: &Outcome) -> io::Result<u8>
+    ensures { IfOk result (λ status. status ≡ status_of outcome.now) }
+{
+    match outcome {
+        Outcome::Broken(at) => {
+            write!(out, "broken ")?;
+            broken(out, at)
+        }
+        Outcome::Sound(report) => sound(out, report),
+    }
+}
+
+/// What came of so many seeds: `sound 20 seeds`, or the least broken one: `broken seed 3 32 t 0 touch-blue 1`.
+pub fn soaked<W: Write>(out: &mut W, seeds: u32, outcome: SoakOutcome) -> io::Result<u8>
+    ensures { IfOk result (λ status. status ≡ status_of_soak outcome) }
+{
+    match outcome {
+        SoakOutcome::Sound => {
+            writeln!(out, "sound {seeds} seeds")?;
+            Ok(STATUS_YES)
+        }
+        SoakOutcome::Broken(SeedBreak { seed, broken: at }) => {
+            write!(out, "broken seed {seed} ")?;
+            broken(out, &at)
+        }
     }
 }

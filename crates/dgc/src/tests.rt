@@ -6,12 +6,13 @@ use std::alloc::{AllocError, Global};
 use std::io;
 use std::io::Write;
 use std::test::Fail;
+use std::thread::Threads;
 
 /// What stands before the functions: seven lines.
 pub(crate) const HEAD: &str =
     "%Node = type { i64, %Node* }\n@g = global %Node* null\ndeclare i8* @dg_alloc(i32)\ndeclare void @dg_safepoint()\ndeclare void @llvm.gcroot(i8**, i8*)\ndeclare i8* @llvm.gcread(i8*, i8**)\ndeclare void @llvm.gcwrite(i8*, i8*, i8**)\n";
 
-const ONE: &str =
+pub(crate) const ONE: &str =
     "define void @one() gc \"shadow-stack\" {\nentry:\n  %s = alloca %Node*\n  %r = bitcast %Node** %s to i8**\n  call void @llvm.gcroot(i8** %r, i8* null)\n  %a = call i8* @dg_alloc(i32 0)\n  %x = bitcast i8* %a to %Node*\n  store %Node* %x, %Node** %s\n  ret void\n}\n";
 
 const ONE_CERTIFIED: &str = "cert 1\nfunction @one none\nend\n";
@@ -29,8 +30,39 @@ pub(crate) fn joined(alloc: Global, texts: &[&str]) -> Result<Vec<u8>, AllocErro
     Ok(bytes)
 }
 
+/// The status with which a command ends, and what it prints as its answer and as its fault.
+#[derive(Clone, Copy, Debug)]
+pub(crate) struct Printed<'a> {
+    pub(crate) status: u8,
+    pub(crate) out: &'a str,
+    pub(crate) err: &'a str,
+}
+
+/// Whether a command on these two texts prints this, and ends so.
+pub(crate) fn does(
+    rt: &(impl Threads + Sync),
+    alloc: Global,
+    line: &Line<'_>,
+    first: &[&str],
+    second: &str,
+    wanted: &Printed<'_>,
+) -> Result<bool, AllocError> {
+    let mut files = Vec::new(alloc);
+    files.push(Some(joined(alloc, first)?))?;
+    files.push(Some(joined(alloc, [second].as_slice())?))?;
+    let mut out = Vec::new(alloc);
+    let mut err = Vec::new(alloc);
+    let status = work(rt, alloc, line, files.as_slice(), &mut out, &mut err);
+    Ok(
+        status == wanted.status
+            && out.as_slice() == wanted.out.as_bytes()
+            && err.as_slice() == wanted.err.as_bytes(),
+    )
+}
+
 /// Whether a check of these texts prints this, and ends so.
 pub(crate) fn prints(
+    rt: &(impl Threads + Sync),
     alloc: Global,
     module: &[&str],
     certificate: &str,
@@ -38,17 +70,8 @@ pub(crate) fn prints(
     out: &str,
     err: &str,
 ) -> Result<bool, AllocError> {
-    let mut files = Vec::new(alloc);
-    files.push(Some(joined(alloc, module)?))?;
-    files.push(Some(joined(alloc, [certificate].as_slice())?))?;
-    let mut printed = Vec::new(alloc);
-    let mut faults = Vec::new(alloc);
-    let ended = work(alloc, &CHECK, files.as_slice(), &mut printed, &mut faults);
-    Ok(
-        ended == status
-            && printed.as_slice() == out.as_bytes()
-            && faults.as_slice() == err.as_bytes(),
-    )
+    let wanted = Printed { status, out, err };
+    does(rt, alloc, &CHECK, module, certificate, &wanted)
 }
 
 #[test]
@@ -56,6 +79,7 @@ fn accepts(rt: HostRuntime) -> Result<(), Fail> {
     let alloc = rt.alloc();
     assert!(rt;
         prints(
+            &rt,
             alloc,
             [HEAD, ONE].as_slice(),
             ONE_CERTIFIED,
@@ -64,7 +88,17 @@ fn accepts(rt: HostRuntime) -> Result<(), Fail> {
             ""
         )?
     );
-    assert!(rt; prints(alloc, [""].as_slice(), "cert 1", STATUS_YES, "yes 0\n", "")?);
+    assert!(rt;
+        prints(
+            &rt,
+            alloc,
+            [""].as_slice(),
+            "cert 1",
+            STATUS_YES,
+            "yes 0\n",
+            ""
+        )?
+    );
     Ok(())
 }
 
@@ -106,6 +140,7 @@ fn names_the_fault_of_a_module(rt: HostRuntime) -> Result<(), Fail> {
         let module = [HEAD, function];
         assert!(rt;
             prints(
+                &rt,
                 rt.alloc(),
                 module.as_slice(),
                 "cert 1\n",
@@ -135,6 +170,7 @@ fn names_the_fault_of_a_certificate(rt: HostRuntime) -> Result<(), Fail> {
         let module = [HEAD, ONE];
         assert!(rt;
             prints(
+                &rt,
                 rt.alloc(),
                 module.as_slice(),
                 certificate,
@@ -166,6 +202,7 @@ fn names_the_fault_of_the_layouts(rt: HostRuntime) -> Result<(), Fail> {
     ];
     assert!(rt;
         prints(
+            &rt,
             alloc,
             wide.as_slice(),
             "cert 1\n",
@@ -176,6 +213,7 @@ fn names_the_fault_of_the_layouts(rt: HostRuntime) -> Result<(), Fail> {
     );
     assert!(rt;
         prints(
+            &rt,
             alloc,
             ["%T = type { i8* }\n"].as_slice(),
             "cert 1\n",
@@ -265,6 +303,7 @@ fn names_the_first_refusal(rt: HostRuntime) -> Result<(), Fail> {
         let module = [HEAD, begin, first, second, "  ret void\n}\n"];
         assert!(rt;
             prints(
+                &rt,
                 rt.alloc(),
                 module.as_slice(),
                 certificate,
@@ -290,6 +329,7 @@ fn names_the_function_that_is_refused(rt: HostRuntime) -> Result<(), Fail> {
     let certificate = "cert 1\nfunction @one none\nend\nfunction @two none\nend\n";
     assert!(rt;
         prints(
+            &rt,
             rt.alloc(),
             second.as_slice(),
             certificate,
@@ -307,7 +347,7 @@ fn refuses_a_long_text(rt: HostRuntime) -> Result<(), Fail> {
     let files = vec![in alloc; Some(vec![in alloc; b' '; 16_777_217]?), None]?;
     let mut out = Vec::new(alloc);
     let mut err = Vec::new(alloc);
-    let status = work(alloc, &CHECK, files.as_slice(), &mut out, &mut err);
+    let status = work(&rt, alloc, &CHECK, files.as_slice(), &mut out, &mut err);
     assert_eq!(rt; status, STATUS_UNREADABLE);
     assert!(rt; out.is_empty() && err.as_slice() == b"error L8 1:16777217\n".as_slice());
     Ok(())
@@ -326,7 +366,7 @@ fn names_the_file_that_cannot_be_read(rt: HostRuntime) -> Result<(), Fail> {
         let mut out = Vec::new(alloc);
         let mut err = Vec::new(alloc);
         assert_eq!(rt;
-            work(alloc, &CHECK, files, &mut out, &mut err),
+            work(&rt, alloc, &CHECK, files, &mut out, &mut err),
             STATUS_USAGE
         );
         assert!(rt; out.is_empty() && err.as_slice() == fault.as_bytes());
@@ -353,6 +393,7 @@ fn ends_with_a_failed_write(rt: HostRuntime) -> Result<(), Fail> {
     let alloc = rt.alloc();
     let mut files: Vec<Option<Vec<u8>>> = Vec::new(alloc);
     let status = work(
+        &rt,
         alloc,
         &CHECK,
         files.as_slice(),
@@ -363,6 +404,7 @@ fn ends_with_a_failed_write(rt: HostRuntime) -> Result<(), Fail> {
     files.push(Some(Vec::new(alloc)))?;
     files.push(Some(joined(alloc, ["cert 1"].as_slice())?))?;
     let status = work(
+        &rt,
         alloc,
         &CHECK,
         files.as_slice(),

@@ -1,100 +1,17 @@
 //! The commands, from the bytes of their files to the printed lines and the status.
-use crate::report;
+use crate::checking::check_files;
+use crate::replaying::replay_files;
 use crate::report::STATUS_USAGE;
-use certificate::{Certs, read_cert};
+use crate::soaking::soak_files;
 use command_line::Line;
-use ir_ast::Module;
-use ir_text::read;
-use module_check::{NotAccepted, Refusal, Verdict, check};
 use std::alloc::Global;
-use std::io;
 use std::io::Write;
-
-fn report_refusal<O: Write, E: Write>(
-    alloc: Global,
-    answer: &NotAccepted,
-    refusal: &Refusal,
-    out: &mut O,
-    err: &mut E,
-) -> io::Result<u8> {
-    match report::line_of_refusal(alloc, &answer.of_module, &answer.certs, refusal) {
-        Ok(line) => report::refused(out, &answer.of_module, refusal, line.as_slice()),
-        Err(_) => report::memory(err),
-    }
-}
-
-fn report_verdict<O: Write, E: Write>(
-    alloc: Global,
-    answer: &NotAccepted,
-    out: &mut O,
-    err: &mut E,
-) -> io::Result<u8> {
-    match answer.verdict {
-        Verdict::Refused(refusal) => report_refusal(alloc, answer, &refusal, out, err),
-        Verdict::Layout(fault) => report::no_layouts(err, &answer.of_module, fault),
-        Verdict::Memory => report::memory(err),
-    }
-}
-
-fn check_certs<O: Write, E: Write>(
-    alloc: Global,
-    of_module: Module,
-    certs: Certs,
-    out: &mut O,
-    err: &mut E,
-) -> io::Result<u8> {
-    match check(alloc, of_module, certs) {
-        Ok(accepted) => report::accepted(out, accepted.program().module().functions.len()),
-        Err(answer) => report_verdict(alloc, &answer, out, err),
-    }
-}
-
-fn check_module<O: Write, E: Write>(
-    alloc: Global,
-    of_module: Module,
-    certificate: &[u8],
-    out: &mut O,
-    err: &mut E,
-) -> io::Result<u8> {
-    match read_cert(alloc, certificate, &of_module) {
-        Ok(certs) => check_certs(alloc, of_module, certs, out, err),
-        Err(fault) => report::no_certificate(err, &of_module, fault),
-    }
-}
-
-/// The bytes of the file at this place of the line, if it can be read.
-fn file_at(files: &[Option<Vec<u8>>], place: usize) -> Option<&[u8]> {
-    match files.get(place) {
-        Some(Some(bytes)) => Some(bytes.as_slice()),
-        _ => None,
-    }
-}
-
-/// Checks the module and the certificate of these paths. The first fault counts: of each file in the line's order, its
-/// path and then its text, then of the layouts, then of the check.
-fn check_files<O: Write, E: Write>(
-    alloc: Global,
-    paths: (&str, &str),
-    files: &[Option<Vec<u8>>],
-    out: &mut O,
-    err: &mut E,
-) -> io::Result<u8> {
-    let Some(text) = file_at(files, 0) else {
-        return report::no_file(err, paths.0);
-    };
-    let of_module = match read(alloc, text) {
-        Ok(of_module) => of_module,
-        Err(fault) => return report::no_module(err, &fault),
-    };
-    match file_at(files, 1) {
-        Some(certificate) => check_module(alloc, of_module, certificate, out, err),
-        None => report::no_file(err, paths.1),
-    }
-}
+use std::thread::Threads;
 
 /// Does the command of a line on the bytes of its files, in the line's order; None is a file that cannot be read.
 /// Answers the status with which the program ends.
 pub fn work<O: Write, E: Write>(
+    rt: &(impl Threads + Sync),
     alloc: Global,
     line: &Line<'_>,
     files: &[Option<Vec<u8>>],
@@ -106,6 +23,24 @@ pub fn work<O: Write, E: Write>(
             module_path,
             certificate_path,
         } => check_files(alloc, (module_path, certificate_path), files, out, err),
+        Line::Replay {
+            module_path,
+            trace_path,
+        } => replay_files(alloc, (module_path, trace_path), files, out, err),
+        Line::Soak {
+            module_path,
+            trace_path,
+            seeds,
+            steps,
+        } => soak_files(
+            rt,
+            alloc,
+            (module_path, trace_path),
+            (seeds, steps),
+            files,
+            out,
+            err,
+        ),
     };
     match done {
         Ok(status) => status,

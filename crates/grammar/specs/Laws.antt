@@ -6,9 +6,11 @@ use Rattle.grammar.specs.Outcome.{Outcome, Parser, and_then}
 abbrev given : {S E A : Type 0} → A × S → Outcome S E A
 given p = Ok p
 
+-- a value was read, and the text goes on there
 abbrev pub done : {S E A : Type 0} → A → S → Outcome S E A
 done a i = Ok (a, i)
 
+-- nothing was read, for this fault
 abbrev pub failed : {S E A : Type 0} → E → Outcome S E A
 failed e = Err e
 
@@ -47,6 +49,7 @@ tested S E false e a i o h = absurd cc
 pub tested_again : (S E : Type 0) (t : Bool) (e : E) (a : Unit {0}) (i o : S) → (t ≡ true) × (i ≡ o) → cond t (done tt i) (Err e) ≡ done a o
 tested_again S E t e a i o h = rw (h.0, h.1) refl
 
+-- a form without a value was read
 abbrev pub passed : {S E : Type 0} → S → Outcome S E (Unit {0})
 passed i = Ok (tt, i)
 

@@ -1,9 +1,11 @@
 -- What reading gives: a value and the state from which reading goes on, or a fault.
 use Rattle.std.specs.Prelude.{◌≡◌, ◌≢◌, Result, Ok, Err}
 
+-- what reading gives: a value and where the text goes on, or a fault
 abbrev pub Outcome : (S E A : Type 0) → Type 0
 Outcome S E A = Result (A × S) E
 
+-- reading from a place on
 abbrev pub Parser : (S E A : Type 0) → Type 0
 Parser S E A = S → Outcome S E A
 

@@ -11,13 +11,16 @@ use Rattle.ir_cursor.specs.declared.fault.Fault.TheVariants.{BadByte, Unfinished
 use Rattle.ir_cursor.specs.Place.{Place}
 use denote.Enum.Bare.{sameb}
 
+-- two kinds of token are the same
 unfoldable pub same_kind : Kind → Kind → Bool
 same_kind = sameb the_type
 
+-- the kind of the first of these tokens; the end of the text is a kind of its own
 abbrev pub kind_first : List Token → Kind
 kind_first [] = k.End
 kind_first (t ∷ ts) = t.kind
 
+-- the tokens behind the first one
 abbrev pub rest_of : List Token → List Token
 rest_of [] = []
 rest_of (t ∷ ts) = ts
@@ -30,6 +33,7 @@ kind c = kind_first c.rest
 unfoldable pub kind_behind : Place → Kind
 kind_behind c = kind_first (rest_of c.rest)
 
+-- the first token is the first one of its line
 abbrev pub begins_first : List Token → Bool
 begins_first [] = false
 begins_first (t ∷ ts) = t.begins_line
@@ -42,6 +46,7 @@ begins_line c = begins_first c.rest
 unfoldable pub sees : Kind → Place → Bool
 sees k c = same_kind (kind c) k
 
+-- where the first token starts, or else where the text ends
 abbrev pub start_first : List Token → ℕ → ℕ
 start_first [] end = end
 start_first (t ∷ ts) end = t.start
@@ -50,6 +55,7 @@ start_first (t ∷ ts) end = t.start
 unfoldable pub start : Place → ℕ
 start c = start_first c.rest (length c.text)
 
+-- how many bytes the first token has
 abbrev pub size_first : List Token → ℕ
 size_first [] = 0
 size_first (t ∷ ts) = t.length
@@ -71,6 +77,7 @@ abbrev pub end_fault : Option ℕ → ℕ → Fault
 end_fault None end = Unfinished end
 end_fault (Some bad) end = BadByte bad
 
+-- the fault at the end of the tokens: a bad byte behind them, or an unfinished text
 unfoldable pub at_end : Place → Fault
 at_end c = end_fault c.bad (length c.text)
 
@@ -89,6 +96,7 @@ refused unread c = if sees k.End c then at_end c else (if unread || sees k.LeftO
 unfoldable pub name : Place → List ℕ
 name c = drop 1 (spelling c)
 
+-- the name that the first token spells
 abbrev pub spelled_first : List ℕ → List Token → List ℕ
 spelled_first text [] = []
 spelled_first text (t ∷ ts) = name_of text t

@@ -2,6 +2,7 @@
 use Rattle.std.specs.Prelude.{ℕ, List, Option}
 use Rattle.ir_tokens.specs.declared.token.Token.{Token}
 
+-- a place in a text that is read
 pub record Place : Type 0 where
   -- the bytes of the whole text
   pub text : List ℕ

@@ -3,6 +3,7 @@ use Rattle.std.specs.Prelude.{ℕ, List, [], ◌∷◌, ◌++◌, Option, Some, 
 use Rattle.ir_ast.specs.Names.{place_of, numbered}
 use Rattle.ir_cursor.specs.declared.table.Table.{Table}
 
+-- a table without a name
 abbrev pub empty : {S : Type 0} → Table S
 empty = record { names = []; sorts = [] }
 

@@ -3,6 +3,7 @@ use Rattle.std.specs.Prelude.{◌≡◌, length}
 use Rattle.ir_cursor.specs.declared.cursor.Cursor.TheInside.{Inside}
 use Rattle.ir_cursor.specs.Place.{Place}
 
+-- a cursor of the code as a place
 abbrev pub place_of : Inside → Place
 place_of c = record { text = c.text.now; rest = c.rest.now; bad = c.bad }
 

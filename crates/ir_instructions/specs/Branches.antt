@@ -26,6 +26,7 @@ use Rattle.ir_instructions.specs.ManyWith.{many_with}
 
 -- ---- br
 
+-- `label %b`
 abbrev pub jump : Form Op
 jump = target >>= λ b. pure (op.Jump b)
 
@@ -39,6 +40,7 @@ branch = do
   other ← target
   pure (op.Branch x.written x.operand taken other)
 
+-- what stands behind `br`: a jump, or a branch on a value
 abbrev pub br_behind : Form Op
 br_behind = look (λ i. sees k.Label i.cursor) (either jump branch)
 
@@ -52,12 +54,15 @@ br = skip >> br_behind
 unfoldable pub case_constant : Option ℕ → List CaseValue → Form Constant
 case_constant bits seen = look (λ i. start i.cursor) (λ place. constant bits >>= λ x. checked (λ _. not (is_among (value_of x) seen)) (λ _. DefinedTwice place) >> pure x)
 
+-- a case with this constant and the block that is read
 abbrev pub case_target : Constant → Form Case
 case_target x = target >>= λ b. pure (record { constant = x; target = b })
 
+-- what stands behind the constant of a case
 abbrev pub case_of : Constant → Form Case
 case_of x = expect k.Comma >> case_target x
 
+-- a case behind its type: a constant that no case before it has, and the block
 abbrev pub case_behind : Cases → Form Case
 case_behind c = case_constant (bits_of c.written) c.seen >>= case_of
 
@@ -75,9 +80,11 @@ pub case_takes : (c : Cases) → Takes (case c)
 unfolding case
 case_takes c = second_takes (again c.written) (λ _. case_behind c) (λ _. case_behind_takes c)
 
+-- the list of cases ends here
 abbrev pub at_square : Cases → Input → Bool
 at_square c i = sees k.CloseSquare i.cursor
 
+-- the list of cases with this one behind it
 abbrev pub behind_case : Cases → Case → Cases
 behind_case c x = record c { seen = with_value (value_of x.constant) c.seen }
 
@@ -93,6 +100,7 @@ bracketed_cases w = do
   expect k.CloseSquare
   pure xs
 
+-- what stands behind `switch`
 abbrev pub switch_behind : Form Op
 switch_behind = do
   w ← scalar
@@ -108,9 +116,11 @@ switch = skip >> switch_behind
 
 -- ---- ret
 
+-- `T V`
 abbrev pub returned_value : Form Op
 returned_value = typed >>= λ x. pure (op.Return x)
 
+-- what stands behind `ret`
 abbrev pub ret_behind : Form Op
 ret_behind = look (λ i. sees k.Void i.cursor) (either (skip >> pure op.ReturnVoid) returned_value)
 
@@ -120,6 +130,7 @@ ret = skip >> ret_behind
 
 -- ---- by the word
 
+-- the instruction that ends a block, by the word with which it begins
 abbrev pub terminator_by : Kind → Form Op
 terminator_by k.Ret = ret
 terminator_by k.Br = br
@@ -154,6 +165,7 @@ pub terminator_takes : Takes terminator
 unfolding terminator
 terminator_takes = look_takes (λ i. kind i.cursor) terminator_by terminator_takes_by
 
+-- an instruction that begins with this token ends its block
 abbrev pub ends_block : Kind → Bool
 ends_block k.Ret = true
 ends_block k.Br = true

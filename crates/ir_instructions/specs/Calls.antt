@@ -16,6 +16,7 @@ use Rattle.ir_instructions.specs.Decorations.{decorations, trailed}
 use Rattle.ir_instructions.specs.declared.decorating.Spot.TheVariants as spot
 use Rattle.ir_instructions.specs.Lists.{arguments}
 
+-- the name of the function that is called
 abbrev pub called_by : Kind → Form ℕ
 called_by k.GlobalName = callee
 called_by _ = refuse (unread is_indirect_callee)
@@ -63,6 +64,7 @@ unnamed op = trailed op >>= λ x. pure (record { result = None; op = x })
 unfoldable pub void_call : Form Op
 void_call = skip >> intern type.Void >>= call_behind
 
+-- a call whose result is this value
 abbrev pub valued_call : ℕ → Form Instr
 valued_call value = typed_call value >>= valued value
 
@@ -70,10 +72,12 @@ valued_call value = typed_call value >>= valued value
 unfoldable pub numbered_call : Form Instr
 numbered_call = unnamed_value >>= valued_call
 
+-- a call that is an instruction without a written result: one of `void`, or one whose result takes the next number
 abbrev pub call_by : Kind → Form Instr
 call_by k.Void = void_call >>= unnamed
 call_by _ = numbered_call
 
+-- what stands behind `call`, with what decorates the result
 abbrev pub call_statement_behind : Form Instr
 call_statement_behind = decorations spot.Result >> look (λ i. kind i.cursor) call_by
 
@@ -83,6 +87,7 @@ call_statement = skip >> call_statement_behind
 
 -- ---- words before a call
 
+-- `tail` or `notail`, before `call`
 abbrev pub sees_call : Form (Unit {0})
 sees_call = skip >> sees_a k.Call
 
@@ -90,5 +95,6 @@ sees_call = skip >> sees_a k.Call
 unfoldable pub tail_call : ℕ → Form Op
 tail_call value = sees_call >> call value
 
+-- `tail call ..` or `notail call ..`
 unfoldable pub tail_call_statement : Form Instr
 tail_call_statement = sees_call >> call_statement

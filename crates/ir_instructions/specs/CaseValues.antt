@@ -12,6 +12,7 @@ value_of (c.Number number) = v.Number number
 value_of c.Null = v.Null
 value_of (c.Truth truth) = if truth then v.True else v.False
 
+-- two constants of a switch are one value
 abbrev pub is_same_value : CaseValue → CaseValue → Bool
 is_same_value (v.Number number) (v.Number other) = number == other
 is_same_value v.Null v.Null = true

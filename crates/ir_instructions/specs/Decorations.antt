@@ -18,6 +18,7 @@ use Rattle.ir_instructions.specs.declared.decorating.Trail.TheVariants as trail
 use Rattle.ir_instructions.specs.ManyWith.{many_with}
 use Rattle.ir_instructions.specs.Starts.{is_flag, begins_any_type}
 
+-- one form or the other
 abbrev pub either : {A : Type 0} → Form A → Form A → Bool → Form A
 either a b true = a
 either a b false = b
@@ -50,12 +51,14 @@ are_closed b i = b.depth == 0
 abbrev pub has_room : Brackets → Form (Unit {0})
 has_room b = checked (λ _. nat_lt b.depth 4294967295) limit
 
+-- a token within brackets, which may open or close one
 abbrev pub in_brackets : Brackets → Form Kind
 in_brackets b = has_room b >> any_token
 
 pub in_brackets_takes : (b : Brackets) → Takes (in_brackets b)
 in_brackets_takes b = second_takes (has_room b) (λ _. any_token) (λ _. any_token_takes)
 
+-- the brackets behind a token, which may open or close one
 abbrev pub behind_bracket : Brackets → Kind → Brackets
 behind_bracket b k.OpenRound = record b { depth = b.depth + 1 }
 behind_bracket b k.CloseRound = record b { depth = b.depth - 1 }
@@ -65,13 +68,16 @@ behind_bracket b _ = b
 unfoldable pub bracketed : Form (List Kind)
 bracketed = many_with are_closed in_brackets in_brackets_takes behind_bracket (record { depth = 1 })
 
+-- a part in brackets, up to the one that closes it
 unfoldable pub past_brackets : Form (Unit {0})
 past_brackets = bracketed >> pure tt
 
+-- the place is that of an argument
 abbrev pub is_argument : Spot → Bool
 is_argument spot.Argument = true
 is_argument _ = false
 
+-- an operand ends before this token
 abbrev pub ends_operand : Kind → Bool
 ends_operand k.Comma = true
 ends_operand k.CloseRound = true
@@ -81,6 +87,7 @@ ends_operand _ = false
 abbrev pub is_operand : Spot → Input → Bool
 is_operand s i = is_argument s && ends_operand (kind_behind i.cursor)
 
+-- what belongs to a decorating word: a part in brackets, a quoted text or a number behind it
 abbrev pub word_end_by : Spot → Kind → Form (Unit {0})
 word_end_by s k.OpenRound = skip >> past_brackets
 word_end_by s k.Quoted = skip
@@ -91,6 +98,7 @@ word_end_by s _ = pure tt
 unfoldable pub word_end : Spot → Form (Unit {0})
 word_end s = look (λ i. kind i.cursor) (word_end_by s)
 
+-- a decorating word with what belongs to it
 abbrev pub word : Spot → Form (Unit {0})
 word s = skip >> word_end s
 
@@ -101,6 +109,7 @@ abbrev pub may_be_external : Spot → Bool
 may_be_external spot.Global = false
 may_be_external _ = true
 
+-- the place is at the end of a function's head
 abbrev pub ends_head : Spot → Bool
 ends_head spot.Defined = true
 ends_head spot.Declared = true
@@ -132,6 +141,7 @@ begins_decoration s first _ = false
 abbrev pub metadata : Form (Unit {0})
 metadata = skip >> expect k.MetadataNumber
 
+-- a decoration at this place, by the token with which it begins
 abbrev pub decoration_by : Spot → Kind → Form (Unit {0})
 decoration_by s k.LowercaseWord = word s
 decoration_by s k.Align = word s
@@ -160,9 +170,11 @@ pub decoration_takes : (s : Spot) → Takes (decoration s)
 unfolding decoration
 decoration_takes s = look_takes (λ i. kind i.cursor) (decoration_by s) (decoration_takes_by s)
 
+-- no decoration of this place begins here
 abbrev pub at_no_decoration : Spot → Input → Bool
 at_no_decoration s i = not (begins_decoration s (begins_line i.cursor) (kind i.cursor))
 
+-- the place stays the same behind a decoration
 abbrev pub same_spot : Spot → Unit {0} → Spot
 same_spot s _ = s
 
@@ -176,9 +188,11 @@ decorations s = many_with at_no_decoration decoration decoration_takes same_spot
 unfoldable pub optional : Kind → Form (Unit {0})
 optional x = look (λ i. sees x i.cursor) (either skip (pure tt))
 
+-- no `nsw` or `nuw` stands here
 abbrev pub at_no_flag : Input → Bool
 at_no_flag i = not (is_flag (kind i.cursor))
 
+-- `nsw` or `nuw`
 abbrev pub flag_by : Kind → Form (Unit {0})
 flag_by k.Nsw = skip
 flag_by k.Nuw = skip
@@ -197,6 +211,7 @@ pub flag_takes : Takes flag
 unfolding flag
 flag_takes = look_takes (λ i. kind i.cursor) flag_by flag_takes_by
 
+-- the flags of an instruction that may have some
 abbrev pub flags_or : Bool → Form (Unit {0})
 flags_or true = many at_no_flag flag flag_takes >> pure tt
 flags_or false = pure tt
@@ -207,15 +222,18 @@ flags may_wrap = flags_or may_wrap
 
 -- ---- behind an instruction or a global
 
+-- an instruction of this sort may have an alignment
 abbrev pub may_align : Trail → Bool
 may_align trail.Slot = true
 may_align trail.Memory = true
 may_align trail.Other = false
 
+-- the instruction is an alloca
 abbrev pub is_slot : Trail → Bool
 is_slot trail.Slot = true
 is_slot _ = false
 
+-- `align n`, where it may stand
 abbrev pub aligned : Bool → Form (Unit {0})
 aligned true = skip >> expect k.Number
 aligned false = refuse unexpected
@@ -224,11 +242,13 @@ aligned false = refuse unexpected
 abbrev pub begins_count : Trail → Kind → Bool
 begins_count t x = is_slot t && begins_any_type x
 
+-- what may stand behind an instruction's comma: metadata or an alignment
 abbrev pub trail_by : Trail → Kind → Form (Unit {0})
 trail_by t k.MetadataName = metadata
 trail_by t k.Align = aligned (may_align t)
 trail_by t _ = refuse (unread (begins_count t))
 
+-- what stands behind a comma at an instruction's end
 abbrev pub trail_behind : Trail → Form (Unit {0})
 trail_behind t = look (λ i. kind i.cursor) (trail_by t)
 
@@ -240,9 +260,11 @@ pub comma_trail_takes : (t : Trail) → Takes (comma_trail t)
 unfolding comma_trail
 comma_trail_takes t = first_takes (expect k.Comma) (λ _. trail_behind t) (expect_takes k.Comma (λ x. cc))
 
+-- no comma follows an instruction
 abbrev pub at_no_trail : Trail → Input → Bool
 at_no_trail t i = not (sees k.Comma i.cursor)
 
+-- the sort of the instruction stays the same behind a trailing part
 abbrev pub same_trail : Trail → Unit {0} → Trail
 same_trail t _ = t
 

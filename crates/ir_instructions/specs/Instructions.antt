@@ -20,6 +20,7 @@ use Rattle.ir_instructions.specs.Memory.{alloca, bitcast, load, store, stored_he
 use Rattle.ir_instructions.specs.Phis.{phi}
 use Rattle.ir_instructions.specs.Sites.{first_of, behind}
 
+-- an instruction that gives a value, by the word with which it begins behind `=`
 abbrev pub named_op_by : Site → ℕ → Kind → Form Op
 named_op_by site value k.Alloca = alloca value
 named_op_by site value k.Bitcast = bitcast value
@@ -37,12 +38,14 @@ named_op_by site value _ = integer_op value
 unfoldable pub named_op : Site → ℕ → Form Op
 named_op site value = look (λ i. kind i.cursor) (named_op_by site value)
 
+-- what stands behind the name of a result
 abbrev pub named_behind : Site → ℕ → Form Instr
 named_behind site value = do
   expect k.Equals
   x ← named_op site value
   valued value x
 
+-- an instruction that does not end its block, by the token with which it begins
 abbrev pub instruction_by : Site → Kind → Form Instr
 instruction_by site k.LocalName = new_value >>= named_behind site
 instruction_by site k.LocalNumber = numbered_value >>= named_behind site
@@ -60,6 +63,7 @@ instruction site = look (λ i. kind i.cursor) (instruction_by site)
 abbrev pub has_place : Site → Form (Unit {0})
 has_place site = checked (λ _. nat_lt site.place 4294967295) limit
 
+-- an instruction for which its block has room
 abbrev pub placed : Site → Form Instr
 placed site = has_place site >> instruction site
 
@@ -94,6 +98,7 @@ instruction_takes site = look_takes (λ i. kind i.cursor) (instruction_by site) 
 pub placed_takes : (site : Site) → Takes (placed site)
 placed_takes site = second_takes (has_place site) (λ _. instruction site) (λ _. instruction_takes site)
 
+-- the instruction that ends the block begins here
 abbrev pub at_terminator : Site → Input → Bool
 at_terminator site i = ends_block (kind i.cursor)
 
@@ -101,9 +106,11 @@ at_terminator site i = ends_block (kind i.cursor)
 unfoldable pub body : ℕ → Form (List Instr)
 body block = many_with at_terminator placed placed_takes behind (first_of block)
 
+-- the block's instructions with this last one
 abbrev pub ended_by : List Instr → Op → Form (List Instr)
 ended_by xs op = trailed op >>= λ x. pure (xs ++ record { result = None; op = x } ∷ [])
 
+-- the block's instructions with the one that ends it
 abbrev pub ended : List Instr → Form (List Instr)
 ended xs = terminator >>= ended_by xs
 

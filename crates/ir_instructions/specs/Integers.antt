@@ -45,6 +45,7 @@ typed_pair = do
 
 -- ---- sums and the like
 
+-- the operation of two integers that a word names
 abbrev pub arithmetic_of : Kind → Option Arithmetic
 arithmetic_of k.Add = Some a.Add
 arithmetic_of k.Sub = Some a.Sub
@@ -72,6 +73,7 @@ arithmetic x value = do
 
 -- ---- changes of width
 
+-- the change of width that a word names
 abbrev pub resize_of : Kind → Option Resize
 resize_of k.Zext = Some r.ZeroExtend
 resize_of k.Sext = Some r.SignExtend
@@ -90,6 +92,7 @@ resize x value = do
 
 -- ---- comparisons
 
+-- the comparison that a word names
 abbrev pub comparison_of : Kind → Option Comparison
 comparison_of k.Eq = Some c.Equal
 comparison_of k.Ne = Some c.NotEqual
@@ -103,6 +106,7 @@ comparison_of k.Slt = Some c.SignedLess
 comparison_of k.Sle = Some c.SignedLessOrEqual
 comparison_of _ = None
 
+-- the word of a comparison
 abbrev pub comparison_by : Option Comparison → Form Comparison
 comparison_by None = refuse unexpected
 comparison_by (Some x) = skip >> pure x
@@ -123,6 +127,7 @@ compare value = do
 
 -- ---- conditions
 
+-- `i1`, with this number in the table of types
 abbrev pub bit_type : ℕ → WrittenType
 bit_type id = record { base = Integer 1; stars = 0; id = id; room = 63 }
 
@@ -146,13 +151,16 @@ select value = do
 
 -- ---- by the word
 
+-- a change of width, if the word names one
 abbrev pub resize_by : ℕ → Option Resize → Form Op
 resize_by value None = refuse unexpected
 resize_by value (Some x) = resize x value
 
+-- `zext`, `sext` or `trunc`, with what stands behind it
 unfoldable pub resized : ℕ → Form Op
 resized value = look (λ i. resize_of (kind i.cursor)) (resize_by value)
 
+-- an operation of two integers, if the word names one, or else a change of width
 abbrev pub arithmetic_by : ℕ → Option Arithmetic → Form Op
 arithmetic_by value None = resized value
 arithmetic_by value (Some x) = arithmetic x value

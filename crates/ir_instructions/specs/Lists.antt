@@ -21,6 +21,7 @@ use Rattle.ir_instructions.specs.declared.lists.IndexList.{IndexList}
 abbrev pub sees_no : Kind → Form (Unit {0})
 sees_no wanted = checked (λ i. not (sees wanted i.cursor)) unexpected
 
+-- a comma, which another part follows
 abbrev pub comma : Kind → Form (Unit {0})
 comma close = expect k.Comma >> sees_no close
 
@@ -28,9 +29,11 @@ comma close = expect k.Comma >> sees_no close
 unfoldable pub separator : Kind → Form (Unit {0})
 separator close = look (λ i. sees close i.cursor) (either (pure tt) (comma close))
 
+-- the list of arguments ends here
 abbrev pub at_round : Input → Bool
 at_round i = sees k.CloseRound i.cursor
 
+-- an argument behind its type
 abbrev pub argument_of : WrittenType → Form Argument
 argument_of w = do
   decorations spot.Argument
@@ -52,6 +55,7 @@ arguments = many at_round argument argument_takes
 
 -- ---- lists without an end of their own
 
+-- the token is a name of metadata
 abbrev pub is_metadata : Kind → Bool
 is_metadata k.MetadataName = true
 is_metadata _ = false
@@ -67,6 +71,7 @@ typed = do
 unfoldable pub index : Form Argument
 index = expect k.Comma >> typed
 
+-- an index, whichever came before it
 abbrev pub any_index : IndexList → Form Argument
 any_index s = index
 
@@ -78,9 +83,11 @@ index_takes s = first_takes (expect k.Comma) (λ _. typed) (expect_takes k.Comma
 abbrev pub at_no_comma : Input → Bool
 at_no_comma i = not (sees k.Comma i.cursor) || is_metadata (kind_behind i.cursor)
 
+-- the list of indices ends here
 abbrev pub ends_indices : IndexList → Input → Bool
 ends_indices s i = s.is_further && at_no_comma i
 
+-- the list of indices has one now
 abbrev pub behind_index : IndexList → Argument → IndexList
 behind_index s x = record s { is_further = true }
 

@@ -52,6 +52,7 @@ load value = do
   set_type value loaded.id
   pure (op.Load loaded.id place.written place.operand)
 
+-- what stands behind `store`
 abbrev pub stored_behind : Form Op
 stored_behind = do
   stored ← scalar
@@ -60,6 +61,7 @@ stored_behind = do
   place ← place_of stored
   pure (op.Store stored.id value place.written place.operand)
 
+-- a store, which may be `volatile`
 abbrev pub stored_here : Form Op
 stored_here = optional k.Volatile >> stored_behind
 

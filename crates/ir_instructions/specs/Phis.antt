@@ -21,6 +21,7 @@ unfoldable pub separated : Bool → Form (Unit {0})
 separated true = expect k.Comma
 separated false = pure tt
 
+-- an entry of a phi behind its bracket
 abbrev pub incoming_behind : Option ℕ → Form Incoming
 incoming_behind bits = do
   x ← operand bits
@@ -45,9 +46,11 @@ pub entry_takes : (e : Entries) → Takes (entry e)
 unfolding entry
 entry_takes e = second_takes (separated e.is_further) (λ _. incoming e.bits) (λ _. incoming_takes e.bits)
 
+-- the list of entries ends here
 abbrev pub ends_entries : Entries → Input → Bool
 ends_entries e i = e.is_further && at_no_comma i
 
+-- the list of entries has one now
 abbrev pub behind_entry : Entries → Incoming → Entries
 behind_entry e x = record e { is_further = true }
 

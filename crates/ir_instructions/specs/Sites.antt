@@ -5,6 +5,7 @@ use Rattle.ir_ast.specs.declared.op.Op.TheVariants as op
 use Rattle.ir_ast.specs.declared.instr.Instr.{Instr}
 use Rattle.ir_instructions.specs.declared.site.Site.{Site}
 
+-- the instruction is a phi
 abbrev pub is_phi : Op → Bool
 is_phi (op.Phi written incoming) = true
 is_phi _ = false

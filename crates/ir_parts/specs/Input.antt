@@ -20,9 +20,11 @@ use denote.Enum.Bare.{same_true}
 unfoldable pub left : Input → ℕ
 left i = length i.cursor.rest
 
+-- what reading a part of a module's text gives
 abbrev pub Outcome : Type 0 → Type 0
 Outcome A = outcome.Outcome Input Fault A
 
+-- a form of a module's text
 abbrev pub Form : Type 0 → Type 1
 Form A = Grammar Input Fault left A
 
@@ -66,6 +68,7 @@ unread is_unread i = refused (is_unread (kind i.cursor)) i.cursor
 
 -- ---- a token
 
+-- behind the next token
 abbrev pub advanced : Input → Input
 advanced i = record i { cursor = next i.cursor }
 

@@ -35,6 +35,7 @@ is_new is_defined = checked (λ i. not (is_defined i)) (λ i. DefinedTwice (star
 
 -- ---- numbers in place of names
 
+-- the next number of the function is taken
 abbrev pub with_number_taken : Input → Input
 with_number_taken i = record i { unnamed = i.unnamed + 1 }
 
@@ -42,6 +43,7 @@ pub with_number_taken_falls : (i : Input) → left (with_number_taken i) ≤ lef
 unfolding left
 with_number_taken_falls i = omega arith
 
+-- a number of 32 bits is left in the function
 abbrev pub has_further_number : Form (Unit {0})
 has_further_number = checked (λ i. nat_lt i.unnamed 4294967295) limit
 
@@ -49,6 +51,7 @@ has_further_number = checked (λ i. nat_lt i.unnamed 4294967295) limit
 unfoldable pub take_number : Form (Unit {0})
 take_number = has_further_number >> step (λ _. tt) with_number_taken with_number_taken_falls
 
+-- the number is written, and is the wanted one
 abbrev pub is_at : ℕ → Option ℕ → Bool
 is_at wanted None = false
 is_at wanted (Some place) = place == wanted
@@ -57,6 +60,7 @@ is_at wanted (Some place) = place == wanted
 abbrev pub is_written_next : Input → Bool
 is_written_next i = is_at i.unnamed (small (decimal (spelled i.cursor)))
 
+-- the written number is the next one of its function
 abbrev pub is_next : Form (Unit {0})
 is_next = checked is_written_next (λ i. WrongNumber (start i.cursor))
 
@@ -74,14 +78,17 @@ next_number_keeps i a o x h is =
 
 -- ---- names of structs
 
+-- the name is that of a struct type that was defined
 abbrev pub is_struct : Option (Option ℕ) → Bool
 is_struct None = false
 is_struct (Some None) = false
 is_struct (Some (Some layout)) = true
 
+-- the number of the struct name that stands here
 abbrev pub struct_number : Input → ℕ
 struct_number i = number_of (spelled i.cursor) i.struct_names.names
 
+-- a struct name is used here
 abbrev pub with_struct_use : Input → Input
 with_struct_use i = record (advanced i) {
   struct_names = mentioned (spelled i.cursor) None i.struct_names;
@@ -92,6 +99,7 @@ pub with_struct_use_falls : (i : Input) → left (with_struct_use i) ≤ left i
 unfolding left
 with_struct_use_falls i = next_falls i
 
+-- the name has a number of 32 bits
 abbrev pub struct_name_rules : Form (Unit {0})
 struct_name_rules = has_number struct_number
 
@@ -99,9 +107,11 @@ struct_name_rules = has_number struct_number
 unfoldable pub struct_name : Form ℕ
 struct_name = struct_name_rules >> step struct_number with_struct_use with_struct_use_falls
 
+-- the struct name that stands here was defined before
 abbrev pub is_known_struct : Input → Bool
 is_known_struct i = is_struct (slice_get (mentioned (spelled i.cursor) None i.struct_names).sorts (struct_number i))
 
+-- the struct name that stands here is defined here
 abbrev pub with_struct : Input → Input
 with_struct i = record (advanced i) {
   struct_names = defined (struct_number i) (Some (length i.structs)) (mentioned (spelled i.cursor) None i.struct_names);
@@ -111,6 +121,7 @@ pub with_struct_falls : (i : Input) → left (with_struct i) ≤ left i
 unfolding left
 with_struct_falls i = next_falls i
 
+-- there are numbers for the name and its struct, and it was not defined before
 abbrev pub new_struct_rules : Form (Unit {0})
 new_struct_rules = has_number struct_number >> has_number (λ i. length i.structs) >> is_new is_known_struct
 
@@ -120,6 +131,7 @@ new_struct = new_struct_rules >> step struct_number with_struct with_struct_fall
 
 -- ---- global names
 
+-- the name is that of a global or a function
 abbrev pub is_symbol : Option SymbolSort → Bool
 is_symbol None = false
 is_symbol (Some symbol.Unknown) = false
@@ -127,6 +139,7 @@ is_symbol (Some (symbol.Global g)) = true
 is_symbol (Some (symbol.Declared d)) = true
 is_symbol (Some (symbol.Defined f)) = true
 
+-- the name is that of a function
 abbrev pub is_function : Option SymbolSort → Bool
 is_function None = false
 is_function (Some symbol.Unknown) = false
@@ -134,6 +147,7 @@ is_function (Some (symbol.Global g)) = false
 is_function (Some (symbol.Declared d)) = true
 is_function (Some (symbol.Defined f)) = true
 
+-- the number of the global name that stands here
 abbrev pub symbol_number : Input → ℕ
 symbol_number i = number_of (spelled i.cursor) i.symbols.names
 
@@ -141,9 +155,11 @@ symbol_number i = number_of (spelled i.cursor) i.symbols.names
 abbrev pub not_left_out : Form (Unit {0})
 not_left_out = checked (λ i. not (is_left_out (spelled i.cursor))) (λ i. left_out i.cursor)
 
+-- the global name that stands here was defined before
 abbrev pub is_known_symbol : Input → Bool
 is_known_symbol i = is_symbol (slice_get (mentioned (spelled i.cursor) symbol.Unknown i.symbols).sorts (symbol_number i))
 
+-- the global name that stands here is defined here, as this
 abbrev pub with_symbol : SymbolSort → Input → Input
 with_symbol sort i = record (advanced i) { symbols = defined (symbol_number i) sort (mentioned (spelled i.cursor) symbol.Unknown i.symbols) }
 
@@ -151,6 +167,7 @@ pub with_symbol_falls : (sort : SymbolSort) (i : Input) → left (with_symbol so
 unfolding left
 with_symbol_falls sort i = next_falls i
 
+-- the name is none that is left out, has a number of 32 bits, and was not defined before
 abbrev pub new_symbol_rules : Form (Unit {0})
 new_symbol_rules = not_left_out >> has_number symbol_number >> is_new is_known_symbol
 
@@ -158,6 +175,7 @@ new_symbol_rules = not_left_out >> has_number symbol_number >> is_new is_known_s
 unfoldable pub new_symbol : SymbolSort → Form ℕ
 new_symbol sort = new_symbol_rules >> step symbol_number (with_symbol sort) (with_symbol_falls sort)
 
+-- a global name is used here, in a call or as an operand
 abbrev pub with_symbol_use : Bool → Input → Input
 with_symbol_use is_call i = record (advanced i) {
   symbols = mentioned (spelled i.cursor) symbol.Unknown i.symbols;
@@ -190,6 +208,7 @@ used_global = checked (λ i. not (is_intrinsic (spelled i.cursor))) (λ i. left_
 
 -- ---- local names
 
+-- the name is that of a value or a block of its function
 abbrev pub is_local : Option LocalSort → Bool
 is_local None = false
 is_local (Some local.Unknown) = false
@@ -197,9 +216,11 @@ is_local (Some (local.Value t)) = true
 is_local (Some (local.Element block place)) = true
 is_local (Some (local.Block b)) = true
 
+-- the number of the local name that stands here
 abbrev pub local_number : Input → ℕ
 local_number i = number_of (local_key i.cursor) i.locals.names
 
+-- a local name is used here, as a value or a block
 abbrev pub with_local_use : Wanted → Input → Input
 with_local_use wanted i = record (advanced i) {
   locals = mentioned (local_key i.cursor) local.Unknown i.locals;
@@ -218,6 +239,7 @@ used_local wanted = has_number local_number >> step local_number (with_local_use
 abbrev pub used_value : Form ℕ
 used_value = used_local wants.Value
 
+-- the name of a block that is used here
 abbrev pub used_label_by : Wanted → Kind → Form ℕ
 used_label_by wanted k.LocalName = used_local wanted
 used_label_by wanted k.LocalNumber = used_local wanted
@@ -235,9 +257,11 @@ incoming_label = used_label wants.Block
 unfoldable pub target : Form ℕ
 target = expect k.Label >> used_label wants.Target
 
+-- the local name that stands here was defined before
 abbrev pub is_known_local : Input → Bool
 is_known_local i = is_local (slice_get (mentioned (local_key i.cursor) local.Unknown i.locals).sorts (local_number i))
 
+-- the local name that stands here is that of a new value
 abbrev pub with_value : Input → Input
 with_value i = record (advanced i) { locals = mentioned (local_key i.cursor) local.Unknown i.locals; values = i.values + 1 }
 
@@ -249,6 +273,7 @@ with_value_falls i = next_falls i
 abbrev pub has_value_room : Form (Unit {0})
 has_value_room = checked (λ i. nat_lt i.values 1000000) limit
 
+-- the name has a number of 32 bits and was not defined before, and the function has room for a value
 abbrev pub new_value_rules : Form (Unit {0})
 new_value_rules = has_number local_number >> is_new is_known_local >> has_value_room
 
@@ -260,9 +285,11 @@ new_value = new_value_rules >> step local_number with_value with_value_falls
 unfoldable pub numbered_value : Form ℕ
 numbered_value = next_number >> new_value
 
+-- the number of the local name with this key
 abbrev pub key_number : List ℕ → Input → ℕ
 key_number key i = number_of key i.locals.names
 
+-- a value with this key is new, and no name is written
 abbrev pub with_unwritten_value : List ℕ → Input → Input
 with_unwritten_value key i = record i { locals = mentioned key local.Unknown i.locals; values = i.values + 1 }
 
@@ -270,6 +297,7 @@ pub with_unwritten_value_falls : (key : List ℕ) (i : Input) → left (with_unw
 unfolding left
 with_unwritten_value_falls key i = omega arith
 
+-- a new value with this key
 abbrev pub value_of_key : List ℕ → Form ℕ
 value_of_key key = has_number (key_number key) >> has_value_room >> step (key_number key) (with_unwritten_value key) (with_unwritten_value_falls key)
 
@@ -277,6 +305,7 @@ value_of_key key = has_number (key_number key) >> has_value_room >> step (key_nu
 unfoldable pub unnamed_value : Form ℕ
 unnamed_value = look (λ i. text.decimal i.unnamed) (λ key. take_number >> value_of_key key)
 
+-- the local name is known to be this
 abbrev pub with_sort : ℕ → LocalSort → Input → Input
 with_sort value sort i = record i { locals = defined value sort i.locals }
 
@@ -296,6 +325,7 @@ set_type value shown = set_sort value (local.Value shown)
 abbrev pub set_element : ℕ → ℕ → ℕ → Form (Unit {0})
 set_element value block place = set_sort value (local.Element block place)
 
+-- the local name that stands here is that of this block
 abbrev pub with_label : ℕ → Input → Input
 with_label block i = record (advanced i) { locals = defined (local_number i) (local.Block block) (mentioned (local_key i.cursor) local.Unknown i.locals) }
 
@@ -303,6 +333,7 @@ pub with_label_falls : (block : ℕ) (i : Input) → left (with_label block i) �
 unfolding left
 with_label_falls block i = next_falls i
 
+-- the name has a number of 32 bits and was not defined before
 abbrev pub label_rules : Form (Unit {0})
 label_rules = has_number local_number >> is_new is_known_local
 
@@ -314,6 +345,7 @@ new_label block = label_rules >> step local_number (with_label block) (with_labe
 unfoldable pub numbered_label : ℕ → Form ℕ
 numbered_label block = next_number >> new_label block
 
+-- the block has this key, and no label is written
 abbrev pub with_unwritten_label : List ℕ → ℕ → Input → Input
 with_unwritten_label key block i = record i { locals = defined (key_number key i) (local.Block block) (mentioned key local.Unknown i.locals) }
 
@@ -321,6 +353,7 @@ pub with_unwritten_label_falls : (key : List ℕ) (block : ℕ) (i : Input) → 
 unfolding left
 with_unwritten_label_falls key block i = omega arith
 
+-- the label of this block, with this key
 abbrev pub label_of_key : ℕ → List ℕ → Form ℕ
 label_of_key block key = has_number (key_number key) >> step (key_number key) (with_unwritten_label key block) (with_unwritten_label_falls key block)
 
@@ -332,6 +365,7 @@ unnamed_label block = look (λ i. text.decimal i.unnamed) (λ key. take_number >
 unfoldable pub quoted : Form (List ℕ)
 quoted = sees_a k.Quoted >> step (λ i. spelled i.cursor) advanced advanced_falls
 
+-- a use of a name as a value
 abbrev pub wants_value : Wanted → Bool
 wants_value wants.Value = true
 wants_value wants.Block = false

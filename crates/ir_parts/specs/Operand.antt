@@ -48,6 +48,7 @@ truth_of (Some bits) truth = if bits == 1 then c.Number (if truth then 1 else 0)
 unfoldable pub number_at : Option ℕ → Input → Option ℕ
 number_at bits i = numbers.constant (spelling i.cursor) (unwrap_or bits 64)
 
+-- the number that stands here as a constant of so many bits, or 0
 abbrev pub number_or_zero : Option ℕ → Input → Constant
 number_or_zero bits i = c.Number (unwrap_or (number_at bits i) 0)
 
@@ -55,6 +56,7 @@ number_or_zero bits i = c.Number (unwrap_or (number_at bits i) 0)
 unfoldable pub number : Option ℕ → Form Constant
 number bits = checked (λ i. is_some (number_at bits i)) (λ i. OutOfRange (start i.cursor)) >> step (number_or_zero bits) advanced advanced_falls
 
+-- a constant of a type of so many bits, or of a pointer type, by the token with which it begins
 abbrev pub constant_by : Option ℕ → Kind → Form Constant
 constant_by bits k.Number = number bits
 constant_by bits k.True = skip >> pure (truth_of bits true)
@@ -80,6 +82,7 @@ begins_other_operand k.Undef = true
 begins_other_operand k.Zeroinitializer = true
 begins_other_operand x = begins_unread_operand x
 
+-- the global that a constant bitcast has as its operand
 abbrev pub cast_operand_by : Kind → Form ℕ
 cast_operand_by k.GlobalName = used_global
 cast_operand_by _ = refuse (unread begins_other_operand)
@@ -88,6 +91,7 @@ cast_operand_by _ = refuse (unread begins_other_operand)
 unfoldable pub cast_operand : Form ℕ
 cast_operand = look (λ i. kind i.cursor) cast_operand_by
 
+-- the type to which a global is cast
 abbrev pub cast_to : WrittenType → ℕ → Form Operand
 cast_to from global = do
   expect k.To
@@ -95,6 +99,7 @@ cast_to from global = do
   expect k.CloseRound
   pure (o.CastGlobal from.id global to.id)
 
+-- what stands behind the word of a constant bitcast
 abbrev pub cast_behind : Form Operand
 cast_behind = do
   expect k.OpenRound
@@ -106,6 +111,7 @@ cast_behind = do
 unfoldable pub cast : Form Operand
 cast = skip >> cast_behind
 
+-- an operand, by the token with which it begins
 abbrev pub operand_by : Option ℕ → Kind → Form Operand
 operand_by bits k.LocalName = used_value >>= λ value. pure (o.Local value)
 operand_by bits k.LocalNumber = used_value >>= λ value. pure (o.Local value)

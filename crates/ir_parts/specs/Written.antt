@@ -23,9 +23,11 @@ use Rattle.ir_parts.specs.Names.{has_number, is_at, struct_name, struct_name_tak
 
 -- ---- the table of types
 
+-- the number of a type in the table of types
 abbrev pub place_in_table : IrType → Input → ℕ
 place_in_table t i = number_of_type t i.types
 
+-- the type stands in the table of types
 abbrev pub with_type_interned : IrType → Input → Input
 with_type_interned t i = record i { types = numbered_type t i.types }
 
@@ -85,6 +87,7 @@ interned base room t = intern t >>= λ id. pure (part_of base room id)
 unfoldable pub length_at : Input → Option ℕ
 length_at i = natural (spelling i.cursor)
 
+-- the number that stands here is the length of an array
 abbrev pub has_length : Form (Unit {0})
 has_length = checked (λ i. is_some (length_at i)) (λ i. OutOfRange (start i.cursor))
 
@@ -92,6 +95,7 @@ has_length = checked (λ i. is_some (length_at i)) (λ i. OutOfRange (start i.cu
 unfoldable pub array_length : Form ℕ
 array_length = sees_a k.Number >> has_length >> step (λ i. unwrap_or (length_at i) 0) advanced advanced_falls
 
+-- what stands behind the bracket of an array type
 abbrev pub array_behind : Firm → Form WrittenType
 array_behind inner = do
   n ← array_length
@@ -104,9 +108,11 @@ array_behind inner = do
 abbrev pub array : Firm → Form WrittenType
 array inner = skip >> array_behind inner
 
+-- the list of fields ends here
 abbrev pub at_brace : Input → Bool
 at_brace i = sees k.CloseBrace i.cursor
 
+-- no comma before the first field, and one before each further field
 abbrev pub comma_or : Bool → Form (Unit {0})
 comma_or true = pure tt
 comma_or false = expect k.Comma >> checked (λ i. not (at_brace i)) unexpected
@@ -115,6 +121,7 @@ comma_or false = expect k.Comma >> checked (λ i. not (at_brace i)) unexpected
 unfoldable pub behind_field : Form (Unit {0})
 behind_field = look at_brace comma_or
 
+-- a field with what stands behind it
 abbrev pub field_of : WrittenType → Form WrittenType
 field_of p = behind_field >> pure p
 
@@ -138,9 +145,11 @@ before (p ∷ parts) whole = before parts whole >>= field_before p
 unfoldable pub struct_of : ℕ → List WrittenType → Form WrittenType
 struct_of room fields = interned Aggregate room type.EmptyStruct >>= before fields
 
+-- the brace that closes a struct type
 abbrev pub close_struct : ℕ → List WrittenType → Form WrittenType
 close_struct room fields = expect k.CloseBrace >> struct_of room fields
 
+-- the fields of a struct type, up to its brace
 abbrev pub fields_behind : ℕ → Firm → Form WrittenType
 fields_behind room inner = many at_brace (field inner) (field_takes inner) >>= close_struct room
 
@@ -148,6 +157,7 @@ fields_behind room inner = many at_brace (field inner) (field_takes inner) >>= c
 abbrev pub braced : ℕ → Firm → Form WrittenType
 braced room inner = skip >> fields_behind room inner
 
+-- a type without the stars behind it, by the token with which it begins
 abbrev pub base_by : ℕ → Firm → Kind → Form WrittenType
 base_by room inner k.IntegerType = integer >>= λ bits. interned (Integer bits) room (type.Integer bits)
 base_by room inner k.LocalName = struct_name >>= λ name. interned Named room (type.Named name)
@@ -161,9 +171,11 @@ base room inner = look (λ i. kind i.cursor) (base_by room inner)
 
 -- ---- stars
 
+-- a star stands here
 abbrev pub at_star : Input → Bool
 at_star i = sees k.Star i.cursor
 
+-- one form at a star, the other elsewhere
 abbrev pub star_or : {A : Type 0} → Form A → Form A → Bool → Form A
 star_or star none true = star
 star_or star none false = none
@@ -177,6 +189,7 @@ pointers (suc room) pointee = look at_star (star_or (skip >> intern (type.Pointe
 abbrev pub no_parameters : Form (Unit {0})
 no_parameters = checked (λ i. not (sees k.OpenRound i.cursor)) (λ i. left_out i.cursor)
 
+-- a type with the stars that were found behind it
 abbrev pub with_stars : WrittenType → ℕ × ℕ → WrittenType
 with_stars p found = record { base = p.base; stars = p.room - found.0; id = found.1; room = found.0 }
 
@@ -193,6 +206,7 @@ starred p = do
 unfoldable pub no_type : Form WrittenType
 no_type = refuse (λ i. if begins_type (kind i.cursor) then limit i else unread begins_unread_type i)
 
+-- a type with its stars, whose parts are of this form
 abbrev pub over : ℕ → Firm → Form WrittenType
 over room inner = base room inner >>= starred
 
@@ -219,6 +233,7 @@ unfoldable pub firm : ℕ → Firm
 firm zero = record { form = no_type; takes = no_type_takes }
 firm (suc room) = record { form = over room (firm room); takes = over_takes room (firm room) }
 
+-- a type of at most so many levels
 abbrev pub part : ℕ → Form WrittenType
 part levels = (firm levels).form
 
@@ -232,6 +247,7 @@ struct_body = braced 63 (firm 63) >>= λ p. pure p.id
 
 -- ---- which types may stand where
 
+-- how many bits an integer type has
 abbrev pub bits_of_base : Base → Option ℕ
 bits_of_base (Integer bits) = Some bits
 bits_of_base Named = None
@@ -265,9 +281,11 @@ is_held w = held_by w.base w.stars where
 abbrev pub allow : Bool → Fault → Form (Unit {0})
 allow allowed fault = checked (λ i. allowed) (λ i. if sees k.End i.cursor then unexpected i else fault)
 
+-- the type, if it may stand here, or else the fault
 abbrev pub then_allowed : (WrittenType → Bool) → WrittenType → Fault → Form WrittenType
 then_allowed may_stand w fault = allow (may_stand w) fault >> pure w
 
+-- a type that may stand here, or else its first word is left out
 abbrev pub type_that : (WrittenType → Bool) → ℕ → Form WrittenType
 type_that may_stand room = look (λ i. left_out i.cursor) (λ fault. type_within room >>= λ w. then_allowed may_stand w fault)
 
@@ -317,6 +335,7 @@ name_again wanted = sees_type k.LocalName >> checked (is_named wanted) unexpecte
 unfoldable pub length_again : ℕ → Form (Unit {0})
 length_again wanted = sees_a k.Number >> has_length >> checked (λ i. is_at wanted (length_at i)) unexpected >> skip
 
+-- the array type of this length and part once more
 abbrev pub array_again : (ℕ → Form (Unit {0})) → ℕ → ℕ → Form (Unit {0})
 array_again inner n part = do
   sees_type k.OpenSquare
@@ -326,9 +345,11 @@ array_again inner n part = do
   inner part
   expect k.CloseSquare
 
+-- the type of this number
 abbrev pub type_at : ℕ → Input → Option IrType
 type_at id i = slice_get i.types id
 
+-- another field once more, or the end of the struct type
 abbrev pub field_or : (ℕ → ℕ → Form (Unit {0})) → Option IrType → Form (Unit {0})
 field_or next (Some (type.Struct first rest)) = expect k.Comma >> next first rest
 field_or next _ = expect k.CloseBrace
@@ -342,6 +363,7 @@ fields_again inner (suc most) id = look (type_at id) (field_or (λ first rest. i
 abbrev pub all_fields_again : (ℕ → Form (Unit {0})) → ℕ → Form (Unit {0})
 all_fields_again inner id = look left (λ most. fields_again inner (suc most) id)
 
+-- this type once more, its parts by the inner form
 abbrev pub again_by : (ℕ → Form (Unit {0})) → Option IrType → Form (Unit {0})
 again_by inner (Some (type.Integer bits)) = integer_again bits
 again_by inner (Some (type.Named wanted)) = name_again wanted
@@ -351,6 +373,7 @@ again_by inner (Some type.EmptyStruct) = sees_type k.OpenBrace >> skip >> expect
 again_by inner (Some (type.Struct first rest)) = sees_type k.OpenBrace >> skip >> inner first >> all_fields_again inner rest
 again_by inner _ = refuse unexpected
 
+-- the type of this number once more
 abbrev pub again_over : (ℕ → Form (Unit {0})) → ℕ → Form (Unit {0})
 again_over inner id = look (type_at id) (again_by inner)
 

@@ -18,6 +18,7 @@ use Rattle.ir_text.specs.declared.blocks.Blocks.{Blocks}
 abbrev pub has_room : ℕ → Form (Unit {0})
 has_room number = checked (λ _. nat_lt number 65535) limit
 
+-- the label of a block with this number, written or not
 abbrev pub label_by : ℕ → Kind → Form ℕ
 label_by number k.LabelName = new_label number
 label_by number k.LabelNumber = numbered_label number
@@ -27,9 +28,11 @@ label_by number _ = unnamed_label number
 unfoldable pub block_label : ℕ → Form ℕ
 block_label number = has_room number >> look (λ i. kind i.cursor) (label_by number)
 
+-- the block with this label and these instructions
 abbrev pub block_of : ℕ → List Instr → Form Block
 block_of l xs = pure (record { label = l; instructions = xs })
 
+-- the instructions behind a label
 abbrev pub block_behind : ℕ → ℕ → Form Block
 block_behind number l = instructions number >>= block_of l
 
@@ -54,6 +57,7 @@ further_takes b = block_takes b.count
 abbrev pub at_close : Blocks → Input → Bool
 at_close b i = nat_lt 0 b.count && sees k.CloseBrace i.cursor
 
+-- one block more
 abbrev pub behind_block : Blocks → Block → Blocks
 behind_block b x = record b { count = b.count + 1 }
 

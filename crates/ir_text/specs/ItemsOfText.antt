@@ -36,6 +36,7 @@ use Rattle.ir_text.specs.Lines.{source_name, source_name_takes, target_line, tar
 
 -- ---- struct types
 
+-- the body of a struct type, by the token with which it begins
 abbrev pub body_by : Kind → Form ℕ
 body_by k.OpenBrace = struct_body
 body_by k.Less = refuse (λ i. left_out i.cursor)
@@ -45,6 +46,7 @@ body_by _ = refuse unexpected
 unfoldable pub body : Form ℕ
 body = look (λ i. kind i.cursor) body_by
 
+-- the module has one struct type more
 abbrev pub with_struct_type : StructType → Input → Input
 with_struct_type s i = record i { structs = i.structs ++ s ∷ [] }
 
@@ -52,9 +54,11 @@ pub with_struct_type_falls : (s : StructType) (i : Input) → left (with_struct_
 unfolding left
 with_struct_type_falls s i = omega arith
 
+-- this struct type is added to the module
 abbrev pub add_struct : StructType → Form (Unit {0})
 add_struct s = step (λ _. tt) (with_struct_type s) (with_struct_type_falls s)
 
+-- what stands behind the name of a struct type
 abbrev pub struct_behind : ℕ → Form (Unit {0})
 struct_behind n = do
   expect k.Equals
@@ -68,6 +72,7 @@ struct_type = new_struct >>= struct_behind
 
 -- ---- globals
 
+-- the type is `i1`
 abbrev pub is_one : Option ℕ → Bool
 is_one None = false
 is_one (Some bits) = bits == 1
@@ -86,6 +91,7 @@ is_initial bits _ = false
 unfoldable pub initial : Option ℕ → Form Constant
 initial bits = checked (λ i. is_initial bits (kind i.cursor)) (unread begins_unread_operand) >> constant bits
 
+-- `global` or `constant`
 abbrev pub is_constant_by : Kind → Form Bool
 is_constant_by k.Global = skip >> pure false
 is_constant_by k.Constant = skip >> pure true
@@ -95,6 +101,7 @@ is_constant_by _ = refuse (unread is_external)
 unfoldable pub is_constant : Form Bool
 is_constant = decorations spot.Global >> look (λ i. kind i.cursor) is_constant_by
 
+-- the module has one global more
 abbrev pub with_global : Global → Input → Input
 with_global g i = record i { globals = i.globals ++ g ∷ [] }
 
@@ -102,9 +109,11 @@ pub with_global_falls : (g : Global) (i : Input) → left (with_global g i) ≤ 
 unfolding left
 with_global_falls g i = omega arith
 
+-- this global is added to the module
 abbrev pub add_global : Global → Form (Unit {0})
 add_global g = step (λ _. tt) (with_global g) (with_global_falls g)
 
+-- what stands behind the name of a global
 abbrev pub global_behind : ℕ → Form (Unit {0})
 global_behind s = do
   expect k.Equals
@@ -114,9 +123,11 @@ global_behind s = do
   trailing trail.Memory
   add_global (record { symbol = s; is_constant = is_fixed; held = w.id; initial = x })
 
+-- there are fewer than so many
 abbrev pub below : ℕ → (Input → ℕ) → Form (Unit {0})
 below most count = checked (λ i. nat_lt (count i) most) limit
 
+-- the name of a global that is defined here
 abbrev pub global_name : Form ℕ
 global_name = look (λ i. length i.globals) (λ n. new_symbol (symbol.Global n))
 
@@ -126,6 +137,7 @@ global = below 4096 (λ i. length i.globals) >> global_name >>= global_behind
 
 -- ---- the end of a function's head
 
+-- `gc "name"`
 abbrev pub collector_name : Form (Option (List ℕ))
 collector_name = skip >> quoted >>= λ text. pure (Some text)
 
@@ -147,6 +159,7 @@ head_end s = do
 abbrev pub void_result : Form ℕ
 void_result = skip >> no_parameters >> intern type.Void
 
+-- the result of a declared function
 abbrev pub declared_result_by : Kind → Form ℕ
 declared_result_by k.Void = void_result
 declared_result_by _ = any_type >>= λ w. pure w.id
@@ -155,6 +168,7 @@ declared_result_by _ = any_type >>= λ w. pure w.id
 unfoldable pub declared_result : Form ℕ
 declared_result = decorations spot.Result >> look (λ i. kind i.cursor) declared_result_by
 
+-- the name of a function that is declared or defined here, as this
 abbrev pub function_name_by : SymbolSort → Kind → Form ℕ
 function_name_by sort k.GlobalName = new_symbol sort
 function_name_by sort _ = refuse unexpected
@@ -163,6 +177,7 @@ function_name_by sort _ = refuse unexpected
 unfoldable pub function_name : SymbolSort → Form ℕ
 function_name sort = look (λ i. kind i.cursor) (function_name_by sort)
 
+-- the module has one declared function more
 abbrev pub with_declare : Declare → Input → Input
 with_declare d i = record i { declares = i.declares ++ d ∷ []; unnamed = 0 }
 
@@ -170,9 +185,11 @@ pub with_declare_falls : (d : Declare) (i : Input) → left (with_declare d i) �
 unfolding left
 with_declare_falls d i = omega arith
 
+-- this declared function is added to the module
 abbrev pub add_declare : Declare → Form (Unit {0})
 add_declare d = step (λ _. tt) (with_declare d) (with_declare_falls d)
 
+-- what stands behind the result of a declared function
 abbrev pub declare_behind : ℕ → ℕ → Option Runtime → Form (Unit {0})
 declare_behind number returned runtime = do
   s ← function_name (symbol.Declared number)
@@ -182,9 +199,11 @@ declare_behind number returned runtime = do
   head_end spot.Declared
   add_declare (record { symbol = s; runtime = runtime; returned = returned; parameters = ps })
 
+-- what stands behind `declare`, with the function of the runtime that is named, if it is one
 abbrev pub declare_parts : ℕ → Form (Unit {0})
 declare_parts number = declared_result >>= λ returned. look (λ i. runtime_of (spelled i.cursor)) (declare_behind number returned)
 
+-- the declared function with this number
 abbrev pub declare_numbered : ℕ → Form (Unit {0})
 declare_numbered number = skip >> declare_parts number
 
@@ -194,6 +213,7 @@ declaration = below 65535 (λ i. length i.declares) >> look (λ i. length i.decl
 
 -- ---- defined functions
 
+-- the result of a defined function
 abbrev pub defined_result_by : Kind → Form ℕ
 defined_result_by k.Void = void_result
 defined_result_by _ = passed_type >>= λ w. pure w.id
@@ -202,17 +222,21 @@ defined_result_by _ = passed_type >>= λ w. pure w.id
 unfoldable pub defined_result : Form ℕ
 defined_result = decorations spot.Result >> look (λ i. kind i.cursor) defined_result_by
 
+-- the brace that opens a body
 abbrev pub open_body_by : Kind → Form (Unit {0})
 open_body_by k.OpenBrace = skip
 open_body_by _ = refuse unexpected
 
+-- the brace that opens a body, which must stand here
 unfoldable pub open_body : Form (Unit {0})
 open_body = look (λ i. kind i.cursor) open_body_by
 
+-- the first of two places, the one of an earlier function going before
 abbrev pub earlier : Option ℕ → Option ℕ → Option ℕ
 earlier None further = further
 earlier (Some place) further = Some place
 
+-- the function with this head and these blocks, and the names that were read
 abbrev pub function_of : FunctionHead → List Block → Input → Function
 function_of h bs i = record {
   symbol = h.symbol;
@@ -239,9 +263,11 @@ pub with_function_falls : (h : FunctionHead) (bs : List Block) (i : Input) → l
 unfolding left with_function
 with_function_falls h bs i = omega arith
 
+-- this function is added to the module
 abbrev pub end_function : FunctionHead → List Block → Form (Unit {0})
 end_function h bs = step (λ _. tt) (with_function h bs) (with_function_falls h bs)
 
+-- what stands behind the result of a defined function
 abbrev pub head_behind : ℕ → ℕ → Form FunctionHead
 head_behind number returned = do
   s ← function_name (symbol.Defined number)
@@ -251,6 +277,7 @@ head_behind number returned = do
   c ← head_end spot.Defined
   pure (record { symbol = s; returned = returned; parameters = ps; collector = c })
 
+-- the head of the function with this number
 abbrev pub head_result : ℕ → Form FunctionHead
 head_result number = defined_result >>= head_behind number
 
@@ -258,6 +285,7 @@ head_result number = defined_result >>= head_behind number
 unfoldable pub head : ℕ → Form FunctionHead
 head number = skip >> head_result number
 
+-- the body behind a head
 abbrev pub body_behind : FunctionHead → Form (Unit {0})
 body_behind h = do
   open_body
@@ -265,6 +293,7 @@ body_behind h = do
   expect k.CloseBrace
   end_function h bs
 
+-- the defined function with this number
 abbrev pub define_numbered : ℕ → Form (Unit {0})
 define_numbered number = head number >>= body_behind
 
@@ -274,6 +303,7 @@ definition = below 65535 (λ i. length i.functions) >> look (λ i. length i.func
 
 -- ---- all items
 
+-- an item, by the token with which it begins
 abbrev pub item_by : Kind → Form (Unit {0})
 item_by k.LocalName = struct_type
 item_by k.GlobalName = global
@@ -344,6 +374,7 @@ pub item_takes : Takes item
 unfolding item
 item_takes = look_takes (λ i. kind i.cursor) item_by item_takes_by
 
+-- the text ends here
 abbrev pub at_end_of_text : Input → Bool
 at_end_of_text i = sees k.End i.cursor
 

@@ -16,23 +16,29 @@ is_right is_call (Some (symbol.Global g)) = not is_call
 is_right is_call (Some (symbol.Declared d)) = is_call
 is_right is_call (Some (symbol.Defined f)) = is_call
 
+-- what a name that was used turned out to be
 abbrev pub sort_of : Input → SymbolUse → Option SymbolSort
 sort_of i u = slice_get i.symbols.sorts u.symbol
 
+-- a function stands as an operand
 abbrev pub is_function_operand : Input → SymbolUse → Bool
 is_function_operand i u = not u.is_call && is_right true (sort_of i u)
 
+-- a global name is that of a function where it is called, and of a global elsewhere
 abbrev pub is_right_symbol : Input → SymbolUse → Bool
 is_right_symbol i u = is_right u.is_call (sort_of i u)
 
+-- the name is that of a struct type that was defined
 abbrev pub is_struct : Option (Option ℕ) → Bool
 is_struct None = false
 is_struct (Some None) = false
 is_struct (Some (Some layout)) = true
 
+-- a struct name that was used is defined
 abbrev pub is_right_struct : Input → StructUse → Bool
 is_right_struct i u = is_struct (slice_get i.struct_names.sorts u.name)
 
+-- a function as an operand is left out
 abbrev pub operand_fault : SymbolUse → Fault
 operand_fault u = LeftOut u.start u.length
 
@@ -48,11 +54,13 @@ wrong_symbol i = option_map (λ u. u.start) (find (λ u. not (is_right_symbol i 
 abbrev pub wrong_struct : Input → Option ℕ
 wrong_struct i = option_map (λ u. u.start) (find (λ u. not (is_right_struct i u)) i.struct_uses)
 
+-- the earlier of two places
 abbrev pub earliest : Option ℕ → Option ℕ → Option ℕ
 earliest None b = b
 earliest (Some a) None = Some a
 earliest (Some a) (Some b) = Some (min a b)
 
+-- the first fault: this one, or a name at this place that is not defined
 abbrev pub first_of_faults : Option Fault → Option ℕ → Option Fault
 first_of_faults (Some fault) place = Some fault
 first_of_faults None place = option_map (λ p. NotDefined p) place

@@ -12,6 +12,7 @@ use Rattle.ir_instructions.specs.Decorations.{either, any_token, any_token_takes
 
 -- ---- what the text was made from
 
+-- `= "text"`
 abbrev pub text_behind : Form (Unit {0})
 text_behind = expect k.Equals >> expect k.Quoted
 
@@ -19,14 +20,17 @@ text_behind = expect k.Equals >> expect k.Quoted
 unfoldable pub source_name : Form (Unit {0})
 source_name = skip >> text_behind
 
+-- `datalayout` or `triple`
 abbrev pub target_part_by : Kind → Form (Unit {0})
 target_part_by k.Datalayout = skip
 target_part_by k.Triple = skip
 target_part_by _ = refuse unexpected
 
+-- `datalayout` or `triple`, which must stand here
 unfoldable pub target_part : Form (Unit {0})
 target_part = look (λ i. kind i.cursor) target_part_by
 
+-- what stands behind `target`
 abbrev pub target_behind : Form (Unit {0})
 target_behind = target_part >> text_behind
 
@@ -36,6 +40,7 @@ target_line = skip >> target_behind
 
 -- ---- groups of attributes
 
+-- the group ends here
 abbrev pub at_brace : Input → Bool
 at_brace i = sees k.CloseBrace i.cursor
 
@@ -43,6 +48,7 @@ at_brace i = sees k.CloseBrace i.cursor
 unfoldable pub braced : Form (List Kind)
 braced = many at_brace any_token any_token_takes
 
+-- what stands behind `attributes`
 abbrev pub group_behind : Form (Unit {0})
 group_behind = do
   expect k.AttributeGroup
@@ -57,14 +63,17 @@ group = skip >> group_behind
 
 -- ---- comdats
 
+-- the spelling begins with `$`
 abbrev pub begins_dollar : List ℕ → Bool
 begins_dollar [] = false
 begins_dollar (byte ∷ bytes) = byte == 36
 
+-- the spelling is `$` alone
 abbrev pub is_dollar : List ℕ → Bool
 is_dollar (byte ∷ []) = byte == 36
 is_dollar _ = false
 
+-- a comdat's name stands here
 abbrev pub is_comdat_name : Form (Unit {0})
 is_comdat_name = checked (λ i. begins_dollar (spelling i.cursor)) unexpected
 
@@ -76,12 +85,14 @@ dollar_name_by = either (skip >> expect k.Quoted) skip
 unfoldable pub dollar_name : Form (Unit {0})
 dollar_name = look (λ i. is_dollar (spelling i.cursor)) dollar_name_by
 
+-- what stands behind the name of a comdat
 abbrev pub comdat_behind : Form (Unit {0})
 comdat_behind = do
   expect k.Equals
   expect k.Comdat
   expect k.LowercaseWord
 
+-- a comdat line whose name begins with `$`
 abbrev pub named_comdat : Form (Unit {0})
 named_comdat = dollar_name >> comdat_behind
 
@@ -91,6 +102,7 @@ comdat = is_comdat_name >> named_comdat
 
 -- ---- metadata
 
+-- the line ends here
 abbrev pub at_line_end : Input → Bool
 at_line_end i = begins_line i.cursor || sees k.End i.cursor
 
@@ -98,12 +110,15 @@ at_line_end i = begins_line i.cursor || sees k.End i.cursor
 unfoldable pub rest_of_line : Form (List Kind)
 rest_of_line = many at_line_end any_token any_token_takes
 
+-- the next token is the first one of its line
 abbrev pub is_first : Form (Unit {0})
 is_first = checked (λ i. begins_line i.cursor) unexpected
 
+-- the rest of a line
 abbrev pub line_behind : Form (Unit {0})
 line_behind = rest_of_line >> pure tt
 
+-- a line that is read without effect
 abbrev pub whole_line : Form (Unit {0})
 whole_line = skip >> line_behind
 

@@ -17,6 +17,7 @@ use Rattle.ir_instructions.specs.Lists.{separator, at_round}
 
 -- ---- declared functions
 
+-- the name of a declared function's parameter, written or not
 abbrev pub declared_name_by : Kind → Form (Unit {0})
 declared_name_by k.LocalName = skip
 declared_name_by k.LocalNumber = next_number >> skip
@@ -26,6 +27,7 @@ declared_name_by _ = take_number
 unfoldable pub declared_name : Form (Unit {0})
 declared_name = look (λ i. kind i.cursor) declared_name_by
 
+-- a declared function's parameter behind its type
 abbrev pub type_of_parameter : WrittenType → Form ℕ
 type_of_parameter w = do
   decorations spot.Parameter
@@ -47,6 +49,7 @@ declared_parameters = many at_round declared_parameter declared_parameter_takes
 
 -- ---- defined functions
 
+-- the type of a defined function's parameter
 abbrev pub parameter_type_by : Kind → Form WrittenType
 parameter_type_by k.Void = refuse (λ i. left_out i.cursor)
 parameter_type_by _ = passed_type
@@ -63,6 +66,7 @@ parameter_type_takes : Takes parameter_type
 unfolding parameter_type
 parameter_type_takes = look_takes (λ i. kind i.cursor) parameter_type_by parameter_type_takes_by
 
+-- the name of a defined function's parameter, written or not
 abbrev pub parameter_name_by : Kind → Form ℕ
 parameter_name_by k.LocalName = new_value
 parameter_name_by k.LocalNumber = numbered_value
@@ -74,6 +78,7 @@ parameter_name_by _ = refuse unexpected
 unfoldable pub parameter_name : Form ℕ
 parameter_name = look (λ i. kind i.cursor) parameter_name_by
 
+-- a defined function's parameter behind its type
 abbrev pub parameter_of : WrittenType → Form Parameter
 parameter_of w = do
   decorations spot.Parameter

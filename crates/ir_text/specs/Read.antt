@@ -22,9 +22,11 @@ Gives = outcome.Gives shown.Memory
 abbrev pub text_limit : ℕ
 text_limit = 16777216
 
+-- the bytes from a place on
 abbrev pub behind : ℕ → List ℕ → List ℕ
 behind count bytes = drop count bytes
 
+-- the bytes before a place
 abbrev pub front : ℕ → List ℕ → List ℕ
 front count bytes = take count bytes
 
@@ -73,6 +75,7 @@ IsText bytes m = (length bytes ≤ text_limit) × (lexed : Lexed) × IsLexed byt
 abbrev pub Fails : Input → Fault → Type 0
 Fails i e = whole.stuck i e ⊎ ((o : Input) × whole.says i tt o × (late_fault o ≡ Some e))
 
+-- the tokens of the bytes fail by this fault
 abbrev pub FailsBy : List ℕ → Lexed → ReadFault → Type 0
 FailsBy bytes lexed e = (f : Fault) × Fails (start bytes lexed) f × (located bytes f ≡ e)
 
@@ -84,10 +87,12 @@ IsFault bytes e =
 
 -- ---- reading
 
+-- the module that was read, if no name has a fault
 abbrev pub judged : List ℕ → Input → Option Fault → Result Module ReadFault
 judged bytes o None = Ok (module_of o)
 judged bytes o (Some f) = Err (located bytes f)
 
+-- what reading the tokens comes to, judged by the names
 abbrev pub answered : List ℕ → Outcome (Unit {0}) → Result Module ReadFault
 answered bytes (Ok p) = judged bytes p.1 (late_fault p.1)
 answered bytes (Err f) = Err (located bytes f)

@@ -21,6 +21,7 @@ pub record Form (A : Type 0) : Type 1 where
   pub again : (i : Text) (a : A) (o : Text) → says i a o → read i ≡ Some (a, o)
   pub moves : (i : Text) (a : A) (o : Text) → says i a o → length o ≤ length i
 
+-- this was read
 abbrev pub done : {A : Type 0} → A × Text → Outcome A
 done p = Some p
 
@@ -41,6 +42,7 @@ same_length i o e = let p = ap length e in omega arith
 pub skip_moves : (i o : Text) → drop 1 i ≡ o → length o ≤ length i
 skip_moves i o e = let p = ap length e in omega (arith, length-drop 1 i)
 
+-- one part and then another
 abbrev pub and_then : {A B : Type 0} → Outcome A → (A → Text → Outcome B) → Outcome B
 and_then None f = None
 and_then (Some p) f = f p.0 p.1
@@ -143,6 +145,7 @@ begins p (b ∷ bs) = p b
 abbrev pub IsSpan : (ℕ → Bool) → Text → Text → Text → Type 0
 IsSpan p i a o = (i ≡ a ++ o) × Passes p a × (begins p o ≡ false)
 
+-- the longest front of bytes of a class
 abbrev pub span_at : (ℕ → Bool) → Text → Outcome Text
 span_at p i = Some (take (prefix_len p i) i, drop (prefix_len p i) i)
 
@@ -187,14 +190,17 @@ IsQuoted i (b ∷ bs) o = (m : Text) × (next i ≡ Some (b, m)) × IsQuoted m b
 abbrev pub EndsQuoted : Text → Unit {0} → Text → Type 0
 EndsQuoted i u o = (text : Text) × IsQuoted i text o
 
+-- the quote that closes
 abbrev pub close_at : Text → Outcome (Unit {0})
 close_at [] = None
 close_at (b ∷ bs) = if b == 34 then Some (tt, bs) else None
 
+-- by the next byte of a quoted text, if there is one
 abbrev pub on_next : {X : Type 0} → Option (ℕ × Text) → X → (ℕ → Text → X) → X
 on_next None x f = x
 on_next (Some p) x f = f p.0 p.1
 
+-- a quoted text of at most so many bytes, up to its closing quote
 unfoldable pub quoted_from : ℕ → Text → Outcome (Unit {0})
 quoted_from zero i = close_at i
 quoted_from (suc n) i = on_next (next i) (close_at i) (λ b m. quoted_from n m)

@@ -120,9 +120,11 @@ abbrev pub is_negative_number : Text → Bool
 is_negative_number [] = false
 is_negative_number (b ∷ bs) = b == 45 && is_number bs
 
+-- a lower-case letter
 abbrev pub is_lowercase : ℕ → Bool
 is_lowercase b = within 97 122 b
 
+-- a byte that stands in a lower-case word
 abbrev pub is_lowercase_part : ℕ → Bool
 is_lowercase_part b = is_lowercase b || is_digit b || b == 95
 

@@ -23,6 +23,7 @@ bare k.LabelName s = take (length s - 1) s
 bare k.LabelNumber s = take (length s - 1) s
 bare _ s = s
 
+-- a text that begins with a quote
 abbrev pub begins_quote : Text → Bool
 begins_quote [] = false
 begins_quote (b ∷ bs) = b == 34
@@ -44,6 +45,7 @@ unescaped s = unescaped_from (length s) s
 abbrev pub unquoted : Text → Text
 unquoted s = if begins_quote s then unescaped (inside s) else s
 
+-- the name that a token spells
 abbrev pub name_of : Text → Token → Text
 name_of bytes t = unquoted (bare t.kind (spelling bytes t))
 
@@ -51,5 +53,6 @@ name_of bytes t = unquoted (bare t.kind (spelling bytes t))
 abbrev pub is_special : ℕ → Bool
 is_special b = b == 92 || b == 34
 
+-- a quoted text with an escape in it
 abbrev pub has_escape : Text → Bool
 has_escape s = begins_quote s && list_any is_special (inside s)

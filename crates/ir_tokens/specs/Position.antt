@@ -4,6 +4,7 @@ use Rattle.std.specs.List.{suffix_len}
 use Rattle.ir_tokens.specs.declared.position.Position.{Position}
 use Rattle.ir_tokens.specs.Bytes.{Text}
 
+-- the byte that ends a line
 abbrev pub is_line_end : ℕ → Bool
 is_line_end b = b == 10
 

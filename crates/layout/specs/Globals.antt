@@ -1,9 +1,10 @@
 -- The words of a module's globals, and heaps of a program.
-use Rattle.std.specs.Prelude.{◌≡◌, ℕ, List, Option, Some, None, slice_get}
+use Rattle.std.specs.Prelude.{◌≡◌, ℕ, List, map, Option, Some, None, slice_get, unwrap_or}
 use Rattle.ir_ast.specs.declared.items_of_module.Global.{Global}
 use Rattle.ir_ast.specs.declared.module.Module.{Module}
 use Rattle.pools.specs.Heap.{Setup}
 use Rattle.pools.specs.declared.word_kind.WordKind.{WordKind}
+use Rattle.pools.specs.declared.word_kind.WordKind.TheVariants.{Integer}
 use Rattle.types.specs.Globals.{global_held}
 use Rattle.layout.specs.Layouts.{LaidOut}
 use Rattle.layout.specs.Words.{word_of}
@@ -16,6 +17,15 @@ word_held m (Some held) = word_of m held
 -- what the word of the global of this name holds
 abbrev pub global_word : Module → (symbol : ℕ) → Option WordKind
 global_word m symbol = word_held m (global_held m symbol)
+
+-- what the word of a global is taken to hold: a global that is neither an integer nor a reference counts as an integer of 64 bits, since no
+-- instruction reads or stores it
+abbrev pub kind_of_global : Module → Global → WordKind
+kind_of_global m global = unwrap_or (word_of m global.held) (Integer 64)
+
+-- the words of the cell of the globals
+abbrev pub globals_of : Module → List WordKind
+globals_of m = map (kind_of_global m) m.globals
 
 -- these are the words of the module's globals, in their order
 abbrev pub AreGlobals : Module → List WordKind → Type 0

@@ -253,5 +253,6 @@ fault_by None (Some struct) nowhere = Some (TooManyWords struct)
 fault_by None None (Some struct) = Some (NoSuchLayout struct)
 fault_by None None None = None
 
+-- the first fault in the layouts, by what was found of each struct
 abbrev pub first_fault : Module → List Mark → (fields : List ℕ) → Option LayoutFault
 first_fault m marks fields = fault_by (position (struct_is_endless marks) m.structs) (position (struct_is_large marks) m.structs) (position (points_nowhere m marks fields) m.structs)

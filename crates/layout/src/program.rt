@@ -1,15 +1,17 @@
 ghost use Rattle.std.specs.Prelude.{◌≡◌, ◌≢◌, List, Some, slice_get, IfOk, IfErr};
 ghost use Rattle.pools.specs.declared.word_kind.WordKind.{WordKind as AWord};
 ghost use Rattle.layout.specs.declared.fault.LayoutFault.TheVariants.{Memory};
+ghost use Rattle.layout.specs.Globals.{globals_of};
 ghost use Rattle.layout.specs.Layouts.{AreLayouts, AreSizes, IsLayoutFault};
 ghost use Rattle.layout.specs.Offsets.{size_of, words_before, sum_of, field_offset, step_of};
 
 use crate::fault::LayoutFault;
 use crate::step::Step;
 use crate::struct_words::table;
+use crate::word::words_of_globals;
 use ir_ast::{Argument, IrType, Module, TypeId};
 use items::Items;
-use pools::Layouts;
+use pools::{Layouts, WordKind};
 use std::alloc::Global;
 use std::marker::Model;
 use types::{field_at, index_number, written_out};
@@ -17,22 +19,25 @@ use types::{field_at, index_number, written_out};
 /// How many words a cell may have.
 const WORD_LIMIT: u64 = 64;
 
-/// A module with its layouts, and how many words each type of its table has.
+/// A module with its layouts, how many words each type of its table has, and the words of its globals.
 #[derive(Drop)]
 pub struct Program {
     of_module: Module,
     layouts: Layouts,
     sizes: Items<Option<u32>>,
+    globals: Items<WordKind>,
 }
 
 impl Model for Program {
+    ghost use Rattle.std.specs.Prelude.{◌≡◌};
+    ghost use Rattle.layout.specs.Globals.{globals_of};
     ghost use Rattle.layout.specs.Layouts.{LaidOut, AreLayouts, AreSizes};
 
     ghost Value = { LaidOut };
 
     ghost view = { λ program. record { of_module = program.of_module; layouts = program.layouts; sizes = program.sizes } };
 
-    ghost invariant = { λ program. AreLayouts program.of_module program.layouts × AreSizes program.of_module program.sizes };
+    ghost invariant = { λ program. AreLayouts program.of_module program.layouts × AreSizes program.of_module program.sizes × (program.globals ≡ globals_of program.of_module) };
 }
 
 /// A module that has no layouts, given back.
@@ -50,11 +55,21 @@ impl Program {
         ensures fault { IfErr result (λ refused. refused.fault ≢ Memory → IsLayoutFault of_module refused.fault) }
         ensures refused_only_so { (words : List (List AWord)) → AreLayouts of_module words → IfErr result (λ refused. refused.fault ≡ Memory) }
     {
+        let globals = match words_of_globals(alloc, &of_module) {
+            Ok(globals) => globals,
+            Err(refused) => {
+                return Err(NotAProgram {
+                    fault: refused.into(),
+                    of_module,
+                });
+            }
+        };
         match table(alloc, &of_module) {
             Ok((layouts, sizes)) => Ok(Program {
                 of_module,
                 layouts,
                 sizes,
+                globals,
             }),
             Err(fault) => Err(NotAProgram { fault, of_module }),
         }
@@ -74,6 +89,13 @@ impl Program {
         ensures laid_out { AreLayouts self.now.of_module result.now }
     {
         &self.layouts
+    }
+
+    /// The words of the cell of the globals.
+    pub fn globals(&self) -> &[WordKind]
+        ensures { result.now ≡ globals_of self.now.of_module }
+    {
+        self.globals.as_slice()
     }
 
     /// The module alone.

@@ -6,6 +6,7 @@ mod asks;
 mod calls;
 mod casts;
 mod elements;
+mod ending;
 mod entered;
 mod entry;
 mod frame;
@@ -21,5 +22,6 @@ mod thread;
 mod value;
 
 pub use action::{Action, Answer};
+pub use ending::Ending;
 pub use thread::{StartFault, Thread};
 pub use value::{Place, Reference, Value};

@@ -1,11 +1,13 @@
 ghost use Rattle.std.specs.Prelude.{◌≡◌, ◌+◌, ◌<◌, ◌^◌, ◌↔◌, length, slice_get, Err, IfOk, OnOk, OnErr, OnSome, Some};
 ghost use Rattle.std.specs.Option.{option_copied};
+ghost use Rattle.machine.specs.Endings.{ending};
 ghost use Rattle.machine.specs.Machine.{action, after_answer, start, roots, instr_in};
 ghost use Rattle.machine.specs.Start.{takes_reference, argument_fits, arguments_fit, argument_values, StartsByReference, StartsWrongly};
 ghost use Rattle.machine.specs.declared.thread.StartFault.TheVariants.{ReferenceParameter, WrongArguments};
 
 use crate::action::{Action, Answer};
 use crate::asks::op_action;
+use crate::ending::{Ending, ending_by};
 use crate::entered::{Entered, function_of};
 use crate::entry::entry_frame;
 use crate::frame::Frame;
@@ -135,6 +137,24 @@ impl<'a> Thread<'a> {
                 op_action(&scene, self.running.block, &instr.op),
             ),
             None => Action::End,
+        }
+    }
+
+    /// How the thread ends, where it asks to end.
+    pub fn ending(&self) -> Ending
+        ensures { result ≡ ending self.now.program self.now.state }
+    {
+        if self.ended || !self.below.is_empty() {
+            return Ending::Over;
+        }
+        let function = self.entered.function(self.running.function);
+        match instr_at(function, self.running.block, self.running.place) {
+            Some(instr) => ending_by(
+                self.entered.program().module(),
+                self.running.registers.as_slice(),
+                &instr.op,
+            ),
+            None => Ending::Over,
         }
     }
 

@@ -52,10 +52,12 @@ noted_op name (Alloca held) draft = record { origins = put name (Slot (length dr
 noted_op name (Bitcast from operand to) draft = record { origins = put name (origin_of operand) draft.origins; held = draft.held }
 noted_op name _ draft = draft
 
+-- what is noted behind these instructions
 abbrev pub noted : List Instr → Draft → Draft
 noted [] draft = draft
 noted (instr ∷ instrs) draft = noted instrs (noted_op instr.result instr.op draft)
 
+-- what is noted behind these blocks
 abbrev pub noted_blocks : List Block → Draft → Draft
 noted_blocks [] draft = draft
 noted_blocks (block ∷ blocks) draft = noted_blocks blocks (noted block.instructions draft)
@@ -84,6 +86,7 @@ abbrev pub hops : List Origin → ℕ → Origin → Origin
 hops origins zero origin = origin
 hops origins (suc n) origin = hops origins n (hop origins origin)
 
+-- the slot that is an origin
 abbrev pub slot_at : Origin → Option ℕ
 slot_at Nowhere = None
 slot_at (Slot slot) = Some slot
@@ -103,6 +106,7 @@ abbrev pub operand_slot : List (Option ℕ) → Operand → Option ℕ
 operand_slot names (Local value) = unwrap_or (slice_get names value) None
 operand_slot names _ = None
 
+-- the slot that the first argument names
 abbrev pub first_slot : List (Option ℕ) → List Argument → Option ℕ
 first_slot names [] = None
 first_slot names (argument ∷ arguments) = operand_slot names argument.operand
@@ -112,6 +116,7 @@ abbrev pub slot_rooted : List (Option ℕ) → List Argument → Option Runtime 
 slot_rooted names arguments (Some GcRoot) = first_slot names arguments
 slot_rooted names arguments _ = None
 
+-- the slot that an instruction makes a root, if it does
 abbrev pub slot_rooted_by : Module → List (Option ℕ) → Op → Option ℕ
 slot_rooted_by m names (Call returned callee arguments) = slot_rooted names arguments (runtime_called m callee)
 slot_rooted_by m names _ = None
@@ -121,10 +126,12 @@ abbrev pub with_root : Module → (held : List ℕ) → Option ℕ → (roots : 
 with_root m held None roots = roots
 with_root m held (Some slot) roots = if is_reference_held m (slice_get held slot) then (if is_among roots slot then roots else roots ++ slot ∷ []) else roots
 
+-- the roots with those of these instructions behind them
 abbrev pub with_roots : Module → (names : List (Option ℕ)) → (held : List ℕ) → List Instr → (roots : List ℕ) → List ℕ
 with_roots m names held [] roots = roots
 with_roots m names held (instr ∷ instrs) roots = with_roots m names held instrs (with_root m held (slot_rooted_by m names instr.op) roots)
 
+-- the roots with those of these blocks behind them
 abbrev pub with_roots_of : Module → (names : List (Option ℕ)) → (held : List ℕ) → List Block → (roots : List ℕ) → List ℕ
 with_roots_of m names held [] roots = roots
 with_roots_of m names held (block ∷ blocks) roots = with_roots_of m names held blocks (with_roots m names held block.instructions roots)

@@ -10,6 +10,7 @@ use Rattle.trace_sweep.specs.declared.position.Position.TheVariants.{Posting, Wa
 abbrev pub pass_of : Pass → order.Pass
 pass_of p = record { next = p.next; met_grey = p.met_grey; shaded = [] }
 
+-- a position of the code as a place in the collector's order
 abbrev pub collection_of : Position → order.Collection
 collection_of Posting = order.Posting
 collection_of (Waiting thread) = order.Waiting thread
@@ -41,6 +42,7 @@ abbrev pub thread_of : Position → ℕ
 thread_of (Waiting thread) = thread + 1
 thread_of position = 0
 
+-- the cell at which the pass goes on
 abbrev pub next_of : Position → ℕ
 next_of (Scanning cell word p) = p.next
 next_of (Marking value cell word p) = p.next

@@ -6,9 +6,11 @@ use Rattle.trace_sweep.specs.declared.collector.Collector.TheInside.{Inside}
 use Rattle.trace_sweep.specs.Collecting.{Collecting, plan, IsNumbered}
 use Rattle.trace_sweep.specs.Positions.{collection_of, IsPlacedAt}
 
+-- what the code knows of its heap
 abbrev pub heap_of : Inside → Setup
 heap_of c = plan c.threads c.layouts.now c.pools.now c.globals.now
 
+-- the collector of the code as contracts see it
 abbrev pub view_of : Inside → Collecting
 view_of c = record { heap = heap_of c; posted = c.posted; at = collection_of c.position }
 

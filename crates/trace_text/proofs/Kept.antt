@@ -20,7 +20,7 @@ use Rattle.trace_text.specs.Input.{Input, start_of, word, begins, line_ends, aft
 use Rattle.trace_text.specs.Forms.{skip, taken, taken_as, expect, line_end, function_name, new_layout, layout_named, layout_by, cell_count, argument, thread, thread_numbered, thread_by, put_pool, put_start, put_steps, step_count, steps_counted, steps_by}
 use Rattle.trace_text.specs.Text.{pool, past_pools, pools, arguments, start, past_starts, starts, steps_of, steps_line, past_steps, all_steps, count_or_none, counts_of, pools_of, if_fitting, trace_with, finished_by, finished, heading, setup, steps, file, IsTrace}
 use Rattle.trace_text.specs.Text as form
-use Rattle.trace_text.specs.Traces.{AreDefined, IsStartOf, IsActorOf, IsTraceOf, step_sum}
+use Rattle.trace_text.specs.Traces.{IsStartOf, IsActorOf, IsTraceOf, step_sum}
 use Rattle.trace_text.specs.declared.naming.Sigil.TheVariants as sigil
 use Rattle.trace_text.specs.declared.trace.Actor.{Actor}
 use Rattle.trace_text.specs.declared.trace.Actor.TheVariants as actor
@@ -103,21 +103,21 @@ arguments_keep (a ∷ given) i o h =
 abbrev AreStarts : LaidOut → Input → Type 0
 AreStarts p i = AllByRecursion (IsStartOf p) i.starts × (length i.starts ≤ 64) × (i.steps ≡ []) × (i.made ≡ 0)
 
-module _ (p : LaidOut) (defined : AreDefined p) where
-  defined_by : (symbol : ℕ) (k : Option SymbolSort) (function : ℕ) → slice_get p.of_module.sorts symbol ≡ k → function_by k ≡ Some function → function < length p.of_module.functions
-  defined_by symbol None function is h = absurd cc
-  defined_by symbol (Some (sort.Defined other)) function is h = let same : other ≡ function = cc in defined symbol function (is ∙ ap (λ (n : ℕ). Some (sort.Defined n)) same)
-  defined_by symbol (Some sort.Unknown) function is h = absurd cc
-  defined_by symbol (Some (sort.Global other)) function is h = absurd cc
-  defined_by symbol (Some (sort.Declared other)) function is h = absurd cc
+module _ (p : LaidOut) where
+  there_by : (t : Bool) (other function : ℕ) → nat_lt other (length p.of_module.functions) ≡ t → (if t then Some other else None) ≡ Some function → function < length p.of_module.functions
+  there_by true other function is h = let same : other ≡ function = cc in grind (arith, nat_tests)
+  there_by false other function is h = absurd cc
 
-  symbol_by : (k : Option ℕ) (function : ℕ) → function_by (sort_at p.of_module k) ≡ Some function → function < length p.of_module.functions
+  symbol_by : (k : Option SymbolSort) (function : ℕ) → function_by p.of_module k ≡ Some function → function < length p.of_module.functions
   symbol_by None function h = absurd cc
-  symbol_by (Some symbol) function h = defined_by symbol (slice_get p.of_module.sorts symbol) function refl h
+  symbol_by (Some (sort.Defined other)) function h = there_by (nat_lt other (length p.of_module.functions)) other function refl h
+  symbol_by (Some sort.Unknown) function h = absurd cc
+  symbol_by (Some (sort.Global other)) function h = absurd cc
+  symbol_by (Some (sort.Declared other)) function h = absurd cc
 
   named_by : (k : Option Text) (function : ℕ) → function_named p.of_module k ≡ Some function → function < length p.of_module.functions
   named_by None function h = absurd cc
-  named_by (Some name) function h = symbol_by (place_of name p.of_module.symbols) function h
+  named_by (Some name) function h = symbol_by (sort_at p.of_module (place_of name p.of_module.symbols)) function h
 
   start_kept : (i o : Input) (u : Unit {0}) → (start p.of_module).says i u o → AreStarts p i → AreStarts p o
   unfolding start function_name arguments put_start with_start
@@ -236,7 +236,7 @@ finished_by_kept : (counts : List ℕ) (i o : Input) (trace : Trace) (t : Bool) 
 finished_by_kept counts i o trace true e h = (h.0, grind (arith, nat_tests))
 finished_by_kept counts i o trace false e h = absurd h
 
-module _ (p : LaidOut) (defined : AreDefined p) (bytes : Text) (trace : Trace) where
+module _ (p : LaidOut) (bytes : Text) (trace : Trace) where
   pub is_trace_of : IsTrace bytes p trace → IsTraceOf p trace
   unfolding file heading setup pools starts steps all_steps finished
   is_trace_of r =
@@ -249,7 +249,7 @@ module _ (p : LaidOut) (defined : AreDefined p) (bytes : Text) (trace : Trace) w
       let all_starts = second.2.3 in
       let pools_kept : kept begin ≡ kept second.2.1 = heading_keeps ∙ pools_keep p.of_module all_pools.0 h.1 all_pools.1 all_pools.2 ∙ ap kept all_pools.3.1 in
       let none : AreStarts p begin = (tt, omega arith, refl, refl) in
-      let begun : AreStarts p second.1 = subst (AreStarts p) all_starts.3.1 (starts_kept p defined all_starts.0 second.2.1 all_starts.1 all_starts.2 (subst (AreStarts p) pools_kept none)) in
+      let begun : AreStarts p second.1 = subst (AreStarts p) all_starts.3.1 (starts_kept p all_starts.0 second.2.1 all_starts.1 all_starts.2 (subst (AreStarts p) pools_kept none)) in
       let third = second.3 in
       let e = third.2 in
       let f = e.3 in

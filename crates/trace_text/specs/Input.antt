@@ -13,6 +13,7 @@ use Rattle.trace_text.specs.declared.trace.Steps.{Steps}
 use Rattle.trace_text.specs.declared.fault.Found.{Found}
 use Rattle.trace_text.specs.declared.fault.Found.TheVariants.{Memory}
 
+-- what is left of a trace's text, and what was read before it
 pub record Input : Type 0 where
   pub rest : Text
   pub counts : List (Option ℕ)  -- how many cells each layout has, where that is listed so far

@@ -1,5 +1,5 @@
 -- What the words of a trace name.
-use Rattle.std.specs.Prelude.{ℕ, ◌^◌, nat_le, ◌==◌, if◌then◌else◌, List, [], ◌∷◌, Option, Some, None, length, slice_get}
+use Rattle.std.specs.Prelude.{ℕ, ◌^◌, nat_le, nat_lt, ◌==◌, if◌then◌else◌, List, [], ◌∷◌, Option, Some, None, length, slice_get}
 use Rattle.ir_ast.specs.Names.{place_of}
 use Rattle.ir_ast.specs.declared.module.Module.{Module}
 use Rattle.ir_ast.specs.declared.items_of_module.SymbolSort.{SymbolSort}
@@ -32,10 +32,10 @@ name_in sign word = if nat_le (length word) (2 ^ 24) then name_from sign word (l
 
 -- ---- functions
 
--- the defined function that a symbol of this sort is
-abbrev pub function_by : Option SymbolSort → Option ℕ
-function_by (Some (sort.Defined function)) = Some function
-function_by _ = None
+-- the defined function that a symbol of this sort is, one that is there
+abbrev pub function_by : Module → Option SymbolSort → Option ℕ
+function_by m (Some (sort.Defined function)) = if nat_lt function (length m.functions) then Some function else None
+function_by m _ = None
 
 -- the sort of a symbol, if there is one
 abbrev pub sort_at : Module → Option ℕ → Option SymbolSort
@@ -45,7 +45,7 @@ sort_at m (Some symbol) = slice_get m.sorts symbol
 -- the defined function of this name
 abbrev pub function_named : Module → Option Text → Option ℕ
 function_named m None = None
-function_named m (Some name) = function_by (sort_at m (place_of name m.symbols))
+function_named m (Some name) = function_by m (sort_at m (place_of name m.symbols))
 
 -- the defined function that a word names
 abbrev pub function_of_word : Module → (word : Text) → Option ℕ

@@ -2,7 +2,6 @@
 use Rattle.std.specs.Prelude.{◌≡◌, ℕ, ◌<◌, ◌≤◌, ◌^◌, List, length, map, sum, Option, Some, None, [], slice_get}
 use Rattle.std.specs.List.{AllByRecursion}
 use Rattle.ir_ast.specs.declared.function.Function.{Function}
-use Rattle.ir_ast.specs.declared.items_of_module.SymbolSort.TheVariants as sort
 use Rattle.ir_ast.specs.declared.module.Module.{Module}
 use Rattle.layout.specs.Layouts.{LaidOut}
 use Rattle.trace_text.specs.Words.{Text}
@@ -30,10 +29,6 @@ pub record AreNamed (p : LaidOut) : Type 0 where
   pub function : (function : ℕ) → function < length p.of_module.functions → function_named p.of_module (Some (symbol_name p.of_module (slice_get p.of_module.functions function))) ≡ Some function
   pub short_layout : (layout : ℕ) → layout < length p.layouts → IsShort (struct_name p.of_module (slice_get p.of_module.structs layout))
   pub layout : (layout : ℕ) → layout < length p.layouts → layout_named p.of_module (Some (struct_name p.of_module (slice_get p.of_module.structs layout))) ≡ Some layout
-
--- each name that stands for a defined function stands for one that is there
-abbrev pub AreDefined : LaidOut → Type 0
-AreDefined p = (symbol function : ℕ) → slice_get p.of_module.sorts symbol ≡ Some (sort.Defined function) → function < length p.of_module.functions
 
 -- a thread begins at a function of the program, with arguments of 64 bits
 abbrev pub IsStartOf : LaidOut → Start → Type 0

@@ -72,7 +72,8 @@ fn function_named(module: &Module, name: &[u8]) -> Option<u32>
 {
     let symbol = module.symbols.find(name)?;
     match module.sorts.get(symbol) {
-        Some(SymbolSort::Defined(function)) => Some(function.number()),
+        Some(SymbolSort::Defined(function))
+            if (function.number() as usize) < module.functions.len() => { Some(function.number()) }
         _ => None,
     }
 }

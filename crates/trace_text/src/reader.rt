@@ -3,7 +3,7 @@ ghost use Rattle.std.specs.Prelude.{◌≡◌, ◌≢◌, slice_get, IfOk, IfErr
 ghost use Rattle.trace_text.specs.Input.{Reads, start_of};
 ghost use Rattle.trace_text.specs.Text as text;
 ghost use Rattle.trace_text.specs.Text.{IsTrace, IsFault, counts_of, count_or_none};
-ghost use Rattle.trace_text.specs.Traces.{AreDefined, IsTraceOf};
+ghost use Rattle.trace_text.specs.Traces.{IsTraceOf};
 ghost use Rattle.grammar.specs.Outcome.{Gives};
 ghost use Rattle.trace_text.specs.declared.trace.Trace.{Trace as ATrace};
 ghost use Rattle.trace_text.specs.declared.fault.TraceFault.{TraceFault as AFault};
@@ -266,7 +266,7 @@ pub fn read_trace(alloc: Global, bytes: &[u8], program: &Program) -> Result<Trac
     // What is read is a text of this trace.
     ensures found { IfOk result (λ trace. IsTrace bytes.now program.now trace) }
     // It is a trace of the program, within the limits.
-    ensures of_program { IfOk result (λ trace. AreDefined program.now → IsTraceOf program.now trace) }
+    ensures of_program { IfOk result (IsTraceOf program.now) }
     // What is a text of some trace is read, unless memory runs out.
     ensures only { (trace : ATrace) → IsTrace bytes.now program.now trace → Gives fault.Memory result (Ok trace) }
     // What is refused is refused for its first fault.

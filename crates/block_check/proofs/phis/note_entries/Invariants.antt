@@ -1,6 +1,8 @@
 use Rattle.std.proofs.Common.{◌≡◌, ◌++◌, drop}
+use Rattle.block_rules.specs.Standing.{instructions_of}
 use Rattle.certified.specs.Ways.{comes_in}
 use Rattle.block_check.proofs.phis.note_entries.Given as goal
 
-abbrev pub invariant-loop-instr : goal.invariant-loop-instr
-invariant-loop-instr l = comes_in l.module l.function l.from l.facts l.fn.instructions ≡ l.entries ++ comes_in l.module l.function l.from l.facts (drop l.instr-index l.instructions)
+abbrev pub invariant-loop-place : goal.invariant-loop-place
+invariant-loop-place l =
+    comes_in l.subject.scene.program.now.of_module l.subject.scene.function.now l.from l.facts (instructions_of l.subject.scene.function.now l.to) ≡ l.entries ++ comes_in l.subject.scene.program.now.of_module l.subject.scene.function.now l.from l.facts (drop l.place l.instructions)

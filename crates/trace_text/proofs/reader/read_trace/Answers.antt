@@ -6,8 +6,8 @@ pub returns-in-Ok-clause-found : goal.returns-in-Ok-clause-found
 returns-in-Ok-clause-found c = found c.args.bytes.now c.args.program.now c.in-Ok.trace c.in-Ok.ensures
 
 pub returns-in-Ok-clause-of_program : goal.returns-in-Ok-clause-of_program
-returns-in-Ok-clause-of_program c defined =
-    is_trace_of c.args.program.now defined c.args.bytes.now c.in-Ok.trace (found c.args.bytes.now c.args.program.now c.in-Ok.trace c.in-Ok.ensures)
+returns-in-Ok-clause-of_program c =
+    is_trace_of c.args.program.now c.args.bytes.now c.in-Ok.trace (found c.args.bytes.now c.args.program.now c.in-Ok.trace c.in-Ok.ensures)
 
 pub returns-in-Ok-clause-only : goal.returns-in-Ok-clause-only
 returns-in-Ok-clause-only c = λ trace. only c.args.bytes.now c.args.program.now c.in-Ok.trace trace c.in-Ok.ensures

@@ -1,0 +1,84 @@
+//! The command `check`.
+use crate::files::file_at;
+use crate::report;
+use certificate::{Certs, read_cert};
+use ir_ast::Module;
+use ir_text::read;
+use module_check::{NotAccepted, Refusal, Verdict, check};
+use std::alloc::Global;
+use std::io;
+use std::io::Write;
+
+fn report_refusal<O: Write, E: Write>(
+    alloc: Global,
+    answer: &NotAccepted,
+    refusal: &Refusal,
+    out: &mut O,
+    err: &mut E,
+) -> io::Result<u8> {
+    match report::line_of_refusal(alloc, &answer.of_module, &answer.certs, refusal) {
+        Ok(line) => report::refused(out, &answer.of_module, refusal, line.as_slice()),
+        Err(_) => report::memory(err),
+    }
+}
+
+fn report_verdict<O: Write, E: Write>(
+    alloc: Global,
+    answer: &NotAccepted,
+    out: &mut O,
+    err: &mut E,
+) -> io::Result<u8> {
+    match answer.verdict {
+        Verdict::Refused(refusal) => report_refusal(alloc, answer, &refusal, out, err),
+        Verdict::Layout(fault) => report::no_layouts(err, &answer.of_module, fault),
+        Verdict::Memory => report::memory(err),
+    }
+}
+
+fn check_certs<O: Write, E: Write>(
+    alloc: Global,
+    of_module: Module,
+    certs: Certs,
+    out: &mut O,
+    err: &mut E,
+) -> io::Result<u8> {
+    match check(alloc, of_module, certs) {
+        Ok(accepted) => report::accepted(out, accepted.program().module().functions.len()),
+        Err(answer) => report_verdict(alloc, &answer, out, err),
+    }
+}
+
+fn check_module<O: Write, E: Write>(
+    alloc: Global,
+    of_module: Module,
+    certificate: &[u8],
+    out: &mut O,
+    err: &mut E,
+) -> io::Result<u8> {
+    match read_cert(alloc, certificate, &of_module) {
+        Ok(certs) => check_certs(alloc, of_module, certs, out, err),
+        Err(fault) => report::no_certificate(err, &of_module, fault),
+    }
+}
+
+/// Checks the module and the certificate of these paths. The first fault counts: of each file in the line's order, its
+/// path and then its text, then of the layouts, then of the check.
+pub fn check_files<O: Write, E: Write>(
+    alloc: Global,
+    paths: (&str, &str),
+    files: &[Option<Vec<u8>>],
+    out: &mut O,
+    err: &mut E,
+) -> io::Result<u8> {
+    let Some(text) = file_at(files, 0) else {
+        return report::no_file(err, paths.0);
+    };
+    let of_module = match read(alloc, text) {
+        Ok(of_module) => of_module,
+        Err(fault) => return report::no_module(err, &fault),
+    };
+    match file_at(files, 1) {
+        Some(certificate) => check_module(alloc, of_module, certificate, out, err),
+        None => report::no_file(err, paths.1),
+    }
+}

@@ -1,0 +1,2 @@
+//! A printed module is read again, and what is read is that module again.
+#![tactic(auto)]

@@ -1,0 +1,181 @@
+-- Tables that grow at the end: what stands in them stays.
+use Rattle.std.proofs.Common.{◌≡◌, ℕ, zero, suc, ◌+◌, ◌<◌, ◌≤◌, Bool, true, false, List, [], ◌∷◌, ◌++◌, length, slice_get, is_some, unwrap_or, if◌then◌else◌, Option, None, Some, refl, sym, ap, subst, ◌∙◌, arith, append_assoc, length-append, inl, inr, ◌⊎◌, get_or, cond, not, position}
+use Rattle.std.specs.Prelude.{nat_lt, eqb}
+use Rattle.std.specs.List.{position_or_len}
+use Rattle.std.proofs.lemmas.Bool.Decides.{nat_tests}
+use Rattle.std.proofs.lemmas.List.Folds.{prefix_len-append}
+use Rattle.ir_ast.proofs.Places.{place_is_end}
+use Rattle.std.proofs.lemmas.Option.{slice_get-get_or}
+use Rattle.std.proofs.lemmas.Slice.Eq.{bytes_eq-Decides}
+use Rattle.std.proofs.lemmas.List.{append-nil}
+use Rattle.std.proofs.lemmas.List.Quantifiers.{position-Some}
+use Rattle.std.specs.Str.{bytes_eq}
+use Rattle.ir_ast.specs.Names.{place_of, number_of, numbered}
+use Rattle.ir_ast.specs.Types.{place_of_type, number_of_type, numbered_type, is_same_type}
+use Rattle.ir_ast.specs.declared.ir_type.IrType.{IrType}
+use Rattle.ir_ast.proofs.TypePlaces.{stands}
+use Rattle.ir_tokens.specs.Bytes.{Text}
+use Rattle.ir_ast.specs.declared.ir_type.IrType.TheVariants as type
+
+-- the second list begins with the first
+abbrev pub Begins : {A : Type 0} → List A → List A → Type 0
+Begins {A = A} xs ys = (more : List A) × (ys ≡ xs ++ more)
+
+-- the struct of the further fields of a struct stands before it
+abbrev pub IsRestBefore : (number : ℕ) → IrType → Type 0
+IsRestBefore number (type.Struct first rest) = rest < number
+IsRestBefore number _ = Unit {0}
+
+abbrev pub AreOrdered : List IrType → Type 0
+AreOrdered types = (number : ℕ) (x : IrType) → slice_get types number ≡ Some x → IsRestBefore number x
+
+-- ---- a list that begins with another one
+
+pub begins_itself : {A : Type 0} (xs : List A) → Begins xs xs
+begins_itself xs = ([], sym (append-nil xs))
+
+pub begins_further : {A : Type 0} (xs ys zs : List A) → Begins xs ys → Begins ys zs → Begins xs zs
+begins_further xs ys zs a b = (a.0 ++ b.0, b.1 ∙ ap (λ l. l ++ b.0) a.1 ∙ append_assoc xs a.0 b.0)
+
+pub begins_with : {A : Type 0} (xs more : List A) → Begins xs (xs ++ more)
+begins_with xs more = (more, refl)
+
+in_front : {A : Type 0} (xs more : List A) (n : ℕ) (x : A) → slice_get xs n ≡ Some x → slice_get (xs ++ more) n ≡ Some x
+in_front [] more n x e = absurd cc
+in_front (y ∷ xs) more zero x e = e
+in_front (y ∷ xs) more (suc n) x e = in_front xs more n x e
+
+pub stays : {A : Type 0} (xs ys : List A) (n : ℕ) (x : A) → Begins xs ys → slice_get xs n ≡ Some x → slice_get ys n ≡ Some x
+stays xs ys n x b e = ap (λ l. slice_get l n) b.1 ∙ in_front xs b.0 n x e
+
+pub at_end : {A : Type 0} (xs : List A) (x : A) → slice_get (xs ++ x ∷ []) (length xs) ≡ Some x
+at_end [] x = refl
+at_end (y ∷ xs) x = at_end xs x
+
+-- what stands at a place of a list with one element more stood there before, or is that element
+pub at_end_or_before : {A : Type 0} (xs : List A) (y : A) (n : ℕ) (x : A) → slice_get (xs ++ y ∷ []) n ≡ Some x → (slice_get xs n ≡ Some x) ⊎ ((n ≡ length xs) × (y ≡ x))
+at_end_or_before [] y zero x e = inr (refl, cc)
+at_end_or_before [] y (suc n) x e = absurd cc
+at_end_or_before (z ∷ xs) y zero x e = inl e
+at_end_or_before (z ∷ xs) y (suc n) x e = elim (at_end_or_before xs y n x e) [
+  | inl h ↦ inl h
+  | inr h ↦ inr (ap suc h.0, h.1)
+]
+
+-- ---- types
+
+pub type_begins : (t : IrType) (types : List IrType) → Begins types (numbered_type t types)
+type_begins t types = by (is_some (place_of_type t types)) where
+  by : (b : Bool) → Begins types (if b then types else types ++ t ∷ [])
+  by true = begins_itself types
+  by false = begins_with types (t ∷ [])
+
+-- the type stands at its number
+pub type_there : (t : IrType) (types : List IrType) → slice_get (numbered_type t types) (number_of_type t types) ≡ Some t
+type_there t types = by (place_of_type t types) refl where
+  by : (place : Option ℕ) → place_of_type t types ≡ place → slice_get (if is_some place then types else types ++ t ∷ []) (unwrap_or place (length types)) ≡ Some t
+  by None e = at_end types t
+  by (Some n) e = stands t types n e
+
+pub type_ordered : (t : IrType) (types : List IrType) → IsRestBefore (length types) t → AreOrdered types → AreOrdered (numbered_type t types)
+type_ordered t types last before = by (is_some (place_of_type t types)) where
+  by : (b : Bool) → AreOrdered (if b then types else types ++ t ∷ [])
+  by true = before
+  by false = λ n x e. elim (at_end_or_before types t n x e) [
+    | inl h ↦ before n x h
+    | inr h ↦ subst (λ y. IsRestBefore n y) h.1 (subst (λ k. IsRestBefore k t) (sym h.0) last)
+  ]
+
+pub type_length : (t : IrType) (types : List IrType) → length (numbered_type t types) ≤ length types + 1
+type_length t types = by (is_some (place_of_type t types)) where
+  by : (b : Bool) → length (if b then types else types ++ t ∷ []) ≤ length types + 1
+  by true = omega arith
+  by false = let e = length-append types (t ∷ []) in omega (arith, e)
+
+pub type_within : (t : IrType) (types : List IrType) → number_of_type t types ≤ length types
+type_within t types = by (place_of_type t types) refl where
+  by : (place : Option ℕ) → place_of_type t types ≡ place → unwrap_or place (length types) ≤ length types
+  by None e = omega arith
+  by (Some place) e = let found = position-Some (is_same_type t) types place t e in let less = found.0 in omega (arith, less)
+
+-- ---- names
+
+pub name_begins : (name : Text) (names : List Text) → Begins names (numbered name names)
+name_begins name names = by (is_some (place_of name names)) where
+  by : (b : Bool) → Begins names (if b then names else names ++ name ∷ [])
+  by true = begins_itself names
+  by false = begins_with names (name ∷ [])
+
+pub name_length : (name : Text) (names : List Text) → length (numbered name names) ≤ length names + 1
+name_length name names = by (is_some (place_of name names)) where
+  by : (b : Bool) → length (if b then names else names ++ name ∷ []) ≤ length names + 1
+  by true = omega arith
+  by false = let e = length-append names (name ∷ []) in omega (arith, e)
+
+pub number_within : (name : Text) (names : List Text) → number_of name names ≤ length names
+number_within name names = by (place_of name names) refl where
+  by : (place : Option ℕ) → place_of name names ≡ place → unwrap_or place (length names) ≤ length names
+  by None e = omega arith
+  by (Some place) e = let found = position-Some (bytes_eq name) names place name e in let less = found.0 in omega (arith, less)
+
+-- the name stands at its number
+pub name_there : (name : Text) (names : List Text) → slice_get (numbered name names) (number_of name names) ≡ Some name
+name_there name names = by (place_of name names) refl where
+  by : (place : Option ℕ) → place_of name names ≡ place → slice_get (if is_some place then names else names ++ name ∷ []) (unwrap_or place (length names)) ≡ Some name
+  by None e = at_end names name
+  by (Some n) e =
+      let found = position-Some (bytes_eq name) names n name e in
+      slice_get-get_or names n name found.0 ∙ ap Some (sym ((bytes_eq-Decides name (get_or names n name)).0 found.1))
+
+-- ---- the first place of a name
+
+place_is : (p : Text → Bool) (xs : List Text) (n : ℕ) → position p xs ≡ Some n → (n ≡ position_or_len p xs) × (n < length xs)
+place_is p xs n e = by (nat_lt (position_or_len p xs) (length xs)) refl e where
+  by : (t : Bool) → nat_lt (position_or_len p xs) (length xs) ≡ t → cond t (Some (position_or_len p xs)) None ≡ Some n → (n ≡ position_or_len p xs) × (n < length xs)
+  by true less h = let same : position_or_len p xs ≡ n = cc in (sym same, grind (arith, nat_tests))
+  by false less h = absurd cc
+
+place_by : (p : Text → Bool) (xs : List Text) (n : ℕ) → n ≡ position_or_len p xs → n < length xs → position p xs ≡ Some n
+place_by p xs n e less = let within : nat_lt (position_or_len p xs) (length xs) ≡ true = grind (arith, nat_tests) in rw within (ap Some (sym e))
+
+pub place_stays : (name : Text) (names others : List Text) (n : ℕ) → Begins names others → place_of name names ≡ Some n → place_of name others ≡ Some n
+place_stays name names others n b e = ap (place_of name) b.1 ∙ place_by p (names ++ b.0) n at less where
+  p : Text → Bool
+  p = bytes_eq name
+
+  found : (n ≡ position_or_len p names) × (n < length names)
+  found = place_is p names n e
+
+  other : eqb (position_or_len p names) (length names) ≡ false
+  other = let h = found.0 in let l = found.1 in grind (arith, nat_tests)
+
+  at : n ≡ position_or_len p (names ++ b.0)
+  at = found.0 ∙ sym (prefix_len-append (λ x. not (p x)) names b.0 ∙ ap (λ t. cond t (length names + position_or_len p b.0) (position_or_len p names)) other)
+
+  less : n < length (names ++ b.0)
+  less = let l = found.1 in let a = length-append names b.0 in omega (arith, l, a)
+
+pub place_there : (name : Text) (names : List Text) → place_of name (numbered name names) ≡ Some (number_of name names)
+place_there name names = by (place_of name names) refl where
+  p : Text → Bool
+  p = bytes_eq name
+
+  itself : p name ≡ true
+  itself = (bytes_eq-Decides name name).1 refl
+
+  by : (place : Option ℕ) → place_of name names ≡ place → place_of name (if is_some place then names else names ++ name ∷ []) ≡ Some (unwrap_or place (length names))
+  by (Some n) e = e
+  by None e =
+      let end = place_is_end p names e in
+      let same : eqb (position_or_len p names) (length names) ≡ true = grind (arith, nat_tests) in
+      let none : position_or_len p (name ∷ []) ≡ 0 = rw itself refl in
+      let at : length names ≡ position_or_len p (names ++ name ∷ []) =
+      sym (prefix_len-append (λ x. not (p x)) names (name ∷ []) ∙ ap (λ t. cond t (length names + position_or_len p (name ∷ [])) (position_or_len p names)) same ∙ ap (λ n. length names + n) none ∙ omega arith) in
+      let a = length-append names (name ∷ []) in
+      place_by p (names ++ name ∷ []) (length names) at (omega (arith, a))
+
+-- the name stands at its first place
+pub place_holds : (name : Text) (names : List Text) (n : ℕ) → place_of name names ≡ Some n → slice_get names n ≡ Some name
+place_holds name names n e =
+    let found = position-Some (bytes_eq name) names n name e in
+    slice_get-get_or names n name found.0 ∙ ap Some (sym ((bytes_eq-Decides name (get_or names n name)).0 found.1))

@@ -1,0 +1,100 @@
+-- Types without their numbers.
+use Rattle.std.specs.Prelude.{◌≡◌, ℕ, suc, ◌<◌, ◌≤◌, ◌^◌, max, Bool, true, false, ◌==◌, List, Option, Some, None, ◌⊎◌, slice_get, ◌∷◌, []}
+use Rattle.ir_ast.specs.Names.{place_of}
+use Rattle.ir_ast.specs.declared.ir_type.IrType.{IrType}
+use Rattle.ir_ast.specs.declared.ir_type.IrType.TheVariants as type
+use Rattle.ir_tokens.specs.Bytes.{Text}
+use Rattle.ir_print.specs.Standing.{AreBytes}
+
+-- the element is one of the list
+abbrev pub IsIn : {A : Type 0} → List A → A → Type 0
+IsIn [] y = ⊥
+IsIn (x ∷ xs) y = (x ≡ y) ⊎ IsIn xs y
+
+-- a type as it is written; a struct is a field before those of another struct
+pub data Shape : Type 0 where
+  Integer : (bits : ℕ) → Shape
+  Pointer : Shape → Shape
+  Array : (count : ℕ) → Shape → Shape
+  Empty : Shape
+  Struct : (first rest : Shape) → Shape
+  Named : (name : Text) → Shape
+
+-- the type with this number has this shape in a table of types, where names of structs have numbers; the rest of a struct stands before it
+abbrev pub HasShape : (types : List IrType) → (names : List Text) → Shape → (number : ℕ) → Type 0
+HasShape types names (Integer bits) number = slice_get types number ≡ Some (type.Integer bits)
+HasShape types names (Pointer part) number = (p : ℕ) × (slice_get types number ≡ Some (type.Pointer p)) × HasShape types names part p
+HasShape types names (Array count part) number = (p : ℕ) × (slice_get types number ≡ Some (type.Array count p)) × HasShape types names part p
+HasShape types names Empty number = slice_get types number ≡ Some type.EmptyStruct
+HasShape types names (Struct first rest) number =
+    (f : ℕ) × (r : ℕ) × (slice_get types number ≡ Some (type.Struct f r)) × (r < number) × HasShape types names first f × HasShape types names rest r
+HasShape types names (Named name) number = (n : ℕ) × (slice_get types number ≡ Some (type.Named n)) × (place_of name names ≡ Some n)
+
+-- how many levels a type has: an integer or a name is one, and each star, array or struct around it is one more
+abbrev pub levels : Shape → ℕ
+levels (Integer bits) = 1
+levels (Pointer part) = suc (levels part)
+levels (Array count part) = suc (levels part)
+levels Empty = 1
+levels (Struct first rest) = max (suc (levels first)) (levels rest)
+levels (Named name) = 1
+
+-- the struct of the fields behind the first
+abbrev pub IsStruct : Shape → Type 0
+IsStruct Empty = Unit {0}
+IsStruct (Struct first rest) = Unit {0}
+IsStruct _ = ⊥
+
+-- a type may be written so: integers have 1 to 64 bits, lengths 64 bits, and structs these names
+abbrev pub IsWritten : (structs : List Text) → Shape → Type 0
+IsWritten structs (Integer bits) = (1 ≤ bits) × (bits ≤ 64)
+IsWritten structs (Pointer part) = IsWritten structs part
+IsWritten structs (Array count part) = (count < 2 ^ 64) × IsWritten structs part
+IsWritten structs Empty = Unit {0}
+IsWritten structs (Struct first rest) = IsStruct rest × IsWritten structs first × IsWritten structs rest
+IsWritten structs (Named name) = AreBytes name × IsIn structs name
+
+-- how many bits an integer type has
+abbrev pub bits_of_shape : Shape → Option ℕ
+bits_of_shape (Integer bits) = Some bits
+bits_of_shape _ = None
+
+-- a word holds its values
+abbrev pub is_scalar_shape : Shape → Bool
+is_scalar_shape (Integer bits) = true
+is_scalar_shape (Pointer part) = true
+is_scalar_shape _ = false
+
+-- it is a pointer
+abbrev pub is_pointer_shape : Shape → Bool
+is_pointer_shape (Pointer part) = true
+is_pointer_shape _ = false
+
+-- it is a struct
+abbrev pub is_struct_shape : Shape → Bool
+is_struct_shape Empty = true
+is_struct_shape (Struct first rest) = true
+is_struct_shape _ = false
+
+-- a function may take and give a pointer to it
+abbrev pub is_passed_part : Shape → Bool
+is_passed_part (Integer bits) = bits == 8
+is_passed_part (Named name) = true
+is_passed_part _ = false
+
+-- a function may take and give it: an integer, a reference or `i8*`
+abbrev pub is_passed_shape : Shape → Bool
+is_passed_shape (Integer bits) = true
+is_passed_shape (Pointer part) = is_passed_part part
+is_passed_shape _ = false
+
+-- it is the name of a struct
+abbrev pub is_named_shape : Shape → Bool
+is_named_shape (Named name) = true
+is_named_shape _ = false
+
+-- a global may hold it: an integer or a reference
+abbrev pub is_held_shape : Shape → Bool
+is_held_shape (Integer bits) = true
+is_held_shape (Pointer part) = is_named_shape part
+is_held_shape _ = false

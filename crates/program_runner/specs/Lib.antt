@@ -1,0 +1,10 @@
+pub mod Heaps
+pub mod Kinds
+pub mod View
+pub mod Values
+pub mod Begun
+pub mod Given
+pub mod Asks
+pub mod Goes
+pub mod Roots
+pub mod Keeps

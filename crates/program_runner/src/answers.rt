@@ -1,0 +1,109 @@
+ghost use Rattle.std.specs.Prelude.{◌≡◌, ◌<◌, IfOk};
+ghost use Rattle.actors.specs.Calls.{action_of};
+ghost use Rattle.program_safety.specs.Threads.{in_run, reference_in, stored, asked_as, null_or_cell, word_read};
+
+use actors::{Call, NULL, Reference};
+use machine::{Action, Answer as ThreadAnswer, Reference as ThreadReference, Value};
+use pools::WordKind;
+use std::alloc::AllocError;
+
+/// A reference of a thread, as one of a run.
+fn in_run(at: ThreadReference) -> Reference
+    ensures { result ≡ in_run at }
+{
+    Reference {
+        cell: u64::from(at.cell),
+        birth: at.birth,
+    }
+}
+
+/// What a value refers to; null where it is no reference.
+pub(crate) fn reference_in(value: Value) -> Reference
+    ensures { result ≡ reference_in value }
+{
+    match value {
+        Value::Cell(_, at) => in_run(at),
+        _ => NULL,
+    }
+}
+
+/// What a value is in a word: a number stands as a cell's number.
+fn stored(value: Value) -> Reference
+    ensures { result ≡ stored value }
+{
+    match value {
+        Value::Number(number) => Reference {
+            cell: number,
+            birth: 0,
+        },
+        value => reference_in(value),
+    }
+}
+
+/// An action of a thread, as a call in a run.
+pub(crate) fn asked_as(action: Action) -> Call
+    ensures { action_of result ≡ asked_as action }
+{
+    match action {
+        Action::Local => Call::Local,
+        Action::Read { at, word } => Call::Read {
+            base: in_run(at),
+            word,
+        },
+        Action::StorePlain { at, word, value } => Call::StorePlain {
+            base: in_run(at),
+            word,
+            value: stored(value),
+        },
+        Action::Write { at, word, value } => Call::Write {
+            base: in_run(at),
+            word,
+            value: stored(value),
+        },
+        Action::Alloc(layout) => Call::Alloc(layout),
+        Action::Safepoint => Call::Safepoint,
+        Action::End => Call::End,
+        Action::Wrong => Call::Wrong,
+    }
+}
+
+/// The number of a cell of a heap with so many; another one is of memory that is not there.
+pub(crate) fn cell_of(cells: u32, cell: u64) -> Result<u32, AllocError>
+    ensures same { IfOk result (λ number. number ≡ cell) }
+    ensures within { IfOk result (λ number. number < cells) }
+{
+    if cell < u64::from(cells) {
+        Ok(cell as u32)
+    } else {
+        Err(AllocError)
+    }
+}
+
+/// Null or a reference to a cell of a heap with so many, as an answer.
+pub(crate) fn null_or_cell(cells: u32, found: Reference) -> Result<ThreadAnswer, AllocError>
+    ensures { IfOk result (λ given. given ≡ null_or_cell found) }
+{
+    if found.cell == 0 {
+        return Ok(ThreadAnswer::Null);
+    }
+    let cell = cell_of(cells, found.cell)?;
+    Ok(ThreadAnswer::Cell(ThreadReference {
+        cell,
+        birth: found.birth,
+    }))
+}
+
+/// What was read in a word of this kind, as an answer.
+pub(crate) fn word_read(
+    cells: u32,
+    kind: Option<WordKind>,
+    found: Reference,
+) -> Result<ThreadAnswer, AllocError>
+    ensures { IfOk result (λ given. given ≡ word_read kind found) }
+{
+    match kind {
+        Some(WordKind::Integer(_)) => Ok(ThreadAnswer::Number(found.cell)),
+        Some(WordKind::Reference(_)) => null_or_cell(cells, found),
+        None => Ok(ThreadAnswer::Done),
+    }
+}

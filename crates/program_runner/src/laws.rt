@@ -1,0 +1,13 @@
+ghost use Rattle.std.specs.Prelude.{ℕ, List, slice_get};
+ghost use Rattle.layout.specs.Layouts.{LaidOut};
+ghost use Rattle.machine.specs.Machine.{start};
+ghost use Rattle.machine.specs.Start.{argument_values, StartsByReference, StartsWrongly};
+ghost use Rattle.trace_text.specs.declared.trace.Setup.{Setup};
+ghost use Rattle.program_runner.specs.Heaps.{heap_of};
+ghost use Rattle.program_runner.specs.Kinds.{FitsThread};
+
+/// The law of begun threads: a thread that begins with numbers that its function takes fits the heap of each setup.
+pub fn begun_law()
+    ensures { (p : LaidOut) (setup : Setup) (function : ℕ) (arguments : List ℕ) → (StartsByReference p function → ⊥) → (StartsWrongly p function arguments → ⊥)
+        → FitsThread (heap_of p setup) (record { heap = heap_of p setup; program = p; state = start p.of_module (slice_get p.of_module.functions function) function (argument_values arguments) }) }
+{}

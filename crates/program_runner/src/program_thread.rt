@@ -1,0 +1,142 @@
+ghost use Rattle.std.specs.Prelude.{◌≡◌, ◌<◌, slice_get, IfOk};
+ghost use Rattle.pools.specs.Heap.{cells, kind_of, words_of_cell};
+ghost use Rattle.machine.specs.Endings.{ending};
+ghost use Rattle.machine.specs.Machine.{action};
+ghost use Rattle.actors.specs.Calls.{answer_in};
+ghost use Rattle.program_safety.specs.Threads.{given_as};
+ghost use Rattle.program_runner.specs.Heaps.{heap_of};
+
+use crate::answers::{asked_as, cell_of, null_or_cell, reference_in, word_read};
+use actors::{Answer, Call, Reference, Runner};
+use layout::Program;
+use machine::{Action, Answer as ThreadAnswer, Ending, Thread};
+use pools::WordKind;
+use schedules::Machine;
+use std::alloc::{AllocError, Global};
+use std::marker::Model;
+use trace_text::Setup;
+
+/// A thread of a program, over the heap of a setup.
+#[derive(Drop)]
+pub struct ProgramThread<'a> {
+    alloc: Global,
+    program: &'a Program,
+    setup: &'a Setup,
+    /// How many cells the heap has, that of the globals among them.
+    cells: u32,
+    thread: Thread<'a>,
+}
+
+impl<'a> Model for ProgramThread<'a> {
+    ghost use Rattle.program_safety.specs.Threads.{ProgramThread};
+
+    ghost Value = { ProgramThread };
+
+    ghost use Rattle.program_runner.specs.View.{thread_seen, IsOfProgram};
+
+    ghost view = { thread_seen };
+
+    ghost invariant = { IsOfProgram };
+}
+
+impl<'a> Machine for ProgramThread<'a> {
+    ghost use Rattle.program_safety.specs.Threads.{asks, goes_on, names};
+
+    ghost action = { asks };
+
+    ghost after_answer = { goes_on };
+
+    ghost roots = { names };
+}
+
+impl<'a> ProgramThread<'a> {
+    /// A thread over the heap of a setup.
+    pub fn new(alloc: Global, program: &'a Program, setup: &'a Setup, thread: Thread<'a>) -> Self
+        requires { thread.program ≡ program.now }
+        ensures { result ≡ record { heap = heap_of program.now setup.now; program = program.now; state = thread.entry.state } }
+    {
+        ProgramThread {
+            alloc,
+            program,
+            setup,
+            cells: setup.pools.cells(),
+            thread,
+        }
+    }
+
+    /// How the thread ends, where it asks to end.
+    pub fn ending(&self) -> Ending
+        ensures { result ≡ ending self.now.program self.now.state }
+    {
+        self.thread.ending()
+    }
+
+    /// What the words of a cell hold.
+    fn words(&self, cell: u32) -> &[WordKind]
+        requires { cell < cells self.now.heap }
+        ensures { result.now ≡ words_of_cell self.now.heap cell }
+    {
+        if cell == 0 {
+            return self.program.globals();
+        }
+        self.program.layouts().words(self.setup.pools.pool_of(cell))
+    }
+
+    /// What a word of a cell holds.
+    #[tactic(auto, using(crate::proofs::Words::kind_is))]
+    fn kind(&self, cell: u32, word: u32) -> Option<WordKind>
+        requires { cell < cells self.now.heap }
+        ensures { result ≡ kind_of self.now.heap cell word }
+    {
+        word_in(self.words(cell), word)
+    }
+
+    /// An answer to what the thread asked for, as an answer to the thread. A cell that the heap has not is memory that is not
+    /// there.
+    fn given_as(&self, answer: Answer) -> Result<ThreadAnswer, AllocError>
+        ensures { IfOk result (λ given. given ≡ given_as self.now.heap (action self.now.program self.now.state) (answer_in answer)) }
+    {
+        match (self.thread.next(), answer) {
+            (Action::Read { at, word }, Answer::Got(found)) => {
+                let cell = cell_of(self.cells, u64::from(at.cell))?;
+                word_read(self.cells, self.kind(cell, word), found)
+            }
+            (Action::Alloc(_), Answer::Got(found)) => null_or_cell(self.cells, found),
+            (Action::Safepoint, Answer::Answered(Some(_))) => Ok(ThreadAnswer::Answered),
+            _ => Ok(ThreadAnswer::Done),
+        }
+    }
+}
+
+impl<'a> Runner for ProgramThread<'a> {
+    ghost use Rattle.program_runner.specs.Kinds.{FitsThread};
+    ghost use Rattle.program_runner.specs.Keeps.{thread_keeps_kinds};
+
+    ghost fits = { FitsThread };
+
+    ghost keeps_kinds = { thread_keeps_kinds };
+
+    fn call(&self) -> Call {
+        asked_as(self.thread.next())
+    }
+
+    fn root_references(&self) -> Result<Vec<Reference>, AllocError> {
+        let values = self.thread.roots()?;
+        values
+            .iter()
+            .map(|value| reference_in(*value))
+            .collect(self.alloc)
+    }
+
+    fn answer(&mut self, answer: Answer) -> Result<(), AllocError> {
+        let given = self.given_as(answer)?;
+        self.thread.resume(given)
+    }
+}
+
+/// The word with this number of a list, if there is one.
+fn word_in(words: &[WordKind], word: u32) -> Option<WordKind>
+    ensures { result ≡ slice_get words.now word }
+{
+    words.get(word as usize).copied()
+}

@@ -1,0 +1,5 @@
+pub mod Plans
+pub mod Meetings
+pub mod Wholes
+pub mod Exact
+pub mod Losses

@@ -1,0 +1,9 @@
+pub mod Lists
+pub mod Steps
+pub mod Starts
+pub mod Watching
+pub mod Drawings
+pub mod Firsts
+pub mod Seeds
+pub mod Chunks
+pub mod TraceSteps

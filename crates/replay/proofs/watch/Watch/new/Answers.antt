@@ -1,0 +1,17 @@
+-- Nothing is counted before the first step, and the run is not broken there.
+use Rattle.std.proofs.Common.{refl}
+use Rattle.actors.specs.Runs.{run_by}
+use Rattle.replay.proofs.Starts.{unbroken_start}
+use Rattle.replay.proofs.watch.Watch.new.Goals as goal
+
+pub returns-clause-ok : goal.returns-clause-ok
+unfolding run_by
+returns-clause-ok c = record {
+  program = c.in_ok-new.ensures.ok.0;
+  setup_is = c.in_ok-new.ensures.ok.1;
+  behind = c.in_ok-new.ensures.ok.2;
+  unbroken = unbroken_start c.args.program.now c.args.setup.now;
+  steps = refl;
+  claims_are = refl;
+  frees_are = refl;
+}

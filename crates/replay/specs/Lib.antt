@@ -1,0 +1,4 @@
+pub mod Lists
+pub mod Outcomes
+pub mod Watched
+pub mod Soaks

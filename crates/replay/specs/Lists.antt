@@ -1,0 +1,57 @@
+-- Lists of actors, the first one first, and the first step behind which the run that they make is broken.
+use Rattle.std.specs.Prelude.{ℕ, suc, ◌≡◌, ◌≤◌, List, [], ◌∷◌, ◌++◌, length, Some, replicate, reverse, take, slice_get}
+use Rattle.layout.specs.Layouts.{LaidOut}
+use Rattle.schedules.specs.ModuleRuns.{Happening, IsModuleRun}
+use Rattle.schedules.specs.Broken as broken
+use Rattle.schedules.specs.Broken.{IsBroken, IsCause}
+use Rattle.program_safety.specs.Threads.{program_machine}
+use Rattle.program_runner.specs.Heaps.{heap_of}
+use Rattle.trace_text.specs.declared.trace.Setup.{Setup}
+use Rattle.trace_text.specs.declared.trace.Steps.{Steps}
+use Rattle.actors.specs.declared.actor.Actor.{Actor}
+use Rattle.actors.specs.Causes as step
+use Rattle.reach.specs.declared.gone.Gone.{Gone}
+use Rattle.reach.specs.declared.gone.Gone.TheVariants.{Blue, Reborn}
+use Rattle.world.specs.Setups.{starts_of}
+use Rattle.world.specs.Worlds.{run_of, actor_in}
+use Rattle.replay.specs.declared.outcome.Break.{Break}
+use Rattle.replay.specs.declared.outcome.Cause.{Cause}
+use Rattle.replay.specs.declared.outcome.Cause.TheVariants.{OfStep, OfReach}
+
+-- the actor of each step of a trace
+abbrev pub actors_of : List Steps → List Actor
+actors_of [] = []
+actors_of (steps ∷ more) = replicate steps.count (actor_in steps.actor) ++ actors_of more
+
+-- ---- broken
+
+-- the run behind the first steps of a list, so many of them. A step that changes nothing, as of an ended thread, is counted
+abbrev pub run_at : LaidOut → Setup → List Actor → (steps : ℕ) → List Happening
+run_at p setup actors steps = run_of p setup (reverse (take steps actors))
+
+-- it is broken
+abbrev pub IsBrokenAt : LaidOut → Setup → List Actor → (steps : ℕ) → Type 0
+IsBrokenAt p setup actors steps = IsBroken (heap_of p setup) program_machine (starts_of p setup) (run_at p setup actors steps)
+
+-- no step of a list breaks the run, and it is not broken before the first
+abbrev pub IsSoundList : LaidOut → Setup → List Actor → Type 0
+IsSoundList p setup actors = (steps : ℕ) → steps ≤ length actors → ¬ IsBrokenAt p setup actors steps
+
+-- a reachable reference that is gone, as a cause
+abbrev pub cause_of_gone : Gone → broken.Cause
+cause_of_gone (Blue cell) = broken.ReachBlue cell
+cause_of_gone (Reborn cell) = broken.ReachBirth cell
+
+-- a cause of the code, as one of a run
+abbrev pub cause_in : Cause → broken.Cause
+cause_in (OfStep cause) = step.cause_in cause
+cause_in (OfReach gone) = cause_of_gone gone
+
+-- this step of a list is the first behind which the run is broken, with its actor and the first cause. Steps are counted from 1
+pub record IsFirstBreak (p : LaidOut) (setup : Setup) (actors : List Actor) (b : Break) : Type 0 where
+  pub place : ℕ
+  pub step : b.step ≡ suc place
+  pub actor : slice_get actors place ≡ Some (actor_in b.actor)
+  pub before : (steps : ℕ) → steps ≤ place → ¬ IsBrokenAt p setup actors steps
+  pub is_run : IsModuleRun (heap_of p setup) program_machine (starts_of p setup) (run_at p setup actors (suc place))
+  pub cause : IsCause (heap_of p setup) program_machine (starts_of p setup) (run_at p setup actors (suc place)) (cause_in b.cause)

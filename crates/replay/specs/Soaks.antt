@@ -1,0 +1,74 @@
+-- What comes of many seeded schedules of a setup.
+use Rattle.std.specs.Prelude.{ℕ, ◌≢◌, ◌<◌, ◌≤◌, ◌==◌, Bool, true, false, Option, Some, None, Result, Ok, Err, List, length, map, if◌then◌else◌}
+use Rattle.draws.specs.Draws.{drawn}
+use Rattle.layout.specs.Layouts.{LaidOut}
+use Rattle.trace_text.specs.declared.trace.Setup.{Setup}
+use Rattle.actors.specs.declared.actor.Actor.{Actor}
+use Rattle.actors.specs.declared.actor.Actor.TheVariants.{Thread, Collector}
+use Rattle.replay.specs.declared.outcome.Break.{Break}
+use Rattle.world.specs.Setups.{IsSetupFault}
+use Rattle.world.specs.declared.setup_fault.SetupFault.{SetupFault}
+use Rattle.world.specs.declared.setup_fault.SetupFault.TheVariants.{Memory}
+use Rattle.replay.specs.declared.outcome.SeedBreak.{SeedBreak}
+use Rattle.replay.specs.declared.outcome.SoakOutcome.{SoakOutcome}
+use Rattle.replay.specs.declared.outcome.SoakOutcome.TheVariants.{Broken, Sound}
+use Rattle.replay.specs.Lists.{IsSoundList, IsFirstBreak}
+
+-- a number from 0 to the count of threads, as an actor: the count itself means the collector
+abbrev pub actor_drawn : (threads draw : ℕ) → Actor
+actor_drawn threads draw = if draw == threads then Collector else Thread draw
+
+-- the actors of the first steps of a seed, so many
+abbrev pub actors_drawn : (threads seed steps : ℕ) → List Actor
+actors_drawn threads seed steps = map (actor_drawn threads) (drawn threads seed steps)
+
+-- the list that a seed draws is sound
+abbrev pub IsSoundSeed : LaidOut → Setup → (steps seed : ℕ) → Type 0
+IsSoundSeed p setup steps seed = IsSoundList p setup (actors_drawn (length setup.starts) seed steps)
+
+-- so is that of each lesser seed
+abbrev pub AreSoundBelow : LaidOut → Setup → (steps seeds : ℕ) → Type 0
+AreSoundBelow p setup steps seeds = (seed : ℕ) → seed < seeds → IsSoundSeed p setup steps seed
+
+-- the least seed whose list breaks its run, with the break
+pub record IsLeastBreak (p : LaidOut) (setup : Setup) (seeds steps : ℕ) (b : SeedBreak) : Type 0 where
+  pub is_seed : b.seed < seeds
+  pub before : AreSoundBelow p setup steps b.seed
+  pub breaks : IsFirstBreak p setup (actors_drawn (length setup.starts) b.seed steps) b.broken
+
+-- of the seeds from 0, so many: the least one whose list breaks its run, or that there is none
+abbrev pub IsSoakOutcome : LaidOut → Setup → (seeds steps : ℕ) → SoakOutcome → Type 0
+IsSoakOutcome p setup seeds steps (Broken b) = IsLeastBreak p setup seeds steps b
+IsSoakOutcome p setup seeds steps Sound = AreSoundBelow p setup steps seeds
+
+-- no seed's list breaks its run
+abbrev pub IsSoundSoak : SoakOutcome → Type 0
+IsSoundSoak Sound = Unit {0}
+IsSoundSoak (Broken b) = ⊥
+
+-- what comes of one seed: where its list first breaks its run, or that it is sound
+abbrev pub IsEndOfSeed : LaidOut → Setup → (steps seed : ℕ) → Option Break → Type 0
+IsEndOfSeed p setup steps seed None = IsSoundSeed p setup steps seed
+IsEndOfSeed p setup steps seed (Some b) = IsFirstBreak p setup (actors_drawn (length setup.starts) seed steps) b
+
+-- what was told of a seed comes of it, or is a fault
+abbrev pub IsTold : LaidOut → Setup → (steps seed : ℕ) → Result (Option Break) SetupFault → Type 0
+IsTold p setup steps seed (Ok end) = IsEndOfSeed p setup steps seed end
+IsTold p setup steps seed (Err fault) = fault ≢ Memory → IsSetupFault p setup fault
+
+-- it says that the seed's list is sound
+abbrev pub is_sound : Result (Option Break) SetupFault → Bool
+is_sound (Ok None) = true
+is_sound _ = false
+
+-- the seed with its break, if there is one, or the fault
+abbrev pub answer_in : (seed : ℕ) → Result (Option Break) SetupFault → Result (Option SeedBreak) SetupFault
+answer_in seed (Ok None) = Ok None
+answer_in seed (Ok (Some b)) = Ok (Some (record { seed = seed; broken = b }))
+answer_in seed (Err fault) = Err fault
+
+-- of the seeds from the first one to one past the last: the least one whose list breaks its run, if there is one
+abbrev pub IsLeastFrom : LaidOut → Setup → (steps first past : ℕ) → Option SeedBreak → Type 0
+IsLeastFrom p setup steps first past None = (seed : ℕ) → first ≤ seed → seed < past → IsSoundSeed p setup steps seed
+IsLeastFrom p setup steps first past (Some b) =
+    (first ≤ b.seed) × (b.seed < past) × ((seed : ℕ) → first ≤ seed → seed < b.seed → IsSoundSeed p setup steps seed) × IsEndOfSeed p setup steps b.seed (Some b.broken)

@@ -1,0 +1,88 @@
+-- A world behind some actors, whose run was never broken so far, with what was counted on the way.
+use Rattle.std.specs.Prelude.{ℕ, ◌≡◌, ◌<◌, ◌+◌, ◌^◌, Bool, true, false, Option, Some, None, List, [], ◌∷◌, ◌++◌, length, reverse, count_by}
+use Rattle.layout.specs.Layouts.{LaidOut}
+use Rattle.schedules.specs.Broken.{IsBroken, IsCause}
+use Rattle.program_safety.specs.Threads.{program_machine}
+use Rattle.program_runner.specs.Heaps.{heap_of}
+use Rattle.trace_text.specs.declared.trace.Setup.{Setup}
+use Rattle.actors.specs.declared.actor.Actor.{Actor}
+use Rattle.world.specs.Setups.{starts_of}
+use Rattle.world.specs.Worlds.{World, run_of, IsBehind}
+use Rattle.replay.specs.declared.outcome.Break.{Break}
+use Rattle.actors.specs.declared.moves.Move.TheVariants.{Claims}
+use Rattle.colours.specs.declared.turn.Turn.TheVariants.{Free}
+use Rattle.stepping.specs.declared.happening.Happening.{Happening}
+use Rattle.stepping.specs.declared.happening.Happening.TheVariants.{Thread, Collector}
+use Rattle.stepping.specs.declared.happening.Step.{Step}
+use Rattle.stepping.specs.Ends.{IsStepOrNone}
+use Rattle.replay.specs.declared.outcome.Cause.{Cause}
+use Rattle.replay.specs.declared.watch.Watch.{Watch}
+use Rattle.replay.specs.Lists.{IsFirstBreak, cause_in}
+use Rattle.replay.specs.Outcomes.{claims, frees}
+
+-- the run that these actors make, the newest first, is not broken, nor was it behind any of them
+abbrev pub IsUnbroken : LaidOut → Setup → List Actor → Type 0
+IsUnbroken p setup [] = ¬ IsBroken (heap_of p setup) program_machine (starts_of p setup) (run_of p setup [])
+IsUnbroken p setup (actor ∷ before) = ¬ IsBroken (heap_of p setup) program_machine (starts_of p setup) (run_of p setup (actor ∷ before)) × IsUnbroken p setup before
+
+-- the world stands behind these actors, the newest first
+pub record IsWatched (p : LaidOut) (setup : Setup) (before : List Actor) (w : Watch) : Type 0 where
+  pub program : w.world.program ≡ p
+  pub setup_is : w.world.setup ≡ setup
+  pub behind : IsBehind w.world before
+  pub unbroken : IsUnbroken p setup before
+  pub steps : w.steps ≡ length before
+  pub claims_are : w.claims ≡ count_by claims (run_of p setup before)
+  pub frees_are : w.frees ≡ count_by frees (run_of p setup before)
+
+-- these actors made their steps behind others: the first of them behind whose step the run is broken, or where there is none, the world behind all of them
+abbrev pub IsWatchedOn : LaidOut → Setup → (before actors : List Actor) → Watch → Option Break → Type 0
+IsWatchedOn p setup before actors w None = IsWatched p setup (reverse actors ++ before) w
+IsWatchedOn p setup before actors w (Some b) = (rest : List Actor) → IsFirstBreak p setup (reverse before ++ (actors ++ rest)) b
+
+-- it stands behind some actors, and so many more steps can be counted
+abbrev pub HasRoomFor : (steps : ℕ) → Watch → Type 0
+HasRoomFor steps w = (p : LaidOut) × (setup : Setup) × (before : List Actor) × IsWatched p setup before w × (length before + steps < 2 ^ 63)
+
+-- ---- one step
+
+-- what was made claims a cell
+abbrev pub claims_made : Happening → Bool
+claims_made (Thread t (Claims r won)) = won
+claims_made happening = false
+
+-- it frees a cell
+abbrev pub frees_made : Happening → Bool
+frees_made (Collector (Free cell)) = true
+frees_made happening = false
+
+-- the step claims a cell, if there was one
+abbrev pub claims_cell : Option Step → Bool
+claims_cell None = false
+claims_cell (Some step) = claims_made step.happening
+
+-- it frees a cell
+abbrev pub frees_cell : Option Step → Bool
+frees_cell None = false
+frees_cell (Some step) = frees_made step.happening
+
+-- the first cause by which the run of these actors is broken, the newest first, if it is
+abbrev pub IsCauseBehind : LaidOut → Setup → List Actor → Option Cause → Type 0
+IsCauseBehind p setup actors None = ¬ IsBroken (heap_of p setup) program_machine (starts_of p setup) (run_of p setup actors)
+IsCauseBehind p setup actors (Some c) = IsCause (heap_of p setup) program_machine (starts_of p setup) (run_of p setup actors) (cause_in c)
+
+-- the step, or none, is that of this actor behind those of the world, and says how it breaks the run
+abbrev pub IsMadeBehind : World → (before : List Actor) → Actor → Option Step → Type 0
+IsMadeBehind w before actor made =
+    IsStepOrNone (heap_of w.program w.setup) program_machine (starts_of w.program w.setup) (run_of w.program w.setup before) actor made
+
+-- the world stands behind one more actor, whose step is not counted so far
+pub record IsStepped (p : LaidOut) (setup : Setup) (before : List Actor) (actor : Actor) (made : Option Step) (w : Watch) : Type 0 where
+  pub program : w.world.program ≡ p
+  pub setup_is : w.world.setup ≡ setup
+  pub made_is : IsStepOrNone (heap_of p setup) program_machine (starts_of p setup) (run_of p setup before) actor made
+  pub behind : IsBehind w.world (actor ∷ before)
+  pub unbroken : IsUnbroken p setup before
+  pub steps : w.steps ≡ length before
+  pub claims_are : w.claims ≡ count_by claims (run_of p setup before)
+  pub frees_are : w.frees ≡ count_by frees (run_of p setup before)

@@ -1,0 +1,69 @@
+use items::Items;
+use reach::Gone;
+use std::fmt::{Display, Error, Formatter, Write};
+use trace_text::Actor;
+use world::ThreadEnd;
+
+/// Why a run is broken behind a step.
+#[derive(Clone, Copy, Debug, PartialEq, Eq)]
+pub enum Cause {
+    /// The step itself went wrong or used a cell that was gone.
+    OfStep(actors::Cause),
+    /// A cell is gone that can be reached.
+    OfReach(Gone),
+}
+
+impl Display for Cause {
+    fn fmt<W: Write>(&self, f: &mut Formatter<W>) -> Result<(), Error> {
+        match self {
+            Cause::OfStep(actors::Cause::Wrong) => write!(f, "wrong"),
+            Cause::OfStep(actors::Cause::TouchBlue(cell)) => write!(f, "touch-blue {cell}"),
+            Cause::OfStep(actors::Cause::TouchBirth(cell)) => write!(f, "touch-birth {cell}"),
+            Cause::OfReach(Gone::Blue(cell)) => write!(f, "reach-blue {cell}"),
+            Cause::OfReach(Gone::Reborn(cell)) => write!(f, "reach-birth {cell}"),
+        }
+    }
+}
+
+/// The first step behind which a run is broken.
+#[derive(Clone, Copy, Debug, PartialEq, Eq)]
+pub struct Break {
+    /// The step's number, from 1.
+    pub step: u64,
+    pub actor: Actor,
+    pub cause: Cause,
+}
+
+/// Where the actors stand behind a run that no step breaks.
+#[derive(Debug, Drop)]
+pub struct Report {
+    pub threads: Items<ThreadEnd>,
+    /// How many steps were made.
+    pub steps: u64,
+    /// How many cells were claimed, and how many freed.
+    pub claims: u64,
+    pub frees: u64,
+    /// The stage that was posted last.
+    pub posted: u64,
+}
+
+/// What comes of a trace.
+#[derive(Debug, Drop)]
+pub enum Outcome {
+    Broken(Break),
+    Sound(Report),
+}
+
+/// A seed whose schedule breaks its run.
+#[derive(Clone, Copy, Debug, PartialEq, Eq)]
+pub struct SeedBreak {
+    pub seed: u32,
+    pub broken: Break,
+}
+
+/// What comes of many seeds: the least one whose schedule breaks its run, or that there is none.
+#[derive(Clone, Copy, Debug, PartialEq, Eq)]
+pub enum SoakOutcome {
+    Sound,
+    Broken(SeedBreak),
+}

@@ -1,0 +1,136 @@
+ghost use Rattle.std.specs.Prelude.{◌≡◌, ◌≢◌, ◌≤◌, List, not, IfOk, IfErr};
+ghost use Rattle.certificate.specs.declared.section.Section.{Section};
+ghost use Rattle.world.specs.Setups.{IsSetupOf, IsSetupFault, HasNoFault, IsCertifiedSetup};
+ghost use Rattle.world.specs.declared.setup_fault.SetupFault.TheVariants as fault;
+ghost use Rattle.replay.specs.Soaks.{IsSoakOutcome, IsSoundSoak, IsEndOfSeed, IsTold, IsLeastFrom, is_sound, answer_in};
+
+use crate::drawing::actor_drawn;
+use crate::outcome::{Break, SeedBreak, SoakOutcome};
+use crate::watch::Watch;
+use draws::{draw, seeded};
+use layout::Program;
+use rayon::prelude::*;
+use std::alloc::Global;
+use std::thread::Threads;
+use trace_text::Setup;
+use world::{SetupFault, setup_law};
+
+/// So many seeds are tried before it is asked whether one of them was broken.
+const CHUNK: u32 = 256;
+
+/// What comes of one seed: where its schedule first breaks its run, if it does.
+#[derive(Clone, Copy, Debug)]
+struct SeedEnd {
+    seed: u32,
+    told: Result<Option<Break>, SetupFault>,
+}
+
+impl SeedEnd {
+    /// The seed with its break, if there is one.
+    fn answer(self) -> Result<Option<SeedBreak>, SetupFault>
+        ensures { result ≡ answer_in self.seed self.told }
+    {
+        match self.told {
+            Ok(None) => Ok(None),
+            Ok(Some(broken)) => Ok(Some(SeedBreak {
+                seed: self.seed,
+                broken,
+            })),
+            Err(fault) => Err(fault),
+        }
+    }
+}
+
+/// Runs a schedule of each seed from 0, so many: the least seed whose schedule breaks its run, whichever ended first.
+pub fn soak(
+    rt: &(impl Threads + Sync),
+    alloc: Global,
+    program: &Program,
+    setup: &Setup,
+    seeds: u32,
+    steps: u32,
+) -> Result<SoakOutcome, SetupFault>
+    requires { IsSetupOf program.now setup.now }
+    ensures outcome { IfOk result (IsSoakOutcome program.now setup.now seeds steps) }
+    ensures no_fault { IfOk result (λ _. HasNoFault program.now setup.now) }
+    ensures fault { IfErr result (λ e. e ≢ fault.Memory → IsSetupFault program.now setup.now e) }
+    // Where the program is certified, and the threads begin with what its certificates promise, no schedule breaks its run.
+    ensures safe { (certs : List Section) → IsCertifiedSetup program.now setup.now certs → IfOk result IsSoundSoak }
+{
+    setup_law();
+    let _world = Watch::new(alloc, program, setup)?;
+    let mut first = 0;
+    while first < seeds {
+        let past = first + CHUNK.min(seeds - first);
+        if let Some(broken) = least_broken(rt, alloc, program, setup, first, past, steps)? {
+            return Ok(SoakOutcome::Broken(broken));
+        }
+        first = past;
+    }
+    Ok(SoakOutcome::Sound)
+}
+
+/// The least seed of a range whose schedule breaks its run.
+fn least_broken(
+    rt: &(impl Threads + Sync),
+    alloc: Global,
+    program: &Program,
+    setup: &Setup,
+    first: u32,
+    past: u32,
+    steps: u32,
+) -> Result<Option<SeedBreak>, SetupFault>
+    requires setup { IsSetupOf program.now setup.now }
+    requires range { first ≤ past }
+    ensures least { IfOk result (IsLeastFrom program.now setup.now steps first past) }
+    ensures fault { IfErr result (λ e. e ≢ fault.Memory → IsSetupFault program.now setup.now e) }
+{
+    let found = (first..past)
+        .into_par_iter()
+        .with_min_len(1)
+        .map(
+            |seed: u32| -> SeedEnd
+                requires { IsSetupOf program.now setup.now }
+                ensures { (result.seed ≡ seed) × IsTold program.entry.now setup.entry.now steps seed result.told }
+            {
+                SeedEnd {
+                    seed,
+                    told: end_of_seed(alloc, program, setup, seed, steps),
+                }
+            },
+        )
+        .find_first(
+            rt,
+            |end: &SeedEnd| -> bool
+                ensures { result ≡ not (is_sound end.now.told) }
+            { !matches!(end.told, Ok(None)) },
+        );
+    match found {
+        None => Ok(None),
+        Some(end) => end.answer(),
+    }
+}
+
+/// Makes the steps that a seed draws, one by one: where they first break the run, if they do.
+fn end_of_seed(
+    alloc: Global,
+    program: &Program,
+    setup: &Setup,
+    seed: u32,
+    steps: u32,
+) -> Result<Option<Break>, SetupFault>
+    requires { IsSetupOf program.now setup.now }
+    ensures end { IfOk result (IsEndOfSeed program.now setup.now steps seed) }
+    ensures fault { IfErr result (λ e. e ≢ fault.Memory → IsSetupFault program.now setup.now e) }
+{
+    let threads = setup.starts.len() as u32;
+    let mut watch = Watch::new(alloc, program, setup)?;
+    let mut rng = seeded(u64::from(seed));
+    for _step in 0..steps {
+        let actor = actor_drawn(threads, draw(&mut rng, threads));
+        if let Some(broken) = watch.step(actor)? {
+            return Ok(Some(broken));
+        }
+    }
+    Ok(None)
+}

@@ -1,0 +1,3 @@
+pub mod Frees
+pub mod Births
+pub mod Stages

@@ -1,0 +1,164 @@
+-- The collector's next step, and the actors behind it.
+use Rattle.std.proofs.Common.{◌≡◌, ℕ, Bool, true, false, Option, Some, None, List, ◌∷◌, refl, sym, ap, ◌∙◌, subst}
+use Rattle.pools.specs.Heap.{Setup}
+use Rattle.colours.specs.declared.place.Place.{Place}
+use Rattle.colours.specs.declared.ask.Ask.{Ask}
+use Rattle.colours.specs.declared.turn.Turn.{Turn}
+use Rattle.colours.specs.declared.turn.Turn.TheVariants.{Free}
+use Rattle.colours.specs.Colours.{cycle_of}
+use Rattle.colours.specs.Steps as steps
+use Rattle.colours.specs.Steps.{place_of}
+use Rattle.colours.specs.Runs.{word_after, turns_of}
+use Rattle.trace_sweep.specs.declared.motion.Motion.{Motion}
+use Rattle.trace_sweep.specs.Turns.{is_at_limit}
+use Rattle.trace_sweep.specs.Collecting.{Collecting, ask_of, turn_of, moved}
+use Rattle.trace_sweep.specs.Stands.{StandsBehind, IsStepOn}
+use Rattle.trace_sweep.proofs.Order.{turn_of-turn_in}
+use Rattle.schedules.specs.Machine.{Machine}
+use Rattle.schedules.specs.ModuleRuns.{Happening, OfCollector, heap_of}
+use Rattle.schedules.proofs.Standings.{goes_on}
+use Rattle.actors.specs.declared.actor.Actor.{Actor}
+use Rattle.actors.specs.declared.actor.Actor.TheVariants.{Collector}
+use Rattle.actors.specs.declared.shared.Shared.{Shared}
+use Rattle.actors.specs.Runs.{found_in, collector_behind, turn_for, by_collector, next_by, run_by}
+use Rattle.actors.specs.Shared.{held_at}
+use Rattle.actors.specs.Stands.{standing}
+use Rattle.actors.proofs.Drawn.{drawn, moved-found}
+use Rattle.reach.specs.Reach.{LosesNothing}
+use Rattle.run_growth.specs.Growth.{CollectorIsBehind, MotionGrows, with_stored}
+use Rattle.stepping.specs.declared.acting.Actors.{Actors}
+use Rattle.stepping.specs.declared.happening.Happening.TheVariants as made
+use Rattle.stepping.specs.declared.happening.Step.{Step}
+use Rattle.stepping.specs.Ends.{AreBehindSteps, IsEnd, IsOneStep}
+use Rattle.stepping.proofs.Ends.{run_more, run_same, KeepsAll, is_longer_run}
+
+-- where the collector stands
+pub collector_is_behind : (s : Setup) (m : Machine) (Fits : m.State → Type 0) (starts : ℕ → m.State) (before : List Actor) (a : Actors m.State) → AreBehindSteps s m Fits starts before a
+    → CollectorIsBehind s (run_by s m starts before) a.collector a.shared
+collector_is_behind s m Fits starts before a b =
+    let end = b.is_behind.is_end in
+    let d = drawn s m starts before b.is_behind.are_actors in
+    record {
+      few_cells = end.few_cells;
+      stands = subst (λ (c : Collecting). StandsBehind s (turns_of (heap_of (run_by s m starts before))) c) (sym end.collects) d.stands;
+      in_heap = end.in_heap;
+      words = end.words;
+    }
+
+-- at the limit it asks for nothing
+none-at-limit : (c : Collecting) → is_at_limit c.posted c.at ≡ true → ask_of c ≡ None
+none-at-limit c e = rw e refl
+
+-- before it, for the operation of its step
+ask-of-step : (c : Collecting) (found : ℕ) → is_at_limit c.posted c.at ≡ false → ask_of c ≡ Some (steps.turn_of (cycle_of c.posted) (turn_of c found))
+ask-of-step c found e = rw e (ap (λ (a : Ask). Some a) (turn_of-turn_in (cycle_of c.posted) c.heap c.posted c.at 0 found))
+
+-- so the next step of the run is the step made
+next-turn : (word_at : Place → ℕ) (c : Collecting) (motion : Motion) (behind : Collecting) → IsStepOn word_at c motion behind → turn_for c word_at (ask_of c) ≡ Some motion.turn
+next-turn word_at c motion behind x =
+    let asked = ask-of-step c (word_at motion.place) x.further ∙ ap (λ (t : Turn). Some (steps.turn_of (cycle_of c.posted) t)) (sym x.turn) in
+    ap (turn_for c word_at) asked ∙ ap (λ (p : Place). Some (turn_of c (word_at p))) (sym x.place) ∙ ap (λ (t : Turn). Some t) (sym x.turn)
+
+-- on words that are the same
+same-turn : (w v : Place → ℕ) → ((p : Place) → w p ≡ v p) → (c : Collecting) (ask : Option Ask) → turn_for c w ask ≡ turn_for c v ask
+same-turn w v e c None = refl
+same-turn w v e c (Some ask) = ap (λ n. Some (turn_of c n)) (e (place_of ask))
+
+-- the next happening, by the collector and the words as they stand
+next-by-collector : (s : Setup) (m : Machine) (Fits : m.State → Type 0) (starts : ℕ → m.State) (before : List Actor) (a : Actors m.State) → AreBehindSteps s m Fits starts before a
+    → next_by s m starts (run_by s m starts before) Collector ≡ by_collector (turn_for a.collector (held_at a.shared) (ask_of a.collector))
+next-by-collector s m Fits starts before a b =
+    let end = b.is_behind.is_end in
+    let run = run_by s m starts before in
+    ap (λ (c : Collecting). by_collector (turn_for c (word_after s (heap_of run)) (ask_of c))) (sym end.collects)
+    ∙ ap by_collector (same-turn (word_after s (heap_of run)) (held_at a.shared) (λ p. sym (end.words.behind.words p)) a.collector (ask_of a.collector))
+
+-- ---- at the limit
+
+-- nothing happens
+pub collected-none : (s : Setup) (m : Machine) (Fits : m.State → Type 0) (starts : ℕ → m.State) (before : List Actor) (a : Actors m.State) → AreBehindSteps s m Fits starts before a
+    → is_at_limit a.collector.posted a.collector.at ≡ true → IsOneStep s m Fits starts before Collector None a
+collected-none s m Fits starts before a b limit =
+    let none = next-by-collector s m Fits starts before a b ∙ ap (λ (o : Option Ask). by_collector (turn_for a.collector (held_at a.shared) o)) (none-at-limit a.collector limit) in
+    record {
+      made_is = none;
+      behind = record {
+        plan = b.plan;
+        setup = b.setup;
+        is_behind = record {
+          are_actors = (tt, b.is_behind.are_actors);
+          is_end = subst (λ (run : List Happening). IsEnd s m Fits starts run a.threads.items a.shared a.collector) (sym (run_same s m starts before Collector none)) b.is_behind.is_end;
+        };
+      };
+    }
+
+-- ---- before it
+
+-- where the collector stands behind the run's next step
+collects-more : (s : Setup) (c : Collecting) (run : List Happening) (word_at : Place → ℕ) (motion : Motion) (behind : Collecting) → c ≡ collector_behind s (turns_of (heap_of run)) → IsStepOn word_at c motion behind
+    → behind ≡ collector_behind s (turns_of (heap_of (OfCollector motion.turn ∷ run)))
+unfolding collector_behind
+collects-more s c run word_at motion behind e x =
+    x.moves ∙ sym (moved-found c (word_at motion.place)) ∙ ap (λ (t : Turn). moved c (found_in t)) (sym x.turn) ∙ ap (λ (d : Collecting). moved d (found_in motion.turn)) e
+
+-- the actors stand behind it
+pub collected : (s : Setup) (m : Machine) (Fits : m.State → Type 0) (starts : ℕ → m.State) (before : List Actor) (a : Actors m.State) → AreBehindSteps s m Fits starts before a
+    → (motion : Motion) (behind : Collecting) → IsStepOn (held_at a.shared) a.collector motion behind → MotionGrows s (run_by s m starts before) a.shared motion behind
+    → KeepsAll s m starts → (may_lose : Bool) → (may_lose ≡ false → LosesNothing s m starts (run_by s m starts before) (OfCollector motion.turn))
+    → IsOneStep s m Fits starts before Collector (Some (record { happening = made.Collector motion.turn; broke = None; may_lose = may_lose }))
+    (record { plan = a.plan; threads = a.threads; shared = with_stored a.shared motion motion.stored; collector = behind })
+collected s m Fits starts before a b motion behind x grows keeps may_lose loses =
+    let end = b.is_behind.is_end in
+    let run = run_by s m starts before in
+    let next : next_by s m starts run Collector ≡ Some (OfCollector motion.turn) = next-by-collector s m Fits starts before a b ∙ ap by_collector (next-turn (held_at a.shared) a.collector motion behind x) in
+    let ends : IsEnd s m Fits starts (OfCollector motion.turn ∷ run) a.threads.items (with_stored a.shared motion motion.stored) behind = record {
+      none_late = end.none_late;
+      few_cells = end.few_cells;
+      count = end.count;
+      stands = λ t stand is. (goes_on s m starts run t (standing m.roots stand) (end.stands t stand is)).collector motion.turn;
+      fits = end.fits;
+      replaced = end.replaced;
+      collects = collects-more s a.collector run (held_at a.shared) motion behind end.collects x;
+      in_heap = grows.in_heap;
+      words = grows.words;
+    } in
+    record {
+      made_is = record {
+        happening = OfCollector motion.turn;
+        next = next;
+        tells = refl;
+        broke = (λ w. w, λ w. w);
+        loses = λ none before_it. keeps run (OfCollector motion.turn) (is_longer_run s m starts before Collector (OfCollector motion.turn) (tt, b.is_behind.are_actors) next) (loses none) before_it;
+      };
+      behind = record {
+        plan = b.plan;
+        setup = b.setup;
+        is_behind = record {
+          are_actors = (tt, b.is_behind.are_actors);
+          is_end = subst (λ (r : List Happening). IsEnd s m Fits starts r a.threads.items (with_stored a.shared motion motion.stored) behind) (sym (run_more s m starts before Collector (OfCollector motion.turn) next)) ends;
+        };
+      };
+    }
+
+-- ---- as the code makes it
+
+-- a step that frees no cell loses nothing
+pub loses-none : (s : Setup) (m : Machine) (starts : ℕ → m.State) (run : List Happening) (turn : Turn) → ((cell : ℕ) → turn ≡ Free cell → ⊥) → LosesNothing s m starts run (OfCollector turn)
+loses-none s m starts run (Free cell) none = none cell refl
+loses-none s m starts run turn none = tt
+
+-- the words behind a step that stores nothing
+pub stored-none : (h : Shared) (motion : Motion) → ((n : ℕ) → motion.stored ≡ Some n → ⊥) → with_stored h motion motion.stored ≡ h
+stored-none h motion none = go motion.stored refl
+  where
+    go : (o : Option ℕ) → motion.stored ≡ o → with_stored h motion o ≡ h
+    go None e = refl
+    go (Some n) e = absurd (none n e)
+
+-- the actors behind the step, with these words
+pub with-words : (s : Setup) (m : Machine) (Fits : m.State → Type 0) (starts : ℕ → m.State) (before : List Actor) (made : Option Step) (a d : Actors m.State) (h k : Shared) (c : Collecting) → k ≡ h
+    → d ≡ record { plan = a.plan; threads = a.threads; shared = h; collector = c }
+    → IsOneStep s m Fits starts before Collector made (record { plan = a.plan; threads = a.threads; shared = k; collector = c }) → IsOneStep s m Fits starts before Collector made d
+with-words s m Fits starts before made a d h k c e is x =
+    subst (λ (v : Actors m.State). IsOneStep s m Fits starts before Collector made v) (sym is)
+    (subst (λ (v : Shared). IsOneStep s m Fits starts before Collector made (record { plan = a.plan; threads = a.threads; shared = v; collector = c })) e x)

@@ -1,0 +1,34 @@
+-- A list with another element in one place, and what is said of an error.
+use mathlib.Core.HLevel.{is_prop→PathP}
+use native.Mathlib.Nat.{ℕ_set}
+use native.Mathlib.Bridge.{le_prop}
+use Rattle.std.proofs.Common.{Result, Ok, Err, OnErr, ◌≡◌, ◌≢◌, ◌≤◌, ◌⊎◌, inl, inr, ℕ, zero, suc, Some, Vec, List, [], ◌∷◌, length, slice_get, slice_set, refl, ap}
+use Rattle.std.specs.Vec.{with_item}
+
+-- what stands in a place is what was put there, or what stood there
+pub got-set : {X : Type 0} (xs : List X) (t u : ℕ) (y z : X) → slice_get (slice_set xs t y) u ≡ Some z → ((u ≡ t) × (z ≡ y)) ⊎ ((u ≢ t) × (slice_get xs u ≡ Some z))
+got-set [] t u y z e = absurd cc
+got-set (x ∷ xs) zero zero y z e = inl (refl, cc)
+got-set (x ∷ xs) zero (suc u) y z e = inr (λ q. absurd cc, e)
+got-set (x ∷ xs) (suc t) zero y z e = inr (λ q. absurd cc, e)
+got-set (x ∷ xs) (suc t) (suc u) y z e = elim (got-set xs t u y z e) [
+  | inl h ↦ inl (ap suc h.0, h.1)
+  | inr h ↦ inr (λ q. h.0 cc, h.1)
+]
+
+-- a Vec with the element put back that stood there
+pub put-back : {X Z : Type 0} (v : Vec X Z) (i : ℕ) (x : X) → slice_set v.items i x ≡ v.items → with_item v i x ≡ v
+put-back v i x e = λ j. record {
+  ptr = v.ptr;
+  len = v.len;
+  cap = v.cap;
+  alloc = v.alloc;
+  items = e j;
+  ok = is_prop→PathP (λ k. (v.len ≡ length (e k)) × (v.len ≤ v.cap)) (λ k p q n. (ℕ_set _ _ p.0 q.0 n, le_prop p.1 q.1 n)) (with_item v i x).ok v.ok j;
+  small = v.small;
+}
+
+-- what holds, holds of an error
+pub on-err : {T E P : Type 0} (r : Result T E) → P → OnErr r P
+on-err (Ok v) p = tt
+on-err (Err e) p = p

@@ -1,0 +1,198 @@
+-- A thread's next move, and the actors behind it.
+use Rattle.std.proofs.Common.{◌≡◌, ◌<◌, inl, inr, ℕ, Bool, false, Option, Some, None, List, ◌∷◌, slice_get, slice_set, length-set, refl, sym, ap, ◌∙◌, subst, if◌then◌else◌}
+use Rattle.std.specs.Vec.{with_item}
+use Rattle.pools.specs.Heap.{Setup, cells}
+use Rattle.colours.proofs.Tests.{test_yes}
+use Rattle.schedules.specs.Machine as machine
+use Rattle.schedules.specs.Machine.{Reference, Action, Machine}
+use Rattle.schedules.specs.Moves as moves
+use Rattle.schedules.specs.Moves.{step_of, state_after}
+use Rattle.schedules.specs.ModuleRuns.{Happening, OfThread, share_of, heap_of}
+use Rattle.schedules.specs.Ends.{Standing, StandsBehind, moved, next_move_of}
+use Rattle.schedules.proofs.Standings.{goes_on}
+use Rattle.actors.specs.declared.actor.Actor.{Actor}
+use Rattle.actors.specs.declared.actor.Actor.TheVariants.{Thread}
+use Rattle.actors.specs.declared.call.Call.{Call}
+use Rattle.actors.specs.declared.call.Call.TheVariants as call
+use Rattle.actors.specs.declared.cause.Cause.{Cause}
+use Rattle.actors.specs.declared.moves.Move.{Move}
+use Rattle.actors.specs.declared.stand.Stand.{Stand}
+use Rattle.actors.specs.Calls.{action_of, move_in}
+use Rattle.actors.specs.Causes.{Breaks}
+use Rattle.actors.specs.Runs.{collector_behind, by_thread, next_by, run_by}
+use Rattle.actors.specs.Shared.{with_move}
+use Rattle.actors.specs.Stands.{standing, sight_in}
+use Rattle.actors.proofs.Drawn.{drawn, turns-with}
+use Rattle.actors.proofs.Sights.{next_in_words}
+use Rattle.actors.proofs.Breaks.{first_cause}
+use Rattle.reach.specs.Reach.{AddsNothing, LosesNothing}
+use Rattle.run_growth.specs.Growth.{ThreadIsBehind, MoveGrows}
+use Rattle.stepping.specs.declared.acting.Actors.{Actors}
+use Rattle.stepping.specs.declared.happening.Happening.TheVariants as happening
+use Rattle.stepping.specs.Ends.{AreBehindSteps, IsEnd, IsOneStep}
+use Rattle.stepping.proofs.Lists.{got-set, put-back}
+use Rattle.stepping.proofs.Ends.{run_more, run_same, KeepsAll, is_longer_run}
+
+-- ---- what it asks for
+
+-- a call that asks for this
+pub call-of : Action → Call
+call-of machine.Local = call.Local
+call-of (machine.Read base word) = call.Read base word
+call-of (machine.StorePlain base word value) = call.StorePlain base word value
+call-of (machine.Write base word value) = call.Write base word value
+call-of (machine.Alloc layout) = call.Alloc layout
+call-of machine.Safepoint = call.Safepoint
+call-of machine.End = call.End
+call-of machine.Wrong = call.Wrong
+
+-- it does
+pub asks-for : (a : Action) → action_of (call-of a) ≡ a
+unfolding call-of
+asks-for machine.Local = refl
+asks-for (machine.Read base word) = refl
+asks-for (machine.StorePlain base word value) = refl
+asks-for (machine.Write base word value) = refl
+asks-for (machine.Alloc layout) = refl
+asks-for machine.Safepoint = refl
+asks-for machine.End = refl
+asks-for machine.Wrong = refl
+
+-- ---- where it stands
+
+-- where the thread stands
+pub thread_is_behind : (s : Setup) (m : Machine) (Fits : m.State → Type 0) (starts : ℕ → m.State) (before : List Actor) (a : Actors m.State) → AreBehindSteps s m Fits starts before a
+    → (t : ℕ) → t < s.threads → (stand : Stand m.State) → slice_get a.threads.items t ≡ Some stand → ThreadIsBehind s m Fits starts (run_by s m starts before) t stand a.shared
+thread_is_behind s m Fits starts before a b t lt stand is =
+    let end = b.is_behind.is_end in
+    let d = drawn s m starts before b.is_behind.are_actors in
+    record {
+      few_cells = end.few_cells;
+      is_run = d.is_run;
+      tries = d.tries t lt;
+      is_thread = lt;
+      stands = end.stands t stand is;
+      fits = end.fits t stand is;
+      replaced = end.replaced t stand is;
+      words = end.words;
+    }
+
+-- its next happening, by where it stands and the words as they stand
+next-by-thread : (s : Setup) (m : Machine) (Fits : m.State → Type 0) (starts : ℕ → m.State) (before : List Actor) (a : Actors m.State) → AreBehindSteps s m Fits starts before a
+    → (t : ℕ) (stand : Stand m.State) → slice_get a.threads.items t ≡ Some stand
+    → next_by s m starts (run_by s m starts before) (Thread t) ≡ by_thread t (next_move_of s m (sight_in s a.shared) (standing m.roots stand))
+next-by-thread s m Fits starts before a b t stand is =
+    let end = b.is_behind.is_end in
+    next_in_words s m starts (run_by s m starts before) t (standing m.roots stand) a.shared end.words.behind (end.stands t stand is)
+
+-- the actors with a thread put back that stood there
+pub same-actors : {State : Type 0} (a : Actors State) (t : ℕ) (stand : Stand State) → slice_set a.threads.items t stand ≡ a.threads.items
+    → record { plan = a.plan; threads = with_item a.threads t stand; shared = a.shared; collector = a.collector } ≡ a
+same-actors {State} a t stand e =
+    let e' : with_item a.threads t stand ≡ a.threads = put-back a.threads t stand e in
+    λ i. record { plan = a.plan; threads = e' i; shared = a.shared; collector = a.collector }
+
+-- ---- a thread that has ended
+
+-- nothing happens
+pub moved-none : (s : Setup) (m : Machine) (Fits : m.State → Type 0) (starts : ℕ → m.State) (before : List Actor) (a : Actors m.State) → AreBehindSteps s m Fits starts before a
+    → (t : ℕ) → t < s.threads → (stand : Stand m.State) → slice_get a.threads.items t ≡ Some stand
+    → next_move_of s m (sight_in s a.shared) (standing m.roots stand) ≡ None → IsOneStep s m Fits starts before (Thread t) None a
+moved-none s m Fits starts before a b t lt stand is ended =
+    let none = next-by-thread s m Fits starts before a b t stand is ∙ ap (by_thread t) ended in
+    record {
+      made_is = none;
+      behind = record {
+        plan = b.plan;
+        setup = b.setup;
+        is_behind = record {
+          are_actors = (lt, b.is_behind.are_actors);
+          is_end = subst (λ (run : List Happening). IsEnd s m Fits starts run a.threads.items a.shared a.collector) (sym (run_same s m starts before (Thread t) none)) b.is_behind.is_end;
+        };
+      };
+    }
+
+-- ---- a thread that moves
+
+-- its own share
+share-with : (t : ℕ) (move : moves.Move) (run : List Happening) → share_of t (OfThread t move ∷ run) ≡ move ∷ share_of t run
+share-with t move run = ap (λ (b : Bool). if b then move ∷ share_of t run else share_of t run) (test_yes t t refl)
+
+-- a step that stores nothing and leaves the roots loses nothing
+loses-none : (s : Setup) (m : Machine) (starts : ℕ → m.State) (run : List Happening) (t : ℕ) (stand : Stand m.State) (move : moves.Move) (behind : Stand m.State)
+    → StandsBehind s m starts run t (standing m.roots stand) → standing m.roots behind ≡ moved s m (standing m.roots stand) move
+    → AddsNothing move × (m.roots behind.state ≡ m.roots stand.state) → LosesNothing s m starts run (OfThread t move)
+loses-none s m starts run t stand move behind stands is loses = (
+  loses.0,
+  ap (λ (share : List moves.Move). m.roots (state_after s m t (starts t) share)) (sym (share-with t move run))
+      ∙ ap m.roots (sym ((goes_on s m starts run t (standing m.roots stand) stands).own move).state)
+      ∙ ap (λ (st : Standing m.State). m.roots st.state) (sym is)
+      ∙ loses.1
+      ∙ ap m.roots stands.state,
+)
+
+-- the end of the run with the move
+moves-on : (s : Setup) (m : Machine) (Fits : m.State → Type 0) (starts : ℕ → m.State) (run : List Happening) (a : Actors m.State) → IsEnd s m Fits starts run a.threads.items a.shared a.collector
+    → (t : ℕ) (stand : Stand m.State) → slice_get a.threads.items t ≡ Some stand
+    → (made : Move) → MoveGrows s m Fits run t stand a.shared made
+    → (behind : Stand m.State) → standing m.roots behind ≡ moved s m (standing m.roots stand) (move_in (m.roots stand.state) made)
+    → IsEnd s m Fits starts (OfThread t (move_in (m.roots stand.state) made) ∷ run) (slice_set a.threads.items t behind) (with_move a.shared t stand.stage made) a.collector
+moves-on s m Fits starts run a end t stand is made grows behind behind_is = record {
+  none_late = end.none_late;
+  few_cells = end.few_cells;
+  count = length-set a.threads.items t behind ∙ end.count;
+  stands = λ u other got. elim (got-set a.threads.items t u behind other got) [
+    | inl h ↦ subst (λ (v : ℕ). StandsBehind s m starts (OfThread t move ∷ run) v (standing m.roots other)) (sym h.0)
+        (subst (λ (v : Standing m.State). StandsBehind s m starts (OfThread t move ∷ run) t v) (sym (ap (standing m.roots) h.1 ∙ behind_is))
+        ((goes_on s m starts run t (standing m.roots stand) (end.stands t stand is)).own move))
+    | inr h ↦ (goes_on s m starts run u (standing m.roots other) (end.stands u other h.1)).other t move (λ q. h.0 (sym q))
+  ];
+  fits = λ u other got. elim (got-set a.threads.items t u behind other got) [
+    | inl h ↦ subst (λ (v : m.State). Fits v) (sym (ap (λ (v : Stand m.State). v.state) h.1 ∙ ap (λ (v : Standing m.State). v.state) behind_is)) grows.fits
+    | inr h ↦ end.fits u other h.1
+  ];
+  replaced = λ u other got. elim (got-set a.threads.items t u behind other got) [
+    | inl h ↦ subst (λ (v : Reference). v.cell < cells s) (sym (ap (λ (v : Stand m.State). v.replaced) h.1 ∙ ap (λ (v : Standing m.State). v.old) behind_is)) grows.replaced
+    | inr h ↦ end.replaced u other h.1
+  ];
+  collects = end.collects ∙ ap (collector_behind s) (sym (turns-with t (step_of move) (heap_of run)));
+  in_heap = end.in_heap;
+  words = grows.words;
+}
+  where
+    move : moves.Move
+    move = move_in (m.roots stand.state) made
+
+-- what the move is told as, and the actors behind it
+pub moved-on : (s : Setup) (m : Machine) (Fits : m.State → Type 0) (starts : ℕ → m.State) (before : List Actor) (a : Actors m.State) → AreBehindSteps s m Fits starts before a
+    → (t : ℕ) → t < s.threads → (stand : Stand m.State) → slice_get a.threads.items t ≡ Some stand
+    → (made : Move) → next_move_of s m (sight_in s a.shared) (standing m.roots stand) ≡ Some (move_in (m.roots stand.state) made) → MoveGrows s m Fits (run_by s m starts before) t stand a.shared made
+    → (behind : Stand m.State) → standing m.roots behind ≡ moved s m (standing m.roots stand) (move_in (m.roots stand.state) made)
+    → (broke : Option Cause) → Breaks a.shared made broke
+    → KeepsAll s m starts → (may_lose : Bool) → (may_lose ≡ false → AddsNothing (move_in (m.roots stand.state) made) × (m.roots behind.state ≡ m.roots stand.state))
+    → IsOneStep s m Fits starts before (Thread t) (Some (record { happening = happening.Thread t made; broke = broke; may_lose = may_lose }))
+    (record { plan = a.plan; threads = with_item a.threads t behind; shared = with_move a.shared t stand.stage made; collector = a.collector })
+moved-on s m Fits starts before a b t lt stand is made asked grows behind behind_is broke breaks keeps may_lose loses =
+    let end = b.is_behind.is_end in
+    let run = run_by s m starts before in
+    let move = move_in (m.roots stand.state) made in
+    let next : next_by s m starts run (Thread t) ≡ Some (OfThread t move) = next-by-thread s m Fits starts before a b t stand is ∙ ap (by_thread t) asked in
+    record {
+      made_is = record {
+        happening = OfThread t move;
+        next = next;
+        tells = ap (λ (state : m.State). OfThread t (move_in (m.roots state) made)) (end.stands t stand is).state;
+        broke = first_cause s m starts run t (m.roots stand.state) a.shared made broke end.words.behind breaks;
+        loses = λ lossless before_it. keeps run (OfThread t move) (is_longer_run s m starts before (Thread t) (OfThread t move) (lt, b.is_behind.are_actors) next)
+            (loses-none s m starts run t stand move behind (end.stands t stand is) behind_is (loses lossless)) before_it;
+      };
+      behind = record {
+        plan = b.plan;
+        setup = b.setup;
+        is_behind = record {
+          are_actors = (lt, b.is_behind.are_actors);
+          is_end = subst (λ (r : List Happening). IsEnd s m Fits starts r (slice_set a.threads.items t behind) (with_move a.shared t stand.stage made) a.collector) (sym (run_more s m starts before (Thread t) (OfThread t move) next))
+              (moves-on s m Fits starts run a end t stand is made grows behind behind_is);
+        };
+      };
+    }

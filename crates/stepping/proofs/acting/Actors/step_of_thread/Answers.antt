@@ -1,0 +1,108 @@
+-- A thread's move on the words as they stand is its next one in the run.
+use Rattle.std.proofs.Common.{◌≡◌, ℕ, Option, Some, List, slice_get, slice_set, true, false, sym, ap, ◌∙◌, subst}
+use Rattle.std.specs.Vec.{with_item}
+use Rattle.std.proofs.lemmas.Option.{slice_get_read}
+use Rattle.std.proofs.lemmas.List.{set-get_or}
+use Rattle.schedules.specs.Machine.{machine_of}
+use Rattle.schedules.specs.Ends.{moved}
+use Rattle.actors.specs.declared.moves.Move.{Move}
+use Rattle.actors.specs.declared.shared.Shared.{Shared}
+use Rattle.actors.specs.declared.stand.Stand.{Stand}
+use Rattle.actors.specs.declared.actor.Actor.TheVariants as actor
+use Rattle.actors.specs.Calls.{move_in, made_by}
+use Rattle.actors.specs.Moving.{HasRoom, MayMake}
+use Rattle.actors.specs.Runs.{run_by}
+use Rattle.actors.specs.Stands.{standing, HasTryLeft}
+use Rattle.reach.specs.Reach.{AddsNothing}
+use Rattle.stepping.specs.declared.happening.Happening.TheVariants as happening
+use Rattle.stepping.specs.Ends.{IsOneStep}
+use Rattle.stepping.proofs.Lists.{on-err}
+use Rattle.stepping.proofs.Threads.{call-of, asks-for, thread_is_behind, same-actors, moved-none, moved-on}
+use Rattle.stepping.proofs.acting.Actors.step_of_thread.Goals as goal
+use Rattle.stepping.proofs.acting.Actors.step_of_thread.Goals.{then-roots_change, else-roots_change}
+
+-- a bool is not both
+true-is-not-false : true ≡ false → ⊥
+true-is-not-false e = absurd cc
+
+-- a place holds one element
+one-element : {X : Type 0} (x y : X) → Some x ≡ Some y → x ≡ y
+one-element x y e = cc
+
+pub next_move-requires-clause-births : goal.next_move-requires-clause-births
+next_move-requires-clause-births g c =
+    let m = machine_of g.M.Machine.action g.M.Machine.after_answer g.M.Machine.roots in
+    let r = c.requires in
+    let is : slice_get c.args.self.now.threads.items c.args.thread ≡ Some c.index-stand.result.now = slice_get_read _ _ _ _ (sym r.3.is_behind.is_end.count) r.4 c.index-stand.ensures in
+    (c.growth_law.ensures.threads r.0 r.1 (run_by r.0 m r.1 r.2) c.args.thread c.index-stand.result.now c.args.self.now.shared
+    (thread_is_behind r.0 m (g.M.Runner.fits r.0) r.1 r.2 c.args.self.now r.3 c.args.thread r.4 c.index-stand.result.now is)).births
+
+pub next_move-requires-clause-room : goal.next_move-requires-clause-room
+next_move-requires-clause-room g c =
+    let m = machine_of g.M.Machine.action g.M.Machine.after_answer g.M.Machine.roots in
+    let r = c.requires in
+    let is : slice_get c.args.self.now.threads.items c.args.thread ≡ Some c.index-stand.result.now = slice_get_read _ _ _ _ (sym r.3.is_behind.is_end.count) r.4 c.index-stand.ensures in
+    subst (λ (pools : List ℕ). HasTryLeft pools (g.M.Machine.action c.index-stand.result.now.state) c.index-stand.result.now.stance) r.3.plan.pools
+    (c.growth_law.ensures.threads r.0 r.1 (run_by r.0 m r.1 r.2) c.args.thread c.index-stand.result.now c.args.self.now.shared
+    (thread_is_behind r.0 m (g.M.Runner.fits r.0) r.1 r.2 c.args.self.now r.3 c.args.thread r.4 c.index-stand.result.now is)).try_left
+
+pub returns-in_default-clause-ok : goal.returns-in_default-clause-ok
+returns-in_default-clause-ok g c s starts before b lt =
+    let m = machine_of g.M.Machine.action g.M.Machine.after_answer g.M.Machine.roots in
+    let stand = c.index-stand.result.now in
+    let is : slice_get c.args.self.now.threads.items c.args.thread ≡ Some stand = slice_get_read _ _ _ _ (sym b.is_behind.is_end.count) lt c.index-stand.ensures in
+    moved-none s m (g.M.Runner.fits s) starts before c.args.self.now b c.args.thread lt stand is (c.in_ok-made.ensures s b.plan.pools ∙ ap (λ (o : Option Move). made_by (m.roots stand.state) o) c.in_default.is)
+
+pub go_on-requires : goal.go_on-requires
+go_on-requires g c =
+    let m = machine_of g.M.Machine.action g.M.Machine.after_answer g.M.Machine.roots in
+    let r = c.requires in
+    let stand = c.index-stand.result.now in
+    let is : slice_get c.args.self.now.threads.items c.args.thread ≡ Some stand = slice_get_read _ _ _ _ (sym r.3.is_behind.is_end.count) r.4 c.index-stand.ensures in
+    let at : slice_get c.args.self.now.threads.items c.args.thread ≡ Some c.index_mut.result.now = slice_get_read _ _ _ _ (sym r.3.is_behind.is_end.count) r.4 c.index_mut.ensures.value in
+    let grows = c.growth_law.ensures.threads r.0 r.1 (run_by r.0 m r.1 r.2) c.args.thread stand c.args.self.now.shared
+    (thread_is_behind r.0 m (g.M.Runner.fits r.0) r.1 r.2 c.args.self.now r.3 c.args.thread r.4 stand is) in
+    subst (λ (v : Stand g.row.M.Denot). HasRoom v.stance) (one-element stand c.index_mut.result.now (sym is ∙ at)) (grows.room (c.counts_roots.ensures c.if-not-counts_roots.false))
+
+pub returns-in_err-roots_change-clause-err : goal.returns-in_err-roots_change-clause-err
+returns-in_err-roots_change-clause-err g c =
+    let a = c.args.self.now in
+    let stays : slice_set a.threads.items c.args.thread c.go_on.new.stand ≡ a.threads.items =
+    ap (slice_set a.threads.items c.args.thread) (c.in_err-roots_change.ensures.err ∙ c.index_mut.ensures.value) ∙ set-get_or a.threads.items c.args.thread c.index_mut.result.now in
+    on-err _ (same-actors a c.args.thread c.go_on.new.stand stays)
+
+pub apply-requires : goal.apply-requires
+apply-requires g c =
+    let m = machine_of g.M.Machine.action g.M.Machine.after_answer g.M.Machine.roots in
+    let r = c.requires in
+    let stand = c.index-stand.result.now in
+    let is : slice_get c.args.self.now.threads.items c.args.thread ≡ Some stand = slice_get_read _ _ _ _ (sym r.3.is_behind.is_end.count) r.4 c.index-stand.ensures in
+    let grows = c.growth_law.ensures.threads r.0 r.1 (run_by r.0 m r.1 r.2) c.args.thread stand c.args.self.now.shared
+    (thread_is_behind r.0 m (g.M.Runner.fits r.0) r.1 r.2 c.args.self.now r.3 c.args.thread r.4 stand is) in
+    (grows.move c.in-Some.made (c.in_ok-made.ensures r.0 r.3.plan.pools ∙ ap (λ (o : Option Move). made_by (m.roots stand.state) o) c.in-Some.is)).can_take
+
+pub returns-clause-ok : goal.returns-clause-ok
+returns-clause-ok g c s starts before b lt =
+    let m = machine_of g.M.Machine.action g.M.Machine.after_answer g.M.Machine.roots in
+    let a = c.args.self.now in
+    let stand = c.index-stand.result.now in
+    let move = c.in-Some.made in
+    let is : slice_get a.threads.items c.args.thread ≡ Some stand = slice_get_read _ _ _ _ (sym b.is_behind.is_end.count) lt c.index-stand.ensures in
+    let at : slice_get a.threads.items c.args.thread ≡ Some c.index_mut.result.now = slice_get_read _ _ _ _ (sym b.is_behind.is_end.count) lt c.index_mut.ensures.value in
+    let same : stand ≡ c.index_mut.result.now = one-element stand c.index_mut.result.now (sym is ∙ at) in
+    let grows = c.growth_law.ensures.threads s starts (run_by s m starts before) c.args.thread stand a.shared (thread_is_behind s m (g.M.Runner.fits s) starts before a b c.args.thread lt stand is) in
+    let asked = c.in_ok-made.ensures s b.plan.pools ∙ ap (λ (o : Option Move). made_by (m.roots stand.state) o) c.in-Some.is in
+    let moves = grows.move move asked in
+    let behind : standing m.roots c.go_on.new.stand ≡ moved s m (standing m.roots stand) (move_in (m.roots stand.state) move) =
+    subst (λ (v : Stand g.row.M.Denot). standing m.roots c.go_on.new.stand ≡ moved s m (standing m.roots v) (move_in (m.roots v.state) move)) (sym same)
+    (c.in_ok-roots_change.ensures.ok s (call-of (m.action c.index_mut.result.now.state)) b.plan.pools (asks-for (m.action c.index_mut.result.now.state))
+    (subst (λ (v : Stand g.row.M.Denot). MayMake s (m.roots v.state) (call-of (m.action v.state)) v.stance move) same (moves.may_make (call-of (m.action stand.state)) (asks-for (m.action stand.state))))) in
+    let loses : c.if-roots_change.result ≡ false → AddsNothing (move_in (m.roots stand.state) move) × (m.roots c.go_on.new.stand.state ≡ m.roots stand.state) = elim c.if-roots_change.branch [
+      | then-roots_change w ↦ λ lossless. absurd (true-is-not-false (sym w.if-roots_change.true ∙ sym w.result-is ∙ lossless))
+      | else-roots_change w ↦ λ lossless. (w.stores_reference.ensures (m.roots stand.state) (sym w.result-is ∙ lossless), c.in_ok-roots_change.ensures.roots w.if-roots_change.false ∙ ap (λ (v : Stand g.row.M.Denot). m.roots v.state) (sym same))
+    ] in
+    let done = moved-on s m (g.M.Runner.fits s) starts before a b c.args.thread lt stand is move asked moves c.go_on.new.stand behind c.broken_by-broke.result c.broken_by-broke.ensures
+    (c.loss_law.ensures s starts) c.if-roots_change.result loses in
+    subst (λ (h : Shared). IsOneStep s m (g.M.Runner.fits s) starts before (actor.Thread c.args.thread)
+    (Some (record { happening = happening.Thread c.args.thread move; broke = c.broken_by-broke.result; may_lose = c.if-roots_change.result }))
+    (record { plan = a.plan; threads = with_item a.threads c.args.thread c.go_on.new.stand; shared = h; collector = a.collector })) (sym c.apply.ensures) done

@@ -1,0 +1,9 @@
+-- The words of so many cells so far.
+use Rattle.std.proofs.Common.{◌≡◌}
+use Rattle.pools.specs.Heap.{Setup, IsSetup}
+use Rattle.reach.specs.Reach.{IsPlanOf}
+use Rattle.stepping.specs.Starts.{AreRowsAtStart}
+use Rattle.stepping.proofs.beginning.rows_at_start.Given as goal
+
+abbrev pub invariant-loop-cell : goal.invariant-loop-cell
+invariant-loop-cell l = (s : Setup) → IsPlanOf s l.plan → IsSetup s → s.values ≡ l.values → AreRowsAtStart s l.cell l.rows

@@ -1,0 +1,74 @@
+-- Threads, shared words and a collector as the end of the run that a list of actors makes; and one step more.
+use Rattle.std.specs.Prelude.{ℕ, ◌≡◌, ◌<◌, ◌≤◌, ◌^◌, false, Option, Some, None, List, [], ◌∷◌, length, slice_get}
+use Rattle.pools.specs.Heap.{Setup, IsSetup, cells}
+use Rattle.colours.specs.Runs.{turns_of}
+use Rattle.trace_sweep.specs.Collecting.{Collecting}
+use Rattle.schedules.specs.Machine.{Reference, Machine}
+use Rattle.schedules.specs.Moves as moves
+use Rattle.schedules.specs.ModuleRuns.{OfThread, OfCollector, share_of, heap_of}
+use Rattle.schedules.specs.ModuleRuns as runs
+use Rattle.schedules.specs.Ends.{StandsBehind}
+use Rattle.actors.specs.declared.actor.Actor.{Actor}
+use Rattle.actors.specs.declared.shared.Shared.{Shared}
+use Rattle.actors.specs.declared.stand.Stand.{Stand}
+use Rattle.actors.specs.Calls.{move_in}
+use Rattle.actors.specs.Causes.{IsStepCause}
+use Rattle.actors.specs.Runs.{collector_behind, next_by, run_by, AreActors}
+use Rattle.actors.specs.Shared.{StandBehind}
+use Rattle.actors.specs.Stands.{standing}
+use Rattle.reach.specs.Reach.{IsPlanOf, IsFirstGone}
+use Rattle.run_growth.specs.Growth.{IsInHeap}
+use Rattle.stepping.specs.declared.acting.Actors.{Actors}
+use Rattle.stepping.specs.declared.happening.Happening.{Happening}
+use Rattle.stepping.specs.declared.happening.Happening.TheVariants.{Thread, Collector}
+use Rattle.stepping.specs.declared.happening.Step.{Step}
+
+-- they are where the actors stand at the end of this run, and what the words and births are there
+pub record IsEnd (s : Setup) (m : Machine) (Fits : m.State → Type 0) (starts : ℕ → m.State) (run : List runs.Happening) (threads : List (Stand m.State)) (shared : Shared) (collector : Collecting) : Type 0 where
+  pub none_late : s.late ≡ []
+  pub few_cells : cells s ≤ 2 ^ 32
+  pub count : length threads ≡ s.threads
+  pub stands : (t : ℕ) (stand : Stand m.State) → slice_get threads t ≡ Some stand → StandsBehind s m starts run t (standing m.roots stand)
+  pub fits : (t : ℕ) (stand : Stand m.State) → slice_get threads t ≡ Some stand → Fits stand.state
+  -- what a write under way has read is a cell
+  pub replaced : (t : ℕ) (stand : Stand m.State) → slice_get threads t ≡ Some stand → stand.replaced.cell < cells s
+  pub collects : collector ≡ collector_behind s (turns_of (heap_of run))
+  pub in_heap : IsInHeap s collector.at
+  pub words : StandBehind s run shared
+
+-- they are what these actors, the newest first, make of their starts
+pub record IsBehind (s : Setup) (m : Machine) (Fits : m.State → Type 0) (starts : ℕ → m.State) (actors : List Actor) (threads : List (Stand m.State)) (shared : Shared) (collector : Collecting) : Type 0 where
+  pub are_actors : AreActors s.threads actors
+  pub is_end : IsEnd s m Fits starts (run_by s m starts actors) threads shared collector
+
+-- so of the actors of the code
+pub record AreBehindSteps (s : Setup) (m : Machine) (Fits : m.State → Type 0) (starts : ℕ → m.State) (before : List Actor) (actors : Actors m.State) : Type 0 where
+  pub plan : IsPlanOf s actors.plan
+  pub setup : IsSetup s
+  pub is_behind : IsBehind s m Fits starts before actors.threads.items actors.shared actors.collector
+
+-- ---- one step
+
+-- what was made is this happening
+abbrev pub Tells : (roots : ℕ → List Reference) → Happening → runs.Happening → Type 0
+Tells roots (Thread t made) happening = happening ≡ OfThread t (move_in (roots t) made)
+Tells roots (Collector turn) happening = happening ≡ OfCollector turn
+
+-- the step tells what the actor made behind this run, and how it breaks the run
+pub record IsStep (s : Setup) (m : Machine) (starts : ℕ → m.State) (run : List runs.Happening) (actor : Actor) (step : Step) : Type 0 where
+  pub happening : runs.Happening
+  pub next : next_by s m starts run actor ≡ Some happening
+  pub tells : Tells (λ t. m.roots (moves.state_after s m t (starts t) (share_of t run))) step.happening happening
+  pub broke : IsStepCause s m starts (happening ∷ run) step.broke
+  -- where nothing that is gone could be reached before, so it is behind a step that loses nothing
+  pub loses : step.may_lose ≡ false → IsFirstGone s m starts run None → IsFirstGone s m starts (happening ∷ run) None
+
+-- and no step that there is none
+abbrev pub IsStepOrNone : (s : Setup) (m : Machine) (starts : ℕ → m.State) → List runs.Happening → Actor → Option Step → Type 0
+IsStepOrNone s m starts run actor None = next_by s m starts run actor ≡ None
+IsStepOrNone s m starts run actor (Some step) = IsStep s m starts run actor step
+
+-- what the actor made behind these is told, and the actors are those behind it
+pub record IsOneStep (s : Setup) (m : Machine) (Fits : m.State → Type 0) (starts : ℕ → m.State) (before : List Actor) (actor : Actor) (made : Option Step) (actors : Actors m.State) : Type 0 where
+  pub made_is : IsStepOrNone s m starts (run_by s m starts before) actor made
+  pub behind : AreBehindSteps s m Fits starts (actor ∷ before) actors

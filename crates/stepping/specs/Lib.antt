@@ -1,0 +1,3 @@
+pub mod Starts
+pub mod Roots
+pub mod Ends

@@ -1,0 +1,32 @@
+-- The words of a heap and the threads before the first step.
+use Rattle.std.specs.Prelude.{ℕ, zero, suc, ◌≡◌, ◌<◌, Some, List, [], length, slice_index, slice_index_or}
+use Rattle.pools.specs.declared.word_kind.WordKind.{WordKind}
+use Rattle.pools.specs.Heap.{Setup, kind_of, words_of_cell}
+use Rattle.colours.specs.declared.place.Place.TheVariants.{Word}
+use Rattle.colours.specs.Runs.{word_at_start}
+use Rattle.schedules.specs.Machine.{Reference}
+use Rattle.schedules.specs.Moves.{null}
+use Rattle.actors.specs.declared.stand.Stance.TheVariants.{Ready}
+use Rattle.actors.specs.declared.stand.Stand.{Stand}
+use Rattle.actors.specs.Kinds.{MayHold}
+
+-- what a word of a cell holds, where these are the values of the globals
+abbrev pub value_at_start : (values : List ℕ) → (cell word : ℕ) → ℕ
+value_at_start values zero word = slice_index values word
+value_at_start values (suc cell) word = 0
+
+-- the words of a cell hold what stands there before the first step, with birth 0
+pub record IsRowAtStart (s : Setup) (cell : ℕ) (row : List Reference) : Type 0 where
+  pub count : length row ≡ length (words_of_cell s cell)
+  pub holds : (word : ℕ) → (slice_index_or row word null).cell ≡ word_at_start s (Word cell word)
+  pub births : (word : ℕ) → (slice_index_or row word null).birth ≡ 0
+  pub kinds : (word : ℕ) (kind : WordKind) → kind_of s cell word ≡ Some kind → MayHold s (Some kind) (slice_index_or row word null)
+
+-- so do those of so many cells
+pub record AreRowsAtStart (s : Setup) (count : ℕ) (rows : List (List Reference)) : Type 0 where
+  pub count_is : length rows ≡ count
+  pub rows_are : (cell : ℕ) → cell < count → IsRowAtStart s cell (slice_index_or rows cell [])
+
+-- a thread that begins in this state
+abbrev pub stand_at_start : {State : Type 0} → State → Stand State
+stand_at_start state = record { state = state; stage = 0; stance = Ready; replaced = null }

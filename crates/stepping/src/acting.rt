@@ -1,0 +1,172 @@
+ghost use Rattle.std.specs.Prelude.{ℕ, ◌≡◌, ◌<◌, ◌^◌, Some, List, [], ◌∷◌, length, slice_get, true, false, All, IfOk, OnErr};
+ghost use Rattle.std.specs.Option.{option_copied};
+ghost use Rattle.pools.specs.Heap.{Setup, IsSetup};
+ghost use Rattle.schedules.specs.Machine.{Reference as AReference, machine_of};
+ghost use Rattle.actors.specs.Calls.{move_in};
+ghost use Rattle.actors.specs.declared.actor.Actor.{Actor as AnActor};
+ghost use Rattle.actors.specs.declared.actor.Actor.TheVariants as actor;
+ghost use Rattle.actors.specs.Runs.{run_by, IsActor};
+ghost use Rattle.reach.specs.Reach.{IsPlanOf, IsFirstGone, AddsNothing};
+ghost use Rattle.run_growth.specs.Growth.{CountsRoots};
+ghost use Rattle.stepping.specs.Ends.{AreBehindSteps, IsOneStep};
+
+use crate::beginning::{shared_at_start, stands_at_start};
+use crate::happening::{Happening, Step};
+use crate::roots::roots_under_way;
+use actors::{Actor, Move, Runner, Shared, Stance, Stand, broken_by, go_on, next_move};
+use colours::Turn;
+use reach::{Gone, Plan, first_gone, loss_law};
+use run_growth::growth_law;
+use std::alloc::{AllocError, Global};
+use trace_sweep::Collector;
+
+/// Threads of a machine and the collector over one heap, between two steps.
+#[derive(Drop)]
+pub struct Actors<'a, M> {
+    plan: Plan<'a>,
+    threads: Vec<Stand<M>>,
+    shared: Shared,
+    collector: Collector<'a>,
+}
+
+impl<'a, M: Runner + Drop> Actors<'a, M> {
+    /// The actors before their first step. The globals hold these values.
+    pub fn new(
+        alloc: Global,
+        plan: Plan<'a>,
+        values: &[u64],
+        machines: Vec<M>,
+    ) -> Result<Self, AllocError>
+        requires globals { length plan.globals.now < 2 ^ 32 }
+        requires words { All (λ words. length words < 2 ^ 32) plan.layouts.now }
+        ensures { (s : Setup) (starts : ℕ → M) → IsPlanOf s plan.entry → IsSetup s → s.late ≡ [] → s.threads ≡ length machines.items → s.values ≡ values.now
+            → ((t : ℕ) (state : M) → slice_get machines.items t ≡ Some state → (starts t ≡ state) × M.fits s state)
+            → IfOk result (AreBehindSteps s (machine_of M.action M.after_answer M.roots) (M.fits s) starts []) }
+    {
+        let shared = shared_at_start(alloc, plan, values, machines.len())?;
+        let collector = Collector::new(plan.pools, plan.layouts, plan.globals, machines.len());
+        let threads = stands_at_start(alloc, machines)?;
+        Ok(Actors {
+            plan,
+            threads,
+            shared,
+            collector,
+        })
+    }
+
+    /// How many threads there are.
+    pub fn threads(&self) -> usize
+        ensures { result ≡ length self.now.threads.items }
+    {
+        self.threads.len()
+    }
+
+    /// A thread.
+    pub fn thread(&self, thread: usize) -> Option<&Stand<M>>
+        ensures { option_copied result ≡ slice_get self.now.threads.items thread }
+    {
+        self.threads.get(thread)
+    }
+
+    /// The stage that was posted last.
+    pub fn posted(&self) -> u64
+        ensures { result ≡ self.now.shared.posted }
+    {
+        self.shared.posted
+    }
+
+    /// The actor makes its one next step, if it has one. Without memory nothing changes.
+    pub fn step(&mut self, actor: Actor) -> Result<Option<Step>, AllocError>
+        requires { (s : Setup) × (starts : ℕ → M) × (before : List AnActor) × AreBehindSteps s (machine_of M.action M.after_answer M.roots) (M.fits s) starts before self.old × IsActor s.threads actor }
+        ensures ok { (s : Setup) (starts : ℕ → M) (before : List AnActor) → AreBehindSteps s (machine_of M.action M.after_answer M.roots) (M.fits s) starts before self.old
+            → IsActor s.threads actor
+            → IfOk result (λ made. IsOneStep s (machine_of M.action M.after_answer M.roots) (M.fits s) starts before actor made self.new) }
+        ensures err { OnErr result (self.new ≡ self.old) }
+    {
+        match actor {
+            Actor::Collector => Ok(self.step_of_collector()),
+            Actor::Thread(thread) => self.step_of_thread(thread),
+        }
+    }
+
+    /// The collector makes its next step; none at the limit of the cycles.
+    fn step_of_collector(&mut self) -> Option<Step>
+        requires { (s : Setup) × (starts : ℕ → M) × (before : List AnActor) × AreBehindSteps s (machine_of M.action M.after_answer M.roots) (M.fits s) starts before self.old }
+        ensures { (s : Setup) (starts : ℕ → M) (before : List AnActor) → AreBehindSteps s (machine_of M.action M.after_answer M.roots) (M.fits s) starts before self.old
+            → IsOneStep s (machine_of M.action M.after_answer M.roots) (M.fits s) starts before actor.Collector result self.new }
+    {
+        growth_law::<M>();
+        loss_law::<M>();
+        let motion = self.collector.next(&self.shared)?;
+        if let Some(number) = motion.stored {
+            self.shared.put(motion.place, number);
+        }
+        Some(Step {
+            happening: Happening::Collector(motion.turn),
+            broke: None,
+            may_lose: matches!(motion.turn, Turn::Free(_)),
+        })
+    }
+
+    /// The thread makes its next step; none where it has ended. Without memory nothing changes.
+    fn step_of_thread(&mut self, thread: u32) -> Result<Option<Step>, AllocError>
+        requires { (s : Setup) × (starts : ℕ → M) × (before : List AnActor) × AreBehindSteps s (machine_of M.action M.after_answer M.roots) (M.fits s) starts before self.old × (thread < s.threads) }
+        ensures ok { (s : Setup) (starts : ℕ → M) (before : List AnActor) → AreBehindSteps s (machine_of M.action M.after_answer M.roots) (M.fits s) starts before self.old
+            → thread < s.threads
+            → IfOk result (λ made. IsOneStep s (machine_of M.action M.after_answer M.roots) (M.fits s) starts before (actor.Thread thread) made self.new) }
+        ensures err { OnErr result (self.new ≡ self.old) }
+    {
+        growth_law::<M>();
+        loss_law::<M>();
+        let index = thread as usize;
+        let stand = &self.threads[index];
+        if !counts_roots(stand.stance) {
+            return Err(AllocError);
+        }
+        let Some(made) = next_move(&self.shared, self.plan.pools, stand)? else {
+            return Ok(None);
+        };
+        let broke = broken_by(&self.shared, &made);
+        let stage = stand.stage;
+        let roots_change = go_on(self.plan.pools, &mut self.threads[index], &made)?;
+        self.shared.apply(index, stage, &made);
+        Ok(Some(Step {
+            happening: Happening::Thread(thread, made),
+            broke,
+            may_lose: roots_change || stores_reference(&made),
+        }))
+    }
+
+    /// The first thing that is gone and can be reached from the globals or a root of a thread under way.
+    pub fn first_gone(&self, alloc: Global) -> Result<Option<Gone>, AllocError>
+        ensures { (s : Setup) (starts : ℕ → M) (before : List AnActor) → AreBehindSteps s (machine_of M.action M.after_answer M.roots) (M.fits s) starts before self.now
+            → IfOk result (IsFirstGone s (machine_of M.action M.after_answer M.roots) starts (run_by s (machine_of M.action M.after_answer M.roots) starts before)) }
+    {
+        let roots = roots_under_way(alloc, self.threads.as_slice())?;
+        first_gone::<M>(alloc, self.plan, &self.shared, roots.as_slice())
+    }
+}
+
+/// How many roots of an answer may be marked. No memory holds so many.
+const ROOT_LIMIT: usize = 1 << 62;
+
+/// Whether one root more may be counted.
+fn counts_roots(stance: Stance) -> bool
+    ensures { result ≡ true → CountsRoots stance }
+{
+    match stance {
+        Stance::Answering { marked, .. } => marked < ROOT_LIMIT,
+        _ => true,
+    }
+}
+
+/// Whether a move puts a reference, or a number other than 0, into a word.
+fn stores_reference(made: &Move) -> bool
+    ensures { (roots : List AReference) → result ≡ false → AddsNothing (move_in roots made.now) }
+{
+    match made {
+        Move::StoresBehindBarrier { value, .. } | Move::StoresPlain { value, .. } => value.cell
+            != 0,
+        _ => false,
+    }
+}

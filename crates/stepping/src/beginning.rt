@@ -1,0 +1,106 @@
+ghost use Rattle.std.specs.Prelude.{ℕ, ◌≡◌, ◌<◌, ◌≤◌, ◌^◌, [], length, map, slice_index, IfOk};
+ghost use Rattle.pools.specs.Heap.{Setup, IsSetup, cells_in, cells};
+ghost use Rattle.reach.specs.Reach.{IsPlanOf};
+ghost use Rattle.actors.specs.Shared.{StandBehind};
+ghost use Rattle.stepping.specs.Starts as starts;
+ghost use Rattle.stepping.specs.Starts.{IsRowAtStart, AreRowsAtStart};
+
+use actors::{NULL, Reference, Rows, Shared, Stance, Stand};
+use items::Items;
+use reach::Plan;
+use std::alloc::{AllocError, Global};
+
+/// The shared words before the first step: all cells are free but that of the globals, and hold null or 0.
+pub(crate) fn shared_at_start(
+    alloc: Global,
+    plan: Plan<'_>,
+    values: &[u64],
+    threads: usize,
+) -> Result<Shared, AllocError>
+    ensures behind { (s : Setup) → IsPlanOf s plan.entry → IsSetup s → s.late ≡ [] → s.threads ≡ threads → s.values ≡ values.now → IfOk result (StandBehind s []) }
+    ensures limit { cells_in plan.entry.pools.now ≤ 2 ^ 20 }
+{
+    let cells = plan.pools.cells();
+    let mut colours = zeros(alloc, cells as usize)?;
+    colours.set(0, 1);
+    Ok(Shared {
+        posted: 0,
+        stages: zeros(alloc, threads)?,
+        colours,
+        births: zeros(alloc, cells as usize)?,
+        words: rows_at_start(alloc, plan, values)?,
+    })
+}
+
+/// So many zeros.
+fn zeros(alloc: Global, count: usize) -> Result<Items<u64>, AllocError>
+    ensures count { IfOk result (λ numbers. length numbers ≡ count) }
+    ensures zeros { IfOk result (λ numbers. (k : ℕ) → slice_index numbers k ≡ 0) }
+{
+    let mut numbers = Items::new(alloc);
+    for _at in 0..count {
+        numbers.push(0)?;
+    }
+    Ok(numbers)
+}
+
+/// The words of all cells before the first step.
+fn rows_at_start(alloc: Global, plan: Plan<'_>, values: &[u64]) -> Result<Rows, AllocError>
+    ensures { (s : Setup) → IsPlanOf s plan.entry → IsSetup s → s.values ≡ values.now → IfOk result (λ rows. AreRowsAtStart s (cells s) rows) }
+{
+    let mut rows = Rows::new(alloc);
+    for cell in 0..plan.pools.cells() {
+        rows.push(row_at_start(alloc, plan, values, cell)?)?;
+    }
+    Ok(rows)
+}
+
+/// The words of a cell before the first step.
+fn row_at_start(
+    alloc: Global,
+    plan: Plan<'_>,
+    values: &[u64],
+    cell: u32,
+) -> Result<Items<Reference>, AllocError>
+    requires { cell < cells_in plan.pools.now }
+    ensures { (s : Setup) → IsPlanOf s plan.entry → IsSetup s → s.values ≡ values.now → IfOk result (IsRowAtStart s cell) }
+{
+    let mut row = Items::new(alloc);
+    for word in 0..plan.words(cell).len() {
+        row.push(Reference {
+            cell: value_at_start(values, cell, word),
+            birth: 0,
+        })?;
+    }
+    Ok(row)
+}
+
+/// What a word holds before the first step.
+fn value_at_start(values: &[u64], cell: u32, word: usize) -> u64
+    ensures value { result ≡ starts.value_at_start values.now cell word }
+    ensures fits { result < 2 ^ 64 }
+{
+    if cell == 0 {
+        values.get(word).copied().unwrap_or(0)
+    } else {
+        0
+    }
+}
+
+/// The threads before the first step.
+pub(crate) fn stands_at_start<M: Drop>(
+    alloc: Global,
+    machines: Vec<M>,
+) -> Result<Vec<Stand<M>>, AllocError>
+    ensures { IfOk result (λ stands. stands.items ≡ map starts.stand_at_start machines.items) }
+{
+    machines
+        .into_iter()
+        .map(|state| Stand {
+            state,
+            stage: 0,
+            stance: Stance::Ready,
+            replaced: NULL,
+        })
+        .collect(alloc)
+}

@@ -1,0 +1,5 @@
+pub mod Setups
+pub mod Worlds
+pub mod ThreadEnds
+pub mod Keeping
+pub mod WorldView
