@@ -1,11 +1,14 @@
 -- The next move of a thread of the code, by where it stands and what it asks for.
-use Rattle.std.proofs.Common.{◌≡◌, ℕ, zero, suc, length, refl, sym, ap, ◌∙◌}
+use Rattle.std.proofs.Common.{◌≡◌, ℕ, zero, suc, Option, Some, None, length, refl, sym, ap, ◌∙◌, subst}
 use Rattle.pools.specs.Heap.{Setup}
 use Rattle.schedules.specs.Machine.{Action, Machine}
 use Rattle.schedules.specs.NextMoves.{Sight, next_move}
 use Rattle.schedules.specs.Ends.{next_move_of}
+use Rattle.actors.specs.declared.moves.Move.{Move}
+use Rattle.actors.specs.declared.moves.Move.TheVariants as made
 use Rattle.actors.specs.declared.stand.Stance.{Stance}
 use Rattle.actors.specs.declared.stand.Stand.{Stand}
+use Rattle.actors.specs.Moving.{CountsTry, CountsMark, HasRoom, HasRoomForNext}
 use Rattle.actors.specs.Stands.{falling, phase_at, standing}
 
 -- of a thread that stands so and asks for this
@@ -19,3 +22,22 @@ stands-next s m h stand stance asked e f =
 pub falling-length : (first count : ℕ) → length (falling first count) ≡ count
 falling-length first zero = refl
 falling-length first (suc count) = ap suc (falling-length first count)
+
+-- a move may be counted where one more try and one more mark may
+counted : (stance : Stance) → CountsTry stance → CountsMark stance → (move : Move) → HasRoom stance move
+counted stance try mark (made.Marks r) = mark
+counted stance try mark (made.Claims r won) = try
+counted stance try mark made.Works = tt
+counted stance try mark made.GoesWrong = tt
+counted stance try mark (made.ReadsWord base word value) = tt
+counted stance try mark (made.ReadsOldValue base word value) = tt
+counted stance try mark (made.StoresBehindBarrier base word value) = tt
+counted stance try mark (made.StoresPlain base word value) = tt
+counted stance try mark (made.ReadsPosted stage) = tt
+counted stance try mark (made.Answers stage) = tt
+counted stance try mark made.Ends = tt
+
+-- so may each next move of a thread that stands so
+pub counts-none : (at stance : Stance) → at ≡ stance → CountsTry stance → CountsMark stance → (next : Option Move) → HasRoomForNext at next
+counts-none at stance e try mark None = tt
+counts-none at stance e try mark (Some move) = subst (λ (v : Stance). HasRoom v move) (sym e) (counted stance try mark move)

@@ -1,5 +1,5 @@
 -- What the words of a heap may hold by their kinds, and machines that keep to them, whatever the program and whether or not it is safe.
-use Rattle.std.specs.Prelude.{ℕ, ◌≡◌, ◌≢◌, ◌<◌, ◌^◌, ◌⊎◌, Option, Some, None, List, IsTrue}
+use Rattle.std.specs.Prelude.{◌≡◌, ◌≢◌, ◌<◌, ◌≤◌, ◌^◌, ◌⊎◌, Option, Some, None, List, IsTrue}
 use Rattle.pools.specs.Heap.{Setup, cells, kind_of, IsOfLayout}
 use Rattle.pools.specs.declared.word_kind.WordKind.{WordKind}
 use Rattle.pools.specs.declared.word_kind.WordKind.TheVariants as kind
@@ -31,3 +31,9 @@ pub record KeepsKinds {State : Type 0} (s : Setup) (action : State → Action) (
   pub asks : AsksByKind s (action state)
   pub roots_fit : (r : Reference) → IsIn r (roots state) → r.cell < cells s
   pub goes_on : (answer : Answer) → AnswersByKind s (action state) answer → Fits (after_answer state answer)
+
+-- a thread in this state may be answered so: the state fits a heap whose cells are numbered by 32 bits, and the answer fits what the thread asked for
+pub record MayAnswer {State : Type 0} (s : Setup) (Fits : State → Type 0) (action : State → Action) (state : State) (answer : Answer) : Type 0 where
+  pub few_cells : cells s ≤ 2 ^ 32
+  pub fits : Fits state
+  pub by_kind : AnswersByKind s (action state) answer

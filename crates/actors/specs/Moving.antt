@@ -1,5 +1,5 @@
 -- What is known of the next move of a thread of the code, so that it may be made.
-use Rattle.std.specs.Prelude.{ℕ, ◌+◌, ◌≡◌, ◌<◌, ◌^◌, ◌==◌, not, false, Some, List, filter, slice_get, slice_index, nat_lt, if◌then◌else◌}
+use Rattle.std.specs.Prelude.{ℕ, ◌+◌, ◌≡◌, ◌<◌, ◌^◌, ◌==◌, not, false, Option, Some, None, List, filter, slice_get, slice_index, nat_lt, if◌then◌else◌}
 use Rattle.pools.specs.Heap.{Setup, layout_of}
 use Rattle.colours.specs.Mutator as order
 use Rattle.colours.specs.Mutator.{Phase}
@@ -34,11 +34,26 @@ abbrev pub MarksNext : (roots : List Reference) → Stance → (cell : ℕ) → 
 MarksNext roots (Answering stage marked) cell = (r : Reference) × (slice_get (not_null roots) marked ≡ Some r) × (r.cell ≡ cell)
 MarksNext roots stance cell = Unit {0}
 
--- one more may be counted
-abbrev pub HasRoom : Stance → Type 0
-HasRoom (Trying first tried) = tried < 2 ^ 32
-HasRoom (Answering stage marked) = marked < 2 ^ 63
-HasRoom stance = Unit {0}
+-- one more cell may be counted among those that were tried
+abbrev pub CountsTry : Stance → Type 0
+CountsTry (Trying first tried) = tried < 2 ^ 32
+CountsTry stance = Unit {0}
+
+-- one more root may be counted among those that are marked
+abbrev pub CountsMark : Stance → Type 0
+CountsMark (Answering stage marked) = marked < 2 ^ 63
+CountsMark stance = Unit {0}
+
+-- what the move adds may be counted
+abbrev pub HasRoom : Stance → Move → Type 0
+HasRoom stance (Marks r) = CountsMark stance
+HasRoom stance (Claims r won) = CountsTry stance
+HasRoom stance made = Unit {0}
+
+-- so of a next move, if there is one
+abbrev pub HasRoomForNext : Stance → Option Move → Type 0
+HasRoomForNext stance None = Unit {0}
+HasRoomForNext stance (Some made) = HasRoom stance made
 
 -- where a thread stands that tried so many cells of the pool that is asked for, each in vain
 abbrev pub phase_left : (pools : List ℕ) → Action → (first tried : ℕ) → Phase

@@ -1,9 +1,11 @@
 ghost use Rattle.std.specs.Prelude.{◌≡◌, false, List, IfOk, OnOk, OnErr};
 ghost use Rattle.pools.specs.Heap.{Setup};
 ghost use Rattle.schedules.specs.Machine.{Reference as AReference, machine_of};
+ghost use Rattle.schedules.specs.Moves.{answer_of};
 ghost use Rattle.schedules.specs.Ends.{moved, stage_behind, old_by};
 ghost use Rattle.actors.specs.Calls.{action_of, answer_in, move_in};
 ghost use Rattle.actors.specs.declared.call.Call.{Call as ACall};
+ghost use Rattle.actors.specs.Kinds.{MayAnswer};
 ghost use Rattle.actors.specs.Moving.{HasRoom, MayMake};
 ghost use Rattle.actors.specs.Stands.{standing};
 
@@ -23,7 +25,8 @@ pub fn go_on<M: Runner>(
     stand: &mut Stand<M>,
     made: &Move,
 ) -> Result<bool, AllocError>
-    requires { HasRoom stand.old.stance }
+    requires room { HasRoom stand.old.stance made.now }
+    requires answer { (s : Setup) × MayAnswer s (M.fits s) M.action stand.old.state (answer_of (M.action stand.old.state) (move_in (M.roots stand.old.state) made.now)) }
     ensures ok { (s : Setup) (call : ACall) → s.pools ≡ pools.now → action_of call ≡ M.action stand.old.state → MayMake s (M.roots stand.old.state) call stand.old.stance made.now
         → OnOk result (standing M.roots stand.new ≡ moved s (machine_of M.action M.after_answer M.roots) (standing M.roots stand.old) (move_in (M.roots stand.old.state) made.now)) }
     ensures roots { IfOk result (λ change. change ≡ false → M.roots stand.new.state ≡ M.roots stand.old.state) }
@@ -44,6 +47,7 @@ pub fn go_on<M: Runner>(
 
 /// A call ends with this answer. Whether the roots change is told: where no memory is left to look, they may.
 fn end_call<M: Runner>(state: &mut M, answer: Answer) -> Result<bool, AllocError>
+    requires { (s : Setup) × MayAnswer s (M.fits s) M.action state.old (answer_in answer) }
     ensures ok { OnOk result (state.new ≡ M.after_answer state.old (answer_in answer)) }
     ensures roots { IfOk result (λ change. change ≡ false → M.roots state.new ≡ M.roots state.old) }
     ensures err { OnErr result (state.new ≡ state.old) }

@@ -6,7 +6,7 @@ ghost use Rattle.schedules.specs.Moves.{step_of, phase_behind};
 ghost use Rattle.schedules.specs.Moves as moves;
 ghost use Rattle.actors.specs.Calls.{action_of, answer_in, move_in};
 ghost use Rattle.colours.specs.Steps as steps;
-ghost use Rattle.actors.specs.Moving.{MayMake, LosesNext, MarksNext, HasRoom, phase_left};
+ghost use Rattle.actors.specs.Moving.{MayMake, LosesNext, MarksNext, CountsTry, CountsMark, HasRoom, phase_left};
 ghost use Rattle.actors.specs.Stands.{phase_at};
 
 use crate::call::{Answer, Call};
@@ -24,7 +24,7 @@ pub(crate) fn stance_behind(
     stance: Stance,
     made: &Move,
 ) -> Stance
-    requires { HasRoom stance }
+    requires { HasRoom stance made.now }
     ensures { (s : Setup) (roots : List AReference) → s.pools ≡ pools.now → MayMake s roots call.now stance made.now
         → phase_at roots result ≡ phase_behind s stage (phase_at roots stance) (step_of (move_in roots made.now)) }
 {
@@ -55,7 +55,7 @@ pub(crate) fn stance_behind(
 
 /// Behind a mark.
 fn behind_mark(stance: Stance, cell: u64) -> Stance
-    requires { HasRoom stance }
+    requires { CountsMark stance }
     ensures { (s : Setup) (stage : ℕ) (roots : List AReference) → MarksNext roots stance cell
         → phase_at roots result ≡ phase_behind s stage (phase_at roots stance) (Some (steps.Mark cell)) }
 {
@@ -81,7 +81,7 @@ fn behind_mark(stance: Stance, cell: u64) -> Stance
 
 /// Behind the try of a cell that was not free: the next one, if one is left.
 fn behind_loss(pools: &Pools, call: &Call, stance: Stance, cell: u64) -> Stance
-    requires { HasRoom stance }
+    requires { CountsTry stance }
     ensures { (s : Setup) (stage : ℕ) (roots : List AReference) → s.pools ≡ pools.now → LosesNext s call.now stance cell
         → phase_at roots result ≡ phase_behind s stage (phase_at roots stance) (Some (steps.Claim cell false)) }
 {

@@ -1,4 +1,4 @@
-ghost use Rattle.std.specs.Prelude.{ℕ, ◌≡◌, ◌<◌, ◌^◌, ◌==◌, not, List, Some, filter, length, slice_get, slice_index, IfOk};
+ghost use Rattle.std.specs.Prelude.{ℕ, ◌≡◌, ◌<◌, ◌^◌, ◌==◌, not, List, Some, filter, length, slice_get, slice_index, IfOk, OnSome};
 ghost use Rattle.pools.specs.Heap.{Setup};
 ghost use Rattle.colours.specs.Mutator as order;
 ghost use Rattle.schedules.specs.Machine.{Reference as AReference, machine_of};
@@ -7,6 +7,9 @@ ghost use Rattle.schedules.specs.Machine.{Alloc, Safepoint};
 ghost use Rattle.schedules.specs.NextMoves.{Sight, next_move, mark_or_answer, try_of};
 ghost use Rattle.schedules.specs.Ends.{next_move_of};
 ghost use Rattle.actors.specs.Calls.{action_of, move_in, made_by};
+ghost use Rattle.actors.specs.declared.stand.Stance.{Stance as AStance};
+ghost use Rattle.actors.specs.declared.stand.Stance.TheVariants.{Trying, Answering};
+ghost use Rattle.actors.specs.Moving.{CountsMark, HasRoom, HasRoomForNext};
 ghost use Rattle.actors.specs.Stands.{MayTryMore, HasTryLeft, marked_of, phase_at, standing, sight_in};
 
 use crate::call::Call;
@@ -27,8 +30,10 @@ pub fn next_move<M: Runner>(
 ) -> Result<Option<Move>, AllocError>
     requires births { (cell : ℕ) → slice_index shared.now.births cell < 2 ^ 62 }
     requires room { HasTryLeft pools.now (M.action stand.now.state) stand.now.stance }
-    ensures { (s : Setup) → s.pools ≡ pools.now → IfOk result (λ made.
+    ensures next { (s : Setup) → s.pools ≡ pools.now → IfOk result (λ made.
         next_move_of s (machine_of M.action M.after_answer M.roots) (sight_in s shared.now) (standing M.roots stand.now) ≡ made_by (M.roots stand.now.state) made) }
+    // What the move adds may be counted: so many roots are in a list, and so many cells in a pool.
+    ensures room { IfOk result (HasRoomForNext stand.now.stance) }
 {
     let call = stand.state.call();
     match stand.stance {
@@ -47,8 +52,9 @@ pub fn next_move<M: Runner>(
 
 /// The move of a thread that answers a stage, behind so many marks of roots.
 fn answering_move<M: Runner>(state: &M, stage: u64, marked: usize) -> Result<Move, AllocError>
-    ensures { (s : Setup) (h : Sight) (own : ℕ) (old : AReference) → let roots = M.roots state.now in IfOk result (λ made.
+    ensures next { (s : Setup) (h : Sight) (own : ℕ) (old : AReference) → let roots = M.roots state.now in IfOk result (λ made.
         next_move s h own roots old Safepoint (order.Answering stage (marked_of roots marked)) ≡ Some (move_in roots made)) }
+    ensures room { IfOk result (HasRoom (Answering stage marked)) }
 {
     if !is_async(stage) {
         return Ok(Move::Answers(stage));
@@ -147,8 +153,9 @@ fn store_of_new(call: &Call) -> Option<Move>
 fn next_try(shared: &Shared, pools: &Pools, call: &Call, tried: u64) -> Option<Move>
     requires births { (cell : ℕ) → slice_index shared.now.births cell < 2 ^ 62 }
     requires room { MayTryMore pools.now (action_of call.now) tried }
-    ensures { (s : Setup) (stage : ℕ) (roots : List AReference) (old : AReference) (before : List ℕ) → s.pools ≡ pools.now → length before ≡ tried
+    ensures next { (s : Setup) (stage : ℕ) (roots : List AReference) (old : AReference) (before : List ℕ) → s.pools ≡ pools.now → length before ≡ tried
         → next_move s (sight_in s shared.now) stage roots old (action_of call.now) (order.Trying before) ≡ made_by roots result }
+    ensures room { (first : ℕ) → HasRoomForNext (Trying first tried) result }
 {
     match call {
         Call::Alloc(layout) => Some(claim_of(shared, pools, *layout, tried)),
@@ -176,7 +183,8 @@ fn claim_of(shared: &Shared, pools: &Pools, layout: LayoutId, tried: u64) -> Mov
 
 /// The mark of the next root, or the answer where none is left.
 fn mark_or_answer(stage: u64, root: Option<Reference>) -> Move
-    ensures { (roots : List AReference) → move_in roots result ≡ mark_or_answer stage roots root }
+    ensures next { (roots : List AReference) → move_in roots result ≡ mark_or_answer stage roots root }
+    ensures room { (stance : AStance) → OnSome root (CountsMark stance) → HasRoom stance result }
 {
     match root {
         Some(root) => Move::Marks(root),
@@ -186,7 +194,8 @@ fn mark_or_answer(stage: u64, root: Option<Reference>) -> Move
 
 /// The root behind so many that are not null, of those that are not null.
 fn root_behind(roots: &[Reference], marked: usize) -> Option<Reference>
-    ensures { result ≡ slice_get (filter (λ r. not (r.cell == 0)) roots.now) marked }
+    ensures root { result ≡ slice_get (filter (λ r. not (r.cell == 0)) roots.now) marked }
+    ensures few { OnSome result (marked < 2 ^ 63) }
 {
     let mut left = marked;
     for root in roots {

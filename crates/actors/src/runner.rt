@@ -1,7 +1,7 @@
 ghost use Rattle.std.specs.Prelude.{◌≡◌, IfOk, OnOk, OnErr};
 ghost use Rattle.pools.specs.Heap.{Setup};
 ghost use Rattle.actors.specs.Calls.{action_of, answer_in};
-ghost use Rattle.actors.specs.Kinds.{KeepsKinds};
+ghost use Rattle.actors.specs.Kinds.{KeepsKinds, MayAnswer};
 
 use crate::call::{Answer, Call};
 use crate::reference::Reference;
@@ -22,8 +22,9 @@ pub trait Runner: Machine {
     fn root_references(&self) -> Result<Vec<Reference>, AllocError>
         ensures { IfOk result (λ roots. roots.items ≡ Self.roots self.now) };
 
-    /// The thread goes on with the answer. Without memory it stays as it was.
+    /// The thread goes on with the answer, which fits what it asked for. Without memory it stays as it was.
     fn answer(&mut self, answer: Answer) -> Result<(), AllocError>
+        requires { (s : Setup) × MayAnswer s (Self.fits s) Self.action self.old (answer_in answer) }
         ensures ok { OnOk result (self.new ≡ Self.after_answer self.old (answer_in answer)) }
         ensures err { OnErr result (self.new ≡ self.old) };
 

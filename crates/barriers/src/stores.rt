@@ -1,7 +1,8 @@
 ghost use Rattle.std.specs.Prelude.{◌≡◌, ◌↔◌, true};
 ghost use Rattle.barriers.specs.Stores.{may_store_plain, IsOwnCell, publish, EndsFresh};
 
-use facts::{Facts, Known, publish_law};
+use fact_rows::Known;
+use facts::{Facts, publish_law};
 use ir_ast::ValueId;
 
 /// Whether a reference may be stored without a barrier in the cell to which a value refers.

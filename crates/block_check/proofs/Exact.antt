@@ -4,7 +4,7 @@ use Rattle.std.proofs.lemmas.Bool.{cases_order}
 use Rattle.ir_ast.specs.declared.function.Function.{Function}
 use Rattle.certificate.specs.declared.section.Section.{Section}
 use Rattle.layout.specs.Layouts.{LaidOut}
-use Rattle.block_rules.specs.Standing.{instructions_of}
+use Rattle.rule_operands.specs.Standing.{instructions_of}
 use Rattle.certified.specs.declared.block_fault.BlockFault.{BlockFault}
 use Rattle.certified.specs.declared.block_fault.BlockFault.TheVariants.{Refused, Memory}
 use Rattle.certified.specs.declared.block_fault.Breach.{Breach}

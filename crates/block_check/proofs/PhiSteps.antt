@@ -5,8 +5,8 @@ use Rattle.ir_ast.specs.declared.instr.Instr.{Instr}
 use Rattle.ir_ast.specs.declared.module.Module.{Module}
 use Rattle.ir_ast.specs.declared.op.Incoming.{Incoming}
 use Rattle.ir_ast.specs.declared.op.Op.TheVariants.{Phi}
-use Rattle.facts.specs.Facts.{FactSet}
-use Rattle.facts.specs.declared.known.Entry.{Entry}
+use Rattle.fact_rows.specs.Facts.{FactSet}
+use Rattle.fact_rows.specs.declared.known.Entry.{Entry}
 use Rattle.certified.specs.Ways.{is_phi, named_comes_in, comes_in}
 use Rattle.block_check.specs.PhiOperands.{entries_of, entries_in, entries_at}
 

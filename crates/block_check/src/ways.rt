@@ -1,6 +1,7 @@
 //! The ways out of a block, and the first line of a target that is not shown.
-ghost use Rattle.std.specs.Prelude.{◌≡◌, map, position, not, Some, OnOk, IfOk};
-ghost use Rattle.facts.specs.Lines.{shows_line};
+ghost use Rattle.std.specs.Prelude.{◌≡◌, [], map, position, not, Some, OnOk, IfOk};
+ghost use Rattle.fact_rows.specs.Facts.{nothing_known};
+ghost use Rattle.fact_rows.specs.Lines.{shows_line};
 ghost use Rattle.types.specs.ValueTypes.{target_of};
 ghost use Rattle.certified.specs.Ways.{open_way, branch_ways, ways, decided_facts, entered, line_facts, unshown_line, unshown_at, unshown_on};
 ghost use Rattle.block_check.specs.Subject.{seen, IsReady};
@@ -11,7 +12,8 @@ use crate::phis::note_entries;
 use crate::subject::Subject;
 use certificate::Line;
 use certified::Detail;
-use facts::{Entry, Facts};
+use fact_rows::Entry;
+use facts::Facts;
 use ir_ast::{BlockId, Case, Op, Operand, ValueId};
 use items::Items;
 use shadow_stack::Slots;
@@ -34,7 +36,12 @@ pub struct Rooms {
 }
 
 impl Rooms {
-    pub fn new(alloc: Global) -> Result<Rooms, AllocError> {
+    /// Rooms in which nothing is known, and nothing is noted.
+    pub fn new(alloc: Global) -> Result<Rooms, AllocError>
+        ensures way { IfOk result (λ rooms. rooms.way ≡ nothing_known 0 0) }
+        ensures there { IfOk result (λ rooms. rooms.there ≡ nothing_known 0 0) }
+        ensures entries { IfOk result (λ rooms. rooms.entries ≡ []) }
+    {
         let way = Facts::new(alloc, 0, 0)?;
         let there = Facts::new(alloc, 0, 0)?;
         Ok(Rooms {

@@ -1,15 +1,3 @@
-pub mod TypeKinds
-pub mod Signature
-pub mod Bounds
-pub mod Operands
-pub mod Promises
-pub mod RuntimeNames
-pub mod Places
-pub mod Integers
-pub mod Casts
-pub mod Elements
-pub mod Barriers
 pub mod Calls
-pub mod Standing
 pub mod Rules
 pub mod Groups

@@ -2,7 +2,7 @@
 use Rattle.std.proofs.Common.{◌≡◌, ◌≢◌, List, Result, Ok, Err, refl, ap, sym, ◌∙◌}
 use Rattle.grammar.specs.Outcome.{Outcome}
 use Rattle.ir_ast.specs.declared.module.Module.{Module}
-use Rattle.certificate.specs.Words.{Text}
+use Rattle.ir_tokens.specs.Bytes.{Text}
 use Rattle.certificate.specs.Input.{Input, start_of}
 use Rattle.certificate.specs.Text.{file, value_of, placed, IsCert, IsFault}
 use Rattle.certificate.specs.declared.section.Section.{Section}

@@ -4,7 +4,7 @@ use Rattle.std.proofs.lemmas.Bool.Decides.{nat_tests}
 use Rattle.ir_tokens.specs.declared.lexed.Lexed.{Lexed}
 use Rattle.ir_tokens.specs.Tokens.{IsLexed, lexed_of}
 use Rattle.ir_tokens.proofs.Laws.{found}
-use Rattle.certificate.specs.Words.{Text}
+use Rattle.ir_tokens.specs.Bytes.{Text}
 use Rattle.certificate.specs.Names.{name_from, name_in}
 use Rattle.certificate.specs.declared.naming.Sigil.{Sigil}
 

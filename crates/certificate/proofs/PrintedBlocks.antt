@@ -9,7 +9,8 @@ use Rattle.grammar.specs.Many.{Listed}
 use Rattle.ir_ast.specs.declared.block.Block.{Block}
 use Rattle.ir_ast.specs.declared.function.Function.{Function}
 use Rattle.ir_ast.specs.declared.module.Module.{Module}
-use Rattle.certificate.specs.Words.{Text, past_lines, word_at}
+use Rattle.ir_tokens.specs.Bytes.{Text}
+use Rattle.name_text.specs.Words.{past_lines, word_at, stops}
 use Rattle.certificate.specs.Names.{block_of_word}
 use Rattle.certificate.specs.Drafts.{root_names, is_in, first_unlisted}
 use Rattle.certificate.specs.Input.{Input, with_block}
@@ -19,7 +20,7 @@ use Rattle.certificate.specs.Text as text
 use Rattle.certificate.specs.Fits.{line_fits, lists, lists_slot, is_listed, lists_once, named_in, named_in_fact, lists_named, all_named_listed, lines_fit, is_value}
 use Rattle.certificate.specs.Named.{IsNamed, IsNamedFunction}
 use Rattle.certificate.specs.Print.{word_if, value_text, local_text, fact_text, line_text, lines_text, block_text}
-use Rattle.certificate.proofs.PrintedWords.{stops, word_on, blanks_on, lines_on, all_bytes}
+use Rattle.name_text.proofs.Seams.{word_on, blanks_on, lines_on, all_bytes}
 use Rattle.certificate.proofs.PrintedNames.{value_printed, block_printed}
 use Rattle.certificate.proofs.PrintedLines.{at, Behind, word_is, taken_on, expect_on, line_end_on, noting, lined, IsValue, IsNew, line_on, value_is}
 use Rattle.certificate.proofs.Between.{both, first_true, rest_true, turned, first_no, all_weaker, any_more, Between, Within, block_begins}

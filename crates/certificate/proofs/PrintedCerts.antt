@@ -10,7 +10,8 @@ use Rattle.ir_ast.specs.declared.block.Block.{Block}
 use Rattle.ir_ast.specs.declared.function.Function.{Function}
 use Rattle.ir_ast.specs.declared.function.Parameter.{Parameter}
 use Rattle.ir_ast.specs.declared.module.Module.{Module}
-use Rattle.certificate.specs.Words.{Text, past_blanks, past_lines, word_at}
+use Rattle.ir_tokens.specs.Bytes.{Text}
+use Rattle.name_text.specs.Words.{past_blanks, past_lines, word_at, stops, is_word}
 use Rattle.certificate.specs.Names.{function_of_word}
 use Rattle.certificate.specs.Input.{Input, start_of, ended, with_promise, begun, with_section, kept, emptied}
 use Rattle.certificate.specs.Forms.{begin, mark_of_word, marked, new_function, function_named, function_by}
@@ -21,7 +22,7 @@ use Rattle.certificate.specs.Families.{family_of_type, family_of_value}
 use Rattle.certificate.specs.Fits.{lines_fit, promise_fits, promised_fits, parameter_fits, parameters_fit, blocks_fit, section_fits, fits, entry_is_empty}
 use Rattle.certificate.specs.Named.{IsNamed, IsNamedFunction}
 use Rattle.certificate.specs.Print.{local_text, global_text, lines_text, block_text, blocks_text, promise_text, parameter_text, parameters_text, result_text, mark_text, section_text, sections_text, cert_text}
-use Rattle.certificate.proofs.PrintedWords.{stops, is_word, word_on, blanks_on}
+use Rattle.name_text.proofs.Seams.{word_on, blanks_on}
 use Rattle.certificate.proofs.PrintedLines.{at, Behind, skip_on, word_is, taken_on, expect_on, line_end_on, as_on}
 use Rattle.certificate.proofs.PrintedNames.{function_printed}
 use Rattle.certificate.proofs.PrintedPromises.{parameter_on, result_on}

@@ -11,7 +11,8 @@ use Rattle.ir_ast.specs.declared.function.LocalSort.TheVariants as local
 use Rattle.ir_ast.specs.declared.module.Module.{Module}
 use Rattle.pools.specs.declared.word_set.WordSet.{WordSet}
 use Rattle.types.specs.Globals.{global_named}
-use Rattle.certificate.specs.Words.{Text, begins_with, past_blanks, past_lines, word_at}
+use Rattle.ir_tokens.specs.Bytes.{Text}
+use Rattle.name_text.specs.Words.{begins_with, past_blanks, past_lines, word_at, stops, is_word}
 use Rattle.certificate.specs.Numbers.{small, count_of_word, words_of_word}
 use Rattle.certificate.specs.Names.{value_of_word, global_of_word, layout_of_word}
 use Rattle.certificate.specs.Families.{family_of_value, family_of_sort, is_reference, is_address, refers_to, same_bits}
@@ -22,7 +23,8 @@ use Rattle.certificate.specs.Lines.{number_head, head_by, below_by, below, liste
 use Rattle.certificate.specs.Fits.{is_count, below_fits, stands_for, layout_fits, words_fit, fact_fits, is_value_sort, is_value, line_fits, named_in_fact, named_in}
 use Rattle.certificate.specs.Named.{IsNamed, IsNamedFunction}
 use Rattle.certificate.specs.Print.{word_if, below_text, value_text, age_text, words_text, fact_text, line_text, local_text, global_text, layout_text}
-use Rattle.certificate.proofs.PrintedWords.{first_true, rest_true, stops, is_word, past_word_on, word_on, blanks_on, all_bytes, same_bytes, small_is, count_read, bits_read}
+use Rattle.name_text.proofs.Seams.{past_word_on, word_on, blanks_on, all_bytes}
+use Rattle.certificate.proofs.PrintedWords.{first_true, rest_true, same_bytes, small_is, count_read, bits_read}
 use Rattle.certificate.proofs.PrintedSets.{words_read}
 use Rattle.certificate.proofs.PrintedNames.{value_printed, global_printed, layout_printed}
 use Rattle.certificate.specs.declared.family.Family.{Family}
@@ -47,7 +49,7 @@ Behind t u = (stops t ≡ true) × (past_blanks t ≡ u)
 
 pub skip_on : (i : Input) (w t u : Text) → is_word w ≡ true → Behind t u → skip.says (at i (w ++ t)) tt (at i u)
 unfolding skip after
-skip_on i w t u e b = (refl, ap (λ x. at i (past_blanks x)) (past_word_on w t (all_bytes w e) b.0) ∙ ap (at i) b.1)
+skip_on i w t u e b = (refl, ap (λ x. at i (past_blanks x)) (past_word_on false w t (all_bytes w e) b.0) ∙ ap (at i) b.1)
 
 pub word_is : (i : Input) (w t u : Text) → is_word w ≡ true → Behind t u → word (at i (w ++ t)) ≡ w
 word_is i w t u e b = word_on w t (all_bytes w e) b.0

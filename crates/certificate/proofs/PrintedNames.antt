@@ -10,14 +10,16 @@ use Rattle.ir_ast.specs.declared.function.LocalSort.{LocalSort}
 use Rattle.ir_ast.specs.declared.function.LocalSort.TheVariants as local
 use Rattle.ir_ast.specs.declared.module.Module.{Module}
 use Rattle.types.specs.Globals.{global_named}
-use Rattle.certificate.specs.Words.{Text}
+use Rattle.ir_tokens.specs.Bytes.{Text}
 use Rattle.certificate.specs.Names.{name_in, value_of_word, value_by, block_of_word, function_of_word, global_by, global_of_word, layout_of_word}
 use Rattle.certificate.specs.Print.{name_text, key_text, name_at, local_text, global_text, layout_text, struct_name}
-use Rattle.certificate.specs.Named.{is_short_plain, AreNames, AreKeys, IsNamedFunction, IsNamed}
+use Rattle.certificate.specs.Named.{IsShort, AreNames, AreKeys, IsNamedFunction, IsNamed}
 use Rattle.certificate.specs.Fits.{is_value, is_value_sort, stands_for}
 use Rattle.certificate.specs.declared.naming.Naming.TheVariants as naming
 use Rattle.certificate.specs.declared.naming.Sigil.TheVariants as sigil
-use Rattle.certificate.proofs.PrintedWords.{is_word, key_read, layout_read, global_read, plain_word, all_bytes}
+use Rattle.name_text.specs.Words.{is_word}
+use Rattle.name_text.proofs.Seams.{all_bytes}
+use Rattle.certificate.proofs.PrintedWords.{key_read, layout_read, global_read, name_word}
 
 within_got : {A : Type 0} (xs : List A) (i : ℕ) → i < length xs → (x : A) × (slice_get xs i ≡ Some x)
 within_got [] i lt = absurd (omega arith)
@@ -26,23 +28,22 @@ within_got (x ∷ xs) (suc i) lt = within_got xs i (omega arith)
 
 -- a name of a table, as it is printed
 name_is : (names : List Text) (number : ℕ) → AreNames names → number < length names
-    → (name : Text) × (name_text (name_at names number) ≡ name) × (is_word name ≡ true) × (is_short_plain name ≡ true) × (place_of name names ≡ Some number)
+    → (name : Text) × (name_text (name_at names number) ≡ name_text name) × (is_word (name_text name) ≡ true) × IsShort name × (place_of name names ≡ Some number)
 name_is names number are lt =
     let p = within_got names number lt in
     let q = are number p.0 p.1 in
-    let w = plain_word p.0 q.0 in
     let at : name_at names number ≡ p.0 = ap (λ (x : Option Text). unwrap_or x []) p.1 in
-    (p.0, ap name_text at ∙ w.1, w.0, q.0, q.1)
+    (p.0, ap name_text at, name_word p.0, q.0, q.1)
 
 -- a key of a table, as it is printed
 key_is : (keys : List Text) (number : ℕ) → AreKeys keys → number < length keys
-    → (key : Text) × (key_text (name_at keys number) ≡ key) × (is_word key ≡ true) × (name_in sigil.Local (37 ∷ key) ≡ Some key) × (place_of key keys ≡ Some number)
+    → (key : Text) × (key_text (name_at keys number) ≡ key_text key) × (is_word (key_text key) ≡ true) × (name_in sigil.Local (37 ∷ key_text key) ≡ Some key) × (place_of key keys ≡ Some number)
 key_is keys number are lt =
     let p = within_got keys number lt in
     let q = are number p.0 p.1 in
     let r = key_read p.0 q.0 in
     let at : name_at keys number ≡ p.0 = ap (λ (x : Option Text). unwrap_or x []) p.1 in
-    (p.0, ap key_text at ∙ r.2, r.1, r.0, q.1)
+    (p.0, ap key_text at, r.1, r.0, q.1)
 
 value_sort : (f : Function) (value : ℕ) → is_value f value ≡ true → value_by (Some value) (slice_get f.sorts value) ≡ naming.Named value
 value_sort f value e = by (slice_get f.sorts value) e
@@ -58,21 +59,21 @@ value_sort f value e = by (slice_get f.sorts value) e
 pub value_printed : (f : Function) (value : ℕ) → IsNamedFunction f → is_value f value ≡ true → (value_of_word f (local_text f value) ≡ naming.Named value) × (is_word (local_text f value) ≡ true)
 value_printed f value named e =
     let n = key_is f.locals value named.names (named.values value e) in
-    (rw (n.1, n.3, n.4) (value_sort f value e), rw n.1 (all_bytes n.0 n.2))
+    (rw (n.1, n.3, n.4) (value_sort f value e), rw n.1 (all_bytes (key_text n.0) n.2))
 
 -- so is a block's
 pub block_printed : (f : Function) (number : ℕ) (block : Block) → IsNamedFunction f → slice_get f.blocks number ≡ Some block → (block_of_word f (local_text f block.label) ≡ naming.Named number) × (is_word (local_text f block.label) ≡ true)
 block_printed f number block named e =
     let l = named.labels number block e in
     let n = key_is f.locals block.label named.names l.0 in
-    (rw (n.1, n.3, n.4, l.1) refl, rw n.1 (all_bytes n.0 n.2))
+    (rw (n.1, n.3, n.4, l.1) refl, rw n.1 (all_bytes (key_text n.0) n.2))
 
 -- and a function's
 pub function_printed : (m : Module) (number : ℕ) (f : Function) → IsNamed m → slice_get m.functions number ≡ Some f → (function_of_word m (global_text m f.symbol) ≡ naming.Named number) × (is_word (global_text m f.symbol) ≡ true)
 function_printed m number f named e =
     let l = named.functions number f e in
     let n = name_is m.symbols f.symbol named.symbols l.0 in
-    (rw (n.1, global_read n.0 n.3, n.4, l.1) refl, rw n.1 (all_bytes n.0 n.2))
+    (rw (n.1, global_read n.0 n.3, n.4, l.1) refl, rw n.1 (all_bytes (name_text n.0) n.2))
 
 symbol_is : (symbol : ℕ) (g : Option ℕ) → is_some g ≡ true → global_by symbol g ≡ naming.Named symbol
 symbol_is symbol None e = absurd cc
@@ -82,7 +83,7 @@ symbol_is symbol (Some g) e = refl
 pub global_printed : (m : Module) (symbol : ℕ) → IsNamed m → is_some (global_named m symbol) ≡ true → (global_of_word m (global_text m symbol) ≡ naming.Named symbol) × (is_word (global_text m symbol) ≡ true)
 global_printed m symbol named e =
     let n = name_is m.symbols symbol named.symbols (named.globals symbol e) in
-    (rw (n.1, global_read n.0 n.3, n.4) (symbol_is symbol (global_named m symbol) e), rw n.1 (all_bytes n.0 n.2))
+    (rw (n.1, global_read n.0 n.3, n.4) (symbol_is symbol (global_named m symbol) e), rw n.1 (all_bytes (name_text n.0) n.2))
 
 struct_found : (layout : ℕ) (xs : List (Option ℕ)) → list_any (stands_for layout) xs ≡ true → (name : ℕ) × (slice_get xs name ≡ Some (Some layout))
 struct_found layout [] e = absurd cc
@@ -102,5 +103,5 @@ layout_printed m layout named e =
     let found = struct_found layout m.struct_of e in
     let l = named.layouts layout found.0 found.1 in
     let n = name_is m.struct_names found.0 named.structs l.3 in
-    let text : layout_text m layout ≡ n.0 = ap (λ x. name_text (struct_name m x)) l.1 ∙ ap (λ x. name_text (name_at m.struct_names x)) l.2 ∙ n.1 in
+    let text : layout_text m layout ≡ name_text n.0 = ap (λ x. name_text (struct_name m x)) l.1 ∙ ap (λ x. name_text (name_at m.struct_names x)) l.2 ∙ n.1 in
     (rw (text, layout_read n.0 n.3, n.4, found.1) refl, rw text n.2)

@@ -10,7 +10,8 @@ use Rattle.ir_ast.specs.declared.function.LocalSort.{LocalSort}
 use Rattle.ir_ast.specs.declared.function.LocalSort.TheVariants as local
 use Rattle.ir_ast.specs.declared.function.Parameter.{Parameter}
 use Rattle.ir_ast.specs.declared.module.Module.{Module}
-use Rattle.certificate.specs.Words.{Text, past_blanks, past_lines, word_at}
+use Rattle.ir_tokens.specs.Bytes.{Text}
+use Rattle.name_text.specs.Words.{past_blanks, past_lines, word_at, stops}
 use Rattle.certificate.specs.Names.{value_of_word}
 use Rattle.certificate.specs.Families.{family_of_type, family_of_value, family_of_sort, is_reference, is_integer, refers_to}
 use Rattle.certificate.specs.Input.{Input, word, with_promise}
@@ -20,7 +21,8 @@ use Rattle.certificate.specs.Text as text
 use Rattle.certificate.specs.Fits.{is_count, stands_for, layout_fits, says_something, promised_layout_fits, promised_below_fits, promise_fits, promised_fits, is_value_sort, is_value}
 use Rattle.certificate.specs.Named.{IsNamed, IsNamedFunction}
 use Rattle.certificate.specs.Print.{local_text, layout_text, promise_text, parameter_text, result_text}
-use Rattle.certificate.proofs.PrintedWords.{first_true, rest_true, stops, blanks_on, count_read}
+use Rattle.name_text.proofs.Seams.{blanks_on}
+use Rattle.certificate.proofs.PrintedWords.{first_true, rest_true, count_read}
 use Rattle.certificate.proofs.PrintedNames.{value_printed, layout_printed}
 use Rattle.certificate.proofs.PrintedLines.{at, Behind, skip_on, word_is, taken_on, expect_on, line_end_on, count_on, layout_on}
 use Rattle.certificate.specs.declared.family.Family.{Family}

@@ -5,15 +5,16 @@ use Rattle.std.specs.List.{list_all, list_any, flat_map, join_by, range_with_len
 use Rattle.std.specs.Fmt.{decimal}
 use Rattle.std.proofs.lemmas.Bool.{lt-ltb, ltb-true}
 use Rattle.std.proofs.lemmas.Fmt.{decimal_by_steps}
-use Rattle.ir_tokens.specs.Bytes.{is_digit}
+use Rattle.ir_tokens.specs.Bytes.{Text, is_digit}
 use Rattle.pools.specs.WordSets.{no_words, has_word, adds_word}
 use Rattle.pools.specs.declared.word_set.WordSet.{WordSet}
-use Rattle.certificate.specs.Words.{Text}
 use Rattle.certificate.specs.Numbers.{with_digit, words_behind, words_of_word}
 use Rattle.certificate.specs.Print.{words_of, words_text}
 use Rattle.certificate.specs.Fits.{add_words, own_words, same_words, words_fit}
 use Rattle.certificate.proofs.WordSets.{are_same}
-use Rattle.certificate.proofs.PrintedWords.{is_word_byte, is_word, digit_is, number_word, number_is_word, first_true, rest_true}
+use Rattle.name_text.specs.Words.{is_word}
+use Rattle.name_text.proofs.Seams.{is_word_byte, bytes_close}
+use Rattle.certificate.proofs.PrintedWords.{digit_is, number_word, number_is_word, first_true, rest_true}
 
 digit_on : (set : WordSet) (number : Option ℕ) (d n : ℕ) (rest : Text) → is_digit d ≡ true → with_digit number d ≡ n → n < 64 → words_behind set number (d ∷ rest) ≡ words_behind set (Some n) rest
 digit_on set number d n rest e w lt = rw (e, w, lt-ltb n 64 lt) refl
@@ -99,15 +100,15 @@ commas_word (word ∷ words) small =
     let lt = first_small word words small in
     all_joined (decimal word) (behind_commas words) (number_word word (omega (arith, lt))) (commas_word words (rest_true (nat_lt word 64) (are_small words) small))
 
-word_joined : (a b : Text) → is_word a ≡ true → list_all is_word_byte b ≡ true → is_word (a ++ b) ≡ true
-word_joined [] b e f = absurd cc
-word_joined (x ∷ a) b e f = all_joined (x ∷ a) b e f
+word_joined : (a b : Text) → is_word a ≡ true → list_all is_word_byte a ≡ true → list_all is_word_byte b ≡ true → is_word (a ++ b) ≡ true
+word_joined [] b is e f = absurd cc
+word_joined (x ∷ a) b is e f = bytes_close (x ∷ (a ++ b)) (all_joined (x ∷ a) b e f)
 
 joined_word : (words : List ℕ) → are_small words ≡ true → (words ≡ [] → ⊥) → is_word (join_by decimal (44 ∷ []) words) ≡ true
 joined_word [] small some = absurd (some refl)
 joined_word (word ∷ words) small some =
     let lt = first_small word words small in
-    word_joined (decimal word) (behind_commas words) (number_is_word word (omega (arith, lt))) (commas_word words (rest_true (nat_lt word 64) (are_small words) small))
+    word_joined (decimal word) (behind_commas words) (number_is_word word (omega (arith, lt))) (number_word word (omega (arith, lt))) (commas_word words (rest_true (nat_lt word 64) (are_small words) small))
 
 abbrev words_set : List Bool → Option WordSet
 words_set members = Some (record { members = members })

@@ -8,7 +8,8 @@ use Rattle.std.proofs.lemmas.List.{length-set}
 use Rattle.grammar.specs.Many.{Listed}
 use Rattle.ir_ast.specs.declared.function.Function.{Function}
 use Rattle.ir_ast.specs.declared.module.Module.{Module}
-use Rattle.certificate.specs.Words.{Text as Bytes, begins_with}
+use Rattle.ir_tokens.specs.Bytes.{Text as Bytes}
+use Rattle.name_text.specs.Words.{begins_with}
 use Rattle.certificate.specs.Numbers.{small, bits_of_word}
 use Rattle.certificate.specs.Names as names
 use Rattle.certificate.specs.Names.{global_of_word, value_of_word}

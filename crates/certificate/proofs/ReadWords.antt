@@ -12,7 +12,7 @@ use Rattle.ir_ast.specs.declared.module.Module.{Module}
 use Rattle.pools.specs.declared.word_set.WordSet.{WordSet}
 use Rattle.types.specs.Globals.{global_named}
 use Rattle.types.specs.References.{struct_named, struct_in}
-use Rattle.certificate.specs.Words.{Text as Bytes}
+use Rattle.ir_tokens.specs.Bytes.{Text as Bytes}
 use Rattle.certificate.specs.Numbers.{is_number, decimal, small, number_of_word, from_one, count_of_word, bits_of_word, words_of_word}
 use Rattle.certificate.specs.Names as names
 use Rattle.certificate.specs.Names.{name_in, global_of_word, value_of_word, value_named, value_at, value_by, layout_of_word, layout_named, struct_at}

@@ -4,10 +4,9 @@ use Rattle.std.specs.Prelude.{◌==◌, if◌then◌else◌, slice_index_or, sli
 use Rattle.std.specs.List.{list_any, range_with_len}
 use Rattle.std.proofs.lemmas.Bool.{cases_eq, eq-eqb, ne_eqb, lt-ltb, ltb-true}
 use Rattle.std.proofs.lemmas.List.{length-set, get_or-set_same, get_or-set_other, ext_get_or}
-use Rattle.ir_tokens.specs.Bytes.{is_digit}
+use Rattle.ir_tokens.specs.Bytes.{Text, is_digit}
 use Rattle.pools.specs.WordSets.{no_words, has_word, adds_word}
 use Rattle.pools.specs.declared.word_set.WordSet.{WordSet}
-use Rattle.certificate.specs.Words.{Text}
 use Rattle.certificate.specs.Numbers.{with_digit, closed, words_behind, words_of_word}
 use Rattle.certificate.specs.Fits.{add_word, add_words, own_words, same_words, words_fit}
 use lib.Pointwise.{pointwise}

@@ -6,7 +6,7 @@ use Rattle.ir_ast.specs.declared.module.Module.{Module}
 use Rattle.grammar.specs.Grammar.{pure}
 use Rattle.grammar.specs.Takes.{Takes, TakesWhere, first_takes, first_takes_where, checked_takes, step_takes, look_takes}
 use Rattle.ir_tokens.specs.Tokens.{lex_from, past_gap}
-use Rattle.certificate.specs.Words.{Text as Bytes}
+use Rattle.ir_tokens.specs.Bytes.{Text as Bytes}
 use Rattle.certificate.specs.Names.{value_of_word}
 use Rattle.certificate.specs.Drafts.{is_in}
 use Rattle.certificate.specs.Input.{left, word, begins, after}

@@ -2,7 +2,8 @@
 use Rattle.std.specs.Prelude.{◌≡◌, ℕ, zero, suc, nat_eq, refl, ◌-◌, ◌<◌, ◌≤◌, Bool, true, false, cond, not, ◌||◌, ◌&&◌, ◌==◌, [], ◌∷◌, length, take, Option}
 use Rattle.std.proofs.Common.{arith, ap}
 use Rattle.std.specs.Str.{bytes_eq}
-use Rattle.certificate.specs.Words.{Text, ends_word, turned, past_word, past_comment, past_blanks, past_lines, ends_line}
+use Rattle.ir_tokens.specs.Bytes.{Text}
+use Rattle.name_text.specs.Words.{ends_word, turned, past_word, past_comment, past_blanks, past_lines, ends_line}
 use Rattle.certificate.specs.Input.{Input, left, word, begins, after, next_line, begun, with_promise, wants, with_line, with_slot_line, with_block, with_section, emptied}
 use Rattle.ir_ast.specs.declared.function.Function.{Function}
 use Rattle.ir_ast.specs.declared.module.Module.{Module}

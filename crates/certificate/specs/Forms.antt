@@ -6,7 +6,7 @@ use Rattle.ir_ast.specs.declared.function.Parameter.{Parameter}
 use Rattle.ir_ast.specs.declared.module.Module.{Module}
 use Rattle.grammar.specs.Grammar.{pure, ◌>>◌, step, checked, look, refuse}
 use Rattle.pools.specs.declared.word_set.WordSet.{WordSet}
-use Rattle.certificate.specs.Words.{Text as Bytes}
+use Rattle.ir_tokens.specs.Bytes.{Text as Bytes}
 use Rattle.certificate.specs.Numbers.{count_of_word, words_of_word}
 use Rattle.certificate.specs.Names.{function_of_word, value_of_word, block_of_word, layout_of_word}
 use Rattle.certificate.specs.Families.{refers_to}

@@ -7,7 +7,8 @@ use Rattle.grammar.specs.Grammar.{Grammar}
 use Rattle.grammar.specs.Outcome as outcome
 use Rattle.grammar.specs.Outcome.{Outcome}
 use Rattle.std.specs.Prelude.{Result}
-use Rattle.certificate.specs.Words.{Text, past_word, past_blanks, past_lines, word_at, ends_line}
+use Rattle.ir_tokens.specs.Bytes.{Text}
+use Rattle.name_text.specs.Words.{past_word, past_blanks, past_lines, word_at, ends_line}
 use Rattle.certificate.specs.Drafts.{no_draft, draft_of, promised, wanting, listing, listing_slot, block_ended, first_missing}
 use Rattle.certificate.specs.declared.draft.Draft.{Draft}
 use Rattle.certificate.specs.declared.input.Kept.{Kept}

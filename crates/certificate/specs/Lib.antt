@@ -1,7 +1,6 @@
 pub mod Certs
 pub mod Roots
 pub mod Fits
-pub mod Words
 pub mod Numbers
 pub mod Names
 pub mod Families

@@ -4,7 +4,8 @@ use Rattle.std.specs.Str.{bytes_eq}
 use Rattle.ir_ast.specs.declared.function.Function.{Function}
 use Rattle.ir_ast.specs.declared.module.Module.{Module}
 use Rattle.grammar.specs.Grammar.{pure, ◌>>=◌, ◌>>◌, checked, look}
-use Rattle.certificate.specs.Words.{Text as Bytes, begins_with}
+use Rattle.ir_tokens.specs.Bytes.{Text as Bytes}
+use Rattle.name_text.specs.Words.{begins_with}
 use Rattle.certificate.specs.Numbers.{bits_of_word}
 use Rattle.certificate.specs.Names.{global_of_word}
 use Rattle.certificate.specs.Families.{family_of_value, is_reference, is_integer, is_address, same_bits}

@@ -1,6 +1,7 @@
 -- Modules whose names lead back to what they name.
-use Rattle.std.specs.Prelude.{◌≡◌, ℕ, ◌^◌, ◌<◌, nat_lt, true, false, not, ◌&&◌, ◌||◌, ◌==◌, Bool, List, [], ◌∷◌, length, slice_get, Some, is_some}
-use Rattle.std.specs.List.{list_all}
+use Rattle.std.specs.Prelude.{◌≡◌, ℕ, ◌^◌, ◌<◌, true, List, length, slice_get, Some, is_some, ◌⊎◌}
+use Rattle.std.specs.List.{AllByRecursion, list_all}
+use Rattle.ir_ast.specs.LocalKeys.{key_of_name, key_of_digits}
 use Rattle.ir_ast.specs.Names.{place_of}
 use Rattle.ir_ast.specs.declared.block.Block.{Block}
 use Rattle.ir_ast.specs.declared.function.Function.{Function}
@@ -9,33 +10,30 @@ use Rattle.ir_ast.specs.declared.function.Parameter.{Parameter}
 use Rattle.ir_ast.specs.declared.items_of_module.StructType.{StructType}
 use Rattle.ir_ast.specs.declared.items_of_module.SymbolSort.TheVariants as sort
 use Rattle.ir_ast.specs.declared.module.Module.{Module}
-use Rattle.ir_tokens.specs.Bytes.{is_digit}
+use Rattle.ir_tokens.specs.Bytes.{Text, is_digit}
 use Rattle.types.specs.Globals.{global_named}
 use Rattle.certificate.specs.Fits.{is_value}
-use Rattle.certificate.specs.Print.{is_plain}
-use Rattle.certificate.specs.Words.{Text}
+use Rattle.certificate.specs.Print.{name_text}
 
--- a name that is written without quotes, and is shorter than a text may be
-abbrev pub is_short_plain : Text → Bool
-is_short_plain name = is_plain name && nat_lt (length name) (2 ^ 24)
+-- a name of bytes that is shorter than a text may be when it is printed
+abbrev pub IsShort : Text → Type 0
+IsShort name = AllByRecursion (λ byte. byte < 256) name × (length (name_text name) < 2 ^ 24)
 
 -- each name of a table is such a name, and is found at its place
 abbrev pub AreNames : List Text → Type 0
-AreNames names = (number : ℕ) (name : Text) → slice_get names number ≡ Some name → (is_short_plain name ≡ true) × (place_of name names ≡ Some number)
+AreNames names = (number : ℕ) (name : Text) → slice_get names number ≡ Some name → IsShort name × (place_of name names ≡ Some number)
 
--- digits without zeros before them
-abbrev pub has_no_zeros_before : Text → Bool
-has_no_zeros_before [] = false
-has_no_zeros_before (digit ∷ []) = true
-has_no_zeros_before (digit ∷ next ∷ digits) = not (digit == 48)
+-- the key of such a name
+abbrev pub IsNameKey : Text → Type 0
+IsNameKey key = (name : Text) × (key ≡ key_of_name name) × IsShort name
 
--- the number of a value or a block without a name, shorter than a text may be
-abbrev pub is_short_number : Text → Bool
-is_short_number key = has_no_zeros_before key && list_all is_digit key && nat_lt (length key) (2 ^ 24)
+-- the number of a value or a block without a name, without zeros before it, shorter than a text may be
+abbrev pub IsNumberKey : Text → Type 0
+IsNumberKey key = (0 < length key) × (list_all is_digit key ≡ true) × (key_of_digits key ≡ key) × (length key < 2 ^ 24)
 
--- each key of a table is a number or such a name, and is found at its place
+-- each key of a table is the key of a name or a number, and is found at its place
 abbrev pub AreKeys : List Text → Type 0
-AreKeys keys = (number : ℕ) (key : Text) → slice_get keys number ≡ Some key → ((is_short_plain key || is_short_number key) ≡ true) × (place_of key keys ≡ Some number)
+AreKeys keys = (number : ℕ) (key : Text) → slice_get keys number ≡ Some key → (IsNameKey key ⊎ IsNumberKey key) × (place_of key keys ≡ Some number)
 
 -- the names of a function, and what they name
 pub record IsNamedFunction (f : Function) : Type 0 where

@@ -15,7 +15,7 @@ use Rattle.ir_tokens.specs.Tokens.{lexed_of}
 use Rattle.ir_tokens.specs.Names.{name_of}
 use Rattle.types.specs.Globals.{global_named}
 use Rattle.types.specs.References.{struct_named}
-use Rattle.certificate.specs.Words.{Text}
+use Rattle.ir_tokens.specs.Bytes.{Text}
 use Rattle.certificate.specs.declared.naming.Naming.{Naming}
 use Rattle.certificate.specs.declared.naming.Naming.TheVariants.{NoName, Unknown, Named}
 use Rattle.certificate.specs.declared.naming.Sigil.{Sigil}

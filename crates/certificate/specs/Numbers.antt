@@ -1,10 +1,9 @@
 -- Numbers and sets of words as a certificate writes them.
 use Rattle.std.specs.Prelude.{ℕ, ◌+◌, ◌-◌, ◌*◌, Bool, true, false, not, ◌&&◌, ◌==◌, nat_lt, if◌then◌else◌, [], ◌∷◌, Option, Some, None, option_and_then}
 use Rattle.std.specs.List.{list_all}
-use Rattle.ir_tokens.specs.Bytes.{is_digit}
+use Rattle.ir_tokens.specs.Bytes.{Text, is_digit}
 use Rattle.pools.specs.declared.word_set.WordSet.{WordSet}
 use Rattle.pools.specs.WordSets.{no_words, adds_word}
-use Rattle.certificate.specs.Words.{Text}
 
 -- whether a text has no byte
 abbrev pub is_nil : Text → Bool

@@ -1,7 +1,6 @@
 -- How certificates are printed.
-use Rattle.std.specs.Prelude.{ℕ, ◌+◌, ◌==◌, nat_le, nat_lt, Bool, false, not, ◌&&◌, ◌||◌, if◌then◌else◌, List, [], ◌∷◌, ◌++◌, drop, filter, Option, Some, None, slice_get, unwrap_or, codes}
-use Prim.Native.Nat.{◌/◌, ◌%◌}
-use Rattle.std.specs.List.{list_all, flat_map, join_by, range_with_len, zip}
+use Rattle.std.specs.Prelude.{ℕ, Bool, if◌then◌else◌, List, [], ◌∷◌, ◌++◌, drop, filter, Option, Some, None, slice_get, unwrap_or, codes}
+use Rattle.std.specs.List.{flat_map, join_by, range_with_len, zip}
 use Rattle.std.specs.Fmt.{decimal}
 use Rattle.ir_ast.specs.KeyNames.{is_number_key, name_of_key}
 use Rattle.ir_ast.specs.declared.block.Block.{Block}
@@ -9,9 +8,10 @@ use Rattle.ir_ast.specs.declared.function.Function.{Function}
 use Rattle.ir_ast.specs.declared.function.Parameter.{Parameter}
 use Rattle.ir_ast.specs.declared.items_of_module.StructType.{StructType}
 use Rattle.ir_ast.specs.declared.module.Module.{Module}
-use Rattle.ir_tokens.specs.Bytes.{is_letter, is_digit}
+use Rattle.ir_tokens.specs.Bytes.{Text}
+use Rattle.name_text.specs.Names as names
+use Rattle.name_text.specs.declared.blank.Blank.TheVariants as blank
 use Rattle.pools.specs.WordSets.{has_word}
-use Rattle.certificate.specs.Words.{Text}
 use Rattle.certificate.specs.declared.section.Age.{Age}
 use Rattle.certificate.specs.declared.section.Age.TheVariants as ages
 use Rattle.certificate.specs.declared.section.Fact.{Fact}
@@ -25,30 +25,9 @@ use Rattle.certificate.specs.declared.section.Section.{Section}
 
 -- ---- names
 
--- whether a letter stands at the front
-abbrev pub begins_plain : Text → Bool
-begins_plain [] = false
-begins_plain (first ∷ rest) = is_letter first
-
--- a plain name: letters and digits, of which the first is a letter
-abbrev pub is_plain : Text → Bool
-is_plain name = begins_plain name && list_all (λ byte. is_letter byte || is_digit byte) name
-
--- from ! to ~, but for the quote and the backslash; words stand apart by blanks, so a name shows none
-abbrev pub is_shown : ℕ → Bool
-is_shown byte = nat_le 33 byte && nat_le byte 126 && not (byte == 34) && not (byte == 92)
-
--- a hexadecimal digit
-abbrev pub hexadecimal : ℕ → ℕ
-hexadecimal digit = if nat_lt digit 10 then 48 + digit else 55 + digit
-
--- a byte between quotes
-abbrev pub quoted_byte : ℕ → Text
-quoted_byte byte = if is_shown byte then byte ∷ [] else 92 ∷ hexadecimal (byte / 16) ∷ hexadecimal (byte % 16) ∷ []
-
--- a name, in quotes where it is not plain
+-- a name, in quotes where it is not plain; words stand apart by blanks, so it shows none
 abbrev pub name_text : Text → Text
-name_text name = if is_plain name then name else 34 ∷ (flat_map quoted_byte name ++ 34 ∷ [])
+name_text = names.name_text blank.Escaped
 
 -- the name with this number
 abbrev pub name_at : List Text → (number : ℕ) → Text

@@ -6,7 +6,7 @@ use Rattle.grammar.specs.Grammar.{pure, ◌>>=◌, ◌>>◌, step, checked, look
 use Rattle.grammar.specs.Many.{many}
 use Rattle.grammar.specs.Outcome.{Outcome}
 use Rattle.grammar.specs.Takes.{Takes}
-use Rattle.certificate.specs.Words.{Text as Bytes}
+use Rattle.ir_tokens.specs.Bytes.{Text as Bytes}
 use Rattle.certificate.specs.Numbers.{is_number}
 use Rattle.certificate.specs.Families.{family_of_type, family_of_value}
 use Rattle.certificate.specs.Drafts.{first_unlisted}

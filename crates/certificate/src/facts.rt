@@ -2,7 +2,7 @@
 ghost use Rattle.std.specs.Prelude.{◌≡◌};
 ghost use Rattle.certificate.specs.Input.{Reads};
 ghost use Rattle.certificate.specs.Lines as form;
-ghost use Rattle.certificate.specs.Words.{begins_with};
+ghost use Rattle.name_text.specs.Words.{begins_with};
 ghost use Rattle.certificate.specs.declared.section.Line.TheVariants.{Slot};
 
 use crate::family::{Family, family_of_value};

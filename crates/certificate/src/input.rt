@@ -4,14 +4,14 @@ ghost use Rattle.certificate.specs.Input as spec;
 ghost use Rattle.certificate.specs.Input.{Reads};
 ghost use Rattle.certificate.specs.Drafts.{no_draft, first_missing};
 ghost use Rattle.certificate.specs.Forms as text;
-ghost use Rattle.certificate.specs.Words as words;
+ghost use Rattle.name_text.specs.Words as words;
 
 use crate::draft::{Draft, Wanted};
 use crate::fault::Found;
 use crate::section::{Fact, Line, Mark, Promise, Section};
-use crate::words::{ends_line, past_blanks, past_lines, past_word, word};
 use ir_ast::{BlockId, FuncId, Function, Module, ValueId};
 use items::Items;
+use name_text::{ends_line, past_blanks, past_lines, past_word, word};
 use std::alloc::{AllocError, Global};
 use std::marker::Model;
 use std::mem;

@@ -18,7 +18,6 @@ mod promises;
 mod reader;
 mod roots;
 mod section;
-mod words;
 
 pub use certs::Certs;
 pub use fault::CertFault;

@@ -1,9 +1,7 @@
 //! The text of the lines of certificates.
-ghost use Rattle.std.specs.Prelude.{◌≡◌, ◌++◌, ◌∷◌, [], ◌<◌, ◌||◌, OnOk, IfOk, drop, slice_get};
-ghost use Rattle.std.specs.List.{list_all, flat_map};
+ghost use Rattle.std.specs.Prelude.{◌≡◌, ◌++◌, OnOk, IfOk, drop, slice_get};
 ghost use Rattle.std.specs.Option.{option_copied};
 ghost use Rattle.std.specs.Fmt.{decimal};
-ghost use Rattle.ir_tokens.specs.Bytes.{is_letter as letter, is_digit as digit};
 ghost use Rattle.certificate.specs.Print as spec;
 
 use crate::certs::Certs;
@@ -11,87 +9,15 @@ use crate::section::{Age, Fact, Line};
 use ir_ast::{
     BlockId, FuncId, Function, Module, Names, SymbolId, ValueId, is_number_key, name_of_key,
 };
+use name_text::Blank;
 use pools::{LayoutId, WordSet};
 use std::alloc::{AllocError, Global};
 
-fn is_letter(byte: u8) -> bool
-    ensures { result ≡ letter byte }
-{
-    matches!(byte, b'a'..=b'z' | b'A'..=b'Z' | b'-' | b'$' | b'.' | b'_')
-}
-
-fn is_digit(byte: u8) -> bool
-    ensures { result ≡ digit byte }
-{
-    matches!(byte, b'0'..=b'9')
-}
-
-fn begins_plain(name: &[u8]) -> bool
-    ensures { result ≡ spec.begins_plain name.now }
-{
-    match name {
-        [first, ..] => is_letter(*first),
-        [] => false,
-    }
-}
-
-fn has_plain_bytes(name: &[u8]) -> bool
-    ensures { result ≡ list_all (λ byte. letter byte || digit byte) name.now }
-{
-    name.iter().all(|byte| is_letter(*byte) || is_digit(*byte))
-}
-
-/// Whether a name stands without quotes.
-fn is_plain(name: &[u8]) -> bool
-    ensures { result ≡ spec.is_plain name.now }
-{
-    begins_plain(name) && has_plain_bytes(name)
-}
-
-/// Whether a byte stands for itself between quotes.
-fn is_shown(byte: u8) -> bool
-    ensures { result ≡ spec.is_shown byte }
-{
-    byte >= 33 && byte <= 126 && byte != b'"' && byte != b'\\'
-}
-
-fn hexadecimal(digit: u8) -> u8
-    requires { digit < 16 }
-    ensures { result ≡ spec.hexadecimal digit }
-{
-    if digit < 10 { 48 + digit } else { 55 + digit }
-}
-
-fn put_quoted_byte(out: &mut Vec<u8>, byte: u8) -> Result<(), AllocError>
-    ensures { OnOk result (out.new.items ≡ out.old.items ++ spec.quoted_byte byte) }
-{
-    if is_shown(byte) {
-        out.extend_from_slice(&[byte])
-    } else {
-        out.extend_from_slice(&[b'\\', hexadecimal(byte / 16), hexadecimal(byte % 16)])
-    }
-}
-
-fn put_quoted(out: &mut Vec<u8>, name: &[u8]) -> Result<(), AllocError>
-    ensures { OnOk result (out.new.items ≡ out.old.items ++ flat_map spec.quoted_byte name.now) }
-{
-    for byte in name {
-        put_quoted_byte(out, *byte)?;
-    }
-    Ok(())
-}
-
-/// A name, in quotes where it is not plain.
+/// A name, in quotes where it is not plain; words stand apart by blanks, so it shows none.
 pub(crate) fn put_name(out: &mut Vec<u8>, name: &[u8]) -> Result<(), AllocError>
     ensures { OnOk result (out.new.items ≡ out.old.items ++ spec.name_text name.now) }
 {
-    if is_plain(name) {
-        return out.extend_from_slice(name);
-    }
-    out.push(b'"')?;
-    put_quoted(out, name)?;
-    out.push(b'"')?;
-    Ok(())
+    name_text::put_name(out, name, Blank::Escaped)
 }
 
 fn name_at(names: &Names, number: usize) -> &[u8]

@@ -7,13 +7,14 @@ use Rattle.ir_ast.specs.declared.op.Op.TheVariants.{Phi}
 use Rattle.certificate.specs.declared.section.Section.{Section}
 use Rattle.layout.specs.Layouts.{LaidOut}
 use Rattle.shadow_stack.specs.Slots.{slots_of}
-use Rattle.facts.specs.Facts.{FactSet}
-use Rattle.block_rules.specs.declared.rule.Rule.{Rule}
-use Rattle.block_rules.specs.declared.rule.Rule.TheVariants.{K15, K16}
-use Rattle.block_rules.specs.declared.standing.Standing.{Standing}
-use Rattle.block_rules.specs.Promises.{promised_in, own_mark}
-use Rattle.block_rules.specs.Rules.{first_failing, conditions, after}
-use Rattle.block_rules.specs.Standing.{instructions_of, standing}
+use Rattle.fact_rows.specs.Facts.{FactSet}
+use Rattle.rule_operands.specs.declared.rule.Rule.{Rule}
+use Rattle.rule_operands.specs.declared.rule.Rule.TheVariants.{K15, K16}
+use Rattle.rule_operands.specs.declared.standing.Standing.{Standing}
+use Rattle.rule_operands.specs.FirstFailing.{first_failing}
+use Rattle.rule_operands.specs.Standing.{instructions_of, standing}
+use Rattle.rule_forms.specs.Promises.{promised_in, own_mark}
+use Rattle.block_rules.specs.Rules.{conditions, after}
 use Rattle.certified.specs.declared.block_fault.BlockFault.{BlockFault}
 use Rattle.certified.specs.declared.block_fault.BlockFault.TheVariants.{Refused, Memory}
 use Rattle.certified.specs.declared.block_fault.Breach.{Breach}

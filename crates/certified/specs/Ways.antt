@@ -18,19 +18,19 @@ use Rattle.shadow_stack.specs.Slots.{SlotTable}
 use Rattle.certificate.specs.declared.section.Line.{Line}
 use Rattle.certificate.specs.declared.section.Promise.{Promise}
 use Rattle.certificate.specs.declared.section.Section.{Section}
-use Rattle.facts.specs.declared.known.Entry.{Entry}
-use Rattle.facts.specs.declared.known.Given.{Given}
-use Rattle.facts.specs.declared.known.Known.{Known}
-use Rattle.facts.specs.declared.known.Known.TheVariants.{Nothing, Number, Null}
-use Rattle.facts.specs.Facts.{FactSet, test_at, learn_test, after_phis}
-use Rattle.facts.specs.Lines.{facts_of_lines, facts_of_parameters, shows_line}
-use Rattle.block_rules.specs.declared.type_kind.TypeKind.{TypeKind}
-use Rattle.block_rules.specs.declared.type_kind.TypeKind.TheVariants as kind
-use Rattle.block_rules.specs.Bounds.{below_next}
-use Rattle.block_rules.specs.Operands.{known_of}
-use Rattle.block_rules.specs.Promises.{promises_in, given_by}
-use Rattle.block_rules.specs.Standing.{instructions_of}
-use Rattle.block_rules.specs.TypeKinds.{kind_of}
+use Rattle.fact_rows.specs.declared.known.Entry.{Entry}
+use Rattle.fact_rows.specs.declared.known.Given.{Given}
+use Rattle.fact_rows.specs.declared.known.Known.{Known}
+use Rattle.fact_rows.specs.declared.known.Known.TheVariants.{Nothing, Number, Null}
+use Rattle.fact_rows.specs.Facts.{FactSet, test_at, learn_test, after_phis}
+use Rattle.fact_rows.specs.Lines.{facts_of_lines, facts_of_parameters, shows_line}
+use Rattle.rule_operands.specs.declared.type_kind.TypeKind.{TypeKind}
+use Rattle.rule_operands.specs.declared.type_kind.TypeKind.TheVariants as kind
+use Rattle.rule_operands.specs.Operands.{known_of}
+use Rattle.rule_operands.specs.TypeKinds.{kind_of}
+use Rattle.rule_operands.specs.Standing.{instructions_of}
+use Rattle.rule_forms.specs.Bounds.{below_next}
+use Rattle.rule_forms.specs.Promises.{promises_in, given_by}
 use Rattle.certified.specs.declared.block_fault.Detail.{Detail}
 
 -- a function of a program, with its slots and its certificate, among the certificates of all

@@ -1,8 +1,8 @@
 ghost use Rattle.std.specs.Prelude.{◌≡◌};
 ghost use Rattle.certified.specs.declared.block_fault.BlockFault.TheVariants.{Memory};
 
-use block_rules::Rule;
 use ir_ast::{BlockId, FuncId};
+use rule_operands::Rule;
 use std::alloc::AllocError;
 use thiserror::Error;
 

@@ -4,4 +4,4 @@
 mod block_fault;
 
 pub use block_fault::{BlockFault, Breach, Detail, Refusal};
-pub use block_rules::Rule;
+pub use rule_operands::Rule;

@@ -93,25 +93,16 @@ const ELEVEN: &str =
 const ELEVEN_APART: &str =
     "define void @eleven(%Node* %n) gc \"shadow-stack\" {\nentry:\n  %p = getelementptr %Node, %Node* %n, i32 0, i32 0\n  ret void\nnext:\n  ret void\n}\n";
 
+/// What is printed where the way to the claim does not show it.
+const NOT_OF_G: &str = "no @eleven %entry 1 K15 %next %p addr @g\n";
+
 #[test]
 fn reads_the_address_of_a_global(rt: HostRuntime) -> Result<(), Fail> {
     let alloc = rt.alloc();
     let unread = STATUS_UNREADABLE;
     let rows = [
-        (
-            ELEVEN,
-            "%p addr @g",
-            STATUS_NO,
-            "no @eleven %entry 1 K15 %next %p addr @g\n",
-            "",
-        ),
-        (
-            ELEVEN,
-            "%p addr @\"g\"",
-            STATUS_NO,
-            "no @eleven %entry 1 K15 %next %p addr @g\n",
-            "",
-        ),
+        (ELEVEN, "%p addr @g", STATUS_NO, NOT_OF_G, ""),
+        (ELEVEN, "%p addr @\"g\"", STATUS_NO, NOT_OF_G, ""),
         (ELEVEN_APART, "%p addr @g", STATUS_YES, "yes 1\n", ""),
         (ELEVEN, "%p addr @h", unread, "", "error C3 4:9\n"),
         (ELEVEN, "%p addr @eleven", unread, "", "error C3 4:9\n"),

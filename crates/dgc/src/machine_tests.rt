@@ -2,7 +2,9 @@
 use ir_ast::FuncId;
 use ir_text::read;
 use layout::Program;
-use machine::{Action, Answer, StartFault, Thread};
+use machine::{StartFault, Thread};
+use machine_asks::Action;
+use machine_values::Answer;
 use pools::LayoutId;
 use std::alloc::{AllocError, Global};
 use std::test::Fail;

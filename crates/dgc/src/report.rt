@@ -11,7 +11,7 @@ use ir_ast::{BlockId, FuncId, Module};
 use ir_text::ReadFault;
 use ir_tokens::Position;
 use layout::LayoutFault;
-use machine::Value;
+use machine_values::Value;
 use module_check::{Detail, Refusal};
 use replay::{Break, Outcome, ReplayFault, Report, SeedBreak, SoakOutcome, ThreadEnd};
 use std::alloc::{AllocError, Global};

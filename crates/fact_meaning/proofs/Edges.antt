@@ -23,22 +23,22 @@ use Rattle.types.specs.ValueTypes.{target_of}
 use Rattle.types.specs.References.{struct_named}
 use Rattle.shadow_stack.specs.Slots.{SlotTable}
 use Rattle.certificate.specs.declared.section.Line.{Line}
-use Rattle.facts.specs.declared.known.Entry.{Entry}
-use Rattle.facts.specs.declared.known.Known.{Known}
-use Rattle.facts.specs.declared.known.Known.TheVariants.{Nothing, Number, Cell, Null, Address, GlobalAddress}
-use Rattle.facts.specs.Facts.{FactSet, known_at, after_phis}
-use Rattle.facts.specs.Lines.{facts_of_lines, shows_line}
-use Rattle.block_rules.specs.declared.type_kind.TypeKind.{TypeKind}
-use Rattle.block_rules.specs.declared.type_kind.TypeKind.TheVariants as kind
-use Rattle.block_rules.specs.Bounds.{below_next}
-use Rattle.block_rules.specs.Standing.{instructions_of}
-use Rattle.block_rules.specs.TypeKinds.{kind_of, kind_in, pointer_kind, struct_pointer}
+use Rattle.fact_rows.specs.declared.known.Entry.{Entry}
+use Rattle.fact_rows.specs.declared.known.Known.{Known}
+use Rattle.fact_rows.specs.declared.known.Known.TheVariants.{Nothing, Number, Cell, Null, Address, GlobalAddress}
+use Rattle.fact_rows.specs.Facts.{FactSet, known_at, after_phis}
+use Rattle.fact_rows.specs.Lines.{facts_of_lines, shows_line}
+use Rattle.rule_operands.specs.declared.type_kind.TypeKind.{TypeKind}
+use Rattle.rule_operands.specs.declared.type_kind.TypeKind.TheVariants as kind
+use Rattle.rule_operands.specs.TypeKinds.{kind_of, kind_in, pointer_kind, struct_pointer}
+use Rattle.rule_operands.specs.Standing.{instructions_of}
+use Rattle.rule_forms.specs.Bounds.{below_next}
 use Rattle.certified.specs.Ways as w
 use Rattle.certified.specs.Ways.{Scene, operand_from, constant_comes_in, number_comes_in, known_comes_in, phi_comes_in, named_comes_in, comes_in}
-use Rattle.machine.specs.declared.value.Value.{Value}
-use Rattle.machine.specs.declared.value.Value.TheVariants as value
-use Rattle.machine.specs.Kinds.{register_at, bits_of, bits_at, modulus, wrapped}
-use Rattle.machine.specs.Jumps.{is_phi_op, is_phi, is_block, entry_for, entry_value, phi_value, put_register, put_phis}
+use Rattle.machine_values.specs.declared.value.Value.{Value}
+use Rattle.machine_values.specs.declared.value.Value.TheVariants as value
+use Rattle.machine_values.specs.Kinds.{register_at, bits_of, bits_at, modulus, wrapped}
+use Rattle.machine_asks.specs.Jumps.{is_phi_op, is_phi, is_block, entry_for, entry_value, phi_value, put_register, put_phis}
 use Rattle.machine.specs.Log.{Log}
 use Rattle.fact_meaning.specs.Meaning.{Cells, Guarded, IsBelow, IsInteger, Means, Holds}
 use Rattle.fact_meaning.proofs.Phis.{entries_of, copied, ComesIn, AllComeIn, phis_keep}

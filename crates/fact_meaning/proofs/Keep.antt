@@ -7,16 +7,16 @@ use Rattle.pools.specs.Heap.{Setup}
 use Rattle.layout.specs.Layouts.{LaidOut}
 use Rattle.types.specs.References.{referenced_layout}
 use Rattle.shadow_stack.specs.Slots.{SlotTable, held_type}
-use Rattle.facts.specs.declared.known.Class.{Class}
-use Rattle.facts.specs.declared.known.Known.{Known}
-use Rattle.facts.specs.declared.known.Known.TheVariants.{Nothing, Number, Cell, Null, Address, GlobalAddress}
-use Rattle.facts.specs.declared.known.SlotFact.{SlotFact}
-use Rattle.facts.specs.declared.known.Test.{Test}
-use Rattle.facts.specs.Facts.{FactSet, known_at, slot_at, class_at, test_at, open_slot, is_of, holds_class, let_go, slots_without, off_base, off_test, values_without, forget, set_known}
-use Rattle.machine.specs.declared.value.Reference.{Reference}
-use Rattle.machine.specs.declared.value.Value.{Value}
-use Rattle.machine.specs.declared.value.Value.TheVariants as value
-use Rattle.machine.specs.Kinds.{register_at, bits_at, constant_value}
+use Rattle.fact_rows.specs.declared.known.Class.{Class}
+use Rattle.fact_rows.specs.declared.known.Known.{Known}
+use Rattle.fact_rows.specs.declared.known.Known.TheVariants.{Nothing, Number, Cell, Null, Address, GlobalAddress}
+use Rattle.fact_rows.specs.declared.known.SlotFact.{SlotFact}
+use Rattle.fact_rows.specs.declared.known.Test.{Test}
+use Rattle.fact_rows.specs.Facts.{FactSet, known_at, slot_at, class_at, test_at, open_slot, is_of, holds_class, let_go, slots_without, off_base, off_test, values_without, forget, set_known}
+use Rattle.machine_values.specs.declared.value.Reference.{Reference}
+use Rattle.machine_values.specs.declared.value.Value.{Value}
+use Rattle.machine_values.specs.declared.value.Value.TheVariants as value
+use Rattle.machine_values.specs.Kinds.{register_at, bits_at, constant_value}
 use Rattle.machine.specs.Machine.{slot_value, compared}
 use Rattle.machine.specs.Log.{Log, Held, IsFresh}
 use Rattle.fact_meaning.specs.Meaning.{Cells, Guarded, IsOwn, IsNullOrFresh, AreApart, IsAddressOf, IsMember, Means, ClassMeans, WasTested, FitsReference, FitsSlot, SlotMeans, Holds}

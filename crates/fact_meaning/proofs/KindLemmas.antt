@@ -7,11 +7,11 @@ use Rattle.ir_ast.specs.declared.module.Module.{Module}
 use Rattle.ir_ast.specs.declared.operand.Constant.{Constant}
 use Rattle.ir_ast.specs.declared.operand.Constant.TheVariants as constant
 use Rattle.types.specs.References.{pointee, struct_named, referenced_layout}
-use Rattle.block_rules.specs.declared.type_kind.TypeKind.{TypeKind}
-use Rattle.block_rules.specs.declared.type_kind.TypeKind.TheVariants.{NoValue, Bits, Reference, AnyReference, Address, Other}
-use Rattle.block_rules.specs.TypeKinds.{kind_in, kind_of, kind_at, place_kind, pointer_kind, struct_pointer, is_void, is_bits, is_any_reference, is_integer, is_pointer, may_be_reference, layout_of_kind}
-use Rattle.block_rules.specs.Operands.{constant_fits, fits_bits}
-use Rattle.machine.specs.Kinds as k
+use Rattle.rule_operands.specs.declared.type_kind.TypeKind.{TypeKind}
+use Rattle.rule_operands.specs.declared.type_kind.TypeKind.TheVariants.{NoValue, Bits, Reference, AnyReference, Address, Other}
+use Rattle.rule_operands.specs.TypeKinds.{kind_in, kind_of, kind_at, place_kind, pointer_kind, struct_pointer, is_void, is_bits, is_any_reference, is_integer, is_pointer, may_be_reference, layout_of_kind}
+use Rattle.rule_operands.specs.Operands.{constant_fits, fits_bits}
+use Rattle.machine_values.specs.Kinds as k
 
 module _ (m : Module) where
   -- a kind of pointers

@@ -12,15 +12,15 @@ use Rattle.certificate.specs.declared.section.Fact.{Fact}
 use Rattle.certificate.specs.declared.section.Fact.TheVariants as fact
 use Rattle.certificate.specs.declared.section.Line.{Line}
 use Rattle.certificate.specs.declared.section.Line.TheVariants as line
-use Rattle.facts.specs.declared.known.Class.{Class}
-use Rattle.facts.specs.declared.known.Known.{Known}
-use Rattle.facts.specs.declared.known.Known.TheVariants.{Nothing, Number, Cell, Null, Address, GlobalAddress}
-use Rattle.facts.specs.declared.known.SlotFact.{SlotFact}
-use Rattle.facts.specs.Facts.{FactSet, known_at, slot_at, class_at, test_at, open_slot, lost_class, nothing_known, is_of, holds_class, held_nonnull, slot_nonnull, set_known, set_class}
-use Rattle.facts.specs.Lines.{is_stale, is_fresh, list_value, list_slot, list_lines, moved, move, join, join_values, tie_value, tie_fact, tie_lines, hold_known, hold_value, hold_lines, facts_of_lines, implied, is_below, covers_value, covers_slot, covers, covers_known, is_fresh_in, is_same, is_alone, shows_reference, shows_number, shows_address, shows_global, shows_fact, holds_known, holds_value, shows_slot, shows_line}
-use Rattle.machine.specs.declared.value.Value.{Value}
-use Rattle.machine.specs.declared.value.Value.TheVariants as value
-use Rattle.machine.specs.Kinds.{register_at}
+use Rattle.fact_rows.specs.declared.known.Class.{Class}
+use Rattle.fact_rows.specs.declared.known.Known.{Known}
+use Rattle.fact_rows.specs.declared.known.Known.TheVariants.{Nothing, Number, Cell, Null, Address, GlobalAddress}
+use Rattle.fact_rows.specs.declared.known.SlotFact.{SlotFact}
+use Rattle.fact_rows.specs.Facts.{FactSet, known_at, slot_at, class_at, test_at, open_slot, lost_class, nothing_known, is_of, holds_class, held_nonnull, slot_nonnull, set_known, set_class}
+use Rattle.fact_rows.specs.Lines.{is_stale, is_fresh, list_value, list_slot, list_lines, moved, move, join, join_values, tie_value, tie_fact, tie_lines, hold_known, hold_value, hold_lines, facts_of_lines, implied, is_below, covers_value, covers_slot, covers, covers_known, is_fresh_in, is_same, is_alone, shows_reference, shows_number, shows_address, shows_global, shows_fact, holds_known, holds_value, shows_slot, shows_line}
+use Rattle.machine_values.specs.declared.value.Value.{Value}
+use Rattle.machine_values.specs.declared.value.Value.TheVariants as value
+use Rattle.machine_values.specs.Kinds.{register_at}
 use Rattle.machine.specs.Machine.{slot_value}
 use Rattle.machine.specs.Log.{Log}
 use Rattle.fact_meaning.specs.Meaning.{Cells, Guarded, IsReferenceTo, IsOwn, IsNullOrFresh, AreApart, IsBelow, IsInteger, IsAddressOf, IsGlobal, Means, ClassMeans, WasTested, SlotMeans, Holds}

@@ -5,13 +5,13 @@ use Rattle.std.specs.List.{list_any}
 use Rattle.pools.specs.Heap.{Setup}
 use Rattle.layout.specs.Layouts.{LaidOut}
 use Rattle.shadow_stack.specs.Slots.{SlotTable}
-use Rattle.facts.specs.declared.known.Known.{Known}
-use Rattle.facts.specs.declared.known.Known.TheVariants.{Nothing, Number, Cell, Null, Address, GlobalAddress}
-use Rattle.facts.specs.Facts.{FactSet, known_at, slot_at, class_at, is_of}
-use Rattle.machine.specs.declared.value.Reference.{Reference}
-use Rattle.machine.specs.declared.value.Value.{Value}
-use Rattle.machine.specs.declared.value.Value.TheVariants as value
-use Rattle.machine.specs.Kinds.{register_at}
+use Rattle.fact_rows.specs.declared.known.Known.{Known}
+use Rattle.fact_rows.specs.declared.known.Known.TheVariants.{Nothing, Number, Cell, Null, Address, GlobalAddress}
+use Rattle.fact_rows.specs.Facts.{FactSet, known_at, slot_at, class_at, is_of}
+use Rattle.machine_values.specs.declared.value.Reference.{Reference}
+use Rattle.machine_values.specs.declared.value.Value.{Value}
+use Rattle.machine_values.specs.declared.value.Value.TheVariants as value
+use Rattle.machine_values.specs.Kinds.{register_at}
 use Rattle.machine.specs.Machine.{slot_value}
 use Rattle.machine.specs.Log.{Log, Held}
 use Rattle.fact_meaning.specs.Meaning.{Cells, Guarded, IsNullOrFresh, AreApart, Means, ClassMeans, Holds}

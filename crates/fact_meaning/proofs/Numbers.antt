@@ -7,10 +7,10 @@ use Rattle.ir_ast.specs.declared.op.Arithmetic.{Arithmetic}
 use Rattle.ir_ast.specs.declared.op.Arithmetic.TheVariants.{Add, Sub, Mul, And, Or, Xor}
 use Rattle.ir_ast.specs.declared.op.Resize.{Resize}
 use Rattle.ir_ast.specs.declared.op.Resize.TheVariants.{ZeroExtend, SignExtend, Truncate}
-use Rattle.block_rules.specs.Integers.{smaller, larger, resized_below}
-use Rattle.machine.specs.declared.value.Value.TheVariants as value
-use Rattle.machine.specs.Kinds.{wrapped}
-use Rattle.machine.specs.Integers.{computed, resized, truth}
+use Rattle.rule_forms.specs.Integers.{smaller, larger, resized_below}
+use Rattle.machine_values.specs.declared.value.Value.TheVariants as value
+use Rattle.machine_values.specs.Kinds.{wrapped}
+use Rattle.machine_values.specs.Integers.{computed, resized, truth}
 use Rattle.fact_meaning.specs.Meaning.{IsBelow, IsInteger}
 use Rattle.fact_meaning.proofs.Lists.{lt_true, lt_false}
 use Rattle.fact_meaning.proofs.Edges.{wrapped_fits, wrapped_le}

@@ -12,17 +12,17 @@ use Rattle.layout.specs.Globals.{IsHeapFor, word_held, global_word}
 use Rattle.layout.specs.Layouts.{LaidOut}
 use Rattle.types.specs.Globals.{global_named, held_in, held_by}
 use Rattle.shadow_stack.specs.Slots.{SlotTable}
-use Rattle.facts.specs.declared.known.Known.TheVariants.{Cell, Address}
-use Rattle.facts.specs.Facts.{FactSet, known_at, class_at}
-use Rattle.block_rules.specs.declared.wanted.Wanted.{Wanted}
-use Rattle.block_rules.specs.declared.wanted.Wanted.TheVariants as want
-use Rattle.block_rules.specs.Places.{holds_wanted, each_word}
-use Rattle.machine.specs.declared.action.Action.TheVariants.{Read, StorePlain}
-use Rattle.machine.specs.declared.value.Place.TheVariants as place
-use Rattle.machine.specs.declared.value.Reference.{Reference}
-use Rattle.machine.specs.declared.value.Value.{Value}
-use Rattle.machine.specs.declared.value.Value.TheVariants as value
-use Rattle.machine.specs.Kinds.{register_at}
+use Rattle.fact_rows.specs.declared.known.Known.TheVariants.{Cell, Address}
+use Rattle.fact_rows.specs.Facts.{FactSet, known_at, class_at}
+use Rattle.rule_operands.specs.declared.wanted.Wanted.{Wanted}
+use Rattle.rule_operands.specs.declared.wanted.Wanted.TheVariants as want
+use Rattle.rule_operands.specs.Places.{holds_wanted, each_word}
+use Rattle.machine_asks.specs.declared.action.Action.TheVariants.{Read, StorePlain}
+use Rattle.machine_values.specs.declared.value.Place.TheVariants as place
+use Rattle.machine_values.specs.declared.value.Reference.{Reference}
+use Rattle.machine_values.specs.declared.value.Value.{Value}
+use Rattle.machine_values.specs.declared.value.Value.TheVariants as value
+use Rattle.machine_values.specs.Kinds.{register_at}
 use Rattle.machine.specs.Log.{Log, Held, Keeps, MayBeStored}
 use Rattle.fact_meaning.specs.Meaning.{Cells, Guarded, IsReferenceTo, IsOwn, IsInteger, IsAddressOf, Means, Holds}
 use Rattle.fact_meaning.proofs.Lists.{each_below, equal}
@@ -41,7 +41,7 @@ unfolding kind_of
 global_kind heap p same symbol g kind named holds = by (slice_get p.of_module.globals g) refl (sym (ap (λ q. word_held p.of_module (held_by p.of_module q)) named) ∙ holds) where
   by : (q : Option AGlobal) → slice_get p.of_module.globals g ≡ q → word_held p.of_module (held_in q) ≡ Some kind → slice_get heap.globals g ≡ Some kind
   by None is e = absurd cc
-  by (Some global) is e = same.globals g global is ∙ e
+  by (Some global) is e = same.globals g global kind is e
 
 -- the word of an address whose base is there and not null
 pub record Located (heap : Setup) (p : LaidOut) (log : Log) (layout : ℕ) (words : WordSet) (v : Value) : Type 0 where

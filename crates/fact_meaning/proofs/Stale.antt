@@ -8,15 +8,15 @@ use Rattle.pools.specs.Heap.{Setup}
 use Rattle.layout.specs.Layouts.{LaidOut}
 use Rattle.types.specs.References.{referenced_layout}
 use Rattle.shadow_stack.specs.Slots.{SlotTable, held_type, is_reference_held}
-use Rattle.facts.specs.declared.known.Class.{Class}
-use Rattle.facts.specs.declared.known.Known.{Known}
-use Rattle.facts.specs.declared.known.Known.TheVariants.{Nothing, Number, Cell, Null, Address, GlobalAddress}
-use Rattle.facts.specs.declared.known.SlotFact.{SlotFact}
-use Rattle.facts.specs.Facts.{FactSet, known_at, slot_at, class_at, open_slot, lost_class, held_nonnull, slot_nonnull, stale_of, stale_class, end_hold, make_stale}
-use Rattle.machine.specs.declared.value.Reference.{Reference}
-use Rattle.machine.specs.declared.value.Value.{Value}
-use Rattle.machine.specs.declared.value.Value.TheVariants as value
-use Rattle.machine.specs.Kinds.{register_at}
+use Rattle.fact_rows.specs.declared.known.Class.{Class}
+use Rattle.fact_rows.specs.declared.known.Known.{Known}
+use Rattle.fact_rows.specs.declared.known.Known.TheVariants.{Nothing, Number, Cell, Null, Address, GlobalAddress}
+use Rattle.fact_rows.specs.declared.known.SlotFact.{SlotFact}
+use Rattle.fact_rows.specs.Facts.{FactSet, known_at, slot_at, class_at, open_slot, lost_class, held_nonnull, slot_nonnull, stale_of, stale_class, end_hold, make_stale}
+use Rattle.machine_values.specs.declared.value.Reference.{Reference}
+use Rattle.machine_values.specs.declared.value.Value.{Value}
+use Rattle.machine_values.specs.declared.value.Value.TheVariants as value
+use Rattle.machine_values.specs.Kinds.{register_at}
 use Rattle.machine.specs.Machine.{slot_value}
 use Rattle.machine.specs.Log.{Log, Held, IsReferredTo}
 use Rattle.fact_meaning.specs.Meaning.{Cells, Guarded, IsOwn, IsNullOrFresh, Means, ClassMeans, FitsReference, FitsSlot, SlotMeans, Holds}

@@ -2,11 +2,11 @@
 use Rattle.std.specs.Prelude.{◌≡◌, ℕ, List, length, None}
 use Rattle.std.specs.List.{take_while}
 use Rattle.pools.specs.Heap.{Setup}
-use Rattle.facts.specs.Facts.{FactSet}
-use Rattle.block_rules.specs.Standing.{instructions_of}
+use Rattle.fact_rows.specs.Facts.{FactSet}
+use Rattle.rule_operands.specs.Standing.{instructions_of}
 use Rattle.certified.specs.Ways.{Scene, line_facts, entered, unshown_line}
-use Rattle.machine.specs.declared.value.Value.{Value}
-use Rattle.machine.specs.Jumps.{is_phi, put_phis}
+use Rattle.machine_values.specs.declared.value.Value.{Value}
+use Rattle.machine_asks.specs.Jumps.{is_phi, put_phis}
 use Rattle.machine.specs.Log.{Log}
 use Rattle.fact_meaning.specs.Meaning.{Cells, Holds}
 

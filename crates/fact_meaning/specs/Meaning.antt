@@ -8,16 +8,16 @@ use Rattle.layout.specs.Layouts.{LaidOut}
 use Rattle.types.specs.Globals.{global_named}
 use Rattle.types.specs.References.{referenced_layout}
 use Rattle.shadow_stack.specs.Slots.{SlotTable, held_type}
-use Rattle.facts.specs.declared.known.Class.{Class}
-use Rattle.facts.specs.declared.known.Known.{Known}
-use Rattle.facts.specs.declared.known.Known.TheVariants.{Nothing, Number, Cell, Null, Address, GlobalAddress}
-use Rattle.facts.specs.declared.known.SlotFact.{SlotFact}
-use Rattle.facts.specs.declared.known.Test.{Test}
-use Rattle.facts.specs.Facts.{FactSet, known_at, slot_at, class_at, test_at, holds_class}
-use Rattle.machine.specs.declared.value.Place.TheVariants as place
-use Rattle.machine.specs.declared.value.Value.{Value}
-use Rattle.machine.specs.declared.value.Value.TheVariants as value
-use Rattle.machine.specs.Kinds.{register_at, constant_value, bits_at, is_integer}
+use Rattle.fact_rows.specs.declared.known.Class.{Class}
+use Rattle.fact_rows.specs.declared.known.Known.{Known}
+use Rattle.fact_rows.specs.declared.known.Known.TheVariants.{Nothing, Number, Cell, Null, Address, GlobalAddress}
+use Rattle.fact_rows.specs.declared.known.SlotFact.{SlotFact}
+use Rattle.fact_rows.specs.declared.known.Test.{Test}
+use Rattle.fact_rows.specs.Facts.{FactSet, known_at, slot_at, class_at, test_at, holds_class}
+use Rattle.machine_values.specs.declared.value.Place.TheVariants as place
+use Rattle.machine_values.specs.declared.value.Value.{Value}
+use Rattle.machine_values.specs.declared.value.Value.TheVariants as value
+use Rattle.machine_values.specs.Kinds.{register_at, constant_value, bits_at, is_integer}
 use Rattle.machine.specs.Machine.{slot_value, compared}
 use Rattle.machine.specs.Log.{Log, Held, IsFresh}
 

@@ -27,9 +27,9 @@ kind_of_global m global = unwrap_or (word_of m global.held) (Integer 64)
 abbrev pub globals_of : Module → List WordKind
 globals_of m = map (kind_of_global m) m.globals
 
--- these are the words of the module's globals, in their order
+-- each of the module's globals that is an integer or a reference has its word among these, at its place
 abbrev pub AreGlobals : Module → List WordKind → Type 0
-AreGlobals m words = (g : ℕ) (global : Global) → slice_get m.globals g ≡ Some global → slice_get words g ≡ word_of m global.held
+AreGlobals m words = (g : ℕ) (global : Global) (kind : WordKind) → slice_get m.globals g ≡ Some global → word_of m global.held ≡ Some kind → slice_get words g ≡ Some kind
 
 -- a heap is one of a program: its cells have the program's layouts, and the cell of the globals has their words
 pub record IsHeapFor (heap : Setup) (p : LaidOut) : Type 0 where

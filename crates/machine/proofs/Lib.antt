@@ -1,4 +1,3 @@
-mod Few
 mod Phis
 mod Arguments
 mod Kept

@@ -1,26 +1,12 @@
--- The phis in front of a block, and the values that they take.
-use Rattle.std.proofs.Common.{◌≡◌, ℕ, Bool, true, false, List, [], ◌∷◌, length, ◌<◌, ◌+◌, ◌++◌, get_or, take, refl, sym, ap, ◌∙◌, cond}
+-- The values that phis take.
+use Rattle.std.proofs.Common.{◌≡◌, ℕ, List, [], ◌∷◌, length, ◌<◌, ◌+◌, ◌++◌, get_or, take, refl, sym, ap, ◌∙◌}
 use Rattle.std.specs.Prelude.{map, slice_set}
-use Rattle.std.specs.List.{take_while}
 use Rattle.std.proofs.lemmas.List.{take_more, take_more_set, map-append}
-use Rattle.std.proofs.lemmas.List.Sums.{take_while-cons}
 use Rattle.ir_ast.specs.declared.function.Function.{Function}
 use Rattle.ir_ast.specs.declared.instr.Instr.{Instr}
 use Rattle.ir_ast.specs.declared.module.Module.{Module}
-use Rattle.machine.specs.declared.value.Value.{Value}
-use Rattle.machine.specs.Jumps.{put_register, put_each, put_phis, phi_value}
-
-one_more : {X : Type 0} (p : X → Bool) (x : X) (xs : List X) (b : Bool) → p x ≡ b → take (length (take_while p xs)) xs ≡ take_while p xs
-    → take (length (take_while p (x ∷ xs))) (x ∷ xs) ≡ take_while p (x ∷ xs)
-one_more p x xs true e more = let front : take_while p (x ∷ xs) ≡ x ∷ take_while p xs = take_while-cons p x xs ∙ ap (λ b. cond b (x ∷ take_while p xs) []) e in
-    ap (λ l. take (length l) (x ∷ xs)) front ∙ ap (λ l. x ∷ l) more ∙ sym front
-one_more p x xs false e more = let front : take_while p (x ∷ xs) ≡ [] = take_while-cons p x xs ∙ ap (λ b. cond b (x ∷ take_while p xs) []) e in
-    ap (λ l. take (length l) (x ∷ xs)) front ∙ sym front
-
--- what passes in front is as much of the list as passes
-pub as_far : {X : Type 0} (p : X → Bool) (xs : List X) → take (length (take_while p xs)) xs ≡ take_while p xs
-as_far p [] = refl
-as_far p (x ∷ xs) = one_more p x xs (p x) refl (as_far p xs)
+use Rattle.machine_values.specs.declared.value.Value.{Value}
+use Rattle.machine_asks.specs.Jumps.{put_register, put_each, put_phis, phi_value}
 
 -- values that were taken beforehand are those that the phis take
 pub all_put : (m : Module) (f : Function) (before : List Value) (from : ℕ) (phis : List Instr) (values registers : List Value)

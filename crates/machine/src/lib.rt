@@ -1,27 +1,13 @@
 //! One thread: what it asks for at each instruction, and how it goes on with the answer.
 #![tactic(auto)]
 
-mod action;
-mod asks;
-mod calls;
-mod casts;
-mod elements;
 mod ending;
 mod entered;
 mod entry;
 mod frame;
 mod frames;
-mod integers;
-mod jumps;
-mod kinds;
-mod moves;
-mod operands;
 mod results;
-mod scene;
 mod thread;
-mod value;
 
-pub use action::{Action, Answer};
 pub use ending::Ending;
 pub use thread::{StartFault, Thread};
-pub use value::{Place, Reference, Value};

@@ -1,21 +1,20 @@
-//! The values that instructions give.
+//! The values that instructions give, and what calls of the runtime name.
 ghost use Rattle.std.specs.Prelude.{◌≡◌, IfOk};
-ghost use Rattle.machine.specs.Kinds.{value_of, bits_at, number_in};
-ghost use Rattle.machine.specs.Integers.{resized};
-ghost use Rattle.machine.specs.Elements.{address_of};
-ghost use Rattle.machine.specs.Machine.{slot_value, read_at, loaded_from, arithmetic_value, are_equal, compared, selected, alloc_value, computed_value, element_address, values_of, result_of};
+ghost use Rattle.machine_values.specs.Kinds.{value_of, bits_at, number_in, slot_at_place, address_at_place};
+ghost use Rattle.machine_values.specs.Integers.{resized};
+ghost use Rattle.machine_values.specs.Elements.{address_of};
+ghost use Rattle.machine.specs.Machine.{slot_value, read_at, loaded_from, arithmetic_value, are_equal, compared, selected, alloc_value, computed_value, element_address, values_of, result_of, layout_of_call, root_of_call, place_of_call};
 ghost use Rattle.ir_ast.specs.declared.op.Op.TheVariants as op;
-ghost use Rattle.machine.specs.declared.value.Value.TheVariants as value;
+ghost use Rattle.machine_values.specs.declared.value.Value.TheVariants as value;
 
-use crate::action::Answer;
-use crate::elements::{element_place_of, global_kind, kind_of_word, read_value};
-use crate::integers::{compares, compares_equal, computed, resized, truth};
-use crate::kinds::{bits_at, number_in};
-use crate::operands::{operand_value, value_of};
-use crate::scene::Scene;
-use crate::value::{Place, Value};
 use ir_ast::{Argument, Arithmetic, Comparison, Module, Op, Operand, Resize, TypeId};
 use layout::Program;
+use machine_asks::layout_named;
+use machine_values::{
+    Answer, Place, Scene, Value, address_at_place, bits_at, compares, compares_equal, computed,
+    element_place_of, global_kind, kind_of_word, number_in, operand_value, read_value, resized,
+    slot_at_place, truth, value_of,
+};
 use pools::LayoutId;
 use shadow_stack::SlotId;
 use std::alloc::{AllocError, Global};
@@ -212,6 +211,36 @@ pub fn alloc_value(layout: Option<LayoutId>, answer: Answer) -> Value
         (_, Answer::Null) => Value::Null,
         (Some(layout), Answer::Cell(at)) => Value::Cell(layout, at),
         _ => Value::Unset,
+    }
+}
+
+/// The layout that a call of dg_alloc numbers.
+pub fn layout_of_call(of_module: &Module, arguments: &[Argument]) -> Option<LayoutId>
+    ensures { result ≡ layout_of_call of_module.now arguments.now }
+{
+    match arguments {
+        [argument, ..] => layout_named(of_module, &argument.operand),
+        [] => None,
+    }
+}
+
+/// The slot that a call of gcroot names.
+pub fn root_of_call(scene: &Scene<'_>, arguments: &[Argument]) -> Option<SlotId>
+    ensures { result ≡ root_of_call scene.now.program.now.of_module scene.now.function.now scene.now.slots.now arguments.now }
+{
+    match arguments {
+        [argument, ..] => slot_at_place(scene, argument.written, &argument.operand),
+        [] => None,
+    }
+}
+
+/// The address that a call of gcread names.
+pub fn place_of_call(scene: &Scene<'_>, arguments: &[Argument]) -> Option<Place>
+    ensures { result ≡ place_of_call scene.now.program.now.of_module scene.now.function.now scene.now.slots.now scene.now.registers.now arguments.now }
+{
+    match arguments {
+        [_, place, ..] => address_at_place(scene, place.written, &place.operand),
+        _ => None,
     }
 }
 

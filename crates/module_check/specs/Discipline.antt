@@ -5,7 +5,7 @@ use Rattle.pools.specs.Heap.{Setup}
 use Rattle.layout.specs.Layouts.{LaidOut}
 use Rattle.layout.specs.Globals.{IsHeapFor}
 use Rattle.certificate.specs.declared.section.Section.{Section}
-use Rattle.machine.specs.declared.action.Answer.{Answer}
+use Rattle.machine_values.specs.declared.answer.Answer.{Answer}
 use Rattle.machine.specs.Machine.{start}
 use Rattle.machine.specs.Start.{argument_values}
 use Rattle.machine.specs.Log.{Safe}

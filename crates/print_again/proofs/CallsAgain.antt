@@ -26,6 +26,7 @@ use Rattle.ir_print.specs.Standing.{IsSeam, AreBlanks, AreBytes}
 use Rattle.ir_print.specs.Types.{type_text, type_within, type_by}
 use Rattle.printable.specs.Printable.{IsScalar, IsArgument}
 use Rattle.printable.specs.Shapes.{IsIn, Shape}
+use Rattle.printable.proofs.Tables.{stays}
 use Rattle.print_again.proofs.State.{Invariant, Ready, IsLater, Reads}
 use Rattle.print_again.proofs.Shown.{shown, IsTypeRead}
 use Rattle.print_again.proofs.Steps.{looked, given, sign_reads, word_skipped, word_seen, intern_reads, unlike, grows_itself, later_before}
@@ -48,7 +49,6 @@ use Rattle.ir_print.proofs.NamesRead.{callees_are_read}
 use Rattle.ir_print.proofs.Words.{global_comes}
 use Rattle.printable.specs.Printable.{IsVoid}
 use Rattle.printable.specs.Definitions.{functions_of}
-use Rattle.print_again.proofs.Tables.{stays}
 use Rattle.print_again.proofs.Operands.{symbol_ready, symbol_grows, symbol_few, symbol_there, sign_less}
 use Rattle.ir_ast.specs.declared.instr.Instr.{Instr}
 use Rattle.ir_instructions.specs.Decorations.{trailing, trail_of}

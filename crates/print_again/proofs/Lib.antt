@@ -1,5 +1,4 @@
 pub mod State
-pub mod Tables
 pub mod Steps
 pub mod Shown
 pub mod Types

@@ -36,8 +36,8 @@ use Rattle.ir_print.proofs.Spelled.{name_spelled}
 use Rattle.ir_print.proofs.Words.{global_comes, sign_comes, word_comes}
 use Rattle.printable.specs.Printable.{IsType, IsGlobalUse, IsOperand}
 use Rattle.printable.specs.Shapes.{IsIn, Shape, Integer, Pointer, Array, Empty, Struct, Named, HasShape, bits_of_shape, is_pointer_shape}
-use Rattle.print_again.proofs.State.{Begins, Invariant, Ready, Grows, IsLater, Reads, used_keys, used_symbols}
-use Rattle.print_again.proofs.Tables.{begins_itself, stays, name_begins, name_length, name_there, number_within}
+use Rattle.printable.proofs.Tables.{Begins, begins_itself, stays, name_begins, name_length, name_there, number_within}
+use Rattle.print_again.proofs.State.{Invariant, Ready, Grows, IsLater, Reads, used_keys, used_symbols}
 use Rattle.print_again.proofs.Shown.{shown, IsTypeRead}
 use Rattle.print_again.proofs.Steps.{go_on, given, shorter, looked, sign_reads, word_reads, word_skipped, word_seen, later_before, grows_advanced, passed}
 use Rattle.print_again.proofs.Types.{EndsType, Comes, ends_type}

@@ -34,8 +34,8 @@ use Rattle.ir_print.proofs.NamesRead.{locals_are_read}
 use Rattle.ir_print.proofs.Words.{sign_comes}
 use Rattle.printable.specs.Printable.{IsOperand, IsArgument, ArePair, IsTarget}
 use Rattle.printable.specs.Shapes.{IsIn, Shape, HasShape, bits_of_shape}
+use Rattle.printable.proofs.Tables.{stays}
 use Rattle.print_again.proofs.State.{Invariant, Ready, IsLater, Reads, used_keys}
-use Rattle.print_again.proofs.Tables.{stays}
 use Rattle.print_again.proofs.Shown.{shown, shape_stays, IsTypeRead, bits_read}
 use Rattle.print_again.proofs.Steps.{go_on, given, sign_reads, word_reads, grows_further, later_before}
 use Rattle.print_again.proofs.Types.{EndsType, ends_type}

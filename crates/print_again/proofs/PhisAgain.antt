@@ -11,8 +11,8 @@ use Rattle.ir_parts.specs.declared.input.Input.{Input}
 use Rattle.ir_instructions.specs.Sites.{is_phi}
 use Rattle.ir_print.specs.Instructions.{op_text, element_word}
 use Rattle.ir_text.specs.Read.{module_of}
+use Rattle.printable.proofs.Tables.{begins_itself}
 use Rattle.print_again.proofs.State.{IsLater}
-use Rattle.print_again.proofs.Tables.{begins_itself}
 use Rattle.print_again.proofs.Parts.{OpPrints}
 
 -- whether a `p` comes first

@@ -20,8 +20,8 @@ use Rattle.ir_print.specs.Types.{type_text, type_within, type_by, fields_text, f
 use Rattle.ir_print.specs.Standing.{AreBlanks}
 use Rattle.printable.specs.Definitions.{defined_structs}
 use Rattle.printable.specs.Shapes.{Shape, Integer, Pointer, Array, Empty, Struct, Named, HasShape, IsWritten, levels, is_scalar_shape, is_pointer_shape, is_passed_shape, is_held_shape, is_struct_shape}
+use Rattle.printable.proofs.Tables.{place_holds}
 use Rattle.print_again.proofs.State.{Invariant, Ready, IsLater, Reads}
-use Rattle.print_again.proofs.Tables.{place_holds}
 use Rattle.print_again.proofs.Shown.{shown, IsTypeRead, shape_stays, some_level, scalar_read, pointer_read, passed_read, held_read}
 use Rattle.print_again.proofs.Steps.{go_on, given, checked_then, looked}
 use Rattle.print_again.proofs.Types.{EndsType}

@@ -12,8 +12,8 @@ use Rattle.ir_parts.specs.declared.written.WrittenType.{WrittenType}
 use Rattle.ir_parts.specs.Written.{bits_of, is_scalar, is_passed, is_held}
 use Rattle.ir_print.specs.Names.{name_text}
 use Rattle.printable.specs.Shapes.{Shape, Integer, Pointer, Array, Empty, Struct, Named, HasShape, levels, bits_of_shape, is_scalar_shape, is_pointer_shape, is_passed_shape, is_held_shape}
-use Rattle.print_again.proofs.State.{Begins, Grows}
-use Rattle.print_again.proofs.Tables.{stays, place_stays}
+use Rattle.printable.proofs.Tables.{Begins, stays, place_stays}
+use Rattle.print_again.proofs.State.{Grows}
 
 -- a type by its shape, or the fields of a struct behind others
 abbrev pub shown : (is_rest : Bool) → Shape → Text

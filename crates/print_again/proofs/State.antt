@@ -1,9 +1,8 @@
 -- The state of reading a printed module again, and how one form follows another.
-use Rattle.std.specs.Prelude.{◌≡◌, ℕ, ◌+◌, ◌<◌, ◌≤◌, Bool, true, false, List, ◌++◌, length, Some, slice_get, option_and_then}
+use Rattle.std.specs.Prelude.{◌≡◌, ℕ, ◌+◌, ◌≤◌, Bool, true, false, List, length, slice_get, option_and_then}
 use Rattle.ir_ast.specs.Names.{place_of}
 use Rattle.ir_ast.specs.declared.function.Function.{Function}
 use Rattle.ir_ast.specs.declared.ir_type.IrType.{IrType}
-use Rattle.ir_ast.specs.declared.ir_type.IrType.TheVariants as type
 use Rattle.ir_ast.specs.declared.module.Module.{Module}
 use Rattle.ir_tokens.specs.Bytes.{Text}
 use Rattle.ir_cursor.specs.Cursor.{spelled, local_key}
@@ -18,19 +17,7 @@ use Rattle.ir_print.specs.Readings.{IsKey}
 use Rattle.ir_print.specs.Standing.{Stands, AreBytes}
 use Rattle.printable.specs.Definitions.{value_keys, label_keys, target_keys, defined_structs, defined_globals, functions_of}
 use Rattle.printable.specs.Shapes.{IsIn}
-
--- the second list begins with the first
-abbrev pub Begins : {A : Type 0} → List A → List A → Type 0
-Begins {A = A} xs ys = (more : List A) × (ys ≡ xs ++ more)
-
--- the struct of the further fields of a struct stands before it
-abbrev pub IsRestBefore : (number : ℕ) → IrType → Type 0
-IsRestBefore number (type.Struct first rest) = rest < number
-IsRestBefore number _ = Unit {0}
-
--- so it is of each type of a table
-abbrev pub AreOrdered : List IrType → Type 0
-AreOrdered types = (number : ℕ) (x : IrType) → slice_get types number ≡ Some x → IsRestBefore number x
+use Rattle.printable.proofs.Tables.{Begins, AreOrdered}
 
 -- which keys may be used as what
 abbrev pub used_keys : Function → Wanted → List Text

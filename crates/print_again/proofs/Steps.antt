@@ -20,8 +20,8 @@ use Rattle.ir_parts.specs.Written.{intern, with_type_interned, place_in_table}
 use Rattle.ir_print.specs.Names.{is_plain}
 use Rattle.ir_print.specs.Standing.{Stands, IsSeam, AreBlanks}
 use Rattle.ir_print.proofs.Words.{word_comes, sign_comes, expected}
-use Rattle.print_again.proofs.State.{IsRestBefore, Invariant, HasRoom, Ready, Grows, IsLater, Reads}
-use Rattle.print_again.proofs.Tables.{begins_itself, begins_further, type_within, type_begins, type_there, type_ordered, type_length}
+use Rattle.printable.proofs.Tables.{IsRestBefore, begins_itself, begins_further, type_within, type_begins, type_there, type_ordered, type_length}
+use Rattle.print_again.proofs.State.{Invariant, HasRoom, Ready, Grows, IsLater, Reads}
 
 -- nothing was read
 pub grows_itself : (i : Input) → Grows i i

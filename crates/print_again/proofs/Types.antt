@@ -32,9 +32,9 @@ use Rattle.ir_print.proofs.Seams.{both}
 use Rattle.ir_print.proofs.Words.{local_comes, seen}
 use Rattle.printable.specs.Definitions.{defined_structs}
 use Rattle.printable.specs.Shapes.{IsIn, Shape, Integer, Pointer, Named, HasShape, levels}
-use Rattle.print_again.proofs.State.{AreOrdered, IsRestBefore, Invariant, Ready, Grows, Reads}
+use Rattle.printable.proofs.Tables.{AreOrdered, IsRestBefore, begins_itself, name_begins, name_length, place_there, place_stays, number_within}
+use Rattle.print_again.proofs.State.{Invariant, Ready, Grows, Reads}
 use Rattle.print_again.proofs.Shown.{shown, starred, base_of, stars_of, IsTypeRead, shape_stays, starred_levels, starred_base, starred_stars}
-use Rattle.print_again.proofs.Tables.{begins_itself, name_begins, name_length, place_there, place_stays, number_within}
 use Rattle.print_again.proofs.Steps.{go_on, so, given, token_then, shorter, checked_then, looked, sign_skipped, sign_kind, intern_reads, unlike}
 
 -- ---- what stands behind a type

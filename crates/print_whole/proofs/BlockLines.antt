@@ -19,9 +19,9 @@ use Rattle.ir_print.specs.Names.{name_at, key_text}
 use Rattle.ir_print.specs.Readings.{IsKey}
 use Rattle.printable.specs.Definitions.{result_keys, value_keys_of, block_keys}
 use Rattle.printable.specs.Printable.{IsOp, IsBlock, AreInner}
+use Rattle.printable.proofs.Tables.{stays}
 use Rattle.print_again.specs.Again.{AreAlike, IsLineAgain, IsBlockAgain}
 use Rattle.print_again.proofs.State.{Ready, IsLater}
-use Rattle.print_again.proofs.Tables.{stays}
 use Rattle.print_whole.proofs.Bodies.{lines_go, plain_line}
 use Rattle.print_whole.proofs.Empty.{not_trailed}
 use Rattle.print_whole.proofs.Forms.{widens_further, grows_widens, Leads, later_widened}

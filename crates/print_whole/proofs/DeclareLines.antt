@@ -26,10 +26,10 @@ use Rattle.ir_print.proofs.Words.{global_comes}
 use Rattle.printable.specs.Definitions.{defined_globals}
 use Rattle.printable.specs.Printable.{IsDeclare}
 use Rattle.printable.specs.Shapes.{IsIn}
+use Rattle.printable.proofs.Tables.{stays, begins_itself}
 use Rattle.print_again.specs.Again.{AreAlike}
 use Rattle.print_again.proofs.State.{Ready, IsLater}
 use Rattle.print_again.proofs.Steps.{word_skipped, word_seen, sign_reads}
-use Rattle.print_again.proofs.Tables.{stays, begins_itself}
 use Rattle.print_again.proofs.Types.{Comes}
 use Rattle.print_whole.proofs.DeclaredLists.{declared_go, far_numbered}
 use Rattle.print_whole.proofs.Defining.{function_defined}

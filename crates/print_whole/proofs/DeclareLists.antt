@@ -18,6 +18,7 @@ use Rattle.ir_print.specs.Items.{function_text, declare_line}
 use Rattle.ir_print.specs.Operands.{listed}
 use Rattle.ir_print.specs.Types.{type_text}
 use Rattle.ir_ast.specs.declared.items_of_module.Declare.{Declare}
+use Rattle.printable.proofs.Tables.{begins_further, begins_itself}
 use Rattle.print_again.proofs.Types.{Comes}
 use Rattle.print_whole.proofs.DeclareLines.{declare_goes}
 use Rattle.print_whole.proofs.Results.{begins_item}
@@ -31,7 +32,6 @@ use Rattle.printable.specs.Shapes.{IsIn}
 use Rattle.print_again.specs.Again.{AreAlike, IsFunctionAgain}
 use Rattle.print_again.proofs.State.{Ready, IsLater}
 use Rattle.print_again.proofs.Steps.{unlike}
-use Rattle.print_again.proofs.Tables.{begins_further, begins_itself}
 use Rattle.print_whole.proofs.FunctionEnds.{nobody, Reaches, reaches_further, widens_reaches, IsModuleLater}
 use Rattle.print_whole.proofs.Known.{Far, AreNamed, known, in_front}
 use Rattle.print_whole.proofs.OpsGiven.{types_given}

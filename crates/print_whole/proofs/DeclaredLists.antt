@@ -22,11 +22,11 @@ use Rattle.ir_print.specs.Standing.{Stands, IsSeam, AreBlanks}
 use Rattle.ir_print.specs.Types.{type_text}
 use Rattle.ir_print.proofs.Words.{comma_comes, close_round_comes, seen}
 use Rattle.printable.specs.Printable.{IsAnyType}
+use Rattle.printable.proofs.Tables.{begins_itself}
 use Rattle.print_again.specs.Again.{AreAlike}
 use Rattle.print_again.proofs.State.{Ready, IsLater}
 use Rattle.print_again.proofs.Shown.{shape_stays}
 use Rattle.print_again.proofs.Steps.{unlike}
-use Rattle.print_again.proofs.Tables.{begins_itself}
 use Rattle.print_again.proofs.Types.{EndsType, ends_type}
 use Rattle.print_whole.proofs.Empty.{no_decorations}
 use Rattle.print_whole.proofs.Forms.{Widens, widens_itself, widens_further, grows_widens, Leads, later_widened}

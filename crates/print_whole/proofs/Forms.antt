@@ -9,8 +9,8 @@ use Rattle.ir_tokens.specs.Bytes.{Text}
 use Rattle.ir_cursor.specs.declared.fault.Fault.{Fault}
 use Rattle.ir_parts.specs.declared.input.Input.{Input}
 use Rattle.ir_parts.specs.Input.{Form, left}
-use Rattle.print_again.proofs.State.{Begins, Invariant, Ready, Grows, IsLater, Reads}
-use Rattle.print_again.proofs.Tables.{begins_itself, begins_further}
+use Rattle.printable.proofs.Tables.{Begins, begins_itself, begins_further}
+use Rattle.print_again.proofs.State.{Invariant, Ready, Grows, IsLater, Reads}
 use Rattle.print_whole.proofs.Known.{Far, AreNamed, known}
 
 -- further types and names come behind those that were read

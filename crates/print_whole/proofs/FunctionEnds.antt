@@ -25,10 +25,10 @@ use Rattle.ir_print.specs.Blocks.{block_text}
 use Rattle.printable.specs.Definitions.{value_keys_of, value_keys, label_keys, parameter_keys, block_keys}
 use Rattle.printable.specs.Printable.{IsBlock}
 use Rattle.printable.specs.Shapes.{IsIn}
+use Rattle.printable.proofs.Tables.{Begins, begins_itself, begins_further}
 use Rattle.print_again.specs.Again.{AreAlike, IsBlockAgain}
-use Rattle.print_again.proofs.State.{Begins, Invariant, Ready, Reads, IsLater, used_keys}
+use Rattle.print_again.proofs.State.{Invariant, Ready, Reads, IsLater, used_keys}
 use Rattle.print_again.proofs.Steps.{sign_reads, sign_skipped, sign_kind, looked}
-use Rattle.print_again.proofs.Tables.{begins_itself, begins_further}
 use Rattle.print_whole.proofs.BlockLines.{HasKeys}
 use Rattle.print_whole.proofs.BlockLists.{blocks_go}
 use Rattle.print_whole.proofs.Forms.{Widens, widens_further, grows_widens}

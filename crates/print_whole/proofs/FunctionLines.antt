@@ -29,10 +29,10 @@ use Rattle.ir_print.proofs.Words.{global_comes}
 use Rattle.printable.specs.Definitions.{AreDefined, defined_keys, parameter_key, parameter_keys, value_keys_of, block_keys, defined_globals}
 use Rattle.printable.specs.Printable.{IsFunction}
 use Rattle.printable.specs.Shapes.{IsIn}
+use Rattle.printable.proofs.Tables.{Begins, stays, begins_further}
 use Rattle.print_again.specs.Again.{AreAlike, IsFunctionAgain}
-use Rattle.print_again.proofs.State.{Begins, Ready, IsLater}
+use Rattle.print_again.proofs.State.{Ready, IsLater}
 use Rattle.print_again.proofs.Steps.{word_skipped, word_seen, sign_reads}
-use Rattle.print_again.proofs.Tables.{stays, begins_further}
 use Rattle.print_whole.proofs.BlockLines.{HasKeys}
 use Rattle.print_whole.proofs.Defining.{function_defined}
 use Rattle.print_whole.proofs.Forms.{Goes, Widens, widens_further, grows_widens, ready_as}

@@ -21,10 +21,10 @@ use Rattle.ir_print.proofs.Words.{word_comes, seen}
 use Rattle.printable.specs.Definitions.{AreNew, defined_globals}
 use Rattle.printable.specs.Printable.{IsFunction, IsPrintable, IsSymbol}
 use Rattle.printable.specs.Shapes.{IsIn}
+use Rattle.printable.proofs.Tables.{begins_further, begins_itself}
 use Rattle.print_again.specs.Again.{AreAlike, IsFunctionAgain}
 use Rattle.print_again.proofs.State.{Ready}
 use Rattle.print_again.proofs.Steps.{unlike}
-use Rattle.print_again.proofs.Tables.{begins_further, begins_itself}
 use Rattle.print_whole.proofs.FunctionEnds.{nobody, Reaches, reaches_further, IsModuleLater}
 use Rattle.print_whole.proofs.FunctionLines.{definition_goes}
 use Rattle.print_whole.proofs.Known.{Far, AreNamed, known, in_front}

@@ -34,10 +34,10 @@ use Rattle.ir_print.proofs.Constants.{are_digits, constants_are_read}
 use Rattle.ir_print.proofs.Words.{global_comes, word_comes, number_comes}
 use Rattle.printable.specs.Printable.{IsGlobal, IsInitial}
 use Rattle.printable.specs.Shapes.{IsIn, Shape, Integer, Pointer, Array, Empty, Struct, Named, HasShape, bits_of_shape}
+use Rattle.printable.proofs.Tables.{stays, begins_itself}
 use Rattle.print_again.proofs.State.{Invariant, Ready, IsLater}
 use Rattle.print_again.proofs.Shown.{shape_stays, bits_read}
 use Rattle.print_again.proofs.Steps.{word_skipped, word_seen, sign_reads, passed, unlike, grows_advanced}
-use Rattle.print_again.proofs.Tables.{stays, begins_itself}
 use Rattle.print_again.proofs.Types.{Comes, EndsType, ends_type}
 use Rattle.print_whole.proofs.Defining.{global_defined}
 use Rattle.print_whole.proofs.Empty.{no_decorations, no_trail}

@@ -23,9 +23,9 @@ use Rattle.ir_print.specs.Names.{name_at, key_text, local_text}
 use Rattle.ir_print.specs.Standing.{Stands}
 use Rattle.printable.specs.Printable.{IsOp, gives_value}
 use Rattle.printable.specs.Shapes.{IsIn}
+use Rattle.printable.proofs.Tables.{stays}
 use Rattle.print_again.proofs.State.{Ready, Reads, IsLater}
 use Rattle.print_again.proofs.Steps.{sign_reads, unlike}
-use Rattle.print_again.proofs.Tables.{stays}
 use Rattle.print_whole.proofs.Empty.{not_trailed}
 use Rattle.print_whole.proofs.Forms.{widens_further, grows_widens, Leads}
 use Rattle.print_whole.proofs.Known.{Far, AreNamed, known, is_last}

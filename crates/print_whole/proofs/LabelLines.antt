@@ -24,8 +24,8 @@ use Rattle.ir_print.proofs.Constants.{are_digits}
 use Rattle.ir_print.proofs.NamesRead.{labels_are_read}
 use Rattle.ir_print.proofs.Words.{label_comes}
 use Rattle.printable.specs.Shapes.{IsIn}
+use Rattle.printable.proofs.Tables.{begins_itself, name_begins, name_length, name_there, number_within}
 use Rattle.print_again.proofs.State.{Ready}
-use Rattle.print_again.proofs.Tables.{begins_itself, name_begins, name_length, name_there, number_within}
 use Rattle.print_whole.proofs.Known.{Far, AreNamed, LocalsKnown, known}
 use Rattle.print_whole.proofs.Defining.{local_is_new, label_defined}
 use Rattle.print_whole.proofs.Forms.{Widens}

@@ -13,8 +13,8 @@ use Rattle.ir_print.specs.Standing.{IsSeam, AreBlanks, AreBytes}
 use Rattle.ir_print.proofs.Spelled.{name_spelled}
 use Rattle.ir_print.proofs.Words.{local_comes, global_comes}
 use Rattle.printable.specs.Shapes.{IsIn}
+use Rattle.printable.proofs.Tables.{begins_itself, name_begins, name_length, name_there, number_within}
 use Rattle.print_again.proofs.State.{Ready}
-use Rattle.print_again.proofs.Tables.{begins_itself, name_begins, name_length, name_there, number_within}
 use Rattle.print_whole.proofs.Known.{Far, AreNamed, StructsKnown, SymbolsKnown, known}
 use Rattle.print_whole.proofs.Defining.{structs_defined, struct_is_new, symbol_is_new}
 use Rattle.print_whole.proofs.Forms.{Goes, few}

@@ -24,8 +24,8 @@ use Rattle.ir_print.proofs.Numbered.{numbered_values_are_read}
 use Rattle.ir_print.proofs.Seams.{both}
 use Rattle.ir_print.proofs.Words.{local_comes, local_number_comes}
 use Rattle.printable.specs.Shapes.{IsIn}
+use Rattle.printable.proofs.Tables.{begins_itself, name_begins, name_length, name_there, number_within}
 use Rattle.print_again.proofs.State.{Ready}
-use Rattle.print_again.proofs.Tables.{begins_itself, name_begins, name_length, name_there, number_within}
 use Rattle.print_whole.proofs.Known.{Far, AreNamed, Holds, LocalsKnown, known}
 use Rattle.print_whole.proofs.Defining.{local_is_new, value_begun}
 use Rattle.print_whole.proofs.Forms.{Widens}

@@ -31,11 +31,11 @@ use Rattle.ir_print.proofs.Words.{seen, comma_comes, close_round_comes}
 use Rattle.printable.specs.Definitions.{parameter_key}
 use Rattle.printable.specs.Printable.{IsParameter, IsType}
 use Rattle.printable.specs.Shapes.{Shape}
+use Rattle.printable.proofs.Tables.{stays, begins_itself}
 use Rattle.print_again.specs.Again.{AreAlike}
 use Rattle.print_again.proofs.State.{Ready, IsLater}
 use Rattle.print_again.proofs.Shown.{shape_stays}
 use Rattle.print_again.proofs.Steps.{sign_reads, unlike}
-use Rattle.print_again.proofs.Tables.{stays, begins_itself}
 use Rattle.print_again.proofs.Types.{EndsType, ends_type}
 use Rattle.print_whole.proofs.Begins.{IsLocalKind, local_kind}
 use Rattle.print_whole.proofs.Defining.{value_set}

@@ -24,10 +24,10 @@ use Rattle.ir_print.specs.Types as printed
 use Rattle.ir_print.proofs.NamesRead.{collectors_are_read}
 use Rattle.ir_print.proofs.Words.{sign_comes, word_comes, global_comes, seen}
 use Rattle.printable.specs.Printable.{IsVoid, IsPassed, IsAnyType, IsCollector}
+use Rattle.printable.proofs.Tables.{stays}
 use Rattle.print_again.proofs.State.{Invariant, Ready, Reads, IsLater}
 use Rattle.print_again.proofs.Shown.{shape_stays}
 use Rattle.print_again.proofs.Steps.{word_skipped, intern_reads, less_spare, grows_further, grows_itself, unlike, passed, grows_advanced}
-use Rattle.print_again.proofs.Tables.{stays}
 use Rattle.print_again.proofs.Types.{Comes, EndsType, ends_type}
 use Rattle.print_whole.proofs.Empty.{no_decorations}
 use Rattle.print_whole.proofs.Needs.{TypesRead}

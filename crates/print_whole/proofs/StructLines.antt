@@ -20,10 +20,10 @@ use Rattle.ir_print.specs.Types.{type_text}
 use Rattle.ir_print.proofs.Words.{sign_comes}
 use Rattle.printable.specs.Printable.{IsType}
 use Rattle.printable.specs.Shapes.{IsIn, Shape, Integer, Pointer, Array, Empty, Struct, Named, HasShape, is_struct_shape}
+use Rattle.printable.proofs.Tables.{stays, begins_itself}
 use Rattle.print_again.proofs.State.{Invariant, Ready, Reads, IsLater}
 use Rattle.print_again.proofs.Shown.{shown, shape_stays}
 use Rattle.print_again.proofs.Steps.{looked, sign_reads, word_reads}
-use Rattle.print_again.proofs.Tables.{stays, begins_itself}
 use Rattle.print_whole.proofs.Forms.{widens_further, Leads, leads_on, reads_lead}
 use Rattle.print_whole.proofs.Known.{Far, AreNamed, known}
 use Rattle.print_whole.proofs.Needs.{TypesRead}

@@ -14,9 +14,9 @@ use Rattle.ir_print.specs.Items.{struct_line, global_line, declare_line, functio
 use Rattle.printable.specs.Definitions.{AreNew, defined_globals, functions_of}
 use Rattle.printable.specs.Printable.{IsPrintable, IsSymbol}
 use Rattle.printable.specs.Shapes.{IsIn}
+use Rattle.printable.proofs.Tables.{begins_itself}
 use Rattle.print_again.specs.Again.{AreAlike, IsFunctionAgain, IsAgain}
 use Rattle.print_again.proofs.State.{Ready}
-use Rattle.print_again.proofs.Tables.{begins_itself}
 use Rattle.print_whole.proofs.FunctionEnds.{nobody, IsModuleLater}
 use Rattle.print_whole.proofs.GlobalLists.{globals_go}
 use Rattle.print_whole.proofs.Known.{known, in_front, in_behind, is_last}

@@ -3,4 +3,4 @@
 
 mod laws;
 
-pub use laws::print_law;
+pub use laws::{print_law, printed_again_law};

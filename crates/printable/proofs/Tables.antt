@@ -26,28 +26,35 @@ abbrev pub IsRestBefore : (number : ℕ) → IrType → Type 0
 IsRestBefore number (type.Struct first rest) = rest < number
 IsRestBefore number _ = Unit {0}
 
+-- so it is of each type of a table
 abbrev pub AreOrdered : List IrType → Type 0
 AreOrdered types = (number : ℕ) (x : IrType) → slice_get types number ≡ Some x → IsRestBefore number x
 
 -- ---- a list that begins with another one
 
+-- a list begins with itself
 pub begins_itself : {A : Type 0} (xs : List A) → Begins xs xs
 begins_itself xs = ([], sym (append-nil xs))
 
+-- what begins with a list that begins with another one begins with that one
 pub begins_further : {A : Type 0} (xs ys zs : List A) → Begins xs ys → Begins ys zs → Begins xs zs
 begins_further xs ys zs a b = (a.0 ++ b.0, b.1 ∙ ap (λ l. l ++ b.0) a.1 ∙ append_assoc xs a.0 b.0)
 
+-- a list with more behind it begins with itself
 pub begins_with : {A : Type 0} (xs more : List A) → Begins xs (xs ++ more)
 begins_with xs more = (more, refl)
 
+-- what stands in front stays
 in_front : {A : Type 0} (xs more : List A) (n : ℕ) (x : A) → slice_get xs n ≡ Some x → slice_get (xs ++ more) n ≡ Some x
 in_front [] more n x e = absurd cc
 in_front (y ∷ xs) more zero x e = e
 in_front (y ∷ xs) more (suc n) x e = in_front xs more n x e
 
+-- an element stays at its place
 pub stays : {A : Type 0} (xs ys : List A) (n : ℕ) (x : A) → Begins xs ys → slice_get xs n ≡ Some x → slice_get ys n ≡ Some x
 stays xs ys n x b e = ap (λ l. slice_get l n) b.1 ∙ in_front xs b.0 n x e
 
+-- the last element
 pub at_end : {A : Type 0} (xs : List A) (x : A) → slice_get (xs ++ x ∷ []) (length xs) ≡ Some x
 at_end [] x = refl
 at_end (y ∷ xs) x = at_end xs x
@@ -64,6 +71,7 @@ at_end_or_before (z ∷ xs) y (suc n) x e = elim (at_end_or_before xs y n x e) [
 
 -- ---- types
 
+-- a new type comes behind the others
 pub type_begins : (t : IrType) (types : List IrType) → Begins types (numbered_type t types)
 type_begins t types = by (is_some (place_of_type t types)) where
   by : (b : Bool) → Begins types (if b then types else types ++ t ∷ [])
@@ -77,6 +85,7 @@ type_there t types = by (place_of_type t types) refl where
   by None e = at_end types t
   by (Some n) e = stands t types n e
 
+-- the table stays in order
 pub type_ordered : (t : IrType) (types : List IrType) → IsRestBefore (length types) t → AreOrdered types → AreOrdered (numbered_type t types)
 type_ordered t types last before = by (is_some (place_of_type t types)) where
   by : (b : Bool) → AreOrdered (if b then types else types ++ t ∷ [])
@@ -86,12 +95,14 @@ type_ordered t types last before = by (is_some (place_of_type t types)) where
     | inr h ↦ subst (λ y. IsRestBefore n y) h.1 (subst (λ k. IsRestBefore k t) (sym h.0) last)
   ]
 
+-- one type comes at most
 pub type_length : (t : IrType) (types : List IrType) → length (numbered_type t types) ≤ length types + 1
 type_length t types = by (is_some (place_of_type t types)) where
   by : (b : Bool) → length (if b then types else types ++ t ∷ []) ≤ length types + 1
   by true = omega arith
   by false = let e = length-append types (t ∷ []) in omega (arith, e)
 
+-- the number of a type lies within the table, or at its end
 pub type_within : (t : IrType) (types : List IrType) → number_of_type t types ≤ length types
 type_within t types = by (place_of_type t types) refl where
   by : (place : Option ℕ) → place_of_type t types ≡ place → unwrap_or place (length types) ≤ length types
@@ -100,18 +111,21 @@ type_within t types = by (place_of_type t types) refl where
 
 -- ---- names
 
+-- a new name comes behind the others
 pub name_begins : (name : Text) (names : List Text) → Begins names (numbered name names)
 name_begins name names = by (is_some (place_of name names)) where
   by : (b : Bool) → Begins names (if b then names else names ++ name ∷ [])
   by true = begins_itself names
   by false = begins_with names (name ∷ [])
 
+-- one name comes at most
 pub name_length : (name : Text) (names : List Text) → length (numbered name names) ≤ length names + 1
 name_length name names = by (is_some (place_of name names)) where
   by : (b : Bool) → length (if b then names else names ++ name ∷ []) ≤ length names + 1
   by true = omega arith
   by false = let e = length-append names (name ∷ []) in omega (arith, e)
 
+-- the number of a name lies within the table, or at its end
 pub number_within : (name : Text) (names : List Text) → number_of name names ≤ length names
 number_within name names = by (place_of name names) refl where
   by : (place : Option ℕ) → place_of name names ≡ place → unwrap_or place (length names) ≤ length names
@@ -129,15 +143,18 @@ name_there name names = by (place_of name names) refl where
 
 -- ---- the first place of a name
 
+-- the place is the first one
 place_is : (p : Text → Bool) (xs : List Text) (n : ℕ) → position p xs ≡ Some n → (n ≡ position_or_len p xs) × (n < length xs)
 place_is p xs n e = by (nat_lt (position_or_len p xs) (length xs)) refl e where
   by : (t : Bool) → nat_lt (position_or_len p xs) (length xs) ≡ t → cond t (Some (position_or_len p xs)) None ≡ Some n → (n ≡ position_or_len p xs) × (n < length xs)
   by true less h = let same : position_or_len p xs ≡ n = cc in (sym same, grind (arith, nat_tests))
   by false less h = absurd cc
 
+-- the first place is the place
 place_by : (p : Text → Bool) (xs : List Text) (n : ℕ) → n ≡ position_or_len p xs → n < length xs → position p xs ≡ Some n
 place_by p xs n e less = let within : nat_lt (position_or_len p xs) (length xs) ≡ true = grind (arith, nat_tests) in rw within (ap Some (sym e))
 
+-- the first place of a name stays
 pub place_stays : (name : Text) (names others : List Text) (n : ℕ) → Begins names others → place_of name names ≡ Some n → place_of name others ≡ Some n
 place_stays name names others n b e = ap (place_of name) b.1 ∙ place_by p (names ++ b.0) n at less where
   p : Text → Bool
@@ -155,6 +172,7 @@ place_stays name names others n b e = ap (place_of name) b.1 ∙ place_by p (nam
   less : n < length (names ++ b.0)
   less = let l = found.1 in let a = length-append names b.0 in omega (arith, l, a)
 
+-- behind a mention the name has its number
 pub place_there : (name : Text) (names : List Text) → place_of name (numbered name names) ≡ Some (number_of name names)
 place_there name names = by (place_of name names) refl where
   p : Text → Bool

@@ -1,3 +1,6 @@
 pub mod Shapes
 pub mod Definitions
 pub mod Printable
+pub mod FunctionNames
+pub mod ModuleNames
+pub mod ReadModules

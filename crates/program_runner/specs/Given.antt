@@ -1,5 +1,5 @@
 -- What a thread gets for what it asked for, and what it reads by it.
-use Rattle.std.proofs.Common.{◌≡◌, ◌≢◌, ℕ, zero, suc, refl, sym, ap, subst, ◌∙◌, arith, true, false, Bool, Option, Some, None, slice_get, inl, inr}
+use Rattle.std.proofs.Common.{◌≡◌, ◌≢◌, ◌<◌, ◌^◌, ℕ, zero, suc, refl, sym, ap, subst, ◌∙◌, arith, true, false, Bool, Option, Some, None, slice_get, inl, inr}
 use Rattle.std.proofs.lemmas.Bool.Decides.{Decides-eqb}
 use Rattle.std.specs.Prelude.{◌⊎◌, ◌==◌, if◌then◌else◌}
 use Rattle.ir_ast.specs.declared.module.Module.{Module}
@@ -8,14 +8,14 @@ use Rattle.pools.specs.Layouts.{words_of, kind_of_word}
 use Rattle.pools.specs.declared.word_kind.WordKind.{WordKind}
 use Rattle.pools.specs.declared.word_kind.WordKind.TheVariants as kind
 use Rattle.layout.specs.Layouts.{LaidOut}
-use Rattle.machine.specs.declared.action.Action.{Action}
-use Rattle.machine.specs.declared.action.Action.TheVariants.{Local, Read, StorePlain, Write, Alloc, Safepoint, End, Wrong}
-use Rattle.machine.specs.declared.action.Answer.{Answer}
-use Rattle.machine.specs.declared.action.Answer.TheVariants as answer
-use Rattle.machine.specs.declared.value.Place.{Place}
-use Rattle.machine.specs.declared.value.Place.TheVariants as place
-use Rattle.machine.specs.Asks.{only_if, read_action}
-use Rattle.machine.specs.Elements.{global_kind, is_read_as, read_value}
+use Rattle.machine_asks.specs.declared.action.Action.{Action}
+use Rattle.machine_asks.specs.declared.action.Action.TheVariants.{Local, Read, StorePlain, Write, Alloc, Safepoint, End, Wrong}
+use Rattle.machine_values.specs.declared.answer.Answer.{Answer}
+use Rattle.machine_values.specs.declared.answer.Answer.TheVariants as answer
+use Rattle.machine_values.specs.declared.value.Place.{Place}
+use Rattle.machine_values.specs.declared.value.Place.TheVariants as place
+use Rattle.machine_asks.specs.Asks.{only_if, read_action}
+use Rattle.machine_values.specs.Elements.{global_kind, is_read_as, read_value}
 use Rattle.machine.specs.Machine.{alloc_value, read_at}
 use Rattle.schedules.specs.Machine as runs
 use Rattle.schedules.specs.Machine.{Reference}
@@ -46,6 +46,11 @@ read_there m written None e = absurd cc
 read_there m written (Some k) e = λ none. cc
 
 -- ---- answers
+
+-- what was read in a word of references is null or a cell, whose number has 32 bits
+abbrev pub NamesCell : Option WordKind → Reference → Type 0
+NamesCell (Some (kind.Reference layout)) found = found.cell < 2 ^ 32
+NamesCell k found = Unit {0}
 
 -- an answer that hands over nothing
 abbrev pub GivesNothing : Answer → Type 0

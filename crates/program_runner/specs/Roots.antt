@@ -5,8 +5,8 @@ use Rattle.ir_ast.specs.declared.module.Module.{Module}
 use Rattle.pools.specs.Heap.{Setup, cells}
 use Rattle.shadow_stack.specs.Slots.{slots_of}
 use Rattle.machine.specs.declared.frame.Frame.{Frame}
-use Rattle.machine.specs.declared.value.Value.{Value}
-use Rattle.machine.specs.declared.value.Value.TheVariants as value
+use Rattle.machine_values.specs.declared.value.Value.{Value}
+use Rattle.machine_values.specs.declared.value.Value.TheVariants as value
 use Rattle.machine.specs.Machine.{slot_value, frame_roots, roots_of}
 use Rattle.schedules.specs.Machine.{Reference}
 use Rattle.schedules.specs.Moves.{IsIn}

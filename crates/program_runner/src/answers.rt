@@ -1,11 +1,12 @@
-ghost use Rattle.std.specs.Prelude.{◌≡◌, ◌<◌, IfOk};
+ghost use Rattle.std.specs.Prelude.{◌≡◌, ◌<◌, ◌^◌};
 ghost use Rattle.actors.specs.Calls.{action_of};
+ghost use Rattle.program_runner.specs.Given.{NamesCell};
 ghost use Rattle.program_safety.specs.Threads.{in_run, reference_in, stored, asked_as, null_or_cell, word_read};
 
 use actors::{Call, NULL, Reference};
-use machine::{Action, Answer as ThreadAnswer, Reference as ThreadReference, Value};
+use machine_asks::Action;
+use machine_values::{Answer as ThreadAnswer, Reference as ThreadReference, Value};
 use pools::WordKind;
-use std::alloc::AllocError;
 
 /// A reference of a thread, as one of a run.
 fn in_run(at: ThreadReference) -> Reference
@@ -67,43 +68,28 @@ pub(crate) fn asked_as(action: Action) -> Call
     }
 }
 
-/// The number of a cell of a heap with so many; another one is of memory that is not there.
-pub(crate) fn cell_of(cells: u32, cell: u64) -> Result<u32, AllocError>
-    ensures same { IfOk result (λ number. number ≡ cell) }
-    ensures within { IfOk result (λ number. number < cells) }
-{
-    if cell < u64::from(cells) {
-        Ok(cell as u32)
-    } else {
-        Err(AllocError)
-    }
-}
-
-/// Null or a reference to a cell of a heap with so many, as an answer.
-pub(crate) fn null_or_cell(cells: u32, found: Reference) -> Result<ThreadAnswer, AllocError>
-    ensures { IfOk result (λ given. given ≡ null_or_cell found) }
+/// Null or a reference to a cell, as an answer.
+pub(crate) fn null_or_cell(found: Reference) -> ThreadAnswer
+    requires { found.cell < 2 ^ 32 }
+    ensures { result ≡ null_or_cell found }
 {
     if found.cell == 0 {
-        return Ok(ThreadAnswer::Null);
+        return ThreadAnswer::Null;
     }
-    let cell = cell_of(cells, found.cell)?;
-    Ok(ThreadAnswer::Cell(ThreadReference {
-        cell,
+    ThreadAnswer::Cell(ThreadReference {
+        cell: found.cell as u32,
         birth: found.birth,
-    }))
+    })
 }
 
 /// What was read in a word of this kind, as an answer.
-pub(crate) fn word_read(
-    cells: u32,
-    kind: Option<WordKind>,
-    found: Reference,
-) -> Result<ThreadAnswer, AllocError>
-    ensures { IfOk result (λ given. given ≡ word_read kind found) }
+pub(crate) fn word_read(kind: Option<WordKind>, found: Reference) -> ThreadAnswer
+    requires { NamesCell kind found }
+    ensures { result ≡ word_read kind found }
 {
     match kind {
-        Some(WordKind::Integer(_)) => Ok(ThreadAnswer::Number(found.cell)),
-        Some(WordKind::Reference(_)) => null_or_cell(cells, found),
-        None => Ok(ThreadAnswer::Done),
+        Some(WordKind::Integer(_)) => ThreadAnswer::Number(found.cell),
+        Some(WordKind::Reference(_)) => null_or_cell(found),
+        None => ThreadAnswer::Done,
     }
 }

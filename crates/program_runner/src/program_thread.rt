@@ -1,15 +1,19 @@
-ghost use Rattle.std.specs.Prelude.{◌≡◌, ◌<◌, slice_get, IfOk};
-ghost use Rattle.pools.specs.Heap.{cells, kind_of, words_of_cell};
+ghost use Rattle.std.specs.Prelude.{◌≡◌, ◌<◌, slice_get};
+ghost use Rattle.pools.specs.Heap.{Setup as Heap, cells, kind_of, words_of_cell};
 ghost use Rattle.machine.specs.Endings.{ending};
 ghost use Rattle.machine.specs.Machine.{action};
 ghost use Rattle.actors.specs.Calls.{answer_in};
-ghost use Rattle.program_safety.specs.Threads.{given_as};
+ghost use Rattle.actors.specs.Kinds.{MayAnswer};
+ghost use Rattle.program_safety.specs.Threads.{asks, given_as};
+ghost use Rattle.program_runner.specs.Kinds.{FitsThread};
 ghost use Rattle.program_runner.specs.Heaps.{heap_of};
 
-use crate::answers::{asked_as, cell_of, null_or_cell, reference_in, word_read};
+use crate::answers::{asked_as, null_or_cell, reference_in, word_read};
 use actors::{Answer, Call, Reference, Runner};
 use layout::Program;
-use machine::{Action, Answer as ThreadAnswer, Ending, Thread};
+use machine::{Ending, Thread};
+use machine_asks::Action;
+use machine_values::Answer as ThreadAnswer;
 use pools::WordKind;
 use schedules::Machine;
 use std::alloc::{AllocError, Global};
@@ -22,8 +26,6 @@ pub struct ProgramThread<'a> {
     alloc: Global,
     program: &'a Program,
     setup: &'a Setup,
-    /// How many cells the heap has, that of the globals among them.
-    cells: u32,
     thread: Thread<'a>,
 }
 
@@ -59,7 +61,6 @@ impl<'a> ProgramThread<'a> {
             alloc,
             program,
             setup,
-            cells: setup.pools.cells(),
             thread,
         }
     }
@@ -91,19 +92,18 @@ impl<'a> ProgramThread<'a> {
         word_in(self.words(cell), word)
     }
 
-    /// An answer to what the thread asked for, as an answer to the thread. A cell that the heap has not is memory that is not
-    /// there.
-    fn given_as(&self, answer: Answer) -> Result<ThreadAnswer, AllocError>
-        ensures { IfOk result (λ given. given ≡ given_as self.now.heap (action self.now.program self.now.state) (answer_in answer)) }
+    /// An answer to what the thread asked for, as an answer to the thread.
+    fn given_as(&self, answer: Answer) -> ThreadAnswer
+        requires { (s : Heap) × MayAnswer s (FitsThread s) asks self.now (answer_in answer) }
+        ensures { result ≡ given_as self.now.heap (action self.now.program self.now.state) (answer_in answer) }
     {
         match (self.thread.next(), answer) {
             (Action::Read { at, word }, Answer::Got(found)) => {
-                let cell = cell_of(self.cells, u64::from(at.cell))?;
-                word_read(self.cells, self.kind(cell, word), found)
+                word_read(self.kind(at.cell, word), found)
             }
-            (Action::Alloc(_), Answer::Got(found)) => null_or_cell(self.cells, found),
-            (Action::Safepoint, Answer::Answered(Some(_))) => Ok(ThreadAnswer::Answered),
-            _ => Ok(ThreadAnswer::Done),
+            (Action::Alloc(_), Answer::Got(found)) => null_or_cell(found),
+            (Action::Safepoint, Answer::Answered(Some(_))) => ThreadAnswer::Answered,
+            _ => ThreadAnswer::Done,
         }
     }
 }
@@ -129,7 +129,7 @@ impl<'a> Runner for ProgramThread<'a> {
     }
 
     fn answer(&mut self, answer: Answer) -> Result<(), AllocError> {
-        let given = self.given_as(answer)?;
+        let given = self.given_as(answer);
         self.thread.resume(given)
     }
 }

@@ -8,13 +8,13 @@ use Rattle.pools.specs.Layouts.{is_reference_kind}
 use Rattle.colours.specs.Mutator.{MayFind}
 use Rattle.colours.specs.Mutator as mutator
 use Rattle.colours.proofs.Tests.{test_false, test_yes, test_no}
-use Rattle.machine.specs.declared.action.Action.{Action}
-use Rattle.machine.specs.declared.action.Action.TheVariants.{Local, Read, StorePlain, Write, Alloc, Safepoint, End, Wrong}
-use Rattle.machine.specs.declared.action.Answer.{Answer}
-use Rattle.machine.specs.declared.action.Answer.TheVariants as answer
-use Rattle.machine.specs.declared.value.Reference.{Reference as ThreadReference}
-use Rattle.machine.specs.declared.value.Value.{Value}
-use Rattle.machine.specs.declared.value.Value.TheVariants as value
+use Rattle.machine_asks.specs.declared.action.Action.{Action}
+use Rattle.machine_asks.specs.declared.action.Action.TheVariants.{Local, Read, StorePlain, Write, Alloc, Safepoint, End, Wrong}
+use Rattle.machine_values.specs.declared.answer.Answer.{Answer}
+use Rattle.machine_values.specs.declared.answer.Answer.TheVariants as answer
+use Rattle.machine_values.specs.declared.value.Reference.{Reference as ThreadReference}
+use Rattle.machine_values.specs.declared.value.Value.{Value}
+use Rattle.machine_values.specs.declared.value.Value.TheVariants as value
 use Rattle.machine.specs.Log.{Log, Held, HoldsCell, IsFresh, RefersTo, RefersToCell, IsNullOrHeld, IsNullOrHeldOf, MayBeRead, MayBeStored, MayBeWritten, MayTouch, Keeps, Possible}
 use Rattle.schedules.specs.Machine.{Reference}
 use Rattle.schedules.specs.Moves.{Move, Works, ReadsWord, StoresBehindBarrier, StoresPlain, Claims, ReadsPosted, StoresStage, IsIn, steps_of, answer_of}

@@ -2,8 +2,8 @@
 use Rattle.std.specs.Prelude.{ℕ, ◌<◌, ◌≡◌, List}
 use Rattle.pools.specs.Heap.{Setup}
 use Rattle.colours.specs.Mutator.{Fresh}
-use Rattle.machine.specs.declared.action.Answer.{Answer}
-use Rattle.machine.specs.declared.value.Reference.{Reference as ThreadReference}
+use Rattle.machine_values.specs.declared.answer.Answer.{Answer}
+use Rattle.machine_values.specs.declared.value.Reference.{Reference as ThreadReference}
 use Rattle.machine.specs.Log.{Log, Held, IsFresh, Safe}
 use Rattle.schedules.specs.Moves.{Move, steps_of}
 use Rattle.schedules.specs.Discipline.{Holds}

@@ -16,10 +16,10 @@ use Rattle.layout.specs.Layouts.{LaidOut}
 use Rattle.layout.specs.Globals.{kind_of_global}
 use Rattle.layout.specs.Words.{word_of}
 use Rattle.machine.specs.declared.frame.Frame.{Frame}
-use Rattle.machine.specs.declared.value.Value.{Value}
-use Rattle.machine.specs.declared.value.Value.TheVariants as value
+use Rattle.machine_values.specs.declared.value.Value.{Value}
+use Rattle.machine_values.specs.declared.value.Value.TheVariants as value
 use Rattle.machine.specs.Machine.{initial, slot_value, frame_roots, roots, entry_frame, start}
-use Rattle.machine.specs.Kinds.{is_integer}
+use Rattle.machine_values.specs.Kinds.{is_integer}
 use Rattle.machine.specs.Start.{argument_values}
 use Rattle.schedules.specs.Machine.{Reference}
 use Rattle.schedules.specs.Moves.{IsIn, null}

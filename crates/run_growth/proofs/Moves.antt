@@ -169,7 +169,7 @@ nothing-fits s roots (Alloc layout) (made.Answers stage) q = tt
 nothing-fits s roots (Alloc layout) made.Ends q = tt
 
 -- what is answered fits what was asked for
-answers : (s : Setup) (h : Shared) (roots : List Reference) (action : Action) (at : Stance) (move : Move) → HasShape s h → AsksByKind s action → IsChosen s h roots action at (move_in roots move)
+pub answers : (s : Setup) (h : Shared) (roots : List Reference) (action : Action) (at : Stance) (move : Move) → HasShape s h → AsksByKind s action → IsChosen s h roots action at (move_in roots move)
     → AnswersByKind s action (answer_of action (move_in roots move))
 answers s h roots action at (made.ReadsWord base word value) shape a c =
     let asks : AsksByKind s (Read base word) = subst (λ (x : Action). AsksByKind s x) c.0 a in

@@ -17,16 +17,15 @@ use Rattle.actors.specs.declared.stand.Stance.TheVariants as stance
 use Rattle.actors.specs.declared.stand.Stand.{Stand}
 use Rattle.actors.specs.Calls.{move_in}
 use Rattle.actors.specs.Kinds.{KeepsKinds}
-use Rattle.actors.specs.Moving.{HasRoom}
 use Rattle.actors.specs.Shared.{CanTake}
 use Rattle.actors.specs.Stands.{HasTryLeft, falling, phase_at, standing, sight_in}
 use Rattle.actors.proofs.Allocs.{within}
 use Rattle.actors.proofs.Nexts.{falling-length}
-use Rattle.run_growth.specs.Growth.{ThreadIsBehind, MoveGrows, CountsRoots, ThreadGrows}
+use Rattle.run_growth.specs.Growth.{ThreadIsBehind, MoveGrows, ThreadGrows}
 use Rattle.run_growth.proofs.Words.{words-grow}
 use Rattle.run_growth.proofs.Tries.{pool-within, TriedFrom, TriesFrom, tries-from}
 use Rattle.run_growth.proofs.Chosen.{IsChosen, is-chosen}
-use Rattle.run_growth.proofs.Moves.{puts, sees, takes, may-make, moved-fits, replaced-cell}
+use Rattle.run_growth.proofs.Moves.{puts, sees, takes, may-make, answers, moved-fits, replaced-cell}
 
 -- ---- a thread that tries cells
 
@@ -49,17 +48,6 @@ try-left s (Alloc layout) roots (stance.Trying first tried) few f =
     let some = f.few in
     (within s.pools layout (λ z. omega (arith, some, z)), few-tried s layout first tried few f)
 try-left s action roots (stance.Trying first tried) few f = absurd f
-
--- one more may be counted
-room : (s : Setup) (action : Action) (roots : List Reference) (at : Stance) → cells s ≤ 2 ^ 32 → TriesFrom s action (phase_at roots at) → CountsRoots at → HasRoom at
-room s action roots stance.Ready few f counts = tt
-room s action roots (stance.MarkingOld c i o) few f counts = tt
-room s action roots (stance.MarkingNew c i o) few f counts = tt
-room s action roots (stance.Writing c i o n) few f counts = tt
-room s action roots (stance.Answering next marked) few f counts = counts
-room s action roots stance.Ended few f counts = tt
-room s (Alloc layout) roots (stance.Trying first tried) few f counts = few-tried s layout first tried few f
-room s action roots (stance.Trying first tried) few f counts = absurd f
 
 -- ---- each next move
 
@@ -85,7 +73,6 @@ pub thread-grows : (s : Setup) (m : Machine) (Fits : m.State → Type 0) → ((s
 thread-grows s m Fits keeps_kinds starts run t stand h bounded b = record {
   births = λ cell. subst (λ n. n < 2 ^ 62) (sym (b.words.behind.births cell)) (bounded.births cell);
   try_left = try-left s action roots stand.stance b.few_cells tries;
-  room = room s action roots stand.stance b.few_cells tries;
   move = grows;
 }
   where
@@ -111,6 +98,7 @@ thread-grows s m Fits keeps_kinds starts run t stand h bounded b = record {
       words = words-grow s run t stand.stage roots h made b.stands.stage b.words can
           (sees s h roots action stand.stance made is)
           (puts s h roots action stand.stance made keeps.asks is);
+      answers = answers s h roots action stand.stance made b.words.shape keeps.asks is;
       fits = moved-fits s m Fits h stand made b.words.shape keeps b.fits is;
       replaced = replaced-cell s h roots action stand.stance made b.words.shape keeps.asks is;
     }

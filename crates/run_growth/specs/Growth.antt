@@ -8,17 +8,17 @@ use Rattle.trace_sweep.specs.Stands as collector
 use Rattle.trace_sweep.specs.Stands.{IsStepOn}
 use Rattle.trace_sweep.specs.declared.motion.Motion.{Motion}
 use Rattle.schedules.specs.Machine.{Reference, Machine, Action, Answer, machine_of}
+use Rattle.schedules.specs.Moves.{answer_of}
 use Rattle.schedules.specs.ModuleRuns.{Happening, OfThread, OfCollector, share_of, heap_of, IsModuleRun}
 use Rattle.schedules.specs.Ends.{StandsBehind, moved, next_move_of}
 use Rattle.schedules.specs.Tries.{TriesLowest}
 use Rattle.actors.specs.declared.call.Call.{Call}
 use Rattle.actors.specs.declared.moves.Move.{Move}
 use Rattle.actors.specs.declared.shared.Shared.{Shared}
-use Rattle.actors.specs.declared.stand.Stance.{Stance}
-use Rattle.actors.specs.declared.stand.Stance.TheVariants.{Answering}
 use Rattle.actors.specs.declared.stand.Stand.{Stand}
 use Rattle.actors.specs.Calls.{action_of, move_in}
-use Rattle.actors.specs.Moving.{HasRoom, MayMake}
+use Rattle.actors.specs.Kinds.{AnswersByKind}
+use Rattle.actors.specs.Moving.{MayMake}
 use Rattle.actors.specs.Shared.{StandBehind, CanHold, CanTake, with_move, with_number, held_at}
 use Rattle.actors.specs.Stands.{HasTryLeft, standing, sight_in}
 
@@ -40,19 +40,14 @@ pub record MoveGrows (s : Setup) (m : Machine) (Fits : m.State → Type 0) (run 
   pub may_make : (call : Call) → action_of call ≡ m.action stand.state → MayMake s (m.roots stand.state) call stand.stance made
   pub can_take : CanTake h t stand.stage made
   pub words : StandBehind s (OfThread t (move_in (m.roots stand.state) made) ∷ run) (with_move h t stand.stage made)
+  pub answers : AnswersByKind s (m.action stand.state) (answer_of (m.action stand.state) (move_in (m.roots stand.state) made))
   pub fits : Fits (moved s m (standing m.roots stand) (move_in (m.roots stand.state) made)).state
   pub replaced : (moved s m (standing m.roots stand) (move_in (m.roots stand.state) made)).old.cell < cells s
-
--- so few roots are marked that one more may be counted
-abbrev pub CountsRoots : Stance → Type 0
-CountsRoots (Answering stage marked) = marked < 2 ^ 63
-CountsRoots stance = Unit {0}
 
 -- what the next move of a thread needs, and each move that is the next one
 pub record ThreadGrows (s : Setup) (m : Machine) (Fits : m.State → Type 0) (run : List Happening) (t : ℕ) (stand : Stand m.State) (h : Shared) : Type 0 where
   pub births : (cell : ℕ) → slice_index h.births cell < 2 ^ 62
   pub try_left : HasTryLeft s.pools (m.action stand.state) stand.stance
-  pub room : CountsRoots stand.stance → HasRoom stand.stance
   pub move : (made : Move) → next_move_of s m (sight_in s h) (standing m.roots stand) ≡ Some (move_in (m.roots stand.state) made) → MoveGrows s m Fits run t stand h made
 
 -- so of each thread of a machine that keeps to the kinds of words

@@ -2,7 +2,7 @@
 use Rattle.std.specs.Prelude.{◌≤◌, ◌↔◌, Bool, true, false, not, ◌||◌, length}
 use Rattle.certificate.specs.declared.section.Mark.{Mark}
 use Rattle.certificate.specs.declared.section.Mark.TheVariants.{May, None}
-use Rattle.facts.specs.Facts.{FactSet, make_stale}
+use Rattle.fact_rows.specs.Facts.{FactSet, make_stale}
 use Rattle.facts.specs.Statements.{Statement, Says, Outlasts}
 
 -- a function may reach a safepoint

@@ -23,31 +23,32 @@ use Rattle.certificate.specs.declared.section.Mark.{Mark}
 use Rattle.certificate.specs.declared.section.Mark.TheVariants as mark
 use Rattle.certificate.specs.declared.section.Promise.{Promise}
 use Rattle.certificate.specs.declared.section.Section.{Section}
-use Rattle.facts.specs.declared.known.Given.TheVariants as given
-use Rattle.facts.specs.Facts.{FactSet}
+use Rattle.fact_rows.specs.declared.known.Given.TheVariants as given
+use Rattle.fact_rows.specs.Facts.{FactSet}
 use Rattle.safepoints.specs.Marks.{is_may, marks_agree, after_mark}
-use Rattle.block_rules.specs.declared.callee.Callee.{Callee}
-use Rattle.block_rules.specs.declared.callee.Callee.TheVariants.{OfRuntime, OfModule, NoFunction}
-use Rattle.block_rules.specs.declared.standing.Standing.{Standing}
-use Rattle.block_rules.specs.declared.type_kind.TypeKind.{TypeKind}
-use Rattle.block_rules.specs.declared.type_kind.TypeKind.TheVariants.{NoValue, Bits, Reference, AnyReference, Address, Other}
+use Rattle.rule_operands.specs.declared.callee.Callee.{Callee}
+use Rattle.rule_operands.specs.declared.callee.Callee.TheVariants.{OfRuntime, OfModule, NoFunction}
+use Rattle.rule_operands.specs.declared.standing.Standing.{Standing}
+use Rattle.rule_operands.specs.declared.type_kind.TypeKind.{TypeKind}
+use Rattle.rule_operands.specs.declared.type_kind.TypeKind.TheVariants.{NoValue, Bits, Reference, AnyReference, Address, Other}
+use Rattle.rule_operands.specs.Operands as o
+use Rattle.rule_operands.specs.FirstFailing.{first_failing}
+use Rattle.rule_operands.specs.Signature.{callee_of}
+use Rattle.rule_operands.specs.TypeKinds.{kind_of, is_void}
+use Rattle.rule_operands.specs.Standing.{block_instructions, instructions_of}
+use Rattle.rule_forms.specs.Promises.{given_by, promises_in, promised_in, own_mark, callee_mark}
 use Rattle.block_rules.specs.Calls.{all_values, is_written_with, is_written_for, defined_conditions, unknown_conditions, call_conditions, drop_arguments, receive_result, after_call}
-use Rattle.block_rules.specs.Operands as o
-use Rattle.block_rules.specs.Promises.{given_by, promises_in, promised_in, own_mark, callee_mark}
-use Rattle.block_rules.specs.Rules.{first_failing, op_conditions, after, after_op, may_hold}
-use Rattle.block_rules.specs.Signature.{callee_of}
-use Rattle.block_rules.specs.Standing.{block_instructions, instructions_of}
-use Rattle.block_rules.specs.TypeKinds.{kind_of, is_void}
+use Rattle.block_rules.specs.Rules.{op_conditions, after, after_op, may_hold}
 use Rattle.certified.specs.Certified.{Follows, IsCertified, IsCertifiedIn, scene_of, stands}
 use Rattle.certified.specs.Ways.{Scene, given_at, line_facts, lines_in, parameters_given, entry_facts}
 use Rattle.machine.specs.declared.frame.Frame.{Frame}
-use Rattle.machine.specs.declared.value.Value.{Value}
-use Rattle.machine.specs.declared.value.Value.TheVariants as value
-use Rattle.machine.specs.declared.action.Action.{Action}
-use Rattle.machine.specs.declared.action.Action.TheVariants.{Local, Read, StorePlain, Write, Alloc, Safepoint, End, Wrong}
-use Rattle.machine.specs.declared.action.Answer.{Answer}
-use Rattle.machine.specs.Asks as a
-use Rattle.machine.specs.Jumps as j
+use Rattle.machine_values.specs.declared.value.Value.{Value}
+use Rattle.machine_values.specs.declared.value.Value.TheVariants as value
+use Rattle.machine_asks.specs.declared.action.Action.{Action}
+use Rattle.machine_asks.specs.declared.action.Action.TheVariants.{Local, Read, StorePlain, Write, Alloc, Safepoint, End, Wrong}
+use Rattle.machine_values.specs.declared.answer.Answer.{Answer}
+use Rattle.machine_asks.specs.Asks as a
+use Rattle.machine_asks.specs.Jumps as j
 use Rattle.machine.specs.Machine as mc
 use Rattle.machine.specs.Machine.{slot_value}
 use Rattle.machine.specs.Start.{argument_values}
@@ -358,7 +359,7 @@ module _ (heap : Setup) (program : LaidOut) (heap_is : IsHeapFor heap program) (
         let local : mc.instr_action program f frame (Some instr) ≡ Local =
         way_taken.acts ∙ ap (a.enter_action program.of_module f table frame.block) t.is ∙ ap (λ b. a.only_if b Local) fits in
         let leads : a.target_at f (a.way_of program.of_module frame.registers instr.op) ≡ Some t.to = ap (a.target_at f) way_taken.leads ∙ t.is in
-        let at : Live heap program certs (mc.enter_block program.of_module f (Some t.to) frame) below log = subst (λ l. Live heap program certs (j.enter program.of_module f frame.block t.to l frame) below log) same (record {
+        let at : Live heap program certs (mc.enter_block program.of_module f (Some t.to) frame) below log = subst (λ l. Live heap program certs (mc.enter program.of_module f frame.block t.to l frame) below log) same (record {
           function = f;
           saves = x.saves;
           now = record { facts = line_facts s t.to; cells = t.more };

@@ -8,21 +8,21 @@ use Rattle.pools.specs.Heap.{Setup}
 use Rattle.layout.specs.Layouts.{LaidOut}
 use Rattle.shadow_stack.specs.Slots.{slots_of, held_type, is_reference_held}
 use Rattle.certificate.specs.declared.section.Section.{Section}
-use Rattle.facts.specs.Facts.{FactSet, known_at, class_at}
-use Rattle.facts.specs.declared.known.Known.TheVariants.{Cell}
+use Rattle.fact_rows.specs.Facts.{FactSet, known_at, class_at}
+use Rattle.fact_rows.specs.declared.known.Known.TheVariants.{Cell}
 use Rattle.safepoints.specs.Marks.{is_may}
+use Rattle.rule_operands.specs.Standing.{instructions_of}
+use Rattle.rule_forms.specs.Promises.{promised_in, own_mark}
 use Rattle.block_rules.specs.Calls.{receive_result}
-use Rattle.block_rules.specs.Promises.{promised_in, own_mark}
-use Rattle.block_rules.specs.Standing.{instructions_of}
 use Rattle.certified.specs.Certified.{Follows, scene_of}
-use Rattle.machine.specs.declared.action.Action.{Action}
-use Rattle.machine.specs.declared.action.Action.TheVariants.{Local, Read, StorePlain, Write, Alloc, Safepoint, End, Wrong}
-use Rattle.machine.specs.declared.action.Answer.{Answer}
-use Rattle.machine.specs.declared.action.Answer.TheVariants as answer
+use Rattle.machine_asks.specs.declared.action.Action.{Action}
+use Rattle.machine_asks.specs.declared.action.Action.TheVariants.{Local, Read, StorePlain, Write, Alloc, Safepoint, End, Wrong}
+use Rattle.machine_values.specs.declared.answer.Answer.{Answer}
+use Rattle.machine_values.specs.declared.answer.Answer.TheVariants as answer
 use Rattle.machine.specs.declared.frame.Frame.{Frame}
-use Rattle.machine.specs.declared.value.Reference.{Reference}
-use Rattle.machine.specs.declared.value.Value.{Value}
-use Rattle.machine.specs.declared.value.Value.TheVariants as value
+use Rattle.machine_values.specs.declared.value.Reference.{Reference}
+use Rattle.machine_values.specs.declared.value.Value.{Value}
+use Rattle.machine_values.specs.declared.value.Value.TheVariants as value
 use Rattle.machine.specs.Machine.{slot_value, frame_roots, roots_of}
 use Rattle.machine.specs.Log.{Log, Held, IsFresh, RefersToCell, IsReferredTo, IsNullOrHeld, Possible}
 use Rattle.fact_meaning.specs.Meaning.{Cells, Guarded, IsOwn, IsNullOrFresh, Holds}

@@ -6,10 +6,10 @@ use Rattle.layout.specs.Globals.{IsHeapFor}
 use Rattle.layout.specs.Layouts.{LaidOut}
 use Rattle.certificate.specs.declared.section.Promise.{Promise}
 use Rattle.certificate.specs.declared.section.Section.{Section}
-use Rattle.facts.specs.Lines.{promised_below}
-use Rattle.block_rules.specs.Promises.{promises_in}
+use Rattle.fact_rows.specs.Lines.{promised_below}
+use Rattle.rule_forms.specs.Promises.{promises_in}
 use Rattle.certified.specs.Certified.{BlockCertified}
-use Rattle.machine.specs.declared.action.Answer.{Answer}
+use Rattle.machine_values.specs.declared.answer.Answer.{Answer}
 use Rattle.machine.specs.Machine.{start}
 use Rattle.machine.specs.Start.{takes_reference, arguments_fit, argument_values}
 use Rattle.machine.specs.Log.{Safe}

@@ -16,25 +16,25 @@ use Rattle.layout.specs.Layouts.{LaidOut}
 use Rattle.types.specs.References.{pointee}
 use Rattle.shadow_stack.specs.Slots.{SlotTable}
 use Rattle.certificate.specs.declared.section.Section.{Section}
-use Rattle.facts.specs.Facts.{FactSet}
-use Rattle.block_rules.specs.declared.signature.RuntimeType.TheVariants as types
-use Rattle.block_rules.specs.declared.standing.Standing.{Standing}
-use Rattle.block_rules.specs.declared.type_kind.TypeKind.{TypeKind}
-use Rattle.block_rules.specs.declared.type_kind.TypeKind.TheVariants.{NoValue, Bits, Reference, AnyReference, Address as AddressKind, Other}
-use Rattle.block_rules.specs.Barriers.{may_read, may_write, read_conditions, write_conditions, after_read_call, after_write}
+use Rattle.fact_rows.specs.Facts.{FactSet}
+use Rattle.rule_operands.specs.declared.signature.RuntimeType.TheVariants as types
+use Rattle.rule_operands.specs.declared.standing.Standing.{Standing}
+use Rattle.rule_operands.specs.declared.type_kind.TypeKind.{TypeKind}
+use Rattle.rule_operands.specs.declared.type_kind.TypeKind.TheVariants.{NoValue, Bits, Reference, AnyReference, Address as AddressKind, Other}
+use Rattle.rule_forms.specs.Barriers.{may_read, may_write, read_conditions, write_conditions, after_read_call, after_write}
 use Rattle.block_rules.specs.Calls.{read_call_conditions, write_call_conditions}
-use Rattle.block_rules.specs.Casts.{casts_operand}
-use Rattle.block_rules.specs.Operands as o
-use Rattle.block_rules.specs.Places as r
-use Rattle.block_rules.specs.Rules.{first_failing}
-use Rattle.block_rules.specs.Signature.{is_runtime_type, is_declared_as, is_written_as}
-use Rattle.block_rules.specs.TypeKinds.{kind_of, kind_at, place_kind, is_any_reference, is_pointer, may_be_reference}
-use Rattle.machine.specs.declared.action.Action.{Action}
-use Rattle.machine.specs.declared.action.Answer.{Answer}
+use Rattle.rule_forms.specs.Casts.{casts_operand}
+use Rattle.rule_operands.specs.Operands as o
+use Rattle.rule_operands.specs.Places as r
+use Rattle.rule_operands.specs.FirstFailing.{first_failing}
+use Rattle.rule_operands.specs.Signature.{is_runtime_type, is_declared_as, is_written_as}
+use Rattle.rule_operands.specs.TypeKinds.{kind_of, kind_at, place_kind, is_any_reference, is_pointer, may_be_reference}
+use Rattle.machine_asks.specs.declared.action.Action.{Action}
+use Rattle.machine_values.specs.declared.answer.Answer.{Answer}
 use Rattle.machine.specs.declared.frame.Frame.{Frame}
-use Rattle.machine.specs.Asks as a
-use Rattle.machine.specs.Kinds as k
-use Rattle.machine.specs.Kinds.{value_of}
+use Rattle.machine_asks.specs.Asks as a
+use Rattle.machine_values.specs.Kinds as k
+use Rattle.machine_values.specs.Kinds.{value_of}
 use Rattle.machine.specs.Log.{Log, IsFresh}
 use Rattle.machine.specs.Machine as mc
 use Rattle.fact_meaning.specs.Meaning.{Cells, Guarded, Holds}

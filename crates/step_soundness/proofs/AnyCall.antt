@@ -12,17 +12,17 @@ use Rattle.types.specs.RuntimeCall.{runtime_called}
 use Rattle.safepoints.specs.Marks.{is_may}
 use Rattle.shadow_stack.specs.Slots.{SlotTable}
 use Rattle.certificate.specs.declared.section.Section.{Section}
-use Rattle.facts.specs.Facts.{FactSet}
-use Rattle.block_rules.specs.declared.callee.Callee.{Callee}
-use Rattle.block_rules.specs.declared.callee.Callee.TheVariants.{OfRuntime, OfModule, NoFunction}
-use Rattle.block_rules.specs.declared.standing.Standing.{Standing}
+use Rattle.fact_rows.specs.Facts.{FactSet}
+use Rattle.rule_operands.specs.declared.callee.Callee.{Callee}
+use Rattle.rule_operands.specs.declared.callee.Callee.TheVariants.{OfRuntime, OfModule, NoFunction}
+use Rattle.rule_operands.specs.declared.standing.Standing.{Standing}
 use Rattle.block_rules.specs.Calls.{call_conditions, unknown_conditions, after_call}
-use Rattle.block_rules.specs.Rules.{first_failing}
-use Rattle.block_rules.specs.Signature.{callee_of}
-use Rattle.machine.specs.declared.action.Action.{Action}
-use Rattle.machine.specs.declared.action.Answer.{Answer}
+use Rattle.rule_operands.specs.FirstFailing.{first_failing}
+use Rattle.rule_operands.specs.Signature.{callee_of}
+use Rattle.machine_asks.specs.declared.action.Action.{Action}
+use Rattle.machine_values.specs.declared.answer.Answer.{Answer}
 use Rattle.machine.specs.declared.frame.Frame.{Frame}
-use Rattle.machine.specs.Asks as a
+use Rattle.machine_asks.specs.Asks as a
 use Rattle.machine.specs.Log.{Log, IsFresh}
 use Rattle.machine.specs.Machine as mc
 use Rattle.fact_meaning.specs.Meaning.{Cells, Guarded, Holds}

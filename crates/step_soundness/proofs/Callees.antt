@@ -10,11 +10,11 @@ use Rattle.ir_ast.specs.declared.module.Module.{Module}
 use Rattle.ir_ast.specs.declared.runtime.Runtime.{Runtime}
 use Rattle.ir_ast.specs.declared.runtime.Runtime.TheVariants as runtime
 use Rattle.types.specs.RuntimeCall.{runtime_called, runtime_of_declare, runtime_of_sort}
-use Rattle.block_rules.specs.declared.callee.Callee.TheVariants.{OfRuntime, OfModule, NoFunction}
-use Rattle.block_rules.specs.declared.signature.RuntimeType.TheVariants as types
-use Rattle.block_rules.specs.Signature.{signature_of, is_runtime_type, is_of_type, is_declared_as, callable, callable_declare, callable_function, callable_sort, callee_of}
-use Rattle.block_rules.specs.RuntimeNames.{names_runtime}
-use Rattle.machine.specs.Asks as a
+use Rattle.rule_operands.specs.declared.callee.Callee.TheVariants.{OfRuntime, OfModule, NoFunction}
+use Rattle.rule_operands.specs.declared.signature.RuntimeType.TheVariants as types
+use Rattle.rule_operands.specs.Signature.{signature_of, is_runtime_type, is_of_type, is_declared_as, callable, callable_declare, callable_function, callable_sort, callee_of}
+use Rattle.rule_operands.specs.RuntimeNames.{names_runtime}
+use Rattle.machine_asks.specs.Asks as a
 use Rattle.fact_meaning.proofs.KindLemmas.{bits_same, void_same, bytes_same, place_bytes_same}
 use Rattle.fact_meaning.proofs.Lists.{both, equal}
 

@@ -16,26 +16,26 @@ use Rattle.types.specs.ValueTypes.{has_type}
 use Rattle.safepoints.specs.Marks.{is_may}
 use Rattle.shadow_stack.specs.Slots.{SlotTable, held_type, is_reference_held}
 use Rattle.certificate.specs.declared.section.Section.{Section}
-use Rattle.facts.specs.Facts.{FactSet, known_at, define_new, root_slot, make_stale}
-use Rattle.block_rules.specs.declared.signature.RuntimeType.TheVariants as types
-use Rattle.block_rules.specs.declared.standing.Standing.{Standing}
-use Rattle.block_rules.specs.declared.type_kind.TypeKind.{TypeKind}
-use Rattle.block_rules.specs.declared.type_kind.TypeKind.TheVariants.{NoValue, Bits, Reference, AnyReference, Address as AddressKind, Other}
+use Rattle.fact_rows.specs.Facts.{FactSet, known_at, define_new, root_slot, make_stale}
+use Rattle.rule_operands.specs.declared.signature.RuntimeType.TheVariants as types
+use Rattle.rule_operands.specs.declared.standing.Standing.{Standing}
+use Rattle.rule_operands.specs.declared.type_kind.TypeKind.{TypeKind}
+use Rattle.rule_operands.specs.declared.type_kind.TypeKind.TheVariants.{NoValue, Bits, Reference, AnyReference, Address as AddressKind, Other}
 use Rattle.block_rules.specs.Calls.{safepoint_conditions, root_conditions, alloc_conditions, after_root, after_root_call, after_alloc_call, is_unrooted, holds_reference, number_layouts, numbers_layout, all_values}
-use Rattle.block_rules.specs.Operands as o
-use Rattle.block_rules.specs.Rules.{first_failing}
-use Rattle.block_rules.specs.Signature.{is_runtime_type, is_declared_as, is_written_as}
-use Rattle.block_rules.specs.TypeKinds.{kind_of, is_reference, is_integer, layout_of_kind}
-use Rattle.machine.specs.declared.value.Reference.{Reference as Ref}
-use Rattle.machine.specs.declared.value.Value.{Value}
-use Rattle.machine.specs.declared.value.Value.TheVariants as value
+use Rattle.rule_operands.specs.Operands as o
+use Rattle.rule_operands.specs.FirstFailing.{first_failing}
+use Rattle.rule_operands.specs.Signature.{is_runtime_type, is_declared_as, is_written_as}
+use Rattle.rule_operands.specs.TypeKinds.{kind_of, is_reference, is_integer, layout_of_kind}
+use Rattle.machine_values.specs.declared.value.Reference.{Reference as Ref}
+use Rattle.machine_values.specs.declared.value.Value.{Value}
+use Rattle.machine_values.specs.declared.value.Value.TheVariants as value
 use Rattle.machine.specs.declared.frame.Frame.{Frame}
-use Rattle.machine.specs.declared.action.Action.{Action}
-use Rattle.machine.specs.declared.action.Action.TheVariants.{Local, Read, Write, StorePlain, Alloc, Safepoint, End, Wrong}
-use Rattle.machine.specs.declared.action.Answer.{Answer}
-use Rattle.machine.specs.declared.action.Answer.TheVariants as answer
-use Rattle.machine.specs.Asks as a
-use Rattle.machine.specs.Kinds as k
+use Rattle.machine_asks.specs.declared.action.Action.{Action}
+use Rattle.machine_asks.specs.declared.action.Action.TheVariants.{Local, Read, Write, StorePlain, Alloc, Safepoint, End, Wrong}
+use Rattle.machine_values.specs.declared.answer.Answer.{Answer}
+use Rattle.machine_values.specs.declared.answer.Answer.TheVariants as answer
+use Rattle.machine_asks.specs.Asks as a
+use Rattle.machine_values.specs.Kinds as k
 use Rattle.machine.specs.Machine as mc
 use Rattle.machine.specs.Machine.{slot_value}
 use Rattle.machine.specs.Log.{Log, Held, HoldsCell, GivesCell, IsFresh, StaysHeld, StaysFresh, Possible}

@@ -26,30 +26,30 @@ use Rattle.types.specs.Globals.{points_to_global}
 use Rattle.types.specs.ValueTypes.{has_type}
 use Rattle.shadow_stack.specs.Slots.{SlotTable}
 use Rattle.certificate.specs.declared.section.Section.{Section}
-use Rattle.facts.specs.declared.known.Known.{Known}
-use Rattle.facts.specs.declared.known.Known.TheVariants.{Nothing, Number, Cell, Null, Address, GlobalAddress}
-use Rattle.facts.specs.Facts.{FactSet, known_at, off_base, define}
-use Rattle.block_rules.specs.declared.stride.Stride.{Stride}
-use Rattle.block_rules.specs.declared.type_kind.TypeKind.TheVariants.{Bits}
+use Rattle.fact_rows.specs.declared.known.Known.{Known}
+use Rattle.fact_rows.specs.declared.known.Known.TheVariants.{Nothing, Number, Cell, Null, Address, GlobalAddress}
+use Rattle.fact_rows.specs.Facts.{FactSet, known_at, off_base, define}
+use Rattle.rule_forms.specs.declared.stride.Stride.{Stride}
+use Rattle.rule_operands.specs.declared.type_kind.TypeKind.TheVariants.{Bits}
 use Rattle.block_rules.specs.Calls.{no_slots}
-use Rattle.block_rules.specs.Casts.{casts_operand}
-use Rattle.block_rules.specs.Elements as r
-use Rattle.block_rules.specs.Integers.{below_known, known_layout}
-use Rattle.block_rules.specs.Operands as o
-use Rattle.block_rules.specs.Places.{cell_words}
+use Rattle.rule_forms.specs.Casts.{casts_operand}
+use Rattle.rule_forms.specs.Elements as r
+use Rattle.rule_forms.specs.Integers.{below_known, known_layout}
+use Rattle.rule_operands.specs.Operands as o
+use Rattle.rule_operands.specs.Places.{cell_words}
 use Rattle.block_rules.specs.Rules.{after_op}
-use Rattle.block_rules.specs.TypeKinds.{kind_of, is_integer, is_pointer}
-use Rattle.machine.specs.declared.value.Place.{Place}
-use Rattle.machine.specs.declared.value.Place.TheVariants as place
-use Rattle.machine.specs.declared.value.Reference.{Reference as Ref}
-use Rattle.machine.specs.declared.value.Value.{Value}
-use Rattle.machine.specs.declared.value.Value.TheVariants as value
+use Rattle.rule_operands.specs.TypeKinds.{kind_of, is_integer, is_pointer}
+use Rattle.machine_values.specs.declared.value.Place.{Place}
+use Rattle.machine_values.specs.declared.value.Place.TheVariants as place
+use Rattle.machine_values.specs.declared.value.Reference.{Reference as Ref}
+use Rattle.machine_values.specs.declared.value.Value.{Value}
+use Rattle.machine_values.specs.declared.value.Value.TheVariants as value
 use Rattle.machine.specs.declared.frame.Frame.{Frame}
-use Rattle.machine.specs.Asks as a
-use Rattle.machine.specs.Elements.{index_value, stepped, offset_behind, first_place, element_offset, word_in, word_behind, element_place, address_of}
-use Rattle.machine.specs.Integers.{sign_extended}
-use Rattle.machine.specs.Kinds as k
-use Rattle.machine.specs.Kinds.{modulus, wrapped, bits_at, register_at, number_in, value_of}
+use Rattle.machine_asks.specs.Asks as a
+use Rattle.machine_values.specs.Elements.{index_value, stepped, offset_behind, first_place, element_offset, word_in, word_behind, element_place, address_of}
+use Rattle.machine_values.specs.Integers.{sign_extended}
+use Rattle.machine_values.specs.Kinds as k
+use Rattle.machine_values.specs.Kinds.{modulus, wrapped, bits_at, register_at, number_in, value_of}
 use Rattle.machine.specs.Machine as mc
 use Rattle.machine.specs.Log.{Log}
 use Rattle.fact_meaning.specs.Meaning.{Cells, Guarded, IsReferenceTo, IsInteger, IsAddressOf, IsGlobal, Means, Holds}

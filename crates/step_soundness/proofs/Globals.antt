@@ -8,11 +8,11 @@ use Rattle.layout.specs.Globals.{word_held, global_word}
 use Rattle.types.specs.Globals.{global_named, held_by, points_to_global}
 use Rattle.types.specs.References.{pointee}
 use Rattle.types.specs.ValueTypes.{is_same}
-use Rattle.block_rules.specs.Casts as c
-use Rattle.block_rules.specs.Places.{layout_of_word}
-use Rattle.block_rules.specs.TypeKinds.{place_kind}
-use Rattle.machine.specs.Elements.{global_kind}
-use Rattle.machine.specs.Kinds as k
+use Rattle.rule_forms.specs.Casts as c
+use Rattle.rule_operands.specs.Places.{layout_of_word}
+use Rattle.rule_operands.specs.TypeKinds.{place_kind}
+use Rattle.machine_values.specs.Elements.{global_kind}
+use Rattle.machine_values.specs.Kinds as k
 use Rattle.fact_meaning.specs.Meaning.{IsGlobal}
 use Rattle.step_soundness.proofs.SameKinds.{place_refers}
 use Rattle.step_soundness.proofs.Steps.{chosen}

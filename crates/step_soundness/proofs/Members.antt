@@ -27,30 +27,30 @@ use Rattle.certificate.specs.declared.section.Mark.TheVariants as mark
 use Rattle.certificate.specs.declared.section.Promise.{Promise}
 use Rattle.certificate.specs.declared.section.Section.{Section}
 use Rattle.safepoints.specs.Marks.{after_mark}
-use Rattle.facts.specs.declared.known.Class.{Class}
-use Rattle.facts.specs.declared.known.Given.{Given}
-use Rattle.facts.specs.declared.known.Given.TheVariants as given
-use Rattle.facts.specs.declared.known.Known.{Known}
-use Rattle.facts.specs.declared.known.Known.TheVariants.{Nothing, Number, Cell, Null, Address, GlobalAddress}
-use Rattle.facts.specs.declared.known.SlotFact.{SlotFact}
-use Rattle.facts.specs.Facts.{FactSet, known_at, slot_at, class_at, open_slot, lost_class, nothing_known, is_of, holds_class, let_go, off_base, values_without, slots_without, forget, set_known, set_slot, set_class, define, add_class, define_new, clear_slot, drop_fresh, drop_fresh_of, drop_held, end_slot, root_slot, store_slot, learn_nonnull, load_held, load_slot, stale_of, stale_class, end_hold, make_stale}
-use Rattle.facts.specs.Lines.{is_stale, is_fresh, move, list_slot, list_line, list_lines, join_values, tie_line, tie_lines, hold_known, hold_value, hold_lines, facts_of_lines, promised_below, promised_nonnull, promised_layout, receive_reference, receive, receive_all, facts_of_parameters}
-use Rattle.block_rules.specs.declared.callee.Callee.{Callee}
-use Rattle.block_rules.specs.declared.callee.Callee.TheVariants.{OfRuntime, OfModule, NoFunction}
-use Rattle.block_rules.specs.declared.type_kind.TypeKind.{TypeKind}
-use Rattle.block_rules.specs.declared.type_kind.TypeKind.TheVariants.{NoValue, Bits, Reference, AnyReference, Address as AddressKind, Other}
-use Rattle.block_rules.specs.Barriers.{after_read, after_read_call, after_write}
-use Rattle.block_rules.specs.Bounds.{below_next}
+use Rattle.fact_rows.specs.declared.known.Class.{Class}
+use Rattle.fact_rows.specs.declared.known.Given.{Given}
+use Rattle.fact_rows.specs.declared.known.Given.TheVariants as given
+use Rattle.fact_rows.specs.declared.known.Known.{Known}
+use Rattle.fact_rows.specs.declared.known.Known.TheVariants.{Nothing, Number, Cell, Null, Address, GlobalAddress}
+use Rattle.fact_rows.specs.declared.known.SlotFact.{SlotFact}
+use Rattle.fact_rows.specs.Facts.{FactSet, known_at, slot_at, class_at, open_slot, lost_class, nothing_known, is_of, holds_class, let_go, off_base, values_without, slots_without, forget, set_known, set_slot, set_class, define, add_class, define_new, clear_slot, drop_fresh, drop_fresh_of, drop_held, end_slot, root_slot, store_slot, learn_nonnull, load_held, load_slot, stale_of, stale_class, end_hold, make_stale}
+use Rattle.fact_rows.specs.Lines.{is_stale, is_fresh, move, list_slot, list_line, list_lines, join_values, tie_line, tie_lines, hold_known, hold_value, hold_lines, facts_of_lines, promised_below, promised_nonnull, promised_layout, receive_reference, receive, receive_all, facts_of_parameters}
+use Rattle.rule_operands.specs.declared.callee.Callee.{Callee}
+use Rattle.rule_operands.specs.declared.callee.Callee.TheVariants.{OfRuntime, OfModule, NoFunction}
+use Rattle.rule_operands.specs.declared.type_kind.TypeKind.{TypeKind}
+use Rattle.rule_operands.specs.declared.type_kind.TypeKind.TheVariants.{NoValue, Bits, Reference, AnyReference, Address as AddressKind, Other}
+use Rattle.rule_operands.specs.Operands.{slot_named, known_of, is_nonnull}
+use Rattle.rule_operands.specs.Places.{first_layout, cell_words, define_held, load_kind, load_held_type, layout_of_word, load_word, load_words, load_base, load_known, load_place, after_store}
+use Rattle.rule_operands.specs.Signature.{callee_of}
+use Rattle.rule_operands.specs.TypeKinds.{kind_of}
+use Rattle.rule_forms.specs.Barriers.{after_read, after_read_call, after_write}
+use Rattle.rule_forms.specs.Bounds.{below_next}
+use Rattle.rule_forms.specs.Promises.{given_by, promised_in, callee_mark}
+use Rattle.rule_forms.specs.Casts.{layout_of_null, cast_number, cast_constant, cast_local, after_cast}
+use Rattle.rule_forms.specs.Elements.{element_words, start_of, define_element, define_words, after_element}
+use Rattle.rule_forms.specs.Integers.{below_of, larger, arithmetic_below, define_number, resized_below, after_compare, chosen_layout, choose_reference, after_select}
 use Rattle.block_rules.specs.Calls.{after_root, after_root_call, alloc_numbered, alloc_layout, after_alloc_call, drop_arguments, receive_result, after_defined, after_call}
-use Rattle.block_rules.specs.Promises.{given_by, promised_in, callee_mark}
-use Rattle.block_rules.specs.Casts.{layout_of_null, cast_number, cast_constant, cast_local, after_cast}
-use Rattle.block_rules.specs.Elements.{element_words, start_of, define_element, define_words, after_element}
-use Rattle.block_rules.specs.Integers.{below_of, larger, arithmetic_below, define_number, resized_below, after_compare, chosen_layout, choose_reference, after_select}
-use Rattle.block_rules.specs.Operands.{slot_named, known_of, is_nonnull}
-use Rattle.block_rules.specs.Places.{first_layout, cell_words, define_held, load_kind, load_held_type, layout_of_word, load_word, load_words, load_base, load_known, load_place, after_store}
 use Rattle.block_rules.specs.Rules.{after_alloca, after_named, after_op}
-use Rattle.block_rules.specs.Signature.{callee_of}
-use Rattle.block_rules.specs.TypeKinds.{kind_of}
 use Rattle.fact_meaning.proofs.Lists.{at_set, at_other, at_map, at_old, at_end, longer, equal, equal_test, by_equal, replicated}
 use Rattle.step_soundness.specs.Goes.{IsNamed, HasMember, HaveClasses, HaveMembers, MembersStay}
 

@@ -18,19 +18,20 @@ use Rattle.types.specs.ValueTypes.{has_type}
 use Rattle.safepoints.specs.Marks.{is_may}
 use Rattle.shadow_stack.specs.Slots.{SlotTable, slots_of, slot_of}
 use Rattle.certificate.specs.declared.section.Section.{Section}
-use Rattle.facts.specs.Facts.{FactSet, known_at}
-use Rattle.block_rules.specs.declared.standing.Standing.{Standing}
-use Rattle.block_rules.specs.Barriers.{needs_no_barrier}
+use Rattle.fact_rows.specs.Facts.{FactSet, known_at}
+use Rattle.rule_operands.specs.declared.standing.Standing.{Standing}
+use Rattle.rule_operands.specs.Operands as o
+use Rattle.rule_operands.specs.Places as q
+use Rattle.rule_operands.specs.FirstFailing.{first_failing}
+use Rattle.rule_operands.specs.TypeKinds.{kind_of, is_integer, is_bits, is_pointer}
+use Rattle.rule_forms.specs.Barriers.{needs_no_barrier}
+use Rattle.rule_forms.specs.Casts as c
+use Rattle.rule_forms.specs.Elements as g
+use Rattle.rule_forms.specs.Integers as r
 use Rattle.block_rules.specs.Calls.{no_slots}
-use Rattle.block_rules.specs.Casts as c
-use Rattle.block_rules.specs.Elements as g
-use Rattle.block_rules.specs.Integers as r
-use Rattle.block_rules.specs.Operands as o
-use Rattle.block_rules.specs.Places as q
-use Rattle.block_rules.specs.Rules.{first_failing, op_conditions, after_op, is_condition}
-use Rattle.block_rules.specs.TypeKinds.{kind_of, is_integer, is_bits, is_pointer}
+use Rattle.block_rules.specs.Rules.{op_conditions, after_op, is_condition}
 use Rattle.machine.specs.declared.frame.Frame.{Frame}
-use Rattle.machine.specs.Asks as a
+use Rattle.machine_asks.specs.Asks as a
 use Rattle.machine.specs.Machine as mc
 use Rattle.machine.specs.Log.{Log, IsFresh}
 use Rattle.fact_meaning.specs.Meaning.{Cells, Guarded, Holds}

@@ -5,14 +5,14 @@ use Rattle.ir_ast.specs.declared.module.Module.{Module}
 use Rattle.pools.specs.declared.word_kind.WordKind.{WordKind}
 use Rattle.pools.specs.declared.word_kind.WordKind.TheVariants as word
 use Rattle.types.specs.References.{pointee, referenced_layout}
-use Rattle.block_rules.specs.declared.type_kind.TypeKind.{TypeKind}
-use Rattle.block_rules.specs.declared.type_kind.TypeKind.TheVariants.{NoValue, Bits, Reference, AnyReference, Address as AddressKind, Other}
-use Rattle.block_rules.specs.Casts as c
-use Rattle.block_rules.specs.Places.{wanted_by_load, holds_wanted}
-use Rattle.block_rules.specs.TypeKinds.{kind_of, kind_at, place_kind, fits_layout, layout_of_kind, is_any_reference, may_be_reference}
-use Rattle.machine.specs.Asks as a
-use Rattle.machine.specs.Kinds as k
-use Rattle.machine.specs.Kinds.{refers_to, is_layout}
+use Rattle.rule_operands.specs.declared.type_kind.TypeKind.{TypeKind}
+use Rattle.rule_operands.specs.declared.type_kind.TypeKind.TheVariants.{NoValue, Bits, Reference, AnyReference, Address as AddressKind, Other}
+use Rattle.rule_forms.specs.Casts as c
+use Rattle.rule_operands.specs.Places.{wanted_by_load, holds_wanted}
+use Rattle.rule_operands.specs.TypeKinds.{kind_of, kind_at, place_kind, fits_layout, layout_of_kind, is_any_reference, may_be_reference}
+use Rattle.machine_asks.specs.Asks as a
+use Rattle.machine_values.specs.Kinds as k
+use Rattle.machine_values.specs.Kinds.{refers_to, is_layout}
 use Rattle.fact_meaning.proofs.Lists.{both, either_true, other_true, turned}
 use Rattle.fact_meaning.proofs.KindLemmas.{refers_same, layout_same, bytes_same, leads_same}
 

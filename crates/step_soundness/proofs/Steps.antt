@@ -12,27 +12,28 @@ use Rattle.layout.specs.Layouts.{LaidOut}
 use Rattle.types.specs.ValueTypes.{has_type}
 use Rattle.shadow_stack.specs.Slots.{SlotTable, slot_of}
 use Rattle.certificate.specs.declared.section.Section.{Section}
-use Rattle.facts.specs.declared.known.Known.{Known}
-use Rattle.facts.specs.declared.known.Known.TheVariants.{Nothing, Number, Cell, Null, Address, GlobalAddress}
-use Rattle.facts.specs.Facts.{FactSet, known_at}
-use Rattle.block_rules.specs.declared.rule.Rule.{Rule}
-use Rattle.block_rules.specs.declared.type_kind.TypeKind.{TypeKind}
-use Rattle.block_rules.specs.declared.type_kind.TypeKind.TheVariants.{NoValue, Bits, Reference, AnyReference, Address as AddressKind, Other}
-use Rattle.block_rules.specs.Bounds.{below_next}
-use Rattle.block_rules.specs.Integers.{below_of, below_known}
-use Rattle.block_rules.specs.Operands as o
-use Rattle.block_rules.specs.Rules.{first_failing, after_op, after_alloca}
-use Rattle.block_rules.specs.TypeKinds.{kind_of, is_integer, is_pointer, may_be_reference}
-use Rattle.machine.specs.declared.value.Reference.{Reference as Ref}
-use Rattle.machine.specs.declared.value.Value.{Value}
-use Rattle.machine.specs.declared.value.Value.TheVariants as value
+use Rattle.fact_rows.specs.declared.known.Known.{Known}
+use Rattle.fact_rows.specs.declared.known.Known.TheVariants.{Nothing, Number, Cell, Null, Address, GlobalAddress}
+use Rattle.fact_rows.specs.Facts.{FactSet, known_at}
+use Rattle.rule_operands.specs.declared.rule.Rule.{Rule}
+use Rattle.rule_operands.specs.declared.type_kind.TypeKind.{TypeKind}
+use Rattle.rule_operands.specs.declared.type_kind.TypeKind.TheVariants.{NoValue, Bits, Reference, AnyReference, Address as AddressKind, Other}
+use Rattle.rule_forms.specs.Bounds.{below_next}
+use Rattle.rule_forms.specs.Integers.{below_of, below_known}
+use Rattle.rule_operands.specs.Operands as o
+use Rattle.rule_operands.specs.FirstFailing.{first_failing}
+use Rattle.block_rules.specs.Rules.{after_op, after_alloca}
+use Rattle.rule_operands.specs.TypeKinds.{kind_of, is_integer, is_pointer, may_be_reference}
+use Rattle.machine_values.specs.declared.value.Reference.{Reference as Ref}
+use Rattle.machine_values.specs.declared.value.Value.{Value}
+use Rattle.machine_values.specs.declared.value.Value.TheVariants as value
 use Rattle.machine.specs.declared.frame.Frame.{Frame}
-use Rattle.machine.specs.declared.action.Action.{Action}
-use Rattle.machine.specs.declared.action.Action.TheVariants.{Local}
-use Rattle.machine.specs.declared.action.Answer.{Answer}
-use Rattle.machine.specs.declared.action.Answer.TheVariants as answer
-use Rattle.machine.specs.Kinds as k
-use Rattle.machine.specs.Kinds.{register_at, wrapped, bits_at, value_of, constant_value}
+use Rattle.machine_asks.specs.declared.action.Action.{Action}
+use Rattle.machine_asks.specs.declared.action.Action.TheVariants.{Local}
+use Rattle.machine_values.specs.declared.answer.Answer.{Answer}
+use Rattle.machine_values.specs.declared.answer.Answer.TheVariants as answer
+use Rattle.machine_values.specs.Kinds as k
+use Rattle.machine_values.specs.Kinds.{register_at, wrapped, bits_at, value_of, constant_value}
 use Rattle.machine.specs.Machine.{set_register}
 use Rattle.machine.specs.Log.{Log, IsFresh, Possible}
 use Rattle.fact_meaning.specs.Meaning.{Cells, Guarded, IsReferenceTo, IsOwn, IsNullOrFresh, AreApart, FitsReference, IsBelow, IsInteger, IsAddressOf, Means, Holds}

@@ -3,11 +3,11 @@ use Rattle.std.proofs.Common.{◌≡◌, ◌≢◌, ℕ, List, sym, ◌∙◌, t
 use Rattle.pools.specs.Heap.{Setup}
 use Rattle.layout.specs.Layouts.{LaidOut}
 use Rattle.shadow_stack.specs.Slots.{SlotTable}
-use Rattle.facts.specs.declared.known.Known.TheVariants.{Cell}
-use Rattle.facts.specs.Facts.{FactSet, known_at, class_at, lost_class, drop_fresh}
-use Rattle.machine.specs.declared.value.Reference.{Reference}
-use Rattle.machine.specs.declared.value.Value.{Value}
-use Rattle.machine.specs.declared.value.Value.TheVariants as value
+use Rattle.fact_rows.specs.declared.known.Known.TheVariants.{Cell}
+use Rattle.fact_rows.specs.Facts.{FactSet, known_at, class_at, lost_class, drop_fresh}
+use Rattle.machine_values.specs.declared.value.Reference.{Reference}
+use Rattle.machine_values.specs.declared.value.Value.{Value}
+use Rattle.machine_values.specs.declared.value.Value.TheVariants as value
 use Rattle.machine.specs.Log.{Log, Held, IsFresh, RefersToCell}
 use Rattle.fact_meaning.specs.Meaning.{Cells, Guarded, IsNullOrFresh, AreApart, Holds}
 use Rattle.fact_meaning.proofs.Lists.{at_set}

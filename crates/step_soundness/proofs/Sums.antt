@@ -19,23 +19,23 @@ use Rattle.layout.specs.Layouts.{LaidOut}
 use Rattle.types.specs.ValueTypes.{has_type}
 use Rattle.shadow_stack.specs.Slots.{SlotTable}
 use Rattle.certificate.specs.declared.section.Section.{Section}
-use Rattle.facts.specs.declared.known.Known.{Known}
-use Rattle.facts.specs.declared.known.Known.TheVariants.{Nothing, Number, Cell, Null, Address, GlobalAddress}
-use Rattle.facts.specs.declared.known.Test.{Test}
-use Rattle.facts.specs.Facts.{FactSet, known_at, define, define_test, off_test}
-use Rattle.block_rules.specs.declared.type_kind.TypeKind.{TypeKind}
-use Rattle.block_rules.specs.declared.type_kind.TypeKind.TheVariants.{NoValue, Bits, Reference, AnyReference, Address as AddressKind, Other}
-use Rattle.block_rules.specs.Integers as r
-use Rattle.block_rules.specs.Operands as o
+use Rattle.fact_rows.specs.declared.known.Known.{Known}
+use Rattle.fact_rows.specs.declared.known.Known.TheVariants.{Nothing, Number, Cell, Null, Address, GlobalAddress}
+use Rattle.fact_rows.specs.declared.known.Test.{Test}
+use Rattle.fact_rows.specs.Facts.{FactSet, known_at, define, define_test, off_test}
+use Rattle.rule_operands.specs.declared.type_kind.TypeKind.{TypeKind}
+use Rattle.rule_operands.specs.declared.type_kind.TypeKind.TheVariants.{NoValue, Bits, Reference, AnyReference, Address as AddressKind, Other}
+use Rattle.rule_forms.specs.Integers as r
+use Rattle.rule_operands.specs.Operands as o
 use Rattle.block_rules.specs.Rules.{after_op}
-use Rattle.block_rules.specs.TypeKinds.{kind_of, is_integer, may_be_reference}
-use Rattle.machine.specs.declared.value.Value.{Value}
-use Rattle.machine.specs.declared.value.Value.TheVariants as value
+use Rattle.rule_operands.specs.TypeKinds.{kind_of, is_integer, may_be_reference}
+use Rattle.machine_values.specs.declared.value.Value.{Value}
+use Rattle.machine_values.specs.declared.value.Value.TheVariants as value
 use Rattle.machine.specs.declared.frame.Frame.{Frame}
-use Rattle.machine.specs.Asks as a
-use Rattle.machine.specs.Integers as i
-use Rattle.machine.specs.Kinds as k
-use Rattle.machine.specs.Kinds.{register_at, wrapped, bits_at, number_in, value_of, constant_value}
+use Rattle.machine_asks.specs.Asks as a
+use Rattle.machine_values.specs.Integers as i
+use Rattle.machine_values.specs.Kinds as k
+use Rattle.machine_values.specs.Kinds.{register_at, wrapped, bits_at, number_in, value_of, constant_value}
 use Rattle.machine.specs.Machine as mc
 use Rattle.machine.specs.Machine.{compared}
 use Rattle.machine.specs.Log.{Log}

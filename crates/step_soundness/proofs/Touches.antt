@@ -14,26 +14,26 @@ use Rattle.types.specs.Globals.{points_to_global}
 use Rattle.types.specs.ValueTypes.{has_type}
 use Rattle.shadow_stack.specs.Slots.{SlotTable, slot_of}
 use Rattle.certificate.specs.declared.section.Section.{Section}
-use Rattle.facts.specs.declared.known.Known.{Known}
-use Rattle.facts.specs.declared.known.Known.TheVariants.{Nothing, Number, Cell, Null, Address, GlobalAddress}
-use Rattle.facts.specs.Facts.{FactSet, known_at, class_at}
-use Rattle.block_rules.specs.declared.wanted.Wanted.{Wanted}
-use Rattle.block_rules.specs.declared.wanted.Wanted.TheVariants as want
-use Rattle.block_rules.specs.Casts as c
-use Rattle.block_rules.specs.Operands as o
-use Rattle.block_rules.specs.Places as r
-use Rattle.machine.specs.declared.action.Action.TheVariants.{Read, Write, StorePlain}
-use Rattle.machine.specs.declared.action.Answer.{Answer}
+use Rattle.fact_rows.specs.declared.known.Known.{Known}
+use Rattle.fact_rows.specs.declared.known.Known.TheVariants.{Nothing, Number, Cell, Null, Address, GlobalAddress}
+use Rattle.fact_rows.specs.Facts.{FactSet, known_at, class_at}
+use Rattle.rule_operands.specs.declared.wanted.Wanted.{Wanted}
+use Rattle.rule_operands.specs.declared.wanted.Wanted.TheVariants as want
+use Rattle.rule_forms.specs.Casts as c
+use Rattle.rule_operands.specs.Operands as o
+use Rattle.rule_operands.specs.Places as r
+use Rattle.machine_asks.specs.declared.action.Action.TheVariants.{Read, Write, StorePlain}
+use Rattle.machine_values.specs.declared.answer.Answer.{Answer}
 use Rattle.machine.specs.declared.frame.Frame.{Frame}
-use Rattle.machine.specs.declared.value.Place.{Place}
-use Rattle.machine.specs.declared.value.Place.TheVariants as place
-use Rattle.machine.specs.declared.value.Reference.{Reference as Ref}
-use Rattle.machine.specs.declared.value.Value.{Value}
-use Rattle.machine.specs.declared.value.Value.TheVariants as value
-use Rattle.machine.specs.Asks as a
-use Rattle.machine.specs.Elements.{globals_cell, global_kind, is_read_as, read_value, takes_value}
-use Rattle.machine.specs.Kinds as k
-use Rattle.machine.specs.Kinds.{register_at, value_of}
+use Rattle.machine_values.specs.declared.value.Place.{Place}
+use Rattle.machine_values.specs.declared.value.Place.TheVariants as place
+use Rattle.machine_values.specs.declared.value.Reference.{Reference as Ref}
+use Rattle.machine_values.specs.declared.value.Value.{Value}
+use Rattle.machine_values.specs.declared.value.Value.TheVariants as value
+use Rattle.machine_asks.specs.Asks as a
+use Rattle.machine_values.specs.Elements.{globals_cell, global_kind, is_read_as, read_value, takes_value}
+use Rattle.machine_values.specs.Kinds as k
+use Rattle.machine_values.specs.Kinds.{register_at, value_of}
 use Rattle.machine.specs.Log.{Log, IsFresh, MayTouch}
 use Rattle.machine.specs.Machine as mc
 use Rattle.fact_meaning.specs.Meaning.{Cells, Guarded, IsAddressOf, IsGlobal, IsNullOrFresh, Means, Holds}

@@ -12,25 +12,25 @@ use Rattle.layout.specs.Globals.{IsHeapFor, global_word}
 use Rattle.layout.specs.Layouts.{LaidOut}
 use Rattle.shadow_stack.specs.Slots.{SlotTable}
 use Rattle.certificate.specs.declared.section.Section.{Section}
-use Rattle.facts.specs.declared.known.Known.{Known}
-use Rattle.facts.specs.declared.known.Known.TheVariants.{Nothing, Number, Cell, Null, Address, GlobalAddress}
-use Rattle.facts.specs.Facts.{FactSet, define}
-use Rattle.block_rules.specs.declared.type_kind.TypeKind.{TypeKind}
-use Rattle.block_rules.specs.declared.type_kind.TypeKind.TheVariants.{NoValue, Bits, Reference, AnyReference, Address as AddressKind, Other}
-use Rattle.block_rules.specs.Operands as o
-use Rattle.block_rules.specs.Places as r
+use Rattle.fact_rows.specs.declared.known.Known.{Known}
+use Rattle.fact_rows.specs.declared.known.Known.TheVariants.{Nothing, Number, Cell, Null, Address, GlobalAddress}
+use Rattle.fact_rows.specs.Facts.{FactSet, define}
+use Rattle.rule_operands.specs.declared.type_kind.TypeKind.{TypeKind}
+use Rattle.rule_operands.specs.declared.type_kind.TypeKind.TheVariants.{NoValue, Bits, Reference, AnyReference, Address as AddressKind, Other}
+use Rattle.rule_operands.specs.Operands as o
+use Rattle.rule_operands.specs.Places as r
 use Rattle.block_rules.specs.Rules.{after_op}
-use Rattle.block_rules.specs.TypeKinds.{kind_of, is_bits, fits_layout}
-use Rattle.machine.specs.declared.action.Action.TheVariants.{Read}
-use Rattle.machine.specs.declared.action.Answer.{Answer}
-use Rattle.machine.specs.declared.action.Answer.TheVariants as answer
+use Rattle.rule_operands.specs.TypeKinds.{kind_of, is_bits, fits_layout}
+use Rattle.machine_asks.specs.declared.action.Action.TheVariants.{Read}
+use Rattle.machine_values.specs.declared.answer.Answer.{Answer}
+use Rattle.machine_values.specs.declared.answer.Answer.TheVariants as answer
 use Rattle.machine.specs.declared.frame.Frame.{Frame}
-use Rattle.machine.specs.declared.value.Value.{Value}
-use Rattle.machine.specs.declared.value.Value.TheVariants as value
-use Rattle.machine.specs.Asks as a
-use Rattle.machine.specs.Elements.{is_read_as, read_value}
-use Rattle.machine.specs.Kinds as k
-use Rattle.machine.specs.Kinds.{value_of}
+use Rattle.machine_values.specs.declared.value.Value.{Value}
+use Rattle.machine_values.specs.declared.value.Value.TheVariants as value
+use Rattle.machine_asks.specs.Asks as a
+use Rattle.machine_values.specs.Elements.{is_read_as, read_value}
+use Rattle.machine_values.specs.Kinds as k
+use Rattle.machine_values.specs.Kinds.{value_of}
 use Rattle.machine.specs.Log.{Log, IsFresh, MayBeRead}
 use Rattle.machine.specs.Machine as mc
 use Rattle.fact_meaning.specs.Meaning.{Cells, Guarded, Holds}

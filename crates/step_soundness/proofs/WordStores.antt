@@ -18,27 +18,27 @@ use Rattle.layout.specs.Layouts.{LaidOut}
 use Rattle.types.specs.ValueTypes.{has_type}
 use Rattle.shadow_stack.specs.Slots.{SlotTable}
 use Rattle.certificate.specs.declared.section.Section.{Section}
-use Rattle.facts.specs.declared.known.Known.{Known}
-use Rattle.facts.specs.declared.known.Known.TheVariants.{Nothing, Number, Cell, Null, Address, GlobalAddress}
-use Rattle.facts.specs.Facts.{FactSet, known_at, class_at, drop_fresh_of}
-use Rattle.block_rules.specs.declared.wanted.Wanted.{Wanted}
-use Rattle.block_rules.specs.declared.type_kind.TypeKind.{TypeKind}
-use Rattle.block_rules.specs.declared.type_kind.TypeKind.TheVariants.{NoValue, Bits, Reference, AnyReference, Address as AddressKind, Other}
-use Rattle.block_rules.specs.Barriers.{is_own_place, needs_no_barrier}
-use Rattle.block_rules.specs.Integers.{below_of}
-use Rattle.block_rules.specs.Operands as o
-use Rattle.block_rules.specs.Places as r
+use Rattle.fact_rows.specs.declared.known.Known.{Known}
+use Rattle.fact_rows.specs.declared.known.Known.TheVariants.{Nothing, Number, Cell, Null, Address, GlobalAddress}
+use Rattle.fact_rows.specs.Facts.{FactSet, known_at, class_at, drop_fresh_of}
+use Rattle.rule_operands.specs.declared.wanted.Wanted.{Wanted}
+use Rattle.rule_operands.specs.declared.type_kind.TypeKind.{TypeKind}
+use Rattle.rule_operands.specs.declared.type_kind.TypeKind.TheVariants.{NoValue, Bits, Reference, AnyReference, Address as AddressKind, Other}
+use Rattle.rule_forms.specs.Barriers.{is_own_place, needs_no_barrier}
+use Rattle.rule_forms.specs.Integers.{below_of}
+use Rattle.rule_operands.specs.Operands as o
+use Rattle.rule_operands.specs.Places as r
 use Rattle.block_rules.specs.Rules.{after_op}
-use Rattle.block_rules.specs.TypeKinds.{kind_of, fits_layout, may_be_reference}
-use Rattle.machine.specs.declared.action.Action.TheVariants.{Write, StorePlain, Wrong}
+use Rattle.rule_operands.specs.TypeKinds.{kind_of, fits_layout, may_be_reference}
+use Rattle.machine_asks.specs.declared.action.Action.TheVariants.{Write, StorePlain, Wrong}
 use Rattle.machine.specs.declared.frame.Frame.{Frame}
-use Rattle.machine.specs.declared.value.Reference.{Reference as Ref}
-use Rattle.machine.specs.declared.value.Value.{Value}
-use Rattle.machine.specs.declared.value.Value.TheVariants as value
-use Rattle.machine.specs.Asks as a
-use Rattle.machine.specs.Elements.{takes_value}
-use Rattle.machine.specs.Kinds as k
-use Rattle.machine.specs.Kinds.{register_at, value_of}
+use Rattle.machine_values.specs.declared.value.Reference.{Reference as Ref}
+use Rattle.machine_values.specs.declared.value.Value.{Value}
+use Rattle.machine_values.specs.declared.value.Value.TheVariants as value
+use Rattle.machine_asks.specs.Asks as a
+use Rattle.machine_values.specs.Elements.{takes_value}
+use Rattle.machine_values.specs.Kinds as k
+use Rattle.machine_values.specs.Kinds.{register_at, value_of}
 use Rattle.machine.specs.Log.{Log, Held, IsFresh, RefersTo, RefersToCell, IsNullOrHeldOf, MayBeStored, MayBeWritten}
 use Rattle.machine.specs.Machine as mc
 use Rattle.fact_meaning.specs.Meaning.{Cells, Guarded, IsReferenceTo, IsOwn, IsInteger, Means, Holds}

@@ -9,19 +9,20 @@ use Rattle.layout.specs.Globals.{IsHeapFor}
 use Rattle.layout.specs.Layouts.{LaidOut}
 use Rattle.shadow_stack.specs.Slots.{SlotTable, slots_of, held_type, is_reference_held}
 use Rattle.certificate.specs.declared.section.Section.{Section}
-use Rattle.facts.specs.declared.known.Known.{Known}
-use Rattle.facts.specs.declared.known.Known.TheVariants.{Cell}
-use Rattle.facts.specs.Facts.{FactSet, known_at, slot_at, class_at}
-use Rattle.block_rules.specs.declared.standing.Standing.{Standing}
+use Rattle.fact_rows.specs.declared.known.Known.{Known}
+use Rattle.fact_rows.specs.declared.known.Known.TheVariants.{Cell}
+use Rattle.fact_rows.specs.Facts.{FactSet, known_at, slot_at, class_at}
+use Rattle.rule_operands.specs.declared.standing.Standing.{Standing}
 use Rattle.safepoints.specs.Marks.{is_may}
-use Rattle.block_rules.specs.Rules.{first_failing, conditions, after}
+use Rattle.rule_operands.specs.FirstFailing.{first_failing}
+use Rattle.block_rules.specs.Rules.{conditions, after}
 use Rattle.machine.specs.declared.frame.Frame.{Frame}
-use Rattle.machine.specs.declared.action.Action.{Action}
-use Rattle.machine.specs.declared.action.Action.TheVariants.{StorePlain, Write, Safepoint}
-use Rattle.machine.specs.declared.action.Answer.{Answer}
-use Rattle.machine.specs.declared.value.Reference.{Reference}
-use Rattle.machine.specs.declared.value.Value.{Value}
-use Rattle.machine.specs.declared.value.Value.TheVariants as value
+use Rattle.machine_asks.specs.declared.action.Action.{Action}
+use Rattle.machine_asks.specs.declared.action.Action.TheVariants.{StorePlain, Write, Safepoint}
+use Rattle.machine_values.specs.declared.answer.Answer.{Answer}
+use Rattle.machine_values.specs.declared.value.Reference.{Reference}
+use Rattle.machine_values.specs.declared.value.Value.{Value}
+use Rattle.machine_values.specs.declared.value.Value.TheVariants as value
 use Rattle.machine.specs.Machine.{Next, slot_value, instr_action, after_op, onward_of}
 use Rattle.machine.specs.Log.{Log, IsFresh, RefersTo, Possible, Keeps}
 use Rattle.fact_meaning.specs.Meaning.{Cells, Guarded, Holds}

@@ -7,13 +7,12 @@ ghost use Rattle.actors.specs.declared.actor.Actor.{Actor as AnActor};
 ghost use Rattle.actors.specs.declared.actor.Actor.TheVariants as actor;
 ghost use Rattle.actors.specs.Runs.{run_by, IsActor};
 ghost use Rattle.reach.specs.Reach.{IsPlanOf, IsFirstGone, AddsNothing};
-ghost use Rattle.run_growth.specs.Growth.{CountsRoots};
 ghost use Rattle.stepping.specs.Ends.{AreBehindSteps, IsOneStep};
 
 use crate::beginning::{shared_at_start, stands_at_start};
 use crate::happening::{Happening, Step};
 use crate::roots::roots_under_way;
-use actors::{Actor, Move, Runner, Shared, Stance, Stand, broken_by, go_on, next_move};
+use actors::{Actor, Move, Runner, Shared, Stand, broken_by, go_on, next_move};
 use colours::Turn;
 use reach::{Gone, Plan, first_gone, loss_law};
 use run_growth::growth_law;
@@ -120,9 +119,6 @@ impl<'a, M: Runner + Drop> Actors<'a, M> {
         loss_law::<M>();
         let index = thread as usize;
         let stand = &self.threads[index];
-        if !counts_roots(stand.stance) {
-            return Err(AllocError);
-        }
         let Some(made) = next_move(&self.shared, self.plan.pools, stand)? else {
             return Ok(None);
         };
@@ -144,19 +140,6 @@ impl<'a, M: Runner + Drop> Actors<'a, M> {
     {
         let roots = roots_under_way(alloc, self.threads.as_slice())?;
         first_gone::<M>(alloc, self.plan, &self.shared, roots.as_slice())
-    }
-}
-
-/// How many roots of an answer may be marked. No memory holds so many.
-const ROOT_LIMIT: usize = 1 << 62;
-
-/// Whether one root more may be counted.
-fn counts_roots(stance: Stance) -> bool
-    ensures { result ≡ true → CountsRoots stance }
-{
-    match stance {
-        Stance::Answering { marked, .. } => marked < ROOT_LIMIT,
-        _ => true,
     }
 }
 

@@ -12,7 +12,7 @@ use Rattle.ir_ast.specs.declared.items_of_module.SymbolSort.TheVariants as sort
 use Rattle.grammar.specs.Many.{Listed}
 use Rattle.layout.specs.Layouts.{LaidOut}
 use Rattle.pools.specs.Heap.{cells_in}
-use Rattle.trace_text.specs.Words.{Text}
+use Rattle.ir_tokens.specs.Bytes.{Text}
 use Rattle.trace_text.specs.Numbers.{small, number_of_word, count_of_word, is_number}
 use Rattle.trace_text.specs.Numbers as numbers
 use Rattle.trace_text.specs.Names.{name_in, function_by, sort_at, function_named, function_of_word, layout_of_word}

@@ -2,7 +2,7 @@
 use Rattle.std.proofs.Common.{◌≡◌, ◌≢◌, Result, Ok, Err, refl, ap, sym, ◌∙◌}
 use Rattle.grammar.specs.Outcome.{Outcome}
 use Rattle.layout.specs.Layouts.{LaidOut}
-use Rattle.trace_text.specs.Words.{Text}
+use Rattle.ir_tokens.specs.Bytes.{Text}
 use Rattle.trace_text.specs.Input.{Input, start_of}
 use Rattle.trace_text.specs.Text.{file, value_of, placed, IsTrace, IsFault}
 use Rattle.trace_text.specs.declared.trace.Trace.{Trace}

@@ -9,7 +9,8 @@ use Rattle.ir_ast.specs.declared.function.Function.{Function}
 use Rattle.ir_ast.specs.declared.module.Module.{Module}
 use Rattle.ir_tokens.specs.Tokens.{lex_from, past_gap}
 use Rattle.grammar.specs.Many.{Listed}
-use Rattle.trace_text.specs.Words.{Text, past_blanks}
+use Rattle.ir_tokens.specs.Bytes.{Text}
+use Rattle.name_text.specs.Words.{past_blanks, stops}
 use Rattle.trace_text.specs.Names.{function_of_word, layout_of_word}
 use Rattle.trace_text.specs.Input.{Input, line_ends, begins, with_pool, with_start, with_steps}
 use Rattle.trace_text.specs.Forms.{argument, put_pool, put_start}
@@ -18,7 +19,7 @@ use Rattle.trace_text.specs.Print.{name_text, name_at, struct_name, layout_text,
 use Rattle.trace_text.specs.declared.trace.Actor.{Actor}
 use Rattle.trace_text.specs.declared.trace.Actor.TheVariants as actor
 use Rattle.trace_text.specs.declared.trace.Start.{Start}
-use Rattle.trace_text.proofs.Seams.{is_end, IsWord, inner_word, inner_stays, inner_goes_on, number_is_inner, number_has_bytes}
+use Rattle.trace_text.proofs.Seams.{IsWord, inner_word, inner_stays, inner_goes_on, number_is_inner, number_has_bytes}
 use Rattle.trace_text.proofs.NameSeams.{name_word, name_stays, signed_word}
 use Rattle.trace_text.proofs.Reading.{at, looked, IsFresh, skipped, expected, function_says, layout_says, argument_says, cells_say, thread_says, steps_say, line_ended, begins_so}
 
@@ -32,7 +33,7 @@ abbrev pub at_argument : List ℕ → Text → Text
 at_argument [] more = 10 ∷ more
 at_argument (a ∷ others) more = decimal a ++ (arguments_text others ++ 10 ∷ more)
 
-arguments_end : (others : List ℕ) (more : Text) → is_end (arguments_text others ++ 10 ∷ more) ≡ true
+arguments_end : (others : List ℕ) (more : Text) → stops (arguments_text others ++ 10 ∷ more) ≡ true
 arguments_end [] more = refl
 arguments_end (a ∷ others) more = refl
 

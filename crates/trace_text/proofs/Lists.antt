@@ -9,7 +9,7 @@ use Rattle.std.proofs.lemmas.List.Sums.{sum_by-cons}
 use Rattle.ir_ast.specs.declared.module.Module.{Module}
 use Rattle.grammar.specs.Many.{Listed}
 use Rattle.layout.specs.Layouts.{LaidOut}
-use Rattle.trace_text.specs.Words.{Text}
+use Rattle.ir_tokens.specs.Bytes.{Text}
 use Rattle.trace_text.specs.Names.{layout_of_word}
 use Rattle.trace_text.specs.Input.{Input, with_pool, with_start, with_steps}
 use Rattle.trace_text.specs.Text.{pool, past_pools, start, past_starts, steps_line, past_steps}

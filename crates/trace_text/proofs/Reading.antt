@@ -6,13 +6,14 @@ use Rattle.std.specs.Str.{bytes_eq}
 use Rattle.std.proofs.lemmas.Bool.Decides.{nat_tests}
 use Rattle.ir_ast.specs.declared.module.Module.{Module}
 use Rattle.grammar.specs.Grammar.{look}
-use Rattle.trace_text.specs.Words.{Text, past_blanks, past_lines}
+use Rattle.ir_tokens.specs.Bytes.{Text}
+use Rattle.name_text.specs.Words.{past_blanks, past_lines, stops}
 use Rattle.trace_text.specs.Numbers.{number_of_word, count_of_word}
 use Rattle.trace_text.specs.Names.{function_of_word, layout_of_word}
 use Rattle.trace_text.specs.Input.{Input, Form, word, begins, after, next_line, with_steps}
 use Rattle.trace_text.specs.Forms.{skip, taken, taken_as, expect, line_end, function_name, new_layout, layout_named, layout_by, cell_count, argument, thread, thread_numbered, thread_by, step_count, steps_counted, steps_by, put_steps}
 use Rattle.trace_text.specs.declared.trace.Actor.{Actor}
-use Rattle.trace_text.proofs.Seams.{is_end, IsWord, word_before, same_bytes, number_read, count_read, inner_word, number_is_inner}
+use Rattle.trace_text.proofs.Seams.{IsWord, word_before, same_bytes, number_read, count_read, inner_word, number_is_inner}
 
 -- with this text left
 abbrev pub at : Text → Input → Input
@@ -26,7 +27,7 @@ looked kind f i k a o e h = subst (λ x. (f x).says i a o) (sym e) h
 abbrev pub IsFresh : Text → Type 0
 IsFresh text = past_lines false text ≡ text
 
-module _ (w rest next : Text) (is_word : IsWord w) (ends : is_end rest ≡ true) (blanks : past_blanks rest ≡ next) (i : Input) where
+module _ (w rest next : Text) (is_word : IsWord w) (ends : stops rest ≡ true) (blanks : past_blanks rest ≡ next) (i : Input) where
   behind : after (at (w ++ rest) i) ≡ at next i
   unfolding after
   behind = ap (λ (text : Text). at (past_blanks text) i) (is_word rest ends) ∙ ap (λ (text : Text). at text i) blanks
@@ -59,7 +60,7 @@ module _ (w rest next : Text) (is_word : IsWord w) (ends : is_end rest ≡ true)
       looked (λ i. layout_of_word m (word i)) layout_named (at (w ++ rest) i) (Some layout) layout (at next i) (ap (layout_of_word m) word_is ∙ named)
       (looked (λ i. slice_get i.counts layout) (layout_by layout) (at (w ++ rest) i) (Some None) layout (at next i) free (taken_says layout))
 
-module _ (n : ℕ) (rest next : Text) (less : n < 2 ^ 64) (ends : is_end rest ≡ true) (blanks : past_blanks rest ≡ next) (i : Input) where
+module _ (n : ℕ) (rest next : Text) (less : n < 2 ^ 64) (ends : stops rest ≡ true) (blanks : past_blanks rest ≡ next) (i : Input) where
   number_word : IsWord (decimal n)
   number_word = inner_word (decimal n) (number_is_inner n less)
 

@@ -7,7 +7,7 @@ use Rattle.std.proofs.lemmas.Bool.Decides.{nat_tests}
 use Rattle.std.proofs.lemmas.List.FromFn.{fill_by_all}
 use Rattle.layout.specs.Layouts.{LaidOut}
 use Rattle.pools.specs.Heap.{cells_in}
-use Rattle.trace_text.specs.Words.{Text}
+use Rattle.ir_tokens.specs.Bytes.{Text}
 use Rattle.trace_text.specs.Input.{Input, emptied}
 use Rattle.trace_text.specs.Text.{count_or_none, counts_of, if_fitting, pools_of, finished_by, finished, heading, pools, past_pools, starts, setup, all_steps, steps, file, IsTrace}
 use Rattle.trace_text.specs.Print.{pools_text, start_text, trace_shown}

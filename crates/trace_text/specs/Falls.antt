@@ -2,7 +2,8 @@
 use Rattle.std.specs.Prelude.{◌≡◌, ℕ, zero, suc, nat_eq, refl, ◌-◌, ◌<◌, ◌≤◌, Bool, true, false, cond, not, ◌||◌, ◌&&◌, ◌==◌, [], ◌∷◌, length, take, List}
 use Rattle.std.proofs.Common.{arith, ap}
 use Rattle.std.specs.Str.{bytes_eq}
-use Rattle.trace_text.specs.Words.{Text, ends_word, turned, past_word, past_comment, past_blanks, past_lines, ends_line}
+use Rattle.ir_tokens.specs.Bytes.{Text}
+use Rattle.name_text.specs.Words.{ends_word, turned, past_word, past_comment, past_blanks, past_lines, ends_line}
 use Rattle.trace_text.specs.Input.{Input, left, word, begins, after, next_line, with_pool, with_start, with_steps, emptied}
 use Rattle.trace_text.specs.declared.trace.Actor.{Actor}
 

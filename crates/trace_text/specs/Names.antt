@@ -10,7 +10,7 @@ use Rattle.ir_tokens.specs.declared.token.Kind.TheVariants as k
 use Rattle.ir_tokens.specs.Tokens.{lexed_of}
 use Rattle.ir_tokens.specs.Names.{name_of}
 use Rattle.types.specs.References.{struct_named}
-use Rattle.trace_text.specs.Words.{Text}
+use Rattle.ir_tokens.specs.Bytes.{Text}
 use Rattle.trace_text.specs.declared.naming.Sigil.{Sigil}
 use Rattle.trace_text.specs.declared.naming.Sigil.TheVariants as sigil
 

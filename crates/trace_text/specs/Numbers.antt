@@ -1,8 +1,7 @@
 -- Numbers as a trace writes them.
 use Rattle.std.specs.Prelude.{ℕ, ◌+◌, ◌-◌, ◌*◌, Bool, true, false, not, ◌&&◌, nat_lt, min, if◌then◌else◌, [], ◌∷◌, Option, Some, None}
 use Rattle.std.specs.List.{list_all}
-use Rattle.ir_tokens.specs.Bytes.{is_digit}
-use Rattle.trace_text.specs.Words.{Text}
+use Rattle.ir_tokens.specs.Bytes.{Text, is_digit}
 
 -- whether a text has no byte
 abbrev pub is_nil : Text → Bool

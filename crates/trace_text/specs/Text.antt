@@ -11,7 +11,7 @@ use Rattle.ir_tokens.specs.declared.position.Position.{Position}
 use Rattle.ir_tokens.specs.Position.{position_of}
 use Rattle.layout.specs.Layouts.{LaidOut}
 use Rattle.pools.specs.Heap.{cells_in}
-use Rattle.trace_text.specs.Words.{Text as Bytes}
+use Rattle.ir_tokens.specs.Bytes.{Text as Bytes}
 use Rattle.trace_text.specs.Input.{Input, Form, left, start_of, ended, begins, line_ends, emptied}
 use Rattle.trace_text.specs.Falls.{emptied_falls}
 use Rattle.trace_text.specs.Forms.{skip, expect, line_end, function_name, new_layout, cell_count, argument, thread, put_pool, put_start, step_count}

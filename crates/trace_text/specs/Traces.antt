@@ -4,7 +4,7 @@ use Rattle.std.specs.List.{AllByRecursion}
 use Rattle.ir_ast.specs.declared.function.Function.{Function}
 use Rattle.ir_ast.specs.declared.module.Module.{Module}
 use Rattle.layout.specs.Layouts.{LaidOut}
-use Rattle.trace_text.specs.Words.{Text}
+use Rattle.ir_tokens.specs.Bytes.{Text}
 use Rattle.pools.specs.Heap.{cells_in}
 use Rattle.trace_text.specs.Names.{function_named, layout_named}
 use Rattle.trace_text.specs.Print.{name_at, name_text, struct_name}

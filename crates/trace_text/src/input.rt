@@ -7,9 +7,9 @@ ghost use Rattle.trace_text.specs.Forms as text;
 
 use crate::fault::Found;
 use crate::trace::{Actor, Start, Steps};
-use crate::words::{ends_line, past_blanks, past_lines, past_word, word};
 use ir_ast::FuncId;
 use items::Items;
+use name_text::{ends_line, past_blanks, past_lines, past_word, word};
 use pools::LayoutId;
 use std::alloc::{AllocError, Global};
 use std::marker::Model;

@@ -10,7 +10,6 @@ mod place;
 mod print;
 mod reader;
 mod trace;
-mod words;
 
 pub use fault::TraceFault;
 pub use print::print_trace;

@@ -1,8 +1,7 @@
 //! The text of traces.
-ghost use Rattle.std.specs.Prelude.{◌≡◌, ◌++◌, ◌∷◌, [], ◌<◌, ◌||◌, ◌^◌, length, OnOk, IfOk, slice_get};
-ghost use Rattle.std.specs.List.{list_all, flat_map, range_with_len};
+ghost use Rattle.std.specs.Prelude.{◌≡◌, ◌++◌, OnOk, IfOk, slice_get};
+ghost use Rattle.std.specs.List.{flat_map};
 ghost use Rattle.std.specs.Fmt.{decimal};
-ghost use Rattle.ir_tokens.specs.Bytes.{is_letter as letter, is_digit as digit};
 ghost use Rattle.trace_text.specs.Print as spec;
 ghost use Rattle.trace_text.specs.Text.{IsTrace};
 ghost use Rattle.trace_text.specs.Traces.{AreNamed, IsTraceOf};
@@ -10,87 +9,15 @@ ghost use Rattle.trace_text.specs.Traces.{AreNamed, IsTraceOf};
 use crate::trace::{Actor, Start, Steps, Trace};
 use ir_ast::{FuncId, Module, Names};
 use layout::Program;
+use name_text::Blank;
 use pools::{LayoutId, Pools};
 use std::alloc::{AllocError, Global};
-
-fn is_letter(byte: u8) -> bool
-    ensures { result ≡ letter byte }
-{
-    matches!(byte, b'a'..=b'z' | b'A'..=b'Z' | b'-' | b'$' | b'.' | b'_')
-}
-
-fn is_digit(byte: u8) -> bool
-    ensures { result ≡ digit byte }
-{
-    matches!(byte, b'0'..=b'9')
-}
-
-fn begins_plain(name: &[u8]) -> bool
-    ensures { result ≡ spec.begins_plain name.now }
-{
-    match name {
-        [first, ..] => is_letter(*first),
-        [] => false,
-    }
-}
-
-fn has_plain_bytes(name: &[u8]) -> bool
-    ensures { result ≡ list_all (λ byte. letter byte || digit byte) name.now }
-{
-    name.iter().all(|byte| is_letter(*byte) || is_digit(*byte))
-}
-
-/// Whether a name stands without quotes.
-fn is_plain(name: &[u8]) -> bool
-    ensures { result ≡ spec.is_plain name.now }
-{
-    begins_plain(name) && has_plain_bytes(name)
-}
-
-/// Whether a byte stands for itself between quotes.
-fn is_shown(byte: u8) -> bool
-    ensures { result ≡ spec.is_shown byte }
-{
-    byte >= 32 && byte <= 126 && byte != b'"' && byte != b'\\'
-}
-
-fn hexadecimal(digit: u8) -> u8
-    requires { digit < 16 }
-    ensures { result ≡ spec.hexadecimal digit }
-{
-    if digit < 10 { 48 + digit } else { 55 + digit }
-}
-
-fn put_quoted_byte(out: &mut Vec<u8>, byte: u8) -> Result<(), AllocError>
-    ensures { OnOk result (out.new.items ≡ out.old.items ++ spec.quoted_byte byte) }
-{
-    if is_shown(byte) {
-        out.extend_from_slice(&[byte])
-    } else {
-        out.extend_from_slice(&[b'\\', hexadecimal(byte / 16), hexadecimal(byte % 16)])
-    }
-}
-
-fn put_quoted(out: &mut Vec<u8>, name: &[u8]) -> Result<(), AllocError>
-    ensures { OnOk result (out.new.items ≡ out.old.items ++ flat_map spec.quoted_byte name.now) }
-{
-    for byte in name {
-        put_quoted_byte(out, *byte)?;
-    }
-    Ok(())
-}
 
 /// A name, in quotes where it is not plain.
 fn put_name(out: &mut Vec<u8>, name: &[u8]) -> Result<(), AllocError>
     ensures { OnOk result (out.new.items ≡ out.old.items ++ spec.name_text name.now) }
 {
-    if is_plain(name) {
-        return out.extend_from_slice(name);
-    }
-    out.push(b'"')?;
-    put_quoted(out, name)?;
-    out.push(b'"')?;
-    Ok(())
+    name_text::put_name(out, name, Blank::Kept)
 }
 
 fn name_at(names: &Names, number: usize) -> &[u8]

@@ -3,12 +3,15 @@ use Rattle.std.proofs.Common.{◌≡◌, ◌<◌, ◌≤◌, ◌⊎◌, inl, inr
 use Rattle.std.proofs.lemmas.Option.{slice_get_within}
 use Rattle.std.specs.List.{AllByRecursion}
 use Rattle.ir_ast.specs.declared.function.Function.{Function}
+use Rattle.types.specs.Globals.{held_in}
+use Rattle.layout.specs.Globals.{word_held}
 use Rattle.layout.specs.Layouts.{LaidOut}
 use Rattle.certificate.specs.declared.section.Section.{Section}
 use Rattle.machine.specs.Machine.{State, start}
 use Rattle.machine.specs.Start.{takes_reference, arguments_fit, argument_values}
 use Rattle.program_safety.specs.Safety.{IsBegun, CertifiedIsSafe}
 use Rattle.program_safety.specs.Threads.{ProgramThread}
+use Rattle.program_runner.specs.Begun.{heap_is}
 use Rattle.program_runner.specs.Heaps.{heap_of}
 use Rattle.trace_text.specs.Traces.{IsStartOf}
 use Rattle.trace_text.specs.declared.trace.Setup.{Setup}
@@ -141,4 +144,5 @@ begun p setup certs is none c t within =
 -- no run of a certified setup is broken
 pub certified_setup : CertifiedIsSafe → CertifiedSetupIsSafe
 certified_setup law p setup certs is none c =
-    law p certs c.certified (heap_of p setup) (starts_of p setup) (record { layouts = refl; globals = c.globals }) (is_setup p setup) (begun p setup certs is none c)
+    law p certs c.certified (heap_of p setup) (starts_of p setup) (record { layouts = refl; globals = λ g global kind is e. (heap_is p setup).globals g kind (ap (λ q. word_held p.of_module (held_in q)) is ∙ e) })
+    (is_setup p setup) (begun p setup certs is none c)

@@ -1,10 +1,9 @@
 -- The threads with which a setup begins, the first fault of a setup, and setups of certified programs.
 use Rattle.std.specs.Prelude.{ℕ, ◌≡◌, ◌<◌, ◌≤◌, List, length, map, Option, Some, None, slice_get}
 use Rattle.std.specs.List.{AllByRecursion}
-use Rattle.layout.specs.Globals.{AreGlobals, globals_of}
 use Rattle.layout.specs.Layouts.{LaidOut}
 use Rattle.certificate.specs.declared.section.Section.{Section}
-use Rattle.block_rules.specs.Promises.{promises_in}
+use Rattle.rule_forms.specs.Promises.{promises_in}
 use Rattle.machine.specs.Machine.{start}
 use Rattle.machine.specs.Start.{argument_values, StartsByReference, StartsWrongly}
 use Rattle.machine.specs.declared.thread.StartFault.{StartFault}
@@ -78,10 +77,9 @@ AreBegun p setup threads = threads ≡ map (λ (begun : Start). begun_at p setup
 
 -- ---- certified programs
 
--- the program is certified with these certificates, each of its globals is an integer or a reference, and the arguments of the threads meet what is promised of the parameters
+-- the program is certified with these certificates, and the arguments of the threads meet what is promised of the parameters
 pub record IsCertifiedSetup (p : LaidOut) (setup : Setup) (certs : List Section) : Type 0 where
   pub certified : AreCertified p certs
-  pub globals : AreGlobals p.of_module (globals_of p.of_module)
   pub promises : (t : ℕ) (begun : Start) → slice_get setup.starts t ≡ Some begun → MeetPromises (promises_in (slice_get certs begun.function)) begun.arguments
 
 -- no run of the setup's threads and the collector is broken

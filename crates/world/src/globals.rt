@@ -1,5 +1,5 @@
 ghost use Rattle.std.specs.Prelude.{◌≡◌, IfOk, map};
-ghost use Rattle.machine.specs.Kinds.{wrapped};
+ghost use Rattle.machine_values.specs.Kinds.{wrapped};
 ghost use Rattle.program_runner.specs.Heaps.{value_of_global};
 
 use ir_ast::{Constant, Global as GlobalItem, Module};

@@ -1,4 +1,4 @@
-use machine::Value;
+use machine_values::Value;
 
 /// Where a thread stands behind a run.
 #[derive(Clone, Copy, Debug, PartialEq, Eq)]

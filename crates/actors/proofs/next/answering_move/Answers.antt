@@ -8,11 +8,11 @@ use Rattle.actors.specs.Moving.{not_null}
 use Rattle.actors.proofs.Marked.{next_root-marked}
 use Rattle.actors.proofs.next.answering_move.Goals as goal
 
-pub returns : goal.returns
-returns g c s h own old =
+pub returns-clause-next : goal.returns-clause-next
+returns-clause-next g c s h own old =
     let roots = g.M.Machine.roots c.args.state.now in
     let async : is_async c.args.stage ≡ true = search rules in
     let found : c.root_behind.result ≡ slice_get (not_null roots) c.args.marked =
-    c.root_behind.ensures ∙ ap (λ (rs : List Reference). slice_get (not_null rs) c.args.marked) (c.as_slice.ensures.value ∙ c.in_ok-roots.ensures) in
+    c.root_behind.ensures.root ∙ ap (λ (rs : List Reference). slice_get (not_null rs) c.args.marked) (c.as_slice.ensures.value ∙ c.in_ok-roots.ensures) in
     rw async (ap (λ (m : moves.Move). Some m)
-    (ap (mark_or_answer c.args.stage roots) (next_root-marked roots c.args.marked ∙ sym found) ∙ sym (c.mark_or_answer.ensures roots)))
+    (ap (mark_or_answer c.args.stage roots) (next_root-marked roots c.args.marked ∙ sym found) ∙ sym (c.mark_or_answer.ensures.next roots)))

@@ -1,5 +1,5 @@
 use Rattle.std.proofs.Common.{◌≡◌, drop}
-use Rattle.facts.specs.Lines.{receive_all}
+use Rattle.fact_rows.specs.Lines.{receive_all}
 use Rattle.certified.specs.Ways.{parameters_given}
 use Rattle.block_check.proofs.given.receive_parameters.Given as goal
 

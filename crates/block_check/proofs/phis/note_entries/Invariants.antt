@@ -1,5 +1,5 @@
 use Rattle.std.proofs.Common.{◌≡◌, ◌++◌, drop}
-use Rattle.block_rules.specs.Standing.{instructions_of}
+use Rattle.rule_operands.specs.Standing.{instructions_of}
 use Rattle.certified.specs.Ways.{comes_in}
 use Rattle.block_check.proofs.phis.note_entries.Given as goal
 

@@ -1,6 +1,7 @@
 use Rattle.std.proofs.Common.{sym, ap, ◌∙◌}
 use Rattle.ir_ast.specs.declared.op.Op.TheVariants.{Phi}
-use Rattle.block_rules.specs.Rules.{first_failing, op_conditions}
+use Rattle.rule_operands.specs.FirstFailing.{first_failing}
+use Rattle.block_rules.specs.Rules.{op_conditions}
 use Rattle.block_rules.proofs.refusals.value_refusal.Goals as goal
 
 pub returns-in-Arithmetic : goal.returns-in-Arithmetic

@@ -4,13 +4,15 @@ use Rattle.std.specs.Vec.{with_item}
 use Rattle.std.proofs.lemmas.Option.{slice_get_read}
 use Rattle.std.proofs.lemmas.List.{set-get_or}
 use Rattle.schedules.specs.Machine.{machine_of}
+use Rattle.schedules.specs.Moves.{answer_of}
 use Rattle.schedules.specs.Ends.{moved}
 use Rattle.actors.specs.declared.moves.Move.{Move}
 use Rattle.actors.specs.declared.shared.Shared.{Shared}
 use Rattle.actors.specs.declared.stand.Stand.{Stand}
 use Rattle.actors.specs.declared.actor.Actor.TheVariants as actor
 use Rattle.actors.specs.Calls.{move_in, made_by}
-use Rattle.actors.specs.Moving.{HasRoom, MayMake}
+use Rattle.actors.specs.Kinds.{MayAnswer}
+use Rattle.actors.specs.Moving.{HasRoom, HasRoomForNext, MayMake}
 use Rattle.actors.specs.Runs.{run_by}
 use Rattle.actors.specs.Stands.{standing, HasTryLeft}
 use Rattle.reach.specs.Reach.{AddsNothing}
@@ -51,18 +53,34 @@ returns-in_default-clause-ok g c s starts before b lt =
     let m = machine_of g.M.Machine.action g.M.Machine.after_answer g.M.Machine.roots in
     let stand = c.index-stand.result.now in
     let is : slice_get c.args.self.now.threads.items c.args.thread ≡ Some stand = slice_get_read _ _ _ _ (sym b.is_behind.is_end.count) lt c.index-stand.ensures in
-    moved-none s m (g.M.Runner.fits s) starts before c.args.self.now b c.args.thread lt stand is (c.in_ok-made.ensures s b.plan.pools ∙ ap (λ (o : Option Move). made_by (m.roots stand.state) o) c.in_default.is)
+    moved-none s m (g.M.Runner.fits s) starts before c.args.self.now b c.args.thread lt stand is (c.in_ok-made.ensures.next s b.plan.pools ∙ ap (λ (o : Option Move). made_by (m.roots stand.state) o) c.in_default.is)
 
-pub go_on-requires : goal.go_on-requires
-go_on-requires g c =
-    let m = machine_of g.M.Machine.action g.M.Machine.after_answer g.M.Machine.roots in
+pub go_on-requires-clause-room : goal.go_on-requires-clause-room
+go_on-requires-clause-room g c =
     let r = c.requires in
     let stand = c.index-stand.result.now in
     let is : slice_get c.args.self.now.threads.items c.args.thread ≡ Some stand = slice_get_read _ _ _ _ (sym r.3.is_behind.is_end.count) r.4 c.index-stand.ensures in
     let at : slice_get c.args.self.now.threads.items c.args.thread ≡ Some c.index_mut.result.now = slice_get_read _ _ _ _ (sym r.3.is_behind.is_end.count) r.4 c.index_mut.ensures.value in
+    subst (λ (v : Stand g.row.M.Denot). HasRoom v.stance c.in-Some.made) (one-element stand c.index_mut.result.now (sym is ∙ at))
+    (subst (λ (o : Option Move). HasRoomForNext stand.stance o) c.in-Some.is c.in_ok-made.ensures.room)
+
+pub go_on-requires-clause-answer : goal.go_on-requires-clause-answer
+go_on-requires-clause-answer g c =
+    let m = machine_of g.M.Machine.action g.M.Machine.after_answer g.M.Machine.roots in
+    let r = c.requires in
+    let stand = c.index-stand.result.now in
+    let move = c.in-Some.made in
+    let is : slice_get c.args.self.now.threads.items c.args.thread ≡ Some stand = slice_get_read _ _ _ _ (sym r.3.is_behind.is_end.count) r.4 c.index-stand.ensures in
+    let at : slice_get c.args.self.now.threads.items c.args.thread ≡ Some c.index_mut.result.now = slice_get_read _ _ _ _ (sym r.3.is_behind.is_end.count) r.4 c.index_mut.ensures.value in
     let grows = c.growth_law.ensures.threads r.0 r.1 (run_by r.0 m r.1 r.2) c.args.thread stand c.args.self.now.shared
     (thread_is_behind r.0 m (g.M.Runner.fits r.0) r.1 r.2 c.args.self.now r.3 c.args.thread r.4 stand is) in
-    subst (λ (v : Stand g.row.M.Denot). HasRoom v.stance) (one-element stand c.index_mut.result.now (sym is ∙ at)) (grows.room (c.counts_roots.ensures c.if-not-counts_roots.false))
+    let moves = grows.move move (c.in_ok-made.ensures.next r.0 r.3.plan.pools ∙ ap (λ (o : Option Move). made_by (m.roots stand.state) o) c.in-Some.is) in
+    let may : MayAnswer r.0 (g.M.Runner.fits r.0) m.action stand.state (answer_of (m.action stand.state) (move_in (m.roots stand.state) move)) = record {
+      few_cells = r.3.is_behind.is_end.few_cells;
+      fits = r.3.is_behind.is_end.fits c.args.thread stand is;
+      by_kind = moves.answers;
+    } in
+    (r.0, subst (λ (v : Stand g.row.M.Denot). MayAnswer r.0 (g.M.Runner.fits r.0) m.action v.state (answer_of (m.action v.state) (move_in (m.roots v.state) move))) (one-element stand c.index_mut.result.now (sym is ∙ at)) may)
 
 pub returns-in_err-roots_change-clause-err : goal.returns-in_err-roots_change-clause-err
 returns-in_err-roots_change-clause-err g c =
@@ -79,7 +97,7 @@ apply-requires g c =
     let is : slice_get c.args.self.now.threads.items c.args.thread ≡ Some stand = slice_get_read _ _ _ _ (sym r.3.is_behind.is_end.count) r.4 c.index-stand.ensures in
     let grows = c.growth_law.ensures.threads r.0 r.1 (run_by r.0 m r.1 r.2) c.args.thread stand c.args.self.now.shared
     (thread_is_behind r.0 m (g.M.Runner.fits r.0) r.1 r.2 c.args.self.now r.3 c.args.thread r.4 stand is) in
-    (grows.move c.in-Some.made (c.in_ok-made.ensures r.0 r.3.plan.pools ∙ ap (λ (o : Option Move). made_by (m.roots stand.state) o) c.in-Some.is)).can_take
+    (grows.move c.in-Some.made (c.in_ok-made.ensures.next r.0 r.3.plan.pools ∙ ap (λ (o : Option Move). made_by (m.roots stand.state) o) c.in-Some.is)).can_take
 
 pub returns-clause-ok : goal.returns-clause-ok
 returns-clause-ok g c s starts before b lt =
@@ -91,7 +109,7 @@ returns-clause-ok g c s starts before b lt =
     let at : slice_get a.threads.items c.args.thread ≡ Some c.index_mut.result.now = slice_get_read _ _ _ _ (sym b.is_behind.is_end.count) lt c.index_mut.ensures.value in
     let same : stand ≡ c.index_mut.result.now = one-element stand c.index_mut.result.now (sym is ∙ at) in
     let grows = c.growth_law.ensures.threads s starts (run_by s m starts before) c.args.thread stand a.shared (thread_is_behind s m (g.M.Runner.fits s) starts before a b c.args.thread lt stand is) in
-    let asked = c.in_ok-made.ensures s b.plan.pools ∙ ap (λ (o : Option Move). made_by (m.roots stand.state) o) c.in-Some.is in
+    let asked = c.in_ok-made.ensures.next s b.plan.pools ∙ ap (λ (o : Option Move). made_by (m.roots stand.state) o) c.in-Some.is in
     let moves = grows.move move asked in
     let behind : standing m.roots c.go_on.new.stand ≡ moved s m (standing m.roots stand) (move_in (m.roots stand.state) move) =
     subst (λ (v : Stand g.row.M.Denot). standing m.roots c.go_on.new.stand ≡ moved s m (standing m.roots v) (move_in (m.roots v.state) move)) (sym same)

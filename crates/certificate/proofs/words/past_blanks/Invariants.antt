@@ -1,6 +1,0 @@
-use Rattle.std.proofs.Common.{◌≡◌, drop}
-use Rattle.certificate.specs.Words.{past_blanks}
-use Rattle.certificate.proofs.words.past_blanks.Given as goal
-
-abbrev pub invariant-loop-i : goal.invariant-loop-i
-invariant-loop-i l = past_blanks l.bytes ≡ past_blanks (drop l.i l.bytes)

@@ -1,0 +1,6 @@
+pub mod Loops
+pub mod Sets
+mod Sheets
+mod Marked
+mod Named
+mod Changes

@@ -1,0 +1,40 @@
+-- How names are printed.
+use Rattle.std.specs.Prelude.{ℕ, ◌+◌, ◌/◌, ◌%◌, ◌==◌, nat_le, nat_lt, Bool, false, not, ◌&&◌, ◌||◌, if◌then◌else◌, [], ◌∷◌, ◌++◌}
+use Rattle.std.specs.List.{list_all, flat_map}
+use Rattle.ir_tokens.specs.Bytes.{Text, is_letter, is_digit}
+use Rattle.name_text.specs.declared.blank.Blank.{Blank}
+use Rattle.name_text.specs.declared.blank.Blank.TheVariants as blank
+
+-- whether a letter stands at the front
+abbrev pub begins_plain : Text → Bool
+begins_plain [] = false
+begins_plain (first ∷ rest) = is_letter first
+
+-- a plain name: letters and digits, of which the first is a letter
+abbrev pub is_plain : Text → Bool
+is_plain name = begins_plain name && list_all (λ byte. is_letter byte || is_digit byte) name
+
+-- the lowest byte that may stand for itself: the blank, or the one behind it
+abbrev pub first_shown : Blank → ℕ
+first_shown blank.Kept = 32
+first_shown blank.Escaped = 33
+
+-- up to ~, but for the quote and the backslash
+abbrev pub is_shown : Blank → ℕ → Bool
+is_shown blank byte = nat_le (first_shown blank) byte && nat_le byte 126 && not (byte == 34) && not (byte == 92)
+
+-- a hexadecimal digit
+abbrev pub hexadecimal : ℕ → ℕ
+hexadecimal digit = if nat_lt digit 10 then 48 + digit else 55 + digit
+
+-- a byte between quotes
+abbrev pub quoted_byte : Blank → ℕ → Text
+quoted_byte blank byte = if is_shown blank byte then byte ∷ [] else 92 ∷ hexadecimal (byte / 16) ∷ hexadecimal (byte % 16) ∷ []
+
+-- a text in quotes
+abbrev pub quoted_text : Blank → Text → Text
+quoted_text blank name = 34 ∷ (flat_map (quoted_byte blank) name ++ 34 ∷ [])
+
+-- a name, in quotes where it is not plain
+abbrev pub name_text : Blank → Text → Text
+name_text blank name = if is_plain name then name else quoted_text blank name

@@ -1,0 +1,63 @@
+-- The words, blanks and line ends of a text.
+use Rattle.std.specs.Prelude.{ℕ, ◌-◌, Bool, true, false, not, ◌||◌, ◌&&◌, ◌==◌, if◌then◌else◌, [], ◌∷◌, length, take}
+use Rattle.ir_tokens.specs.Bytes.{Text}
+
+-- a blank, a tab, LF, CR or `;` ends a word
+abbrev pub ends_word : ℕ → Bool
+ends_word byte = byte == 32 || byte == 9 || byte == 10 || byte == 13 || byte == 59
+
+-- a quote begins quoted text, or ends it
+abbrev pub turned : (quoted : Bool) → ℕ → Bool
+turned quoted byte = if byte == 34 then not quoted else quoted
+
+-- what stands behind a word; inside quotes every byte belongs to it
+abbrev pub past_word : (quoted : Bool) → Text → Text
+past_word quoted [] = []
+past_word quoted (byte ∷ bytes) = if not quoted && ends_word byte then byte ∷ bytes else past_word (turned quoted byte) bytes
+
+-- the word at the front of a text
+abbrev pub word_at : Text → Text
+word_at bytes = take (length bytes - length (past_word false bytes)) bytes
+
+-- whether this byte stands at the front
+abbrev pub begins_with : ℕ → Text → Bool
+begins_with byte [] = false
+begins_with byte (first ∷ bytes) = first == byte
+
+-- a line ends here, by LF or by CR and LF
+abbrev pub ends_line : Text → Bool
+ends_line [] = false
+ends_line (byte ∷ bytes) = byte == 10 || (byte == 13 && begins_with 10 bytes)
+
+-- where the line of a comment ends
+abbrev pub past_comment : Text → Text
+past_comment [] = []
+past_comment (byte ∷ bytes) = if ends_line (byte ∷ bytes) then byte ∷ bytes else past_comment bytes
+
+-- what stands behind the blanks and the comment of a line
+abbrev pub past_blanks : Text → Text
+past_blanks [] = []
+past_blanks (byte ∷ bytes) = if byte == 59 then past_comment bytes else (if byte == 32 then past_blanks bytes else byte ∷ bytes)
+
+-- the first word behind blanks, comments and line ends
+abbrev pub past_lines : (comment : Bool) → Text → Text
+past_lines comment [] = []
+past_lines true (byte ∷ bytes) = past_lines (not (byte == 10)) bytes
+past_lines false (byte ∷ bytes) = if byte == 32 || byte == 59 || ends_line (byte ∷ bytes) then past_lines (byte == 59) bytes else byte ∷ bytes
+
+-- ---- one word
+
+-- no word ends among these bytes, and quotes are closed behind them
+abbrev pub closes : (quoted : Bool) → Text → Bool
+closes quoted [] = not quoted
+closes quoted (byte ∷ bytes) = not (not quoted && ends_word byte) && closes (turned quoted byte) bytes
+
+-- the bytes of one word
+abbrev pub is_word : Text → Bool
+is_word [] = false
+is_word (byte ∷ bytes) = closes false (byte ∷ bytes)
+
+-- a word ends before these bytes
+abbrev pub stops : Text → Bool
+stops [] = true
+stops (byte ∷ bytes) = ends_word byte

@@ -1,0 +1,8 @@
+/// How a blank stands between quotes.
+#[derive(Clone, Copy, Debug, PartialEq, Eq)]
+pub enum Blank {
+    /// As it is.
+    Kept,
+    /// As `\20`, where words stand apart by blanks.
+    Escaped,
+}
