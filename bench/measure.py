@@ -13,21 +13,10 @@ import shutil
 import subprocess
 import sys
 import tempfile
-import time
+
+from timing import fastest
 
 HERE = os.path.dirname(os.path.abspath(__file__))
-
-
-def fastest(command, runs):
-    """The least wall time of a command in seconds, and what it printed last."""
-    best, printed = None, ""
-    for _ in range(runs):
-        start = time.perf_counter()
-        run = subprocess.run(command, capture_output=True, text=True)
-        took = time.perf_counter() - start
-        printed = (run.stdout + run.stderr).strip()[:60]
-        best = took if best is None else min(best, took)
-    return best, printed
 
 
 def main():
@@ -53,7 +42,7 @@ def main():
             print(f"{functions} functions, {size:.2f} MB of text")
             for name, command in rows:
                 times[name], printed = fastest(command, options.runs)
-                print(f"  {name:10} {times[name] * 1000:9.1f} ms {size / times[name]:8.1f} MB/s  {printed}")
+                print(f"  {name:10} {times[name] * 1000:9.1f} ms {size / times[name]:8.1f} MB/s  {printed[:60]}")
             if "opt verify" in times:
                 print(f"  check / opt verify = {times['dgc check'] / times['opt verify']:.2f}")
 

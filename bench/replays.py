@@ -16,7 +16,8 @@ import shutil
 import subprocess
 import sys
 import tempfile
-import time
+
+from timing import fastest
 
 HERE = os.path.dirname(os.path.abspath(__file__))
 
@@ -56,18 +57,6 @@ def write_trace(path, options):
             out.write(f"c {count}\n" if actor == options.threads else f"t {actor} {count}\n")
             left -= count
         out.write("end\n")
-
-
-def fastest(command, runs):
-    """The least wall time of a command in seconds, and what it printed last."""
-    best, printed = None, ""
-    for _ in range(runs):
-        start = time.perf_counter()
-        run = subprocess.run(command, capture_output=True, text=True)
-        took = time.perf_counter() - start
-        printed = (run.stdout + run.stderr).strip()
-        best = took if best is None else min(best, took)
-    return best, printed
 
 
 def show(name, took, steps, printed):
