@@ -9,16 +9,18 @@ fills a cell, a counted loop, a walk along a list, a look into an array behind a
 import argparse
 import random
 
-HEAD = """%Node = type { i64, %Node* }
-%Table = type { [16 x i64] }
-%Pair = type { i32, { i64, [2 x i64] }, %Node* }
-@g = global %Node* null
-declare i8* @dg_alloc(i32)
+DECLARED = """declare i8* @dg_alloc(i32)
 declare void @dg_safepoint()
 declare void @llvm.gcroot(i8**, i8*)
 declare i8* @llvm.gcread(i8*, i8**)
 declare void @llvm.gcwrite(i8*, i8*, i8**)
 """
+
+HEAD = """%Node = type { i64, %Node* }
+%Table = type { [16 x i64] }
+%Pair = type { i32, { i64, [2 x i64] }, %Node* }
+@g = global %Node* null
+""" + DECLARED
 
 OPERATIONS = ["add", "sub", "mul", "and", "or", "xor"]
 

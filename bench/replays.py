@@ -17,18 +17,14 @@ import subprocess
 import sys
 import tempfile
 
+from generate import DECLARED
 from timing import fastest
 
 HERE = os.path.dirname(os.path.abspath(__file__))
 
 MODULE = """%Node = type { i64, %Node* }
 @g = global %Node* null
-declare i8* @dg_alloc(i32)
-declare void @dg_safepoint()
-declare void @llvm.gcroot(i8**, i8*)
-declare i8* @llvm.gcread(i8*, i8**)
-declare void @llvm.gcwrite(i8*, i8*, i8**)
-define void @spin() gc "shadow-stack" {
+""" + DECLARED + """define void @spin() gc "shadow-stack" {
 entry:
   %s = alloca %Node*
   %r = bitcast %Node** %s to i8**
