@@ -21,8 +21,8 @@ use Rattle.ir_instructions.specs.declared.case_values.CaseValue.{CaseValue}
 use Rattle.ir_instructions.specs.CaseValues.{value_of, is_among, with_value}
 use Rattle.ir_instructions.specs.Integers.{condition}
 use Rattle.ir_instructions.specs.Lists.{typed}
-use Rattle.ir_instructions.specs.Decorations.{either}
-use Rattle.ir_instructions.specs.ManyWith.{many_with}
+use Rattle.ir_decorations.specs.Decorations.{either}
+use Rattle.ir_decorations.specs.ManyWith.{many_with}
 
 -- ---- br
 

@@ -11,9 +11,9 @@ use Rattle.ir_cursor.specs.Cursor.{kind}
 use Rattle.ir_parts.specs.Input.{Form, unread, skip, expect, sees_a}
 use Rattle.ir_parts.specs.Names.{set_type, callee, unnamed_value}
 use Rattle.ir_parts.specs.Written.{scalar, intern}
-use Rattle.ir_instructions.specs.Starts.{is_indirect_callee}
-use Rattle.ir_instructions.specs.Decorations.{decorations, trailed}
-use Rattle.ir_instructions.specs.declared.decorating.Spot.TheVariants as spot
+use Rattle.ir_decorations.specs.Starts.{is_indirect_callee}
+use Rattle.ir_decorations.specs.Decorations.{decorations, trailed}
+use Rattle.ir_decorations.specs.declared.decorating.Spot.TheVariants as spot
 use Rattle.ir_instructions.specs.Lists.{arguments}
 
 -- the name of the function that is called

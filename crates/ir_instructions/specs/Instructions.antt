@@ -13,9 +13,9 @@ use Rattle.ir_parts.specs.Names.{new_value, new_value_takes, numbered_value, num
 use Rattle.ir_instructions.specs.declared.site.Site.{Site}
 use Rattle.ir_instructions.specs.Branches.{terminator, terminator_takes, ends_block}
 use Rattle.ir_instructions.specs.Calls.{call, tail_call, valued, unnamed, call_statement, call_statement_behind, tail_call_statement, sees_call}
-use Rattle.ir_instructions.specs.Decorations.{trailed}
+use Rattle.ir_decorations.specs.Decorations.{trailed}
 use Rattle.ir_instructions.specs.Integers.{compare, select, integer_op}
-use Rattle.ir_instructions.specs.ManyWith.{many_with}
+use Rattle.ir_decorations.specs.ManyWith.{many_with}
 use Rattle.ir_instructions.specs.Memory.{alloca, bitcast, load, store, stored_here, element}
 use Rattle.ir_instructions.specs.Phis.{phi}
 use Rattle.ir_instructions.specs.Sites.{first_of, behind}

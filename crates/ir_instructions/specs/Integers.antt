@@ -22,7 +22,7 @@ use Rattle.ir_parts.specs.Written.{scalar, intern, again, bits_of}
 use Rattle.ir_parts.specs.Operand.{operand}
 use Rattle.ir_instructions.specs.declared.integers.TwoOperands.{TwoOperands}
 use Rattle.ir_instructions.specs.Lists.{typed}
-use Rattle.ir_instructions.specs.Decorations.{flags}
+use Rattle.ir_decorations.specs.Decorations.{flags}
 
 -- `T V, W`
 unfoldable pub pair : Form TwoOperands

@@ -1,6 +1,3 @@
-pub mod ManyWith
-pub mod Starts
-pub mod Decorations
 pub mod Lists
 pub mod Sites
 pub mod Memory

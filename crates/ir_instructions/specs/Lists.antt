@@ -12,9 +12,9 @@ use Rattle.ir_cursor.specs.Cursor.{kind_behind, sees}
 use Rattle.ir_parts.specs.Input.{Form, unexpected, expect, expect_takes}
 use Rattle.ir_parts.specs.Written.{scalar, bits_of, scalar_takes}
 use Rattle.ir_parts.specs.Operand.{operand}
-use Rattle.ir_instructions.specs.Decorations.{either, decorations}
-use Rattle.ir_instructions.specs.ManyWith.{many_with}
-use Rattle.ir_instructions.specs.declared.decorating.Spot.TheVariants as spot
+use Rattle.ir_decorations.specs.Decorations.{either, decorations}
+use Rattle.ir_decorations.specs.ManyWith.{many_with}
+use Rattle.ir_decorations.specs.declared.decorating.Spot.TheVariants as spot
 use Rattle.ir_instructions.specs.declared.lists.IndexList.{IndexList}
 
 -- the next token is not of this kind

@@ -12,7 +12,7 @@ use Rattle.ir_parts.specs.Names.{set_type, set_element}
 use Rattle.ir_parts.specs.Written.{any_type, scalar, intern, pointer_again, bits_of}
 use Rattle.ir_parts.specs.Operand.{operand}
 use Rattle.ir_instructions.specs.declared.site.Site.{Site}
-use Rattle.ir_instructions.specs.Decorations.{optional}
+use Rattle.ir_decorations.specs.Decorations.{optional}
 use Rattle.ir_instructions.specs.Lists.{typed, indices}
 
 -- `alloca T`, whose value is a pointer to T

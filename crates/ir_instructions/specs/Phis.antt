@@ -14,7 +14,7 @@ use Rattle.ir_parts.specs.Operand.{operand}
 use Rattle.ir_instructions.specs.declared.phis.Entries.{Entries}
 use Rattle.ir_instructions.specs.declared.site.Site.{Site}
 use Rattle.ir_instructions.specs.Lists.{at_no_comma}
-use Rattle.ir_instructions.specs.ManyWith.{many_with}
+use Rattle.ir_decorations.specs.ManyWith.{many_with}
 
 -- behind the first entry a comma stands before each
 unfoldable pub separated : Bool → Form (Unit {0})

@@ -5,14 +5,13 @@ ghost use Rattle.ir_instructions.specs.Instructions as form;
 
 use crate::branches::{ends_block, terminator};
 use crate::calls::{call, call_statement, tail_call, tail_call_statement, unnamed, valued};
-use crate::decorating::trailed;
-use crate::following::{Following, many_with};
 use crate::integers::{compare, integer_op, select};
 use crate::memory::{alloca, bitcast, element, load, store};
 use crate::phis::phi;
 use crate::site::{Site, is_phi};
 use ir_ast::{BlockId, Instr, Op, ValueId};
 use ir_cursor::Fault;
+use ir_decorations::{Following, many_with, trailed};
 use ir_parts::Input;
 use ir_tokens::Kind;
 use items::Items;

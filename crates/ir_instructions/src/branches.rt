@@ -4,11 +4,11 @@ ghost use Rattle.ir_parts.specs.Input.{Reads};
 ghost use Rattle.ir_instructions.specs.Branches as form;
 
 use crate::case_values::{CaseValue, CaseValues};
-use crate::following::{Following, many_with};
 use crate::integers::condition;
 use crate::lists::typed;
 use ir_ast::{Case, Constant, Op};
 use ir_cursor::Fault;
+use ir_decorations::{Following, many_with};
 use ir_parts::{Input, WrittenType, bits_of};
 use ir_tokens::Kind;
 use items::Items;

@@ -3,11 +3,10 @@ ghost use Rattle.std.specs.Prelude.{◌≡◌};
 ghost use Rattle.ir_parts.specs.Input.{Reads};
 ghost use Rattle.ir_instructions.specs.Calls as form;
 
-use crate::decorating::{Spot, decorations, trailed};
 use crate::lists::Arguments;
-use crate::starts::is_indirect_callee;
 use ir_ast::{Instr, IrType, Op, SymbolId, TypeId, ValueId};
 use ir_cursor::Fault;
+use ir_decorations::{Spot, decorations, is_indirect_callee, trailed};
 use ir_parts::{Input, many};
 use ir_tokens::Kind;
 use std::alloc::Global;

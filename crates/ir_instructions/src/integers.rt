@@ -3,10 +3,10 @@ ghost use Rattle.std.specs.Prelude.{◌≡◌};
 ghost use Rattle.ir_parts.specs.Input.{Reads};
 ghost use Rattle.ir_instructions.specs.Integers as form;
 
-use crate::decorating::flags;
 use crate::lists::typed;
 use ir_ast::{Argument, Arithmetic, Comparison, IrType, Op, Operand, Resize, TypeId, ValueId};
 use ir_cursor::Fault;
+use ir_decorations::flags;
 use ir_parts::{Base, Input, ROOM, WrittenType, bits_of};
 use ir_tokens::Kind;
 use std::alloc::Global;

@@ -5,16 +5,11 @@ mod bodies;
 mod branches;
 mod calls;
 mod case_values;
-mod decorating;
-mod following;
 mod integers;
 mod lists;
 mod memory;
 mod phis;
 mod site;
-mod starts;
 
 pub use bodies::instructions;
-pub use decorating::{Spot, Trail, any_token, decorations, optional, trailing};
-pub use following::{Following, many_with};
 pub use lists::separator;

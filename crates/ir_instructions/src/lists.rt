@@ -3,10 +3,9 @@ ghost use Rattle.std.specs.Prelude.{◌≡◌};
 ghost use Rattle.ir_parts.specs.Input.{Reads};
 ghost use Rattle.ir_instructions.specs.Lists as form;
 
-use crate::decorating::{Spot, decorations};
-use crate::following::{Following, many_with};
 use ir_ast::Argument;
 use ir_cursor::Fault;
+use ir_decorations::{Following, Spot, decorations, many_with};
 use ir_parts::{Input, Listed, bits_of};
 use ir_tokens::Kind;
 use items::Items;

@@ -3,11 +3,11 @@ ghost use Rattle.std.specs.Prelude.{◌≡◌};
 ghost use Rattle.ir_parts.specs.Input.{Reads};
 ghost use Rattle.ir_instructions.specs.Memory as form;
 
-use crate::decorating::optional;
 use crate::lists::{indices, typed};
 use crate::site::Site;
 use ir_ast::{Argument, IrType, Op, ValueId};
 use ir_cursor::Fault;
+use ir_decorations::optional;
 use ir_parts::{Input, WrittenType, bits_of};
 use ir_tokens::Kind;
 use std::alloc::Global;

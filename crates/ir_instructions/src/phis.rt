@@ -3,11 +3,11 @@ ghost use Rattle.std.specs.Prelude.{◌≡◌};
 ghost use Rattle.ir_parts.specs.Input.{Reads};
 ghost use Rattle.ir_instructions.specs.Phis as form;
 
-use crate::following::{Following, many_with};
 use crate::lists::at_no_comma;
 use crate::site::Site;
 use ir_ast::{Incoming, Op, ValueId};
 use ir_cursor::Fault;
+use ir_decorations::{Following, many_with};
 use ir_parts::{Input, bits_of};
 use ir_tokens::Kind;
 use items::Items;

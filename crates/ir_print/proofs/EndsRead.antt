@@ -13,7 +13,7 @@ use Rattle.ir_parts.specs.Input.{advanced, skip}
 use Rattle.ir_parts.specs.Names.{target}
 use Rattle.grammar.specs.Grammar.{pure, ◌>>◌}
 use Rattle.ir_instructions.specs.Branches.{terminator, terminator_by, br, br_behind, jump, branch, ret, ret_behind, returned_value}
-use Rattle.ir_instructions.specs.Decorations.{either}
+use Rattle.ir_decorations.specs.Decorations.{either}
 use Rattle.ir_print.specs.Ends.{JumpsAreRead, EmptyReturnsAreRead, UnreachablesAreRead}
 use Rattle.ir_print.specs.Names.{local_text}
 use Rattle.ir_print.specs.Standing.{Stands}

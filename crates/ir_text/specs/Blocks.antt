@@ -11,7 +11,7 @@ use Rattle.ir_cursor.specs.Cursor.{kind, sees}
 use Rattle.ir_parts.specs.Input.{Form, limit}
 use Rattle.ir_parts.specs.Names.{new_label, numbered_label, unnamed_label}
 use Rattle.ir_instructions.specs.Instructions.{instructions, instructions_takes}
-use Rattle.ir_instructions.specs.ManyWith.{many_with}
+use Rattle.ir_decorations.specs.ManyWith.{many_with}
 use Rattle.ir_text.specs.declared.blocks.Blocks.{Blocks}
 
 -- a function has at most 65,535 blocks

@@ -26,10 +26,10 @@ use Rattle.ir_cursor.specs.Table.{empty}
 use Rattle.ir_parts.specs.Written.{any_type, held_type, passed_type, intern, no_parameters, struct_body, bits_of}
 use Rattle.ir_parts.specs.Operand.{constant, begins_unread_operand}
 use Rattle.ir_text.specs.Starts.{begins_unread_item, is_external}
-use Rattle.ir_instructions.specs.Decorations.{either, decorations, trailing}
-use Rattle.ir_instructions.specs.declared.decorating.Spot.{Spot}
-use Rattle.ir_instructions.specs.declared.decorating.Spot.TheVariants as spot
-use Rattle.ir_instructions.specs.declared.decorating.Trail.TheVariants as trail
+use Rattle.ir_decorations.specs.Decorations.{either, decorations, trailing}
+use Rattle.ir_decorations.specs.declared.decorating.Spot.{Spot}
+use Rattle.ir_decorations.specs.declared.decorating.Spot.TheVariants as spot
+use Rattle.ir_decorations.specs.declared.decorating.Trail.TheVariants as trail
 use Rattle.ir_text.specs.Parameters.{declared_parameters, parameters}
 use Rattle.ir_text.specs.Blocks.{blocks}
 use Rattle.ir_text.specs.Lines.{source_name, source_name_takes, target_line, target_line_takes, group, group_takes, comdat, comdat_takes, metadata_line, metadata_line_takes}

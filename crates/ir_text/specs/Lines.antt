@@ -8,7 +8,7 @@ use Rattle.ir_tokens.specs.declared.token.Kind.TheVariants as k
 use Rattle.ir_cursor.specs.Cursor.{kind, sees, spelling, begins_line}
 use Rattle.ir_parts.specs.declared.input.Input.{Input}
 use Rattle.ir_parts.specs.Input.{Form, unexpected, skip, skip_takes, expect, IsKind}
-use Rattle.ir_instructions.specs.Decorations.{either, any_token, any_token_takes}
+use Rattle.ir_decorations.specs.Decorations.{either, any_token, any_token_takes}
 
 -- ---- what the text was made from
 

@@ -5,7 +5,8 @@ ghost use Rattle.ir_text.specs.Blocks as form;
 
 use ir_ast::{Block, BlockId, ValueId};
 use ir_cursor::Fault;
-use ir_instructions::{Following, instructions, many_with};
+use ir_decorations::{Following, many_with};
+use ir_instructions::instructions;
 use ir_parts::Input;
 use ir_tokens::Kind;
 use items::Items;

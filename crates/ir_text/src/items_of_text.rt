@@ -13,7 +13,7 @@ use ir_ast::{
     SymbolId, SymbolSort, TypeId,
 };
 use ir_cursor::{Fault, Table, runtime_of};
-use ir_instructions::{Spot, Trail, decorations, trailing};
+use ir_decorations::{Spot, Trail, decorations, trailing};
 use ir_parts::{Input, Listed, begins_unread_operand, bits_of, first_missing, many};
 use ir_tokens::Kind;
 use items::Items;

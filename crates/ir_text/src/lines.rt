@@ -4,7 +4,7 @@ ghost use Rattle.ir_parts.specs.Input.{Reads};
 ghost use Rattle.ir_text.specs.Lines as form;
 
 use ir_cursor::Fault;
-use ir_instructions::any_token;
+use ir_decorations::any_token;
 use ir_parts::{Input, Listed, many};
 use ir_tokens::Kind;
 use std::alloc::Global;
@@ -54,7 +54,7 @@ pub fn target_line(input: &mut Input<'_>) -> Result<(), Fault>
 pub struct Braced;
 
 impl Listed for Braced {
-    ghost use Rattle.ir_instructions.specs.Decorations.{any_token};
+    ghost use Rattle.ir_decorations.specs.Decorations.{any_token};
     ghost use Rattle.ir_text.specs.Lines.{at_brace};
 
     type Item = Kind;
@@ -128,7 +128,7 @@ pub fn comdat(input: &mut Input<'_>) -> Result<(), Fault>
 pub struct LineTokens;
 
 impl Listed for LineTokens {
-    ghost use Rattle.ir_instructions.specs.Decorations.{any_token};
+    ghost use Rattle.ir_decorations.specs.Decorations.{any_token};
     ghost use Rattle.ir_text.specs.Lines.{at_line_end};
 
     type Item = Kind;

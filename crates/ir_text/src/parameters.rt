@@ -5,7 +5,8 @@ ghost use Rattle.ir_text.specs.Parameters as form;
 
 use ir_ast::{Parameter, TypeId, ValueId};
 use ir_cursor::Fault;
-use ir_instructions::{Spot, decorations, separator};
+use ir_decorations::{Spot, decorations};
+use ir_instructions::separator;
 use ir_parts::{Input, Listed, WrittenType};
 use ir_tokens::Kind;
 use std::alloc::Global;

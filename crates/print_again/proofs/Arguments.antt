@@ -15,7 +15,7 @@ use Rattle.ir_parts.specs.declared.written.WrittenType.{WrittenType}
 use Rattle.ir_parts.specs.Input.{Form, advanced, expect}
 use Rattle.ir_parts.specs.Operand as form
 use Rattle.ir_parts.specs.Written as w
-use Rattle.ir_instructions.specs.Decorations.{either}
+use Rattle.ir_decorations.specs.Decorations.{either}
 use Rattle.ir_instructions.specs.Lists as lists
 use Rattle.ir_print.specs.Operands.{operand_text, argument_text}
 use Rattle.ir_print.specs.Standing.{Stands, IsSeam, AreBlanks}
@@ -33,9 +33,9 @@ use Rattle.print_again.proofs.Operations.{on, said_on}
 use Rattle.std.specs.List.{flat_map, AllByRecursion}
 use Rattle.std.specs.Prelude.{map}
 use Rattle.ir_cursor.specs.Cursor.{begins_line}
-use Rattle.ir_instructions.specs.Decorations.{decorations, begins_decoration}
-use Rattle.ir_instructions.specs.declared.decorating.Spot.{Spot}
-use Rattle.ir_instructions.specs.declared.decorating.Spot.TheVariants as spot
+use Rattle.ir_decorations.specs.Decorations.{decorations, begins_decoration}
+use Rattle.ir_decorations.specs.declared.decorating.Spot.{Spot}
+use Rattle.ir_decorations.specs.declared.decorating.Spot.TheVariants as spot
 use Rattle.ir_parts.specs.Input.{unexpected}
 use Rattle.ir_print.specs.Operands.{listed}
 use Rattle.ir_print.proofs.Words.{seen}

@@ -38,9 +38,9 @@ use Rattle.print_again.proofs.Operations.{on, said_on, set_reads}
 use Rattle.std.specs.List.{AllByRecursion}
 use Rattle.std.specs.Prelude.{map}
 use Rattle.ir_cursor.specs.Cursor.{begins_line}
-use Rattle.ir_instructions.specs.Decorations.{decorations, begins_decoration}
+use Rattle.ir_decorations.specs.Decorations.{decorations, begins_decoration}
 use Rattle.ir_instructions.specs.Calls as calls
-use Rattle.ir_instructions.specs.declared.decorating.Spot.TheVariants as spot
+use Rattle.ir_decorations.specs.declared.decorating.Spot.TheVariants as spot
 use Rattle.ir_parts.specs.Names.{callee, with_symbol_use}
 use Rattle.ir_ast.specs.Names.{number_of}
 use Rattle.ir_print.specs.Names.{name_at, name_text, global_text}
@@ -51,8 +51,8 @@ use Rattle.printable.specs.Printable.{IsVoid}
 use Rattle.printable.specs.Definitions.{functions_of}
 use Rattle.print_again.proofs.Operands.{symbol_ready, symbol_grows, symbol_few, symbol_there, sign_less}
 use Rattle.ir_ast.specs.declared.instr.Instr.{Instr}
-use Rattle.ir_instructions.specs.Decorations.{trailing, trail_of}
-use Rattle.ir_instructions.specs.declared.decorating.Trail.{Trail}
+use Rattle.ir_decorations.specs.Decorations.{trailing, trail_of}
+use Rattle.ir_decorations.specs.declared.decorating.Trail.{Trail}
 use Rattle.print_again.proofs.Arguments.{ends_line, EndsLine, undecorated_line, undecorated_type, decorations_said, listed_by, ListPrints, arguments_read}
 
 -- a call of these texts

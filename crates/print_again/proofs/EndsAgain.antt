@@ -18,7 +18,7 @@ use Rattle.ir_parts.specs.declared.written.WrittenType.{WrittenType}
 use Rattle.ir_parts.specs.Input.{Form, advanced, skip, expect}
 use Rattle.ir_parts.specs.Operand as form
 use Rattle.ir_parts.specs.Written as w
-use Rattle.ir_instructions.specs.Decorations.{either}
+use Rattle.ir_decorations.specs.Decorations.{either}
 use Rattle.ir_instructions.specs.Lists as lists
 use Rattle.ir_instructions.specs.Integers as integers
 use Rattle.ir_print.specs.Operands.{operand_text, typed_text, argument_text}
@@ -37,7 +37,7 @@ use Rattle.print_again.proofs.AgainTypes.{again_reads}
 use Rattle.print_again.proofs.Parts.{ends_again, OpPrints, ArgumentPrints, operand_at, typed_reads}
 use Rattle.print_again.proofs.Operations.{on}
 use Rattle.std.specs.List.{flat_map}
-use Rattle.ir_instructions.specs.ManyWith.{Follows}
+use Rattle.ir_decorations.specs.ManyWith.{Follows}
 use Rattle.ir_print.specs.Names.{name_at}
 use Rattle.ir_print.proofs.Words.{seen}
 use Rattle.print_again.proofs.Steps.{sign_kind, said_then}

@@ -20,7 +20,7 @@ use Rattle.ir_parts.specs.Input.{Form, advanced, skip, expect}
 use Rattle.ir_parts.specs.Names.{set_type, set_element}
 use Rattle.ir_parts.specs.Operand as form
 use Rattle.ir_parts.specs.Written as w
-use Rattle.ir_instructions.specs.Decorations.{optional}
+use Rattle.ir_decorations.specs.Decorations.{optional}
 use Rattle.ir_instructions.specs.Lists as lists
 use Rattle.ir_instructions.specs.Memory as memory
 use Rattle.ir_print.specs.Operands.{operand_text, argument_text}
@@ -40,7 +40,7 @@ use Rattle.print_again.proofs.Parts.{ends_comma, OpPrints, ArgumentPrints, Sets,
 use Rattle.print_again.proofs.Operations.{on, said_on, set_reads}
 use Rattle.std.specs.List.{flat_map, AllByRecursion}
 use Rattle.std.specs.Prelude.{map}
-use Rattle.ir_instructions.specs.ManyWith.{Follows}
+use Rattle.ir_decorations.specs.ManyWith.{Follows}
 use Rattle.std.specs.Prelude.{◌||◌, ◌&&◌}
 use Rattle.ir_ast.specs.declared.op.Incoming.{Incoming}
 use Rattle.ir_cursor.specs.Cursor.{kind_behind}

@@ -25,8 +25,8 @@ use Rattle.ir_parts.specs.Input.{Form, advanced, skip, expect}
 use Rattle.ir_parts.specs.Names.{with_sort, set_sort, set_type}
 use Rattle.ir_parts.specs.Written as w
 use Rattle.ir_instructions.specs.declared.integers.TwoOperands.{TwoOperands}
-use Rattle.ir_instructions.specs.Decorations.{flags}
-use Rattle.ir_instructions.specs.Starts.{is_flag}
+use Rattle.ir_decorations.specs.Decorations.{flags}
+use Rattle.ir_decorations.specs.Starts.{is_flag}
 use Rattle.ir_instructions.specs.Lists as lists
 use Rattle.ir_instructions.specs.Integers as integers
 use Rattle.ir_instructions.specs.Memory as memory

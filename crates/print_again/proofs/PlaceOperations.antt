@@ -22,7 +22,7 @@ use Rattle.ir_parts.specs.Names.{set_type}
 use Rattle.ir_parts.specs.Operand as form
 use Rattle.ir_parts.specs.Written as w
 use Rattle.ir_instructions.specs.declared.integers.TwoOperands.{TwoOperands}
-use Rattle.ir_instructions.specs.Decorations.{optional, either}
+use Rattle.ir_decorations.specs.Decorations.{optional, either}
 use Rattle.ir_instructions.specs.Integers as integers
 use Rattle.ir_instructions.specs.Memory as memory
 use Rattle.ir_print.specs.Operands.{operand_text, typed_text, argument_text}

@@ -11,7 +11,7 @@ use Rattle.ir_tokens.specs.declared.token.Kind.TheVariants as k
 use Rattle.ir_tokens.specs.Bytes.{Text, class_of}
 use Rattle.ir_cursor.specs.Cursor.{kind, sees}
 use Rattle.ir_parts.specs.declared.input.Input.{Input}
-use Rattle.ir_instructions.specs.ManyWith.{Follows}
+use Rattle.ir_decorations.specs.ManyWith.{Follows}
 use Rattle.ir_text.specs.Blocks.{further, at_close, behind_block}
 use Rattle.ir_print.specs.Blocks.{block_text}
 use Rattle.ir_print.specs.Instructions.{instruction_line}

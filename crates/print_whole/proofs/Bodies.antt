@@ -15,7 +15,7 @@ use Rattle.ir_parts.specs.declared.input.Input.{Input}
 use Rattle.ir_instructions.specs.declared.site.Site.{Site}
 use Rattle.ir_instructions.specs.Branches as branches
 use Rattle.ir_instructions.specs.Instructions.{placed, at_terminator}
-use Rattle.ir_instructions.specs.ManyWith.{Follows}
+use Rattle.ir_decorations.specs.ManyWith.{Follows}
 use Rattle.ir_instructions.specs.Sites.{is_phi, behind}
 use Rattle.ir_print.specs.Instructions.{op_text, instruction_line, ends_block}
 use Rattle.ir_print.specs.Names.{name_at}

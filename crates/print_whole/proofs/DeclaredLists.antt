@@ -13,8 +13,8 @@ use Rattle.ir_cursor.specs.Cursor.{kind, begins_line}
 use Rattle.ir_parts.specs.declared.input.Input.{Input}
 use Rattle.ir_parts.specs.Names.{take_number, with_number_taken}
 use Rattle.ir_parts.specs.Written.{begins_type}
-use Rattle.ir_instructions.specs.declared.decorating.Spot.TheVariants as spot
-use Rattle.ir_instructions.specs.Decorations.{begins_decoration}
+use Rattle.ir_decorations.specs.declared.decorating.Spot.TheVariants as spot
+use Rattle.ir_decorations.specs.Decorations.{begins_decoration}
 use Rattle.ir_instructions.specs.Lists.{at_round}
 use Rattle.ir_text.specs.Parameters.{declared_parameter, declared_name, declared_name_by}
 use Rattle.ir_print.specs.Operands.{listed}

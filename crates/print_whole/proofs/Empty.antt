@@ -4,9 +4,9 @@ use Rattle.ir_ast.specs.declared.op.Op.{Op}
 use Rattle.ir_tokens.specs.declared.token.Kind.TheVariants as k
 use Rattle.ir_cursor.specs.Cursor.{kind, sees, begins_line}
 use Rattle.ir_parts.specs.declared.input.Input.{Input}
-use Rattle.ir_instructions.specs.declared.decorating.Spot.{Spot}
-use Rattle.ir_instructions.specs.declared.decorating.Trail.{Trail}
-use Rattle.ir_instructions.specs.Decorations.{begins_decoration, decorations, trailing, trail_of, trailed}
+use Rattle.ir_decorations.specs.declared.decorating.Spot.{Spot}
+use Rattle.ir_decorations.specs.declared.decorating.Trail.{Trail}
+use Rattle.ir_decorations.specs.Decorations.{begins_decoration, decorations, trailing, trail_of, trailed}
 
 pub no_decorations : (s : Spot) (i : Input) → begins_decoration s (begins_line i.cursor) (kind i.cursor) ≡ false → (decorations s).says i tt i
 unfolding decorations

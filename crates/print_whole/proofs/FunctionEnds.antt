@@ -17,7 +17,7 @@ use Rattle.ir_cursor.specs.declared.uses.Wanted.{Wanted}
 use Rattle.ir_cursor.specs.declared.uses.Wanted.TheVariants as wants
 use Rattle.ir_parts.specs.declared.input.Input.{Input}
 use Rattle.ir_parts.specs.Input.{advanced}
-use Rattle.ir_instructions.specs.ManyWith.{Follows}
+use Rattle.ir_decorations.specs.ManyWith.{Follows}
 use Rattle.ir_parts.specs.Names.{is_wanted, first_missing}
 use Rattle.ir_text.specs.Blocks.{blocks, further, at_close, behind_block}
 use Rattle.ir_text.specs.ItemsOfText.{open_body, open_body_by, body_behind, with_function, function_of, earlier}

@@ -20,9 +20,9 @@ use Rattle.ir_parts.specs.declared.input.Input.{Input}
 use Rattle.ir_parts.specs.Input.{advanced, expect}
 use Rattle.ir_parts.specs.Names.{with_symbol}
 use Rattle.ir_parts.specs.Written.{bits_of}
-use Rattle.ir_instructions.specs.declared.decorating.Spot.TheVariants as spot
-use Rattle.ir_instructions.specs.declared.decorating.Trail.TheVariants as trail
-use Rattle.ir_instructions.specs.Decorations.{begins_decoration}
+use Rattle.ir_decorations.specs.declared.decorating.Spot.TheVariants as spot
+use Rattle.ir_decorations.specs.declared.decorating.Trail.TheVariants as trail
+use Rattle.ir_decorations.specs.Decorations.{begins_decoration}
 use Rattle.ir_text.specs.ItemsOfText.{global, is_constant, is_constant_by, initial, is_initial, item, item_by, with_global}
 use Rattle.ir_print.specs.Fits.{FitsType, constant_shown}
 use Rattle.ir_print.specs.Items.{global_line, global_word}

@@ -17,8 +17,8 @@ use Rattle.ir_parts.specs.declared.input.Input.{Input}
 use Rattle.ir_parts.specs.declared.written.WrittenType.{WrittenType}
 use Rattle.ir_parts.specs.Names as names
 use Rattle.ir_parts.specs.Written.{begins_type, passed_type}
-use Rattle.ir_instructions.specs.declared.decorating.Spot.TheVariants as spot
-use Rattle.ir_instructions.specs.Decorations.{begins_decoration, either}
+use Rattle.ir_decorations.specs.declared.decorating.Spot.TheVariants as spot
+use Rattle.ir_decorations.specs.Decorations.{begins_decoration, either}
 use Rattle.ir_instructions.specs.Lists.{separator, comma, at_round}
 use Rattle.ir_text.specs.Parameters.{parameter, parameter_type, parameter_type_by, parameter_name, parameter_name_by}
 use Rattle.ir_print.specs.Items.{parameter_text}

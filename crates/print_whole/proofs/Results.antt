@@ -13,8 +13,8 @@ use Rattle.ir_cursor.specs.Cursor.{kind, begins_line}
 use Rattle.ir_parts.specs.declared.input.Input.{Input}
 use Rattle.ir_parts.specs.Input.{advanced}
 use Rattle.ir_parts.specs.Written.{begins_type, passed_type, any_type}
-use Rattle.ir_instructions.specs.declared.decorating.Spot.TheVariants as spot
-use Rattle.ir_instructions.specs.Decorations.{begins_decoration, decorations, either}
+use Rattle.ir_decorations.specs.declared.decorating.Spot.TheVariants as spot
+use Rattle.ir_decorations.specs.Decorations.{begins_decoration, decorations, either}
 use Rattle.ir_text.specs.ItemsOfText.{void_result, defined_result, defined_result_by, declared_result, declared_result_by, head_end, collector, collector_name}
 use Rattle.ir_print.specs.Items.{collector_text}
 use Rattle.ir_print.specs.Names.{name_text, quoted_text}

@@ -10,11 +10,11 @@ use Rattle.ir_tokens.specs.declared.token.Kind.TheVariants as k
 use Rattle.ir_parts.specs.declared.input.Input.{Input}
 use Rattle.ir_parts.specs.declared.written.WrittenType.{WrittenType}
 use Rattle.ir_parts.specs.Written.{is_scalar, bits_of}
-use Rattle.ir_instructions.specs.ManyWith.{Follows}
+use Rattle.ir_decorations.specs.ManyWith.{Follows}
 use Rattle.ir_instructions.specs.Lists.{argument, argument_takes, arguments, at_round, typed, index, any_index, indices, ends_indices, behind_index}
 use Rattle.ir_instructions.specs.Integers.{pair, typed_pair, condition, bit_type}
 use Rattle.ir_instructions.specs.Memory.{place_of}
-use Rattle.ir_instructions.specs.declared.decorating.Spot.TheVariants as spot
+use Rattle.ir_decorations.specs.declared.decorating.Spot.TheVariants as spot
 use Rattle.ir_instructions.specs.declared.integers.TwoOperands.{TwoOperands}
 use Rattle.ir_instructions.specs.declared.lists.IndexList.{IndexList}
 use Rattle.printable.specs.Definitions.{defined_structs}

@@ -19,9 +19,9 @@ use Rattle.ir_ast.specs.declared.instr.Instr.{Instr}
 use Rattle.std.proofs.Common.{◌++◌, length-append}
 use Rattle.ir_parts.specs.Written.{is_passed}
 use Rattle.ir_instructions.specs.Instructions.{body, instructions}
-use Rattle.ir_instructions.specs.ManyWith.{Follows}
+use Rattle.ir_decorations.specs.ManyWith.{Follows}
 use Rattle.ir_instructions.specs.Sites.{first_of}
-use Rattle.ir_instructions.specs.declared.decorating.Spot.TheVariants as spot
+use Rattle.ir_decorations.specs.declared.decorating.Spot.TheVariants as spot
 use Rattle.ir_text.specs.Blocks.{label_by, block_label, block, further, at_close, behind_block, blocks}
 use Rattle.ir_text.specs.Parameters.{parameter_type_by, parameter_type, parameter_name_by, parameter_name, parameter, parameters}
 use Rattle.ir_instructions.specs.Lists.{at_round}

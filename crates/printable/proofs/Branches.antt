@@ -21,7 +21,7 @@ use Rattle.ir_ast.specs.declared.operand.Constant.{Constant}
 use Rattle.ir_parts.specs.Written.{bits_of}
 use Rattle.ir_instructions.specs.Branches.{jump, branch, br, case_constant, case, at_square, behind_case, all_cases, bracketed_cases, switch, returned_value, ret, terminator_by, terminator}
 use Rattle.ir_instructions.specs.CaseValues.{value_of, is_among}
-use Rattle.ir_instructions.specs.Decorations.{either}
+use Rattle.ir_decorations.specs.Decorations.{either}
 use Rattle.ir_instructions.specs.declared.branches.Cases.{Cases}
 use Rattle.ir_print.specs.Fits.{FitsType}
 use Rattle.printable.specs.Definitions.{defined_structs}

@@ -22,11 +22,11 @@ use Rattle.ir_ast.specs.declared.op.Incoming.{Incoming}
 use Rattle.ir_tokens.specs.Bytes.{Text}
 use Rattle.ir_cursor.specs.declared.uses.Wanted.TheVariants as wants
 use Rattle.ir_parts.specs.Written.{bits_of}
-use Rattle.ir_instructions.specs.ManyWith.{Follows}
+use Rattle.ir_decorations.specs.ManyWith.{Follows}
 use Rattle.ir_instructions.specs.Calls.{called_by, called, call_behind, typed_call, call, void_call, tail_call}
 use Rattle.ir_instructions.specs.Memory.{stored_behind, store}
 use Rattle.ir_instructions.specs.Phis.{separated, incoming, entry, ends_entries, behind_entry, all_entries, phi}
-use Rattle.ir_instructions.specs.declared.decorating.Spot.TheVariants as spot
+use Rattle.ir_decorations.specs.declared.decorating.Spot.TheVariants as spot
 use Rattle.ir_instructions.specs.declared.phis.Entries.{Entries}
 use Rattle.ir_print.specs.Names.{name_at}
 use Rattle.printable.specs.Definitions.{functions_of, defined_structs}

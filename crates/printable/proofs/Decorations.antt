@@ -10,11 +10,11 @@ use Rattle.ir_tokens.specs.declared.token.Kind.TheVariants as k
 use Rattle.ir_cursor.specs.Cursor.{kind, sees}
 use Rattle.ir_parts.specs.declared.input.Input.{Input}
 use Rattle.ir_parts.specs.Input.{skip, expect, unexpected, unread, limit}
-use Rattle.ir_instructions.specs.ManyWith.{many_with}
-use Rattle.ir_instructions.specs.Decorations.{either, any_token, in_brackets, in_brackets_takes, has_room, are_closed, behind_bracket, bracketed, past_brackets, is_operand, word_end_by, word_end, word, metadata, decoration_by, decoration, decoration_takes, at_no_decoration, same_spot, decorations, optional, flag_by, flag, flag_takes, at_no_flag, flags, aligned, may_align, trail_by, trail_behind, comma_trail, comma_trail_takes, at_no_trail, same_trail, trailing, trail_of, trailed, begins_count}
-use Rattle.ir_instructions.specs.declared.decorating.Brackets.{Brackets}
-use Rattle.ir_instructions.specs.declared.decorating.Spot.{Spot}
-use Rattle.ir_instructions.specs.declared.decorating.Trail.{Trail}
+use Rattle.ir_decorations.specs.ManyWith.{many_with}
+use Rattle.ir_decorations.specs.Decorations.{either, any_token, in_brackets, in_brackets_takes, has_room, are_closed, behind_bracket, bracketed, past_brackets, is_operand, word_end_by, word_end, word, metadata, decoration_by, decoration, decoration_takes, at_no_decoration, same_spot, decorations, optional, flag_by, flag, flag_takes, at_no_flag, flags, aligned, may_align, trail_by, trail_behind, comma_trail, comma_trail_takes, at_no_trail, same_trail, trailing, trail_of, trailed, begins_count}
+use Rattle.ir_decorations.specs.declared.decorating.Brackets.{Brackets}
+use Rattle.ir_decorations.specs.declared.decorating.Spot.{Spot}
+use Rattle.ir_decorations.specs.declared.decorating.Trail.{Trail}
 use Rattle.ir_instructions.specs.Lists.{separator, comma, sees_no}
 use Rattle.printable.proofs.Forms.{Keeps, Same}
 use Rattle.printable.proofs.Passes.{Passes, skip_passes, expect_passes, check_passes, pure_passes, refuse_passes, past, look_passes, all_pass, all_with_pass}

@@ -4,7 +4,7 @@ use Rattle.std.specs.List.{AllByRecursion}
 use Rattle.grammar.specs.Grammar.{pure, step, checked, ◌>>=◌, ◌>>◌}
 use Rattle.grammar.specs.Many.{many, Listed}
 use Rattle.grammar.specs.Takes.{Takes}
-use Rattle.ir_instructions.specs.ManyWith.{Follows}
+use Rattle.ir_decorations.specs.ManyWith.{Follows}
 use Rattle.ir_cursor.specs.declared.fault.Fault.{Fault}
 use Rattle.ir_parts.specs.declared.input.Input.{Input}
 use Rattle.ir_parts.specs.Input.{Form, left}

@@ -13,9 +13,9 @@ use Rattle.ir_cursor.specs.Table.{empty}
 use Rattle.ir_parts.specs.declared.input.Input.{Input}
 use Rattle.ir_parts.specs.Input.{unexpected, advanced, advanced_falls, expect}
 use Rattle.ir_parts.specs.Names.{quoted, first_missing}
-use Rattle.ir_instructions.specs.Decorations.{either}
-use Rattle.ir_instructions.specs.declared.decorating.Spot.{Spot}
-use Rattle.ir_instructions.specs.declared.decorating.Spot.TheVariants as spot
+use Rattle.ir_decorations.specs.Decorations.{either}
+use Rattle.ir_decorations.specs.declared.decorating.Spot.{Spot}
+use Rattle.ir_decorations.specs.declared.decorating.Spot.TheVariants as spot
 use Rattle.ir_text.specs.Blocks.{blocks}
 use Rattle.ir_text.specs.ItemsOfText.{collector_name, collector, head_end, open_body_by, open_body}
 use Rattle.ir_text.specs.Parameters.{parameters}

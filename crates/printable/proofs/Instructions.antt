@@ -16,9 +16,9 @@ use Rattle.ir_ast.specs.declared.instr.Instr.{Instr}
 use Rattle.ir_instructions.specs.Calls.{valued, unnamed, void_call, numbered_call, call_by, call_statement, tail_call_statement}
 use Rattle.ir_instructions.specs.Integers.{integer_op, arithmetic_of, arithmetic_by, resized, resize_of, resize_by}
 use Rattle.ir_instructions.specs.Instructions.{named_op_by, named_op, named_behind, instruction_by, instruction, placed, at_terminator}
-use Rattle.ir_instructions.specs.ManyWith.{Follows}
+use Rattle.ir_decorations.specs.ManyWith.{Follows}
 use Rattle.ir_instructions.specs.Sites.{behind}
-use Rattle.ir_instructions.specs.declared.decorating.Spot.TheVariants as spot
+use Rattle.ir_decorations.specs.declared.decorating.Spot.TheVariants as spot
 use Rattle.ir_ast.specs.declared.op.Arithmetic.{Arithmetic}
 use Rattle.ir_ast.specs.declared.op.Resize.{Resize}
 use Rattle.printable.specs.Printable.{IsInner, AreInner}

@@ -16,7 +16,7 @@ use Rattle.ir_parts.specs.declared.input.Input.{Input}
 use Rattle.ir_parts.specs.Input.{advanced, advanced_falls, skip}
 use Rattle.ir_parts.specs.Operand.{zero_of, truth_of, number_at, number_or_zero, number, constant_by, constant}
 use Rattle.ir_parts.specs.Written.{any_type, passed_type}
-use Rattle.ir_instructions.specs.declared.decorating.Spot.TheVariants as spot
+use Rattle.ir_decorations.specs.declared.decorating.Spot.TheVariants as spot
 use Rattle.ir_text.specs.ItemsOfText.{body_by, body, is_initial, initial, void_result, declared_result_by, declared_result, defined_result_by, defined_result}
 use Rattle.printable.specs.Printable.{IsType, IsVoid, IsPassed, IsAnyType, IsInitial}
 use Rattle.printable.specs.Shapes.{Shape, is_struct_shape}

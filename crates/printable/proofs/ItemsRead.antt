@@ -19,8 +19,8 @@ use Rattle.ir_parts.specs.declared.written.WrittenType.{WrittenType}
 use Rattle.ir_parts.specs.Input.{Form}
 use Rattle.ir_parts.specs.Names.{with_number_taken}
 use Rattle.ir_parts.specs.Written.{is_held, bits_of}
-use Rattle.ir_instructions.specs.declared.decorating.Spot.TheVariants as spot
-use Rattle.ir_instructions.specs.declared.decorating.Trail.TheVariants as trail
+use Rattle.ir_decorations.specs.declared.decorating.Spot.TheVariants as spot
+use Rattle.ir_decorations.specs.declared.decorating.Trail.TheVariants as trail
 use Rattle.ir_text.specs.ItemsOfText.{struct_type, with_struct_type, global, with_global, function_name_by, function_name, declaration, with_declare}
 use Rattle.ir_text.specs.Read.{module_of}
 use Rattle.printable.specs.Definitions.{defined_structs}

@@ -9,9 +9,9 @@ use Rattle.ir_cursor.specs.Cursor.{kind, sees, spelling, begins_line}
 use Rattle.ir_parts.specs.declared.input.Input.{Input}
 use Rattle.ir_parts.specs.Input.{skip, expect, unexpected}
 use Rattle.ir_parts.specs.Names.{take_number, next_number, is_next, with_number_taken}
-use Rattle.ir_instructions.specs.Decorations.{any_token, any_token_takes, decorations}
+use Rattle.ir_decorations.specs.Decorations.{any_token, any_token_takes, decorations}
 use Rattle.ir_instructions.specs.Lists.{at_round}
-use Rattle.ir_instructions.specs.declared.decorating.Spot.TheVariants as spot
+use Rattle.ir_decorations.specs.declared.decorating.Spot.TheVariants as spot
 use Rattle.ir_text.specs.ItemsOfText.{is_constant_by, is_constant}
 use Rattle.ir_text.specs.Lines.{text_behind, source_name, target_part_by, target_part, target_behind, target_line, at_brace, braced, group_behind, group, begins_dollar, is_dollar, is_comdat_name, dollar_name_by, dollar_name, comdat_behind, named_comdat, comdat, at_line_end, rest_of_line, is_first, line_behind, whole_line, metadata_line}
 use Rattle.ir_text.specs.Parameters.{declared_name_by, declared_name, declared_parameter, declared_parameter_takes, declared_parameters}

@@ -18,7 +18,7 @@ use Rattle.ir_cursor.specs.Table.{empty}
 use Rattle.ir_parts.specs.declared.input.Input.{Input}
 use Rattle.ir_parts.specs.Input.{Form, expect}
 use Rattle.ir_parts.specs.Names.{first_missing}
-use Rattle.ir_instructions.specs.declared.decorating.Spot.TheVariants as spot
+use Rattle.ir_decorations.specs.declared.decorating.Spot.TheVariants as spot
 use Rattle.ir_text.specs.Blocks.{blocks}
 use Rattle.ir_text.specs.ItemsOfText.{function_name_by, function_name, head_end, open_body, earlier, function_of, with_function, head, definition, item_by, item, at_end_of_text, items, whole}
 use Rattle.ir_text.specs.Late.{late_fault}

@@ -14,7 +14,7 @@ use Rattle.ir_parts.specs.declared.written.WrittenType.{WrittenType}
 use Rattle.ir_parts.specs.Input.{advanced, expect}
 use Rattle.ir_parts.specs.Names.{numbered_value, unnamed_value}
 use Rattle.ir_instructions.specs.Lists.{at_round}
-use Rattle.ir_instructions.specs.declared.decorating.Spot.TheVariants as spot
+use Rattle.ir_decorations.specs.declared.decorating.Spot.TheVariants as spot
 use Rattle.ir_text.specs.Parameters.{parameter_type_by, parameter_type, parameter_name_by, parameter_name, parameter, parameters}
 use Rattle.printable.proofs.Decorations.{decorations_pass, separator_passes}
 use Rattle.printable.proofs.FunctionNamed.{IsTaken, IsNewValue, taken, next_taken, new_value_is}

@@ -16,7 +16,7 @@ use Rattle.ir_parts.specs.declared.written.WrittenType.{WrittenType}
 use Rattle.ir_parts.specs.Input.{Form, left, skip, expect, sees_a, unexpected}
 use Rattle.ir_parts.specs.Written.{sees_type, has_bits, bits_at, integer_again, is_named, name_again, length_again, has_length, length_at, array_again, type_at, field_or, fields_again, all_fields_again, again_by, again_over, again_within, again, no_parameters}
 use Rattle.ir_parts.specs.Names.{is_at}
-use Rattle.ir_instructions.specs.ManyWith.{many_with}
+use Rattle.ir_decorations.specs.ManyWith.{many_with}
 use Rattle.printable.proofs.Forms.{Keeps, Same, Any, all, each_with}
 use Rattle.printable.proofs.Reading.{Reading}
 use Rattle.printable.proofs.Tokens.{skip_keeps, expect_keeps}

@@ -1,6 +1,6 @@
 //! Kinds of tokens with which forms begin that are left out, and of decorations.
 ghost use Rattle.std.specs.Prelude.{◌≡◌};
-ghost use Rattle.ir_instructions.specs.Starts as spec;
+ghost use Rattle.ir_decorations.specs.Starts as spec;
 
 use ir_tokens::Kind;
 

@@ -1,7 +1,7 @@
 use Rattle.std.proofs.Common.{◌≡◌, ◌-◌, [], suc}
-use Rattle.ir_instructions.specs.ManyWith.{many_with_from}
+use Rattle.ir_decorations.specs.ManyWith.{many_with_from}
 use Rattle.ir_parts.specs.Input.{left}
-use Rattle.ir_instructions.proofs.following.many_with.Given as goal
+use Rattle.ir_decorations.proofs.following.many_with.Given as goal
 
 abbrev pub invariant-loop-turn : goal.invariant-loop-turn
 invariant-loop-turn g l =

@@ -1,7 +1,7 @@
 //! Decorations: what stands beside the parts of a form and has no effect on the module.
 ghost use Rattle.std.specs.Prelude.{◌≡◌, Ok};
 ghost use Rattle.ir_parts.specs.Input.{Reads};
-ghost use Rattle.ir_instructions.specs.Decorations as form;
+ghost use Rattle.ir_decorations.specs.Decorations as form;
 
 use crate::following::{Following, many_with};
 use crate::starts::{begins_any_type, is_flag};
@@ -33,7 +33,7 @@ pub struct Brackets {
 }
 
 impl Following for Brackets {
-    ghost use Rattle.ir_instructions.specs.Decorations.{in_brackets, are_closed, behind_bracket};
+    ghost use Rattle.ir_decorations.specs.Decorations.{in_brackets, are_closed, behind_bracket};
 
     type Item = Kind;
 
@@ -198,7 +198,7 @@ fn decoration(alloc: Global, input: &mut Input<'_>, spot: Spot) -> Result<(), Fa
 }
 
 impl Following for Spot {
-    ghost use Rattle.ir_instructions.specs.Decorations.{decoration, at_no_decoration, same_spot};
+    ghost use Rattle.ir_decorations.specs.Decorations.{decoration, at_no_decoration, same_spot};
 
     type Item = ();
 
@@ -256,7 +256,7 @@ fn flag(input: &mut Input<'_>) -> Result<(), Fault>
 pub struct FlagList;
 
 impl Listed for FlagList {
-    ghost use Rattle.ir_instructions.specs.Decorations.{flag, at_no_flag};
+    ghost use Rattle.ir_decorations.specs.Decorations.{flag, at_no_flag};
 
     type Item = ();
 
@@ -345,7 +345,7 @@ fn comma_trail(input: &mut Input<'_>, trail: Trail) -> Result<(), Fault>
 }
 
 impl Following for Trail {
-    ghost use Rattle.ir_instructions.specs.Decorations.{comma_trail, at_no_trail, same_trail};
+    ghost use Rattle.ir_decorations.specs.Decorations.{comma_trail, at_no_trail, same_trail};
 
     type Item = ();
 

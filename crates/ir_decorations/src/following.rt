@@ -1,6 +1,6 @@
 //! Lists of forms, each of which may depend on what the ones before it come to.
 ghost use Rattle.std.specs.Prelude.{◌≡◌, [], suc};
-ghost use Rattle.ir_instructions.specs.ManyWith.{many_with_from};
+ghost use Rattle.ir_decorations.specs.ManyWith.{many_with_from};
 ghost use Rattle.ir_parts.specs.Input.{Reads, left};
 
 use ir_cursor::Fault;

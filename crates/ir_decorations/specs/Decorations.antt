@@ -10,13 +10,13 @@ use Rattle.ir_ast.specs.declared.op.Op.TheVariants as op
 use Rattle.ir_cursor.specs.Cursor.{kind, kind_behind, same_kind, sees, begins_line}
 use Rattle.ir_parts.specs.declared.input.Input.{Input}
 use Rattle.ir_parts.specs.Input.{Form, limit, unexpected, unread, skip, expect, expect_takes, IsKind, skip_takes}
-use Rattle.ir_instructions.specs.declared.decorating.Brackets.{Brackets}
-use Rattle.ir_instructions.specs.declared.decorating.Spot.{Spot}
-use Rattle.ir_instructions.specs.declared.decorating.Spot.TheVariants as spot
-use Rattle.ir_instructions.specs.declared.decorating.Trail.{Trail}
-use Rattle.ir_instructions.specs.declared.decorating.Trail.TheVariants as trail
-use Rattle.ir_instructions.specs.ManyWith.{many_with}
-use Rattle.ir_instructions.specs.Starts.{is_flag, begins_any_type}
+use Rattle.ir_decorations.specs.declared.decorating.Brackets.{Brackets}
+use Rattle.ir_decorations.specs.declared.decorating.Spot.{Spot}
+use Rattle.ir_decorations.specs.declared.decorating.Spot.TheVariants as spot
+use Rattle.ir_decorations.specs.declared.decorating.Trail.{Trail}
+use Rattle.ir_decorations.specs.declared.decorating.Trail.TheVariants as trail
+use Rattle.ir_decorations.specs.ManyWith.{many_with}
+use Rattle.ir_decorations.specs.Starts.{is_flag, begins_any_type}
 
 -- one form or the other
 abbrev pub either : {A : Type 0} → Form A → Form A → Bool → Form A

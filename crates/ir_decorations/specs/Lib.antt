@@ -1,0 +1,3 @@
+pub mod ManyWith
+pub mod Starts
+pub mod Decorations
