@@ -22,7 +22,7 @@ use Rattle.shadow_stack.specs.declared.draft.Origin.{Origin}
 use Rattle.shadow_stack.specs.declared.draft.Origin.TheVariants as origin
 use Rattle.shadow_stack.specs.Slots.{slots_of, is_among, put, origin_of, noted_op, noted, noted_blocks, draft_of, origin_at, hop, hops, slot_at, names_of, is_reference_held, operand_slot, first_slot, slot_rooted, slot_rooted_by, with_root, with_roots, with_roots_of}
 use Rattle.types.specs.RuntimeCall.{runtime_called}
-use Rattle.certificate.specs.Drafts.{is_among_roots, is_root, root_noted, roots_noted, roots_of_blocks, root_names}
+use Rattle.certificate.specs.RootNames.{is_among_roots, is_root, root_noted, roots_noted, roots_of_blocks, root_names}
 use Rattle.certificate.specs.Roots.{nowhere, source_of_operand, source_noted, source_behind, source_behind_blocks, source_of, allocated_at, allocated_by, allocated_within, allocated, is_alloca_of, leads_to, first_leads_to, roots_by, roots, some_roots, is_rooted, is_alloca, some_alloca, has_alloca, is_root_alloca, is_root_found}
 use Rattle.certificate.specs.declared.roots.Source.{Source}
 use Rattle.certificate.specs.declared.roots.Source.TheVariants.{Nowhere, Held, Same}

@@ -1,5 +1,5 @@
 -- Which certificates are certificates of a module.
-use Rattle.std.specs.Prelude.{ℕ, Bool, true, false, not, ◌&&◌, ◌||◌, ◌==◌, if◌then◌else◌, List, [], ◌∷◌, length, slice_get, unwrap_or, Option, Some, None, is_some}
+use Rattle.std.specs.Prelude.{ℕ, Bool, true, false, not, ◌&&◌, ◌||◌, ◌==◌, nat_lt, if◌then◌else◌, List, [], ◌∷◌, length, slice_get, unwrap_or, Option, Some, None, is_some}
 use Rattle.std.specs.List.{list_all, list_any, range_with_len, zip}
 use Rattle.ir_ast.specs.declared.function.Function.{Function}
 use Rattle.ir_ast.specs.declared.function.LocalSort.{LocalSort}
@@ -8,9 +8,8 @@ use Rattle.ir_ast.specs.declared.function.Parameter.{Parameter}
 use Rattle.ir_ast.specs.declared.module.Module.{Module}
 use Rattle.pools.specs.WordSets.{no_words, has_word, adds_word}
 use Rattle.types.specs.Globals.{global_named}
-use Rattle.certificate.specs.Drafts.{root_names}
+use Rattle.certificate.specs.RootNames.{root_names}
 use Rattle.certificate.specs.Families.{family_of_type, family_of_value, is_reference, is_integer, is_address, refers_to, same_bits}
-use Rattle.certificate.specs.Numbers.{small, from_one}
 use Rattle.certificate.specs.declared.family.Family.{Family}
 use Rattle.certificate.specs.declared.section.Fact.{Fact}
 use Rattle.certificate.specs.declared.section.Fact.TheVariants as fact
@@ -20,6 +19,15 @@ use Rattle.certificate.specs.declared.section.Promise.{Promise}
 use Rattle.certificate.specs.declared.section.Section.{Section}
 
 -- ---- numbers, layouts and words
+
+-- a number below 2 to the 64
+abbrev pub small : ℕ → Option ℕ
+small n = if nat_lt n 18446744073709551616 then Some n else None
+
+-- a number other than 0
+abbrev pub from_one : Option ℕ → Option ℕ
+from_one None = None
+from_one (Some n) = if n == 0 then None else Some n
 
 -- a number that may stand behind `below`
 abbrev pub is_count : ℕ → Bool

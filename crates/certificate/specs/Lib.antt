@@ -1,16 +1,5 @@
 pub mod Certs
 pub mod Roots
+pub mod RootNames
 pub mod Fits
-pub mod Numbers
-pub mod Names
 pub mod Families
-pub mod Drafts
-pub mod Input
-pub mod View
-pub mod Falls
-pub mod Forms
-pub mod Lines
-pub mod Print
-pub mod Named
-pub mod Ends
-pub mod Text

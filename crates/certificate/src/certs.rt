@@ -40,7 +40,7 @@ impl Certs {
     }
 
     /// All certificates, by the numbers of their functions.
-    pub(crate) fn sections(&self) -> &[Section]
+    pub fn sections(&self) -> &[Section]
         ensures { result.now ≡ self.now }
     {
         self.sections.as_slice()

@@ -1,27 +1,12 @@
-//! Certificates: what each function promises, read from their text.
+//! Certificates: what each function promises, and which certificates fit a module.
 #![tactic(auto)]
 
 mod certs;
-mod draft;
-mod facts;
 mod family;
-mod fault;
 mod fits;
-mod forms;
-mod input;
-mod naming;
-mod numbers;
-mod place;
-mod print;
-mod print_sections;
-mod promises;
-mod reader;
 mod roots;
 mod section;
 
 pub use certs::Certs;
-pub use fault::CertFault;
-pub use print::print_line;
-pub use print_sections::print_cert;
-pub use reader::read_cert;
+pub use family::{Family, family_of_type, family_of_value};
 pub use section::{Age, Fact, Line, Mark, Promise, Section};

@@ -1,9 +1,6 @@
-ghost use Rattle.std.specs.Prelude.{◌≡◌, None, replicate, IfOk};
-
 use ir_ast::{SymbolId, ValueId};
 use items::Items;
 use pools::{LayoutId, WordSet};
-use std::alloc::{AllocError, Global};
 
 /// Whether a function may reach a safepoint.
 #[derive(Clone, Copy, Debug, PartialEq, Eq)]
@@ -78,37 +75,4 @@ pub struct Section {
     pub result: Option<Promise>,
     /// The lines of each block, by its number; the entry has none.
     pub blocks: Items<Items<Line>>,
-}
-
-/// As many parameters with this promise.
-pub fn promised_alike(
-    alloc: Global,
-    count: usize,
-    promise: Option<Promise>,
-) -> Result<Items<Option<Promise>>, AllocError>
-    ensures { IfOk result (λ promises. promises ≡ replicate count promise) }
-{
-    let alike = match promise {
-        None => None,
-        Some(
-            Promise {
-                layout,
-                nonnull,
-                below,
-            },
-        ) => Some(Promise {
-            layout,
-            nonnull,
-            below,
-        }),
-    };
-    let promises = vec![in alloc; alike; count]?;
-    Ok(Items::from_vec(promises))
-}
-
-/// Nothing is promised.
-pub fn no_promise() -> Option<Promise>
-    ensures { result ≡ None }
-{
-    None
 }

@@ -1,7 +1,8 @@
 //! The command `check`.
 use crate::files::file_at;
 use crate::report;
-use certificate::{Certs, read_cert};
+use certificate::Certs;
+use certificate_text::read_cert;
 use ir_ast::Module;
 use ir_text::read;
 use module_check::{NotAccepted, Refusal, Verdict, check};

@@ -6,7 +6,9 @@ ghost use Rattle.dgc.specs.Report.{name_of_block, name_of_function, name_of_stru
 
 use crate::files::Untraced;
 use crate::name::{write_local, write_name};
-use certificate::{CertFault, Certs, print_line};
+use certificate::Certs;
+use certificate_print::print_line;
+use certificate_text::CertFault;
 use ir_ast::{BlockId, FuncId, Module};
 use ir_text::ReadFault;
 use ir_tokens::Position;

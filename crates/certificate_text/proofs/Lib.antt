@@ -1,0 +1,6 @@
+pub mod Turns
+pub mod Laws
+pub mod Between
+pub mod ReadSets
+pub mod ReadWords
+pub mod ReadFits

@@ -1,0 +1,3 @@
+pub mod Lines
+pub mod Ends
+pub mod Text
