@@ -1,2 +1,2 @@
-pub mod Name
+pub mod Files
 pub mod Report

@@ -1,10 +1,42 @@
--- The names that answers and faults are printed with, and the status behind an outcome.
-use Rattle.std.specs.Prelude.{ℕ, List, Option, slice_get, option_and_then}
+-- The lines that answers and faults are printed as, and the status behind each.
+use Rattle.std.specs.Prelude.{◌≡◌, ◌++◌, ℕ, List, [], ◌∷◌, Option, Some, None, length, slice_get, option_and_then, codes}
+use Rattle.std.specs.Fmt.{decimal}
+use Rattle.std.specs.Io.KnownBytes.{Appends}
+use Rattle.std.specs.List.{enumerate_from, flat_map}
 use Rattle.ir_ast.specs.declared.module.Module.{Module}
+use Rattle.ir_tokens.specs.declared.position.Position.{Position}
+use Rattle.ir_text.specs.declared.read_fault.ReadFault.{ReadFault}
+use Rattle.ir_text.specs.declared.read_fault.ReadFault.TheVariants as read
+use Rattle.layout.specs.declared.fault.LayoutFault.{LayoutFault}
+use Rattle.layout.specs.declared.fault.LayoutFault.TheVariants as layout
+use Rattle.certificate_print.specs.Print.{line_shown}
+use Rattle.certificate_text.specs.declared.fault.CertFault.{CertFault}
+use Rattle.certificate_text.specs.declared.fault.CertFault.TheVariants as cert
+use Rattle.certificate.specs.declared.section.Section.{Section}
+use Rattle.certified.specs.declared.block_fault.Detail.{Detail}
+use Rattle.certified.specs.declared.block_fault.Refusal.{Refusal}
+use Rattle.trace_text.specs.declared.fault.TraceFault.{TraceFault}
+use Rattle.trace_text.specs.declared.fault.TraceFault.TheVariants as trace
+use Rattle.trace_text.specs.declared.trace.Actor.{Actor}
+use Rattle.trace_text.specs.declared.trace.Actor.TheVariants as actor
+use Rattle.machine_values.specs.declared.value.Value.{Value}
+use Rattle.machine_values.specs.declared.value.Value.TheVariants as value
+use Rattle.world.specs.declared.setup_fault.SetupFault.{SetupFault}
+use Rattle.world.specs.declared.setup_fault.SetupFault.TheVariants as setup
+use Rattle.world.specs.declared.thread_end.ThreadEnd.{ThreadEnd}
+use Rattle.world.specs.declared.thread_end.ThreadEnd.TheVariants as thread
+use Rattle.replay.specs.declared.outcome.Break.{Break}
 use Rattle.replay.specs.declared.outcome.Outcome.{Outcome}
 use Rattle.replay.specs.declared.outcome.Outcome.TheVariants as outcome
+use Rattle.replay.specs.declared.outcome.Report.{Report}
+use Rattle.replay.specs.declared.outcome.SeedBreak.{SeedBreak}
 use Rattle.replay.specs.declared.outcome.SoakOutcome.{SoakOutcome}
 use Rattle.replay.specs.declared.outcome.SoakOutcome.TheVariants as soak
+use Rattle.ir_print.specs.Names.{name_text, key_text}
+use Rattle.rule_operands.specs.RuleNames.{rule_name}
+use Rattle.replay.specs.CauseNames.{cause_name}
+
+-- ---- names
 
 -- the name of a function of the module
 abbrev pub name_of_function : Module → (func : ℕ) → Option (List ℕ)
@@ -20,12 +52,163 @@ name_of_block m func block =
 abbrev pub name_of_struct : Module → (number : ℕ) → Option (List ℕ)
 name_of_struct m number = option_and_then (λ named. slice_get m.struct_names named.name) (slice_get m.structs number)
 
--- the status behind the outcome of a trace: 1 where its run is broken, 0 otherwise
-abbrev pub status_of : Outcome → ℕ
-status_of (outcome.Broken at) = 1
-status_of (outcome.Sound report) = 0
+-- a name, if there is one
+abbrev pub found_name : Option (List ℕ) → List ℕ
+found_name None = []
+found_name (Some name) = name_text name
 
--- the status behind the outcome of many seeds
-abbrev pub status_of_soak : SoakOutcome → ℕ
-status_of_soak soak.Sound = 0
-status_of_soak (soak.Broken at) = 1
+-- what has a key, if there is one
+abbrev pub found_key : Option (List ℕ) → List ℕ
+found_key None = []
+found_key (Some key) = key_text key
+
+-- ---- answers
+
+-- what is printed, and the status with which the program ends behind it
+pub record Answer : Type 0 where
+  pub text : List ℕ
+  pub status : ℕ
+
+-- a writer was given this text, and the status is this one
+abbrev pub IsTold : (old new : Option (List ℕ)) → (status : ℕ) → Answer → Type 0
+IsTold old new status answer = (status ≡ answer.status) × Appends old new answer.text
+
+-- a line for something that is not read, not laid out or not begun
+abbrev pub unread : (line : List ℕ) → Answer
+unread line = record { text = codes "error " ++ line ++ 10 ∷ []; status = 2 }
+
+-- a fault with its place
+abbrev pub fault_at : (code : List ℕ) → Position → Answer
+fault_at code at = unread (code ++ 32 ∷ decimal at.line ++ 58 ∷ decimal at.column)
+
+-- want of memory
+abbrev pub no_memory : Answer
+no_memory = record { text = codes "error memory" ++ 10 ∷ []; status = 3 }
+
+-- a file that cannot be read
+abbrev pub no_file : (path : List ℕ) → Answer
+no_file path = record { text = codes "error file " ++ path ++ 10 ∷ []; status = 4 }
+
+-- a text that is no module
+abbrev pub of_read_fault : ReadFault → Answer
+of_read_fault read.Memory = no_memory
+of_read_fault (read.BadByte at) = fault_at (codes "L1") at
+of_read_fault (read.Unfinished at) = fault_at (codes "L2") at
+of_read_fault (read.Unexpected at) = fault_at (codes "L3") at
+of_read_fault (read.DefinedTwice at) = fault_at (codes "L4") at
+of_read_fault (read.NotDefined at) = fault_at (codes "L5") at
+of_read_fault (read.OutOfRange at) = fault_at (codes "L6") at
+of_read_fault (read.LeftOut at word) = unread (codes "L7 " ++ decimal at.line ++ 58 ∷ decimal at.column ++ 32 ∷ word)
+of_read_fault (read.Limit at) = fault_at (codes "L8") at
+of_read_fault (read.WrongNumber at) = fault_at (codes "L9") at
+
+-- a text that is no certificate of the module
+abbrev pub of_cert_fault : Module → CertFault → Answer
+of_cert_fault m (cert.Syntax at) = fault_at (codes "C1") at
+of_cert_fault m (cert.Version at) = fault_at (codes "C2") at
+of_cert_fault m (cert.UnknownName at) = fault_at (codes "C3") at
+of_cert_fault m (cert.ListedTwice at) = fault_at (codes "C4") at
+of_cert_fault m (cert.Missing func) = unread (codes "C5 @" ++ found_name (name_of_function m func))
+of_cert_fault m (cert.MissingBlock func block) = unread (codes "C5 @" ++ found_name (name_of_function m func) ++ codes " %" ++ found_key (name_of_block m func block))
+of_cert_fault m cert.Memory = no_memory
+
+-- a module that has no layouts
+abbrev pub of_layout_fault : Module → LayoutFault → Answer
+of_layout_fault m (layout.HoldsItself number) = unread (codes "Y1 " ++ found_name (name_of_struct m number))
+of_layout_fault m (layout.TooManyWords number) = unread (codes "Y2 " ++ found_name (name_of_struct m number))
+of_layout_fault m (layout.NoSuchLayout number) = unread (codes "Y3")
+of_layout_fault m layout.Memory = no_memory
+
+-- a text that is no trace of the program
+abbrev pub of_trace_fault : TraceFault → Answer
+of_trace_fault (trace.Syntax at) = fault_at (codes "P1") at
+of_trace_fault (trace.NoThread at) = fault_at (codes "P2") at
+of_trace_fault (trace.TooManySteps at) = fault_at (codes "P3") at
+of_trace_fault trace.TooManyCells = unread (codes "Y4")
+of_trace_fault trace.Memory = no_memory
+
+-- a thread that does not begin
+abbrev pub of_setup_fault : SetupFault → Answer
+of_setup_fault (setup.WrongArguments t) = unread (codes "K13 t " ++ decimal t)
+of_setup_fault (setup.ReferenceParameter t) = unread (codes "K20 t " ++ decimal t)
+of_setup_fault setup.Memory = no_memory
+
+-- ---- the check
+
+-- a module is accepted that defines so many functions
+abbrev pub yes : (functions : ℕ) → Answer
+yes functions = record { text = codes "yes " ++ decimal functions ++ 10 ∷ []; status = 0 }
+
+-- the line of a certificate that a refusal names, if it names one
+abbrev pub line_of : List Section → Module → (func : ℕ) → Option Detail → List ℕ
+line_of certs m func None = []
+line_of certs m func (Some detail) = line_shown certs m func detail.target detail.line
+
+-- the target of a way out and the line that is not shown on it, if there are any
+abbrev pub detail_text : Module → (func : ℕ) → (line : List ℕ) → Option Detail → List ℕ
+detail_text m func line None = []
+detail_text m func line (Some detail) = codes " %" ++ found_key (name_of_block m func detail.target) ++ 32 ∷ line
+
+-- where a refused instruction stands: its function, its block and its place there
+abbrev pub place_text : Module → Refusal → List ℕ
+place_text m refusal =
+    codes "@" ++ found_name (name_of_function m refusal.func) ++ codes " %" ++ found_key (name_of_block m refusal.func refusal.block) ++ 32 ∷ decimal refusal.instr
+
+-- an instruction is refused: where it stands and the rule that it breaks
+abbrev pub no : Module → (line : List ℕ) → Refusal → Answer
+no m line refusal = record {
+  text = codes "no " ++ place_text m refusal ++ 32 ∷ rule_name refusal.rule ++ detail_text m refusal.func line refusal.detail ++ 10 ∷ [];
+  status = 1;
+}
+
+-- ---- runs
+
+-- who makes a step
+abbrev pub actor_text : Actor → List ℕ
+actor_text (actor.Thread t) = codes "t " ++ decimal t
+actor_text actor.Collector = codes "c"
+
+-- the first step behind which a run is broken
+abbrev pub break_text : Break → List ℕ
+break_text at = decimal at.step ++ 32 ∷ actor_text at.actor ++ 32 ∷ cause_name at.cause ++ 10 ∷ []
+
+-- what a thread returned
+abbrev pub returned_text : Value → List ℕ
+returned_text value.Unset = []
+returned_text (value.Number n) = 32 ∷ decimal n
+returned_text value.Null = codes " null"
+returned_text (value.Cell layout at) = codes " ref " ++ decimal at.cell
+returned_text (value.Address place) = []
+
+-- where a thread stands
+abbrev pub standing_text : ThreadEnd → List ℕ
+standing_text (thread.Returned None) = codes " returned"
+standing_text (thread.Returned (Some value)) = codes " returned" ++ returned_text value
+standing_text thread.Ended = codes " ended"
+standing_text (thread.Running stage) = codes " running " ++ decimal stage
+
+-- the line of a thread
+abbrev pub end_text : ℕ × ThreadEnd → List ℕ
+end_text end = codes "t " ++ decimal end.0 ++ standing_text end.1 ++ 10 ∷ []
+
+-- the line of what was counted
+abbrev pub counts_text : Report → List ℕ
+counts_text report = codes "claims " ++ decimal report.claims ++ codes " frees " ++ decimal report.frees ++ codes " posted " ++ decimal report.posted ++ 10 ∷ []
+
+-- where the actors stand behind a run that no step broke: a line for the steps, one for each thread, and one for what was counted
+abbrev pub report_text : Report → List ℕ
+report_text report = codes "sound " ++ decimal report.steps ++ 10 ∷ [] ++ flat_map end_text (enumerate_from 0 report.threads) ++ counts_text report
+
+-- what came of a trace: the status is 1 where its run is broken, 0 otherwise
+abbrev pub of_outcome : Outcome → Answer
+of_outcome (outcome.Broken at) = record { text = codes "broken " ++ break_text at; status = 1 }
+of_outcome (outcome.Sound report) = record { text = report_text report; status = 0 }
+
+-- a seed whose schedule breaks its run, with the break
+abbrev pub seed_text : SeedBreak → List ℕ
+seed_text at = codes "broken seed " ++ decimal at.seed ++ codes " " ++ break_text at.broken
+
+-- what came of so many seeds
+abbrev pub of_soak : (seeds : ℕ) → SoakOutcome → Answer
+of_soak seeds soak.Sound = record { text = codes "sound " ++ decimal seeds ++ codes " seeds" ++ 10 ∷ []; status = 0 }
+of_soak seeds (soak.Broken at) = record { text = seed_text at; status = 1 }

@@ -1,6 +1,8 @@
 //! The files of a command, and what a module and a trace come to.
-ghost use Rattle.std.specs.Prelude.{IfOk};
+ghost use Rattle.std.specs.Prelude.{◌≡◌, IfOk, IfErr};
+ghost use Rattle.std.specs.Option.{option_copied};
 ghost use Rattle.trace_text.specs.Traces.{IsTraceOf};
+ghost use Rattle.dgc.specs.Files.{file_at, HasProgram, HasTrace, IsNoProgram, IsNoTrace, IsUntraced};
 
 use ir_text::{ReadFault, read};
 use layout::{NotAProgram, Program};
@@ -8,7 +10,9 @@ use std::alloc::Global;
 use trace_text::{Trace, TraceFault, read_trace};
 
 /// The bytes of the file at this place of the line, if it can be read.
-pub fn file_at(files: &[Option<Vec<u8>>], place: usize) -> Option<&[u8]> {
+pub fn file_at(files: &[Option<Vec<u8>>], place: usize) -> Option<&[u8]>
+    ensures { option_copied result ≡ file_at files.now place }
+{
     match files.get(place) {
         Some(Some(bytes)) => Some(bytes.as_slice()),
         _ => None,
@@ -36,7 +40,10 @@ fn program_in<'a>(
     alloc: Global,
     path: &'a str,
     files: &[Option<Vec<u8>>],
-) -> Result<Program, Untraced<'a>> {
+) -> Result<Program, Untraced<'a>>
+    ensures ok { IfOk result (HasProgram (file_at files.now 0)) }
+    ensures err { IfErr result (IsNoProgram path.now (file_at files.now 0)) }
+{
     let Some(text) = file_at(files, 0) else {
         return Err(Untraced::NoFile(path));
     };
@@ -57,7 +64,9 @@ fn trace_in<'a>(
     files: &[Option<Vec<u8>>],
     program: &Program,
 ) -> Result<Trace, Untraced<'a>>
-    ensures { IfOk result (IsTraceOf program.now) }
+    ensures of_program { IfOk result (IsTraceOf program.now) }
+    ensures ok { IfOk result (HasTrace (file_at files.now 1) program.now) }
+    ensures err { IfErr result (IsNoTrace path.now (file_at files.now 1) program.now) }
 {
     let Some(text) = file_at(files, 1) else {
         return Err(Untraced::NoFile(path));
@@ -75,7 +84,10 @@ pub fn read_traced<'a>(
     paths: (&'a str, &'a str),
     files: &[Option<Vec<u8>>],
 ) -> Result<Traced, Untraced<'a>>
-    ensures { IfOk result (λ traced. IsTraceOf traced.program traced.trace) }
+    ensures of_program { IfOk result (λ traced. IsTraceOf traced.program traced.trace) }
+    ensures program { IfOk result (λ traced. HasProgram (file_at files.now 0) traced.program) }
+    ensures trace { IfOk result (λ traced. HasTrace (file_at files.now 1) traced.program traced.trace) }
+    ensures err { IfErr result (IsUntraced paths.entry.0.now paths.entry.1.now (file_at files.now 0) (file_at files.now 1)) }
 {
     let program = program_in(alloc, paths.0, files)?;
     let trace = trace_in(alloc, paths.1, files, &program)?;

@@ -2,3 +2,4 @@ pub mod Lists
 pub mod Outcomes
 pub mod Watched
 pub mod Soaks
+pub mod CauseNames

@@ -1,3 +1,6 @@
+ghost use Rattle.std.specs.Prelude.{Some};
+ghost use Rattle.replay.specs.CauseNames.{cause_name};
+
 use items::Items;
 use reach::Gone;
 use std::fmt::{Display, Error, Formatter, Write};
@@ -14,6 +17,8 @@ pub enum Cause {
 }
 
 impl Display for Cause {
+    ghost output = { λ cause. Some (cause_name cause) };
+
     fn fmt<W: Write>(&self, f: &mut Formatter<W>) -> Result<(), Error> {
         match self {
             Cause::OfStep(actors::Cause::Wrong) => write!(f, "wrong"),

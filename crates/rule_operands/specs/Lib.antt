@@ -5,3 +5,4 @@ pub mod Operands
 pub mod Places
 pub mod Standing
 pub mod FirstFailing
+pub mod RuleNames

@@ -1,3 +1,6 @@
+ghost use Rattle.std.specs.Prelude.{Some};
+ghost use Rattle.rule_operands.specs.RuleNames.{rule_name};
+
 use std::fmt;
 
 /// The rules, as they are printed.
@@ -46,6 +49,8 @@ pub enum Rule {
 }
 
 impl fmt::Display for Rule {
+    ghost output = { λ rule. Some (rule_name rule) };
+
     fn fmt<W: fmt::Write>(&self, f: &mut fmt::Formatter<W>) -> fmt::Result {
         match self {
             Rule::K1 => write!(f, "K1"),
