@@ -1,5 +1,5 @@
 -- What the first seed at which a search stops tells of the seeds before it.
-use Rattle.std.proofs.Common.{◌≡◌, ◌<◌, ◌≤◌, ◌+◌, ◌-◌, ℕ, Bool, true, false, not, Option, Some, None, Ok, Err, refl, arith, sym, ap, ◌∙◌, subst, List, true≢false}
+use Rattle.std.proofs.Common.{◌≡◌, ◌<◌, ◌≤◌, ◌+◌, ◌-◌, ℕ, Bool, true, false, not, Option, Some, None, Ok, Err, arith, sym, ap, ◌∙◌, subst, List, true≢false}
 use Rattle.std.specs.Prelude.{Result, IfOk, IfErr, ◌≢◌}
 use Rattle.std.specs.Borrow.{Bor}
 use Rattle.std.specs.List.{AllZip, slice_get, range_with_len}

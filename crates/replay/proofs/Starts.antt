@@ -1,5 +1,5 @@
 -- Before the first step of a setup's threads nothing that is gone can be reached.
-use Rattle.std.proofs.Common.{◌≡◌, ◌≢◌, ◌<◌, ◌⊎◌, inl, inr, ℕ, zero, suc, Bool, IsTrue, List, [], ◌∷◌, ◌++◌, map, Option, Some, None, slice_get, refl, sym, ap, subst, ◌∙◌, true≢false, arith}
+use Rattle.std.proofs.Common.{◌≡◌, inl, inr, ℕ, zero, suc, Bool, IsTrue, List, [], ◌∷◌, map, Option, Some, None, slice_get, refl, sym, ap, subst, ◌∙◌, true≢false, arith}
 use Rattle.std.specs.Prelude.{slice_index, unwrap_or, false, true, if◌then◌else◌}
 use Rattle.ir_ast.specs.declared.function.Function.{Function}
 use Rattle.ir_ast.specs.declared.items_of_module.Global.{Global}
@@ -7,25 +7,21 @@ use Rattle.ir_ast.specs.declared.module.Module.{Module}
 use Rattle.ir_ast.specs.declared.operand.Constant.{Constant}
 use Rattle.pools.specs.declared.word_kind.WordKind.{WordKind}
 use Rattle.pools.specs.declared.word_kind.WordKind.TheVariants.{Integer, Reference as ToCell}
-use Rattle.pools.specs.Heap as heap
 use Rattle.pools.specs.Heap.{kind_of}
 use Rattle.pools.specs.Layouts.{is_reference_kind}
-use Rattle.colours.specs.declared.place.Place.TheVariants.{Colour, Word}
+use Rattle.colours.specs.declared.place.Place.TheVariants.{Word}
 use Rattle.colours.specs.Runs.{word_after, births_after}
 use Rattle.layout.specs.Layouts.{LaidOut}
 use Rattle.layout.specs.Globals.{kind_of_global}
 use Rattle.layout.specs.Words.{word_of}
-use Rattle.machine.specs.declared.frame.Frame.{Frame}
-use Rattle.machine_values.specs.declared.value.Value.{Value}
 use Rattle.machine_values.specs.declared.value.Value.TheVariants as value
 use Rattle.machine.specs.Machine.{initial, slot_value, frame_roots, roots, entry_frame, start}
 use Rattle.machine_values.specs.Kinds.{is_integer}
 use Rattle.machine.specs.Start.{argument_values}
 use Rattle.schedules.specs.Machine.{Reference}
 use Rattle.schedules.specs.Moves.{IsIn, null}
-use Rattle.schedules.specs.ModuleRuns.{birth_of, heap_of as events_of}
 use Rattle.schedules.specs.Broken.{IsRoot, Reached, globals, from, further, IsGone, IsBroken}
-use Rattle.program_safety.specs.Threads.{ProgramThread, program_machine, reference_in, names}
+use Rattle.program_safety.specs.Threads.{program_machine, reference_in, names}
 use Rattle.program_runner.specs.Heaps.{value_at_start, value_of_global, heap_of}
 use Rattle.trace_text.specs.declared.trace.Setup.{Setup}
 use Rattle.trace_text.specs.declared.trace.Start.{Start}

@@ -1,5 +1,5 @@
 -- The steps of a trace, some of an actor behind others.
-use Rattle.std.proofs.Common.{◌≡◌, ◌<◌, ◌≤◌, ◌+◌, ◌^◌, ℕ, zero, suc, List, [], ◌∷◌, ◌++◌, length, map, reverse, replicate, take, drop, Option, Some, None, slice_get, refl, sym, ap, subst, ◌∙◌, arith, append_assoc, length-append, add-one, get_or}
+use Rattle.std.proofs.Common.{◌≡◌, ◌<◌, ◌+◌, ℕ, zero, suc, List, [], ◌∷◌, ◌++◌, length, map, reverse, replicate, take, drop, Some, None, refl, sym, ap, subst, ◌∙◌, arith, append_assoc, length-append, add-one, get_or}
 use Rattle.std.specs.List.{AllByRecursion}
 use Rattle.std.proofs.lemmas.List.{append-nil, reverse-append, reverse-reverse, length-replicate, length-reverse}
 use Rattle.std.proofs.lemmas.List.Sums.{sum_by-cons}
@@ -13,7 +13,7 @@ use Rattle.trace_text.specs.declared.trace.Steps.{Steps}
 use Rattle.trace_text.specs.declared.trace.Trace.{Trace}
 use Rattle.actors.specs.declared.actor.Actor.{Actor}
 use Rattle.world.specs.Setups.{starts_of, IsSetupOf, IsSafeSetup}
-use Rattle.world.specs.Worlds.{run_of, actor_in}
+use Rattle.world.specs.Worlds.{actor_in}
 use Rattle.replay.specs.declared.outcome.Break.{Break}
 use Rattle.replay.specs.declared.watch.Watch.{Watch}
 use Rattle.replay.specs.Lists.{actors_of, IsFirstBreak, cause_in, run_at}

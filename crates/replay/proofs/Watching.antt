@@ -1,11 +1,11 @@
 -- A world that is watched: one step more, and several steps of one actor.
-use Rattle.std.proofs.Common.{◌≡◌, ◌<◌, ◌≤◌, ◌+◌, ◌-◌, ◌^◌, ℕ, zero, suc, cond, List, [], ◌∷◌, ◌++◌, length, reverse, replicate, Option, Some, None, refl, sym, ap, subst, ◌∙◌, arith, append_assoc, length-append, add-one}
+use Rattle.std.proofs.Common.{◌≡◌, ◌<◌, ◌+◌, ◌^◌, ℕ, zero, suc, cond, List, [], ◌∷◌, ◌++◌, length, reverse, replicate, Option, refl, sym, ap, subst, ◌∙◌, arith, append_assoc, length-append, add-one}
 use Rattle.std.proofs.lemmas.List.{reverse-append, replicate-append-replicate, length-replicate}
 use Rattle.layout.specs.Layouts.{LaidOut}
 use Rattle.colours.specs.declared.place.Place.TheVariants.{Posted}
 use Rattle.colours.specs.Runs.{word_after}
 use Rattle.schedules.specs.ModuleRuns.{IsModuleRun, heap_of as events_of}
-use Rattle.schedules.specs.Broken.{IsBroken, IsCause}
+use Rattle.schedules.specs.Broken.{IsBroken}
 use Rattle.program_safety.specs.Threads.{program_machine}
 use Rattle.program_runner.specs.Heaps.{heap_of}
 use Rattle.trace_text.specs.Traces.{IsActorOf}
@@ -18,13 +18,10 @@ use Rattle.world.specs.declared.thread_end.ThreadEnd.{ThreadEnd}
 use Rattle.world.specs.Setups.{starts_of}
 use Rattle.world.specs.ThreadEnds.{AreEndsOf, AreEndsBehind}
 use Rattle.world.specs.Worlds.{World, run_of, IsBehind, IsStepBehind, IsBrokenWorld, actor_in}
-use Rattle.replay.specs.declared.outcome.Break.{Break}
 use Rattle.replay.specs.declared.outcome.Cause.{Cause}
 use Rattle.replay.specs.declared.watch.Watch.{Watch}
-use Rattle.replay.specs.Lists.{IsFirstBreak, cause_in}
 use Rattle.replay.specs.Outcomes.{Reports}
-use Rattle.replay.specs.Watched.{IsUnbroken, IsWatched, IsWatchedOn, IsStepped, IsMadeBehind, IsCauseBehind, HasRoomFor, claims_cell, frees_cell}
-use Rattle.replay.proofs.Lists.{first_break}
+use Rattle.replay.specs.Watched.{IsUnbroken, IsWatched, IsStepped, IsMadeBehind, IsCauseBehind, HasRoomFor, claims_cell, frees_cell}
 use Rattle.replay.proofs.Steps.{claims-more, frees-more, claims-short, frees-short}
 
 -- ---- one step

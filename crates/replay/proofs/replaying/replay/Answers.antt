@@ -1,5 +1,5 @@
 -- The steps of a trace, those of one line behind those of the others.
-use Rattle.std.proofs.Common.{◌≡◌, ◌<◌, ℕ, length, reverse, take, get_or, sym, ap, subst, ◌∙◌, arith}
+use Rattle.std.proofs.Common.{◌≡◌, ◌<◌, length, reverse, take, get_or, ap, subst, ◌∙◌, arith}
 use Rattle.std.proofs.Math.Seq.{take-length}
 use Rattle.trace_text.specs.declared.trace.Actor.TheVariants as actor
 use Rattle.trace_text.specs.declared.trace.Steps.{Steps}
@@ -8,7 +8,7 @@ use Rattle.replay.specs.Watched.{IsWatched, IsWatchedOn}
 use Rattle.world.specs.Worlds.{actor_in}
 use Rattle.std.proofs.Common.{replicate}
 use Rattle.replay.proofs.Lists.{sound_list}
-use Rattle.replay.proofs.TraceSteps.{same_item, steps-actor, steps-room, steps-made, steps-break, setup_of_trace, safe_breaks_none}
+use Rattle.replay.proofs.TraceSteps.{same_item, steps-room, steps-made, steps-break, setup_of_trace, safe_breaks_none}
 use Rattle.replay.proofs.replaying.replay.Goals as goal
 
 -- no steps, which stand for those past the end of a list
