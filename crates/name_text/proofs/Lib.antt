@@ -1,3 +1,5 @@
 pub mod Seams
 pub mod Reading
 pub mod NameWords
+pub mod Decimals
+pub mod NamingLemmas

@@ -1,12 +1,19 @@
-//! The words of a text, and names as words: how they are printed, plain or in quotes, and that they are read again.
+//! The words of a text, where they stand, and what they are: decimal numbers, and names with a sign before them; how names are
+//! printed, plain or in quotes, and that they are read again.
 #![tactic(auto)]
 
 mod blank;
 mod laws;
 mod names;
+mod naming;
+mod numbers;
+mod places;
 mod words;
 
 pub use blank::Blank;
 pub use laws::name_law;
 pub use names::put_name;
+pub use naming::{Sigil, name_in};
+pub use numbers::{decimal, is_digit, is_number, number_of_word};
+pub use places::place;
 pub use words::{ends_line, past_blanks, past_lines, past_word, word};

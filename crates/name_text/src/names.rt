@@ -5,18 +5,13 @@ ghost use Rattle.ir_tokens.specs.Bytes.{is_letter as letter, is_digit as digit};
 ghost use Rattle.name_text.specs.Names as spec;
 
 use crate::blank::Blank;
+use crate::numbers::is_digit;
 use std::alloc::AllocError;
 
 fn is_letter(byte: u8) -> bool
     ensures { result ≡ letter byte }
 {
     matches!(byte, b'a'..=b'z' | b'A'..=b'Z' | b'-' | b'$' | b'.' | b'_')
-}
-
-fn is_digit(byte: u8) -> bool
-    ensures { result ≡ digit byte }
-{
-    matches!(byte, b'0'..=b'9')
 }
 
 fn begins_plain(name: &[u8]) -> bool

@@ -5,8 +5,8 @@ use Rattle.ir_tokens.specs.declared.lexed.Lexed.{Lexed}
 use Rattle.ir_tokens.specs.Tokens.{IsLexed, lexed_of}
 use Rattle.ir_tokens.proofs.Laws.{found}
 use Rattle.ir_tokens.specs.Bytes.{Text}
-use Rattle.trace_text.specs.Names.{name_from, name_in}
-use Rattle.trace_text.specs.declared.naming.Sigil.{Sigil}
+use Rattle.name_text.specs.Naming.{name_from, name_in}
+use Rattle.name_text.specs.declared.naming.Sigil.{Sigil}
 
 pub is_lexed : (word : Text) → IsLexed word (lexed_of word)
 is_lexed word = found word (Ok (lexed_of word)) refl

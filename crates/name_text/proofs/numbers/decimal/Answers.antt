@@ -1,7 +1,7 @@
 use Rattle.std.proofs.Common.{arith}
-use Rattle.certificate_words.specs.Numbers.{decimal}
-use Rattle.certificate_words.proofs.Decimals.{finished, next_too_large}
-use Rattle.certificate_words.proofs.numbers.decimal.Goals as goal
+use Rattle.name_text.specs.Numbers.{decimal}
+use Rattle.name_text.proofs.Decimals.{finished, next_too_large}
+use Rattle.name_text.proofs.numbers.decimal.Goals as goal
 
 pub returns-then-number-value : goal.returns-then-number-value
 unfolding decimal

@@ -2,7 +2,7 @@
 use Rattle.std.proofs.Common.{◌≡◌, ℕ, suc, ◌+◌, ◌-◌, ◌*◌, ◌<◌, ◌≤◌, List, [], ◌∷◌, Some, None, arith, ap, ◌∙◌, drop, drop-cons, get_or, length}
 use Rattle.std.proofs.lemmas.Bool.Decides.{nat_tests}
 use Rattle.std.proofs.lemmas.List.{drop_all}
-use Rattle.trace_text.specs.Numbers.{decimal_behind, small}
+use Rattle.name_text.specs.Numbers.{decimal_behind, small}
 
 pub decimal_grows : (n : ℕ) (digits : List ℕ) → n ≤ decimal_behind n digits
 decimal_grows n [] = omega arith

@@ -1,8 +1,8 @@
 use Rattle.std.proofs.Common.{◌≡◌, ◌≤◌, ◌^◌, IfOk, List, Option, length, ℕ, ap, ◌∙◌, subst, arith}
 use Rattle.ir_tokens.specs.Tokens.{lexed_of}
-use Rattle.certificate_words.specs.Names.{name_from}
-use Rattle.certificate_words.proofs.NamesLemmas.{is_lexed, name_by_tokens}
-use Rattle.certificate_words.proofs.naming.name_in.Goals as goal
+use Rattle.name_text.specs.Naming.{name_from}
+use Rattle.name_text.proofs.NamingLemmas.{is_lexed, name_by_tokens}
+use Rattle.name_text.proofs.naming.name_in.Goals as goal
 
 pub returns : goal.returns
 returns c =

@@ -2,7 +2,7 @@
 ghost use Rattle.std.specs.Prelude.{◌≡◌, ◌≤◌, length, count_by, not};
 ghost use Rattle.std.specs.List.{suffix_len};
 ghost use Rattle.ir_tokens.specs.Position.{is_line_end};
-ghost use Rattle.certificate_text.specs.Text as text;
+ghost use Rattle.name_text.specs.Places as spec;
 
 use ir_tokens::Position;
 
@@ -26,7 +26,7 @@ fn last_line_len(bytes: &[u8]) -> usize
 
 /// The line and the column at which so much of the text is left.
 pub fn place(bytes: &[u8], rest: usize) -> Position
-    ensures { result ≡ text.place bytes.now rest }
+    ensures { result ≡ spec.place bytes.now rest }
 {
     let before = &bytes[..bytes.len().saturating_sub(rest)];
     Position {
