@@ -13,15 +13,17 @@ use Rattle.grammar.specs.Many.{Listed}
 use Rattle.layout.specs.Layouts.{LaidOut}
 use Rattle.pools.specs.Heap.{cells_in}
 use Rattle.ir_tokens.specs.Bytes.{Text}
-use Rattle.trace_text.specs.Numbers.{small, number_of_word, count_of_word, is_number}
-use Rattle.trace_text.specs.Numbers as numbers
-use Rattle.trace_text.specs.Names.{name_in, function_by, sort_at, function_named, function_of_word, layout_of_word}
+use Rattle.name_text.specs.Numbers.{small, number_of_word, is_number}
+use Rattle.name_text.specs.Numbers as numbers
+use Rattle.name_text.specs.Naming.{name_in}
+use Rattle.trace_text.specs.Numbers.{count_of_word}
+use Rattle.trace_text.specs.Names.{function_by, sort_at, function_named, function_of_word, layout_of_word}
 use Rattle.trace_text.specs.Input.{Input, start_of, word, begins, line_ends, after, next_line, with_pool, with_start, with_steps}
 use Rattle.trace_text.specs.Forms.{skip, taken, taken_as, expect, line_end, function_name, new_layout, layout_named, layout_by, cell_count, argument, thread, thread_numbered, thread_by, put_pool, put_start, put_steps, step_count, steps_counted, steps_by}
 use Rattle.trace_text.specs.Text.{pool, past_pools, pools, arguments, start, past_starts, starts, steps_of, steps_line, past_steps, all_steps, count_or_none, counts_of, pools_of, if_fitting, trace_with, finished_by, finished, heading, setup, steps, file, IsTrace}
 use Rattle.trace_text.specs.Text as form
 use Rattle.trace_text.specs.Traces.{IsStartOf, IsActorOf, IsTraceOf, step_sum}
-use Rattle.trace_text.specs.declared.naming.Sigil.TheVariants as sigil
+use Rattle.name_text.specs.declared.naming.Sigil.TheVariants as sigil
 use Rattle.trace_text.specs.declared.trace.Actor.{Actor}
 use Rattle.trace_text.specs.declared.trace.Actor.TheVariants as actor
 use Rattle.trace_text.specs.declared.trace.Start.{Start}

@@ -1,6 +1,3 @@
-pub mod Decimals
-pub mod Turns
-pub mod NamesLemmas
 pub mod Laws
 pub mod Collected
 pub mod Ranges

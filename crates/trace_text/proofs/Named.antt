@@ -6,7 +6,7 @@ use Rattle.layout.specs.Layouts.{LaidOut}
 use Rattle.trace_text.specs.Names.{function_of_word, function_named, layout_of_word, layout_named}
 use Rattle.trace_text.specs.Print.{function_text, layout_text, name_of_function, name_at, struct_name}
 use Rattle.trace_text.specs.Traces.{AreNamed, IsShort, symbol_name}
-use Rattle.trace_text.proofs.Spelled.{global_name, local_name}
+use Rattle.trace_text.proofs.Spelled.{global_name, layout_name}
 
 -- each function and each layout is the one that its printed name stands for
 pub record AreRead (p : LaidOut) : Type 0 where
@@ -27,5 +27,5 @@ module _ (p : LaidOut) (named : AreNamed p) where
   pub are_read : AreRead p
   are_read = record {
     functions = λ function less. function_by function (slice_get p.of_module.functions function) less refl (named.short_function function less) (named.function function less);
-    layouts = λ layout less. ap (layout_named p.of_module) (local_name (struct_name p.of_module (slice_get p.of_module.structs layout)) (named.short_layout layout less)) ∙ named.layout layout less;
+    layouts = λ layout less. ap (layout_named p.of_module) (layout_name (struct_name p.of_module (slice_get p.of_module.structs layout)) (named.short_layout layout less)) ∙ named.layout layout less;
   }

@@ -8,7 +8,8 @@ use Rattle.ir_ast.specs.declared.module.Module.{Module}
 use Rattle.grammar.specs.Grammar.{look}
 use Rattle.ir_tokens.specs.Bytes.{Text}
 use Rattle.name_text.specs.Words.{past_blanks, past_lines, stops}
-use Rattle.trace_text.specs.Numbers.{number_of_word, count_of_word}
+use Rattle.name_text.specs.Numbers.{number_of_word}
+use Rattle.trace_text.specs.Numbers.{count_of_word}
 use Rattle.trace_text.specs.Names.{function_of_word, layout_of_word}
 use Rattle.trace_text.specs.Input.{Input, Form, word, begins, after, next_line, with_steps}
 use Rattle.trace_text.specs.Forms.{skip, taken, taken_as, expect, line_end, function_name, new_layout, layout_named, layout_by, cell_count, argument, thread, thread_numbered, thread_by, step_count, steps_counted, steps_by, put_steps}

@@ -11,8 +11,9 @@ use Rattle.std.proofs.lemmas.Str.Parse.{IsNumeralModel, numerals_by_fold}
 use Rattle.ir_tokens.specs.Bytes.{Text, is_digit, is_letter}
 use Rattle.name_text.specs.Words.{ends_word, past_word, word_at, past_blanks, ends_line, stops}
 use Rattle.name_text.proofs.Seams.{both, is_false, past_word_on, is_word_byte, bytes_close, plain_bytes}
-use Rattle.trace_text.specs.Numbers.{is_nil, is_number, decimal_behind, number_of_word, count_of_word, small, capped}
-use Rattle.trace_text.specs.Numbers as numbers
+use Rattle.name_text.specs.Numbers.{is_nil, is_number, decimal_behind, number_of_word, small}
+use Rattle.name_text.specs.Numbers as numbers
+use Rattle.trace_text.specs.Numbers.{count_of_word, capped}
 
 -- a word ends where such a text begins
 abbrev pub IsWord : Text → Type 0

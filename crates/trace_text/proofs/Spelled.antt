@@ -8,11 +8,11 @@ use Rattle.ir_tokens.specs.declared.token.Kind.TheVariants as k
 use Rattle.name_text.specs.Readings.{IsName}
 use Rattle.name_text.specs.declared.blank.Blank.TheVariants as blank
 use Rattle.name_text.proofs.Reading.{globals_are_read, locals_are_read}
-use Rattle.trace_text.specs.Names.{name_by, name_in}
+use Rattle.name_text.specs.Naming.{name_by, name_in}
 use Rattle.trace_text.specs.Print.{name_text}
 use Rattle.trace_text.specs.Traces.{IsShort}
-use Rattle.trace_text.specs.declared.naming.Sigil.{Sigil}
-use Rattle.trace_text.specs.declared.naming.Sigil.TheVariants as sigil
+use Rattle.name_text.specs.declared.naming.Sigil.{Sigil}
+use Rattle.name_text.specs.declared.naming.Sigil.TheVariants as sigil
 
 short_is : (name : Text) → length name < 2 ^ 24 → nat_le (suc (length name)) (2 ^ 24) ≡ true
 short_is name short = le-leb (suc (length name)) (2 ^ 24) (omega (arith, short))
@@ -24,5 +24,5 @@ token_named sign kind text name is few = rw (few, is.0, eq-eqb (length text) (le
 pub global_name : (name : Text) → IsShort name → name_in sigil.Global (64 ∷ name_text name) ≡ Some name
 global_name name short = token_named sigil.Global k.GlobalName (64 ∷ name_text name) name (globals_are_read blank.Kept name short.0) (short_is (name_text name) short.1)
 
-pub local_name : (name : Text) → IsShort name → name_in sigil.Local (37 ∷ name_text name) ≡ Some name
-local_name name short = token_named sigil.Local k.LocalName (37 ∷ name_text name) name (locals_are_read blank.Kept name short.0) (short_is (name_text name) short.1)
+pub layout_name : (name : Text) → IsShort name → name_in sigil.Layout (37 ∷ name_text name) ≡ Some name
+layout_name name short = token_named sigil.Layout k.LocalName (37 ∷ name_text name) name (locals_are_read blank.Kept name short.0) (short_is (name_text name) short.1)

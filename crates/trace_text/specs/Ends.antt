@@ -4,7 +4,7 @@ use Rattle.std.proofs.Common.{arith}
 use Rattle.grammar.specs.Grammar.{pure}
 use Rattle.grammar.specs.Takes.{Takes, TakesWhere, first_takes_where, checked_takes, step_takes, look_takes}
 use Rattle.ir_tokens.specs.Bytes.{Text as Bytes}
-use Rattle.trace_text.specs.Numbers.{number_of_word}
+use Rattle.name_text.specs.Numbers.{number_of_word}
 use Rattle.trace_text.specs.Input.{left, word, begins, after}
 use Rattle.trace_text.specs.Falls.{after_falls, after_takes, word_takes}
 use Rattle.trace_text.specs.Forms.{skip, taken_as, expect, argument}

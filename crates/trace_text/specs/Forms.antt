@@ -3,7 +3,8 @@ use Rattle.std.specs.Prelude.{ℕ, ◌+◌, Bool, true, false, nat_le, nat_lt, L
 use Rattle.ir_ast.specs.declared.module.Module.{Module}
 use Rattle.grammar.specs.Grammar.{pure, ◌>>◌, step, checked, look, refuse}
 use Rattle.ir_tokens.specs.Bytes.{Text as Bytes}
-use Rattle.trace_text.specs.Numbers.{number_of_word, count_of_word}
+use Rattle.name_text.specs.Numbers.{number_of_word}
+use Rattle.trace_text.specs.Numbers.{count_of_word}
 use Rattle.trace_text.specs.Names.{function_of_word, layout_of_word}
 use Rattle.trace_text.specs.Input.{Form, left, word, begins, after, line_ends, next_line, with_pool, with_start, with_steps}
 use Rattle.trace_text.specs.Falls.{after_falls, next_line_falls, with_pool_falls, with_start_falls, with_steps_falls}

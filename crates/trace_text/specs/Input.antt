@@ -7,7 +7,7 @@ use Rattle.grammar.specs.Outcome.{Outcome}
 use Rattle.layout.specs.Layouts.{LaidOut}
 use Rattle.ir_tokens.specs.Bytes.{Text}
 use Rattle.name_text.specs.Words.{past_word, past_blanks, past_lines, word_at, ends_line}
-use Rattle.trace_text.specs.Numbers.{is_nil}
+use Rattle.name_text.specs.Numbers.{is_nil}
 use Rattle.trace_text.specs.declared.trace.Actor.{Actor}
 use Rattle.trace_text.specs.declared.trace.Start.{Start}
 use Rattle.trace_text.specs.declared.trace.Steps.{Steps}

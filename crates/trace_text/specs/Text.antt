@@ -1,5 +1,5 @@
 -- The lines of a trace, and a trace's text.
-use Rattle.std.specs.Prelude.{◌≡◌, ℕ, ◌-◌, Bool, true, false, not, nat_le, nat_lt, if◌then◌else◌, List, length, map, Option, Some, None, Result, Ok, Err, slice_get, codes}
+use Rattle.std.specs.Prelude.{◌≡◌, ℕ, Bool, true, false, not, nat_le, nat_lt, if◌then◌else◌, List, length, map, Option, Some, None, Result, Ok, Err, slice_get, codes}
 use Rattle.std.specs.List.{range_with_len}
 use Rattle.std.proofs.Common.{lit<}
 use Rattle.ir_ast.specs.declared.module.Module.{Module}
@@ -7,8 +7,7 @@ use Rattle.grammar.specs.Grammar.{pure, ◌>>=◌, ◌>>◌, step, checked, look
 use Rattle.grammar.specs.Many.{many}
 use Rattle.grammar.specs.Outcome.{Outcome}
 use Rattle.grammar.specs.Takes.{Takes, TakesWhere, first_takes, first_takes_where, second_takes, look_takes}
-use Rattle.ir_tokens.specs.declared.position.Position.{Position}
-use Rattle.ir_tokens.specs.Position.{position_of}
+use Rattle.name_text.specs.Places.{place}
 use Rattle.layout.specs.Layouts.{LaidOut}
 use Rattle.pools.specs.Heap.{cells_in}
 use Rattle.ir_tokens.specs.Bytes.{Text as Bytes}
@@ -193,10 +192,6 @@ value_of (Err e) = Err e
 -- the text is one of this trace, for this program
 abbrev pub IsTrace : Bytes → LaidOut → Trace → Type 0
 IsTrace bytes p trace = (o : Input) × (file p).says (start_of p bytes) trace o
-
--- a place at which so much of the text is left
-abbrev pub place : Bytes → (rest : ℕ) → Position
-place bytes rest = position_of bytes (length bytes - rest)
 
 -- a fault with its place
 abbrev pub placed : Bytes → Found → TraceFault

@@ -5,9 +5,10 @@ ghost use Rattle.trace_text.specs.Input.{Reads};
 use crate::fault::Found;
 use crate::input::Input;
 use crate::naming::{function_of_word, layout_of_word};
-use crate::numbers::{count_of_word, number_of_word};
+use crate::numbers::count_of_word;
 use crate::trace::{Actor, STEP_LIMIT};
 use ir_ast::{FuncId, Module};
+use name_text::number_of_word;
 use pools::LayoutId;
 use std::alloc::Global;
 

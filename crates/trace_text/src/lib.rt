@@ -6,7 +6,6 @@ mod forms;
 mod input;
 mod naming;
 mod numbers;
-mod place;
 mod print;
 mod reader;
 mod trace;

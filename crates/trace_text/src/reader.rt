@@ -12,11 +12,11 @@ ghost use Rattle.trace_text.specs.declared.fault.Found.TheVariants.{Memory};
 
 use crate::fault::{Found, TraceFault};
 use crate::input::Input;
-use crate::place::place;
 use crate::trace::{Actor, Setup, THREAD_LIMIT, Trace};
 use ir_ast::Module;
 use items::Items;
 use layout::Program;
+use name_text::place;
 use pools::{Pools, PoolsFault};
 use std::alloc::{AllocError, Global};
 
