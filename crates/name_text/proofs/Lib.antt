@@ -3,3 +3,4 @@ pub mod Reading
 pub mod NameWords
 pub mod Decimals
 pub mod NamingLemmas
+pub mod Spelled

@@ -4,7 +4,6 @@ pub mod Ranges
 pub mod Seams
 pub mod NameSeams
 pub mod Named
-pub mod Spelled
 pub mod Reading
 pub mod Lines
 pub mod Lists

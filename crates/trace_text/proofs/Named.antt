@@ -3,10 +3,11 @@ use Rattle.std.proofs.Common.{◌≡◌, ℕ, zero, suc, ◌<◌, List, [], ◌�
 use Rattle.std.specs.Prelude.{slice_get}
 use Rattle.ir_ast.specs.declared.function.Function.{Function}
 use Rattle.layout.specs.Layouts.{LaidOut}
+use Rattle.name_text.specs.declared.blank.Blank.TheVariants as blank
+use Rattle.name_text.proofs.Spelled.{global_spelled, layout_spelled}
 use Rattle.trace_text.specs.Names.{function_of_word, function_named, layout_of_word, layout_named}
 use Rattle.trace_text.specs.Print.{function_text, layout_text, name_of_function, name_at, struct_name}
 use Rattle.trace_text.specs.Traces.{AreNamed, IsShort, symbol_name}
-use Rattle.trace_text.proofs.Spelled.{global_name, layout_name}
 
 -- each function and each layout is the one that its printed name stands for
 pub record AreRead (p : LaidOut) : Type 0 where
@@ -22,10 +23,12 @@ module _ (p : LaidOut) (named : AreNamed p) where
   function_by : (function : ℕ) (f : Option Function) → function < length p.of_module.functions → slice_get p.of_module.functions function ≡ f → IsShort (symbol_name p.of_module f)
       → function_named p.of_module (Some (symbol_name p.of_module f)) ≡ Some function → function_of_word p.of_module (name_of_function p.of_module f) ≡ Some function
   function_by function None less is short so = absurd (there p.of_module.functions function less is)
-  function_by function (Some f) less is short so = ap (function_named p.of_module) (global_name (name_at p.of_module.symbols f.symbol) short) ∙ so
+  function_by function (Some f) less is short so = ap (function_named p.of_module) (global_spelled blank.Kept (name_at p.of_module.symbols f.symbol) short.0 short.1) ∙ so
 
   pub are_read : AreRead p
   are_read = record {
     functions = λ function less. function_by function (slice_get p.of_module.functions function) less refl (named.short_function function less) (named.function function less);
-    layouts = λ layout less. ap (layout_named p.of_module) (layout_name (struct_name p.of_module (slice_get p.of_module.structs layout)) (named.short_layout layout less)) ∙ named.layout layout less;
+    layouts = λ layout less.
+        let short = named.short_layout layout less in
+        ap (layout_named p.of_module) (layout_spelled blank.Kept (struct_name p.of_module (slice_get p.of_module.structs layout)) short.0 short.1) ∙ named.layout layout less;
   }

@@ -1,18 +1,16 @@
 -- Where printed words end, and what stands behind them.
-use Rattle.std.proofs.Common.{◌≡◌, ℕ, ◌-◌, ◌<◌, ◌^◌, Bool, true, false, not, [], ◌∷◌, ◌++◌, length, take, Some, refl, ap, ◌∙◌, arith, rules, length-append}
+use Rattle.std.proofs.Common.{◌≡◌, ℕ, ◌-◌, ◌<◌, ◌^◌, Bool, true, false, not, [], ◌∷◌, ◌++◌, length, take, Some, refl, ap, ◌∙◌, arith, length-append}
 use Rattle.std.specs.Prelude.{◌==◌, ◌||◌, nat_eq}
 use Rattle.std.specs.List.{list_all}
 use Rattle.std.specs.Str.{bytes_eq}
 use Rattle.std.specs.Fmt.{decimal}
 use Rattle.std.proofs.Math.Seq.{take-append_seam}
 use Rattle.std.proofs.lemmas.Bool.Decides.{nat_tests}
-use Rattle.std.proofs.lemmas.Fmt.{digits_decimal, digits_value-decimal, decimal_nonempty}
-use Rattle.std.proofs.lemmas.Str.Parse.{IsNumeralModel, numerals_by_fold}
-use Rattle.ir_tokens.specs.Bytes.{Text, is_digit, is_letter}
+use Rattle.ir_tokens.specs.Bytes.{Text}
 use Rattle.name_text.specs.Words.{ends_word, past_word, word_at, past_blanks, ends_line, stops}
-use Rattle.name_text.proofs.Seams.{both, is_false, past_word_on, is_word_byte, bytes_close, plain_bytes}
-use Rattle.name_text.specs.Numbers.{is_nil, is_number, decimal_behind, number_of_word, small}
-use Rattle.name_text.specs.Numbers as numbers
+use Rattle.name_text.proofs.Seams.{both, is_false, past_word_on, is_word_byte, bytes_close}
+use Rattle.name_text.proofs.Spelled.{number_is_one, number_is}
+use Rattle.name_text.specs.Numbers.{is_nil}
 use Rattle.trace_text.specs.Numbers.{count_of_word, capped}
 
 -- a word ends where such a text begins
@@ -57,44 +55,7 @@ inner_goes_on (byte ∷ w) rest some e =
     let line = (none_of (byte == 32 || byte == 9) (byte == 10) front.0).1 in
     rw (line, front.1) refl
 
--- ---- letters and digits
-
-either : (a b : Bool) → b ≡ true → (a || b) ≡ true
-either true b e = refl
-either false b e = e
-
-digits_are_plain : (w : Text) → list_all is_digit w ≡ true → list_all (λ byte. is_letter byte || is_digit byte) w ≡ true
-digits_are_plain [] e = refl
-digits_are_plain (byte ∷ w) e =
-    let parts = both (is_digit byte) (list_all is_digit w) e in
-    rw (either (is_letter byte) (is_digit byte) parts.0, digits_are_plain w parts.1) refl
-
 -- ---- numbers
-
-own : IsNumeralModel (λ (ds : Text). list_all is_digit ds ≡ true) (decimal_behind 0)
-own = numerals_by_fold _ (search rules) decimal_behind (search rules)
-
-pub number_is_inner : (n : ℕ) → n < 2 ^ 64 → list_all is_word_byte (decimal n) ≡ true
-number_is_inner n small = plain_bytes (decimal n) (digits_are_plain (decimal n) (digits_decimal own n small))
-
-pub number_has_bytes : (n : ℕ) → n < 2 ^ 64 → 0 < length (decimal n)
-number_has_bytes = decimal_nonempty
-
-pub some_byte : (w : Text) → 0 < length w → is_nil w ≡ false
-some_byte [] some = absurd (omega (arith, some))
-some_byte (byte ∷ w) some = refl
-
-pub number_is_one : (n : ℕ) → n < 2 ^ 64 → is_number (decimal n) ≡ true
-number_is_one n less = rw (some_byte (decimal n) (decimal_nonempty n less), digits_decimal own n less) refl
-
-pub number_is : (n : ℕ) → n < 2 ^ 64 → numbers.decimal (decimal n) ≡ n
-unfolding numbers.decimal
-number_is n less = digits_value-decimal own n less
-
-pub number_read : (n : ℕ) → n < 2 ^ 64 → number_of_word (decimal n) ≡ Some n
-number_read n less =
-    let in_range : small n ≡ Some n = grind (arith, nat_tests) in
-    rw (number_is_one n less, number_is n less) in_range
 
 pub count_read : (n : ℕ) → n < 2 ^ 32 → count_of_word (decimal n) ≡ Some n
 count_read n less =
