@@ -15,7 +15,7 @@ use Rattle.name_text.specs.Words.{past_blanks, past_lines, word_at, stops, is_wo
 use Rattle.certificate_words.specs.Names.{function_of_word}
 use Rattle.certificate_words.specs.Input.{Input, start_of, ended, with_promise, begun, with_section, kept, emptied}
 use Rattle.certificate_words.specs.Forms.{begin, mark_of_word, marked, new_function, function_named, function_by}
-use Rattle.certificate_words.specs.Numbers.{is_number}
+use Rattle.name_text.specs.Numbers.{is_number}
 use Rattle.certificate_text.specs.Text as text
 use Rattle.certificate_text.specs.Text.{IsCert}
 use Rattle.certificate.specs.Families.{family_of_type, family_of_value}

@@ -11,12 +11,13 @@ use Rattle.ir_ast.specs.declared.function.LocalSort.TheVariants as local
 use Rattle.ir_ast.specs.declared.module.Module.{Module}
 use Rattle.types.specs.Globals.{global_named}
 use Rattle.ir_tokens.specs.Bytes.{Text}
-use Rattle.certificate_words.specs.Names.{name_in, value_of_word, value_by, block_of_word, function_of_word, global_by, global_of_word, layout_of_word}
+use Rattle.name_text.specs.Naming.{name_in}
+use Rattle.certificate_words.specs.Names.{value_of_word, value_by, block_of_word, function_of_word, global_by, global_of_word, layout_of_word}
 use Rattle.certificate_print.specs.Print.{name_text, key_text, name_at, local_text, global_text, layout_text, struct_name}
 use Rattle.certificate_print.specs.Named.{IsShort, AreNames, AreKeys, IsNamedFunction, IsNamed}
 use Rattle.certificate.specs.Fits.{is_value, is_value_sort, stands_for}
 use Rattle.certificate_words.specs.declared.naming.Naming.TheVariants as naming
-use Rattle.certificate_words.specs.declared.naming.Sigil.TheVariants as sigil
+use Rattle.name_text.specs.declared.naming.Sigil.TheVariants as sigil
 use Rattle.name_text.specs.Words.{is_word}
 use Rattle.name_text.proofs.Seams.{all_bytes}
 use Rattle.certificate_print.proofs.PrintedWords.{key_read, layout_read, global_read, name_word}

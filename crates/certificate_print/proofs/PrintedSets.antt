@@ -13,7 +13,8 @@ use Rattle.certificate_print.specs.Print.{words_of, words_text}
 use Rattle.certificate.specs.Fits.{add_words, own_words, same_words, words_fit}
 use Rattle.name_text.specs.Words.{is_word}
 use Rattle.name_text.proofs.Seams.{is_word_byte, bytes_close}
-use Rattle.certificate_print.proofs.PrintedWords.{digit_is, number_word, number_is_word, first_true, rest_true}
+use Rattle.name_text.proofs.Spelled.{number_is_inner, number_is_word}
+use Rattle.certificate_print.proofs.PrintedWords.{digit_is, first_true, rest_true}
 
 -- sets that are one
 are_same : (xs ys : List Bool) → same_words xs ys ≡ true → xs ≡ ys
@@ -107,7 +108,7 @@ commas_word : (words : List ℕ) → are_small words ≡ true → list_all is_wo
 commas_word [] small = refl
 commas_word (word ∷ words) small =
     let lt = first_small word words small in
-    all_joined (decimal word) (behind_commas words) (number_word word (omega (arith, lt))) (commas_word words (rest_true (nat_lt word 64) (are_small words) small))
+    all_joined (decimal word) (behind_commas words) (number_is_inner word (omega (arith, lt))) (commas_word words (rest_true (nat_lt word 64) (are_small words) small))
 
 word_joined : (a b : Text) → is_word a ≡ true → list_all is_word_byte a ≡ true → list_all is_word_byte b ≡ true → is_word (a ++ b) ≡ true
 word_joined [] b is e f = absurd cc
@@ -117,7 +118,7 @@ joined_word : (words : List ℕ) → are_small words ≡ true → (words ≡ [] 
 joined_word [] small some = absurd (some refl)
 joined_word (word ∷ words) small some =
     let lt = first_small word words small in
-    word_joined (decimal word) (behind_commas words) (number_is_word word (omega (arith, lt))) (number_word word (omega (arith, lt))) (commas_word words (rest_true (nat_lt word 64) (are_small words) small))
+    word_joined (decimal word) (behind_commas words) (number_is_word word (omega (arith, lt))) (number_is_inner word (omega (arith, lt))) (commas_word words (rest_true (nat_lt word 64) (are_small words) small))
 
 abbrev words_set : List Bool → Option WordSet
 words_set members = Some (record { members = members })

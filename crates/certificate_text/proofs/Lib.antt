@@ -1,4 +1,3 @@
-pub mod Turns
 pub mod Laws
 pub mod Between
 pub mod ReadSets

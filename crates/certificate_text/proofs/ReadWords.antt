@@ -14,9 +14,11 @@ use Rattle.types.specs.Globals.{global_named}
 use Rattle.types.specs.References.{struct_named, struct_in}
 use Rattle.ir_tokens.specs.Bytes.{Text as Bytes}
 use Rattle.certificate.specs.Fits.{small, from_one}
-use Rattle.certificate_words.specs.Numbers.{is_number, decimal, number_of_word, count_of_word, bits_of_word, words_of_word}
+use Rattle.name_text.specs.Numbers.{is_number, decimal, number_of_word}
+use Rattle.name_text.specs.Naming.{name_in}
+use Rattle.certificate_words.specs.Numbers.{count_of_word, bits_of_word, words_of_word}
 use Rattle.certificate_words.specs.Names as names
-use Rattle.certificate_words.specs.Names.{name_in, global_of_word, value_of_word, value_named, value_at, value_by, layout_of_word, layout_named, struct_at}
+use Rattle.certificate_words.specs.Names.{global_of_word, value_of_word, value_named, value_at, value_by, layout_of_word, layout_named, struct_at}
 use Rattle.certificate.specs.Families.{refers_to}
 use Rattle.certificate_words.specs.Input.{Input, Form, word, begins, after, next_line}
 use Rattle.certificate_words.specs.Forms.{skip, taken, taken_if, taken_as, expect, line_end, flag, flag_by, count, word_set, mark_of_word, marked, age, age_by, age_of_word, layout_by, layout_name}
@@ -25,7 +27,7 @@ use Rattle.certificate_text.proofs.ReadSets.{read_words_fit}
 use Rattle.certificate.specs.declared.family.Family.{Family}
 use Rattle.certificate_words.specs.declared.naming.Naming.{Naming}
 use Rattle.certificate_words.specs.declared.naming.Naming.TheVariants as naming
-use Rattle.certificate_words.specs.declared.naming.Sigil.TheVariants as sigil
+use Rattle.name_text.specs.declared.naming.Sigil.TheVariants as sigil
 use Rattle.certificate.specs.declared.section.Age.{Age}
 
 -- ---- forms that change nothing but what is left of the text

@@ -1,5 +1,5 @@
 -- The forms of sections, and a certificate's text.
-use Rattle.std.specs.Prelude.{◌≡◌, ℕ, ◌+◌, ◌-◌, Bool, true, false, not, ◌||◌, List, [], ◌∷◌, length, Option, Some, None, Result, Ok, Err, slice_get, codes}
+use Rattle.std.specs.Prelude.{◌≡◌, ℕ, ◌+◌, Bool, true, false, not, ◌||◌, List, [], ◌∷◌, Option, Some, None, Result, Ok, Err, slice_get, codes}
 use Rattle.ir_ast.specs.declared.function.Function.{Function}
 use Rattle.ir_ast.specs.declared.module.Module.{Module}
 use Rattle.grammar.specs.Grammar.{pure, ◌>>=◌, ◌>>◌, step, checked, look, refuse}
@@ -7,7 +7,7 @@ use Rattle.grammar.specs.Many.{many}
 use Rattle.grammar.specs.Outcome.{Outcome}
 use Rattle.grammar.specs.Takes.{Takes}
 use Rattle.ir_tokens.specs.Bytes.{Text as Bytes}
-use Rattle.certificate_words.specs.Numbers.{is_number}
+use Rattle.name_text.specs.Numbers.{is_number}
 use Rattle.certificate.specs.Families.{family_of_type, family_of_value}
 use Rattle.certificate_words.specs.Drafts.{first_unlisted}
 use Rattle.certificate_words.specs.Input.{Input, Form, left, start_of, ended, word, begins, with_promise, with_block, with_section, emptied}
@@ -22,8 +22,7 @@ use Rattle.certificate_words.specs.declared.found.Found.{Found}
 use Rattle.certificate_words.specs.declared.found.Found.TheVariants.{Syntax, Version, UnknownName, ListedTwice, Missing, MissingBlock, Memory}
 use Rattle.certificate_text.specs.declared.fault.CertFault.{CertFault}
 use Rattle.certificate_text.specs.declared.fault.CertFault.TheVariants as fault
-use Rattle.ir_tokens.specs.declared.position.Position.{Position}
-use Rattle.ir_tokens.specs.Position.{position_of}
+use Rattle.name_text.specs.Places.{place}
 use Rattle.grammar.specs.Takes.{first_takes}
 use Rattle.std.proofs.Common.{lit<}
 
@@ -211,10 +210,6 @@ value_of (Err e) = Err e
 -- the text is one of these sections, by the numbers of their functions
 abbrev pub IsCert : Bytes → Module → List Section → Type 0
 IsCert bytes m sections = (o : Input) × (file m).says (start_of m bytes) sections o
-
--- a place at which so much of the text is left
-abbrev pub place : Bytes → (rest : ℕ) → Position
-place bytes rest = position_of bytes (length bytes - rest)
 
 -- a fault with its place
 abbrev pub placed : Bytes → Found → CertFault

@@ -3,7 +3,6 @@
 
 mod facts;
 mod fault;
-mod place;
 mod promises;
 mod reader;
 

@@ -14,12 +14,12 @@ ghost use Rattle.certificate_words.specs.declared.found.Found.TheVariants.{Memor
 
 use crate::facts::line;
 use crate::fault::CertFault;
-use crate::place::place;
 use crate::promises::promise;
 use certificate::{Certs, Promise, Section, family_of_type, family_of_value};
-use certificate_words::{Draft, Found, Input, Kept, Wanted, is_number};
+use certificate_words::{Draft, Found, Input, Kept, Wanted};
 use ir_ast::{BlockId, FuncId, Function, Module};
 use items::Items;
+use name_text::{is_number, place};
 use std::alloc::{AllocError, Global};
 
 /// The number of the format's version.

@@ -1,5 +1,5 @@
 -- What is left of a certificate's text, and what is read so far.
-use Rattle.std.specs.Prelude.{ℕ, Bool, true, false, ◌||◌, List, [], ◌∷◌, Option, Some, None, length, map, slice_set}
+use Rattle.std.specs.Prelude.{ℕ, Bool, false, ◌||◌, List, [], Option, Some, None, length, map, slice_set}
 use Rattle.std.specs.Str.{bytes_eq}
 use Rattle.ir_ast.specs.declared.function.Function.{Function}
 use Rattle.ir_ast.specs.declared.module.Module.{Module}
@@ -8,6 +8,7 @@ use Rattle.grammar.specs.Outcome as outcome
 use Rattle.grammar.specs.Outcome.{Outcome}
 use Rattle.std.specs.Prelude.{Result}
 use Rattle.ir_tokens.specs.Bytes.{Text}
+use Rattle.name_text.specs.Numbers.{is_nil}
 use Rattle.name_text.specs.Words.{past_word, past_blanks, past_lines, word_at, ends_line}
 use Rattle.certificate_words.specs.Drafts.{no_draft, draft_of, promised, wanting, listing, listing_slot, block_ended, first_missing}
 use Rattle.certificate_words.specs.declared.draft.Draft.{Draft}
@@ -39,11 +40,6 @@ Reads = outcome.Reads Memory
 -- the state before a text: no function has a section
 abbrev pub start_of : Module → Text → Input
 start_of m bytes = record { rest = past_lines false bytes; sections = map (λ _. None) m.functions; draft = no_draft }
-
--- whether no byte is left
-abbrev pub is_nil : Text → Bool
-is_nil [] = true
-is_nil (byte ∷ bytes) = false
 
 -- whether the text ends here
 abbrev pub ended : Input → Bool

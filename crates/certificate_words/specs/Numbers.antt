@@ -1,32 +1,10 @@
 -- Numbers and sets of words as a certificate writes them.
-use Rattle.std.specs.Prelude.{ℕ, ◌+◌, ◌-◌, ◌*◌, Bool, true, false, not, ◌&&◌, ◌==◌, nat_lt, if◌then◌else◌, [], ◌∷◌, Option, Some, None, option_and_then}
-use Rattle.std.specs.List.{list_all}
+use Rattle.std.specs.Prelude.{ℕ, ◌+◌, ◌-◌, ◌*◌, ◌==◌, nat_lt, if◌then◌else◌, [], ◌∷◌, Option, Some, None, option_and_then}
 use Rattle.ir_tokens.specs.Bytes.{Text, is_digit}
 use Rattle.pools.specs.declared.word_set.WordSet.{WordSet}
 use Rattle.pools.specs.WordSets.{no_words, adds_word}
-use Rattle.certificate.specs.Fits.{small, from_one}
-
--- whether a text has no byte
-abbrev pub is_nil : Text → Bool
-is_nil [] = true
-is_nil (byte ∷ bytes) = false
-
--- decimal digits, at least one
-abbrev pub is_number : Text → Bool
-is_number word = not (is_nil word) && list_all is_digit word
-
--- the number that digits spell behind those that spell n
-abbrev pub decimal_behind : ℕ → Text → ℕ
-decimal_behind n [] = n
-decimal_behind n (digit ∷ digits) = decimal_behind (10 * n + (digit - 48)) digits
-
--- the number that decimal digits spell
-unfoldable pub decimal : Text → ℕ
-decimal digits = decimal_behind 0 digits
-
--- the number below 2 to the 64 that a word is
-abbrev pub number_of_word : Text → Option ℕ
-number_of_word word = if is_number word then small (decimal word) else None
+use Rattle.certificate.specs.Fits.{from_one}
+use Rattle.name_text.specs.Numbers.{number_of_word}
 
 -- the number from 1 that a word is
 abbrev pub count_of_word : Text → Option ℕ

@@ -12,4 +12,4 @@ pub use draft::{Draft, Wanted};
 pub use found::Found;
 pub use input::{Input, Kept};
 pub use naming::{Naming, global_of_word};
-pub use numbers::{bits_of_word, is_number};
+pub use numbers::bits_of_word;

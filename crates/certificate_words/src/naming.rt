@@ -1,14 +1,9 @@
 //! What the words of a certificate name.
-ghost use Rattle.std.specs.Prelude.{◌≡◌, ◌≤◌, ◌^◌, Some, ◌∷◌, length, IfOk};
+ghost use Rattle.std.specs.Prelude.{◌≡◌, Some, ◌∷◌, IfOk};
 ghost use Rattle.certificate_words.specs.Names as spec;
-ghost use Rattle.ir_ast.specs.LocalKeys as keys;
-ghost use Rattle.ir_tokens.specs.Names.{name_of};
 
-use ir_ast::{
-    Function, LocalSort, Module, SymbolId, SymbolSort, key_of_digits, marked, needs_mark,
-};
-use ir_tokens::{Kind, TEXT_LIMIT, Token, read_tokens, unescaped};
-use items::Items;
+use ir_ast::{Function, LocalSort, Module, SymbolId, SymbolSort};
+use name_text::{Sigil, name_in};
 use std::alloc::{AllocError, Global};
 use types::global_named;
 
@@ -21,93 +16,6 @@ pub enum Naming {
     Unknown,
     /// What has this number.
     Named(u32),
-}
-
-/// The sign before a name.
-#[derive(Clone, Copy, Debug, PartialEq, Eq)]
-pub enum Sigil {
-    /// `@`.
-    Global,
-    /// `%`, before the name or the number of a value or a block.
-    Local,
-    /// `%`, before the name of a type.
-    Layout,
-}
-
-/// The key of a local name.
-fn key_of_name(alloc: Global, name: Items<u8>) -> Result<Items<u8>, AllocError>
-    ensures { IfOk result (λ key. key ≡ keys.key_of_name name) }
-{
-    if needs_mark(name.as_slice()) {
-        Ok(Items::from_vec(marked(alloc, name.as_slice())?))
-    } else {
-        Ok(name)
-    }
-}
-
-/// The key of the number of a value or a block without a name.
-fn key_of_number(alloc: Global, digits: &[u8]) -> Result<Items<u8>, AllocError>
-    ensures { IfOk result (λ key. key ≡ keys.key_of_digits digits.now) }
-{
-    Items::from_slice(alloc, key_of_digits(digits))
-}
-
-fn name_of_token(
-    alloc: Global,
-    sign: Sigil,
-    word: &[u8],
-    token: Token,
-) -> Result<Option<Items<u8>>, AllocError>
-    ensures { IfOk result (λ name. name ≡ spec.name_by sign token.kind (name_of word.now token)) }
-{
-    match (sign, token.kind) {
-        (Sigil::Global, Kind::GlobalName) => Ok(Some(unescaped(alloc, word, token)?)),
-        (Sigil::Layout, Kind::LocalName) => Ok(Some(unescaped(alloc, word, token)?)),
-        (Sigil::Local, Kind::LocalName) => {
-            let name = unescaped(alloc, word, token)?;
-            Ok(Some(key_of_name(alloc, name)?))
-        }
-        (Sigil::Local, Kind::LocalNumber) => {
-            let digits = unescaped(alloc, word, token)?;
-            Ok(Some(key_of_number(alloc, digits.as_slice())?))
-        }
-        _ => Ok(None),
-    }
-}
-
-fn name_of_tokens(
-    alloc: Global,
-    sign: Sigil,
-    word: &[u8],
-    bad: Option<u32>,
-    tokens: &[Token],
-) -> Result<Option<Items<u8>>, AllocError>
-    ensures { IfOk result (λ name. name ≡ spec.name_from sign word.now bad tokens.now) }
-{
-    if bad.is_some() {
-        return Ok(None);
-    }
-    match tokens {
-        [token] => {
-            if token.length as usize == word.len() {
-                name_of_token(alloc, sign, word, *token)
-            } else {
-                Ok(None)
-            }
-        }
-        _ => Ok(None),
-    }
-}
-
-/// The name with this sign that a word is, as it is looked up.
-fn name_in(alloc: Global, sign: Sigil, word: &[u8]) -> Result<Option<Items<u8>>, AllocError>
-    ensures { IfOk result (λ name. name ≡ spec.name_in sign word.now) }
-{
-    if word.len() > TEXT_LIMIT {
-        return Ok(None);
-    }
-    let lexed = read_tokens(alloc, word)?;
-    name_of_tokens(alloc, sign, word, lexed.bad, lexed.tokens.as_slice())
 }
 
 fn function_named(module: &Module, name: &[u8]) -> Naming

@@ -1,7 +1,7 @@
 use Rattle.std.proofs.Common.{◌≡◌, ◌-◌, suc}
 use Rattle.certificate_words.specs.Input.{left}
 use Rattle.certificate_text.specs.Text.{past_blocks, block}
-use Rattle.certificate_text.proofs.Turns.{turns}
+use Rattle.grammar.proofs.Turns.{turns}
 use Rattle.certificate_text.proofs.reader.blocks.Given as goal
 
 abbrev pub invariant-loop-turn : goal.invariant-loop-turn

@@ -1,7 +1,7 @@
 use Rattle.std.proofs.Common.{◌≡◌, ◌-◌, suc}
 use Rattle.certificate_words.specs.Input.{left, ended}
 use Rattle.certificate_text.specs.Text.{section}
-use Rattle.certificate_text.proofs.Turns.{turns}
+use Rattle.grammar.proofs.Turns.{turns}
 use Rattle.certificate_text.proofs.reader.sections.Given as goal
 
 abbrev pub invariant-loop-turn : goal.invariant-loop-turn
