@@ -1,6 +1,6 @@
 -- Modules whose names lead back to what they name.
 use Rattle.std.specs.Prelude.{◌≡◌, ℕ, ◌^◌, ◌<◌, true, List, length, slice_get, Some, is_some, ◌⊎◌}
-use Rattle.std.specs.List.{AllByRecursion, list_all}
+use Rattle.std.specs.List.{list_all}
 use Rattle.ir_ast.specs.LocalKeys.{key_of_name, key_of_digits}
 use Rattle.ir_ast.specs.Names.{place_of}
 use Rattle.ir_ast.specs.declared.block.Block.{Block}
@@ -11,13 +11,14 @@ use Rattle.ir_ast.specs.declared.items_of_module.StructType.{StructType}
 use Rattle.ir_ast.specs.declared.items_of_module.SymbolSort.TheVariants as sort
 use Rattle.ir_ast.specs.declared.module.Module.{Module}
 use Rattle.ir_tokens.specs.Bytes.{Text, is_digit}
+use Rattle.name_text.specs.Readings.{AreBytes}
 use Rattle.types.specs.Globals.{global_named}
 use Rattle.certificate.specs.Fits.{is_value}
 use Rattle.certificate_print.specs.Print.{name_text}
 
 -- a name of bytes that is shorter than a text may be when it is printed
 abbrev pub IsShort : Text → Type 0
-IsShort name = AllByRecursion (λ byte. byte < 256) name × (length (name_text name) < 2 ^ 24)
+IsShort name = AreBytes name × (length (name_text name) < 2 ^ 24)
 
 -- each name of a table is such a name, and is found at its place
 abbrev pub AreNames : List Text → Type 0

@@ -5,36 +5,33 @@
 mod barrier_tests;
 #[cfg(test)]
 mod calling_tests;
-mod checking;
 #[cfg(test)]
 mod checking_tests;
+#[cfg(test)]
+mod collector_tests;
 mod failure;
-mod files;
 #[cfg(test)]
 mod machine_tests;
-mod name;
+#[cfg(test)]
+mod mutator_tests;
 #[cfg(test)]
 mod printing_tests;
 #[cfg(test)]
 mod reading_tests;
-mod replaying;
 #[cfg(test)]
 mod replaying_tests;
-mod report;
-mod soaking;
 #[cfg(test)]
 mod tests;
-mod work;
 
 use command_line::{Line, LineFault, line};
+use commands::work;
 use failure::Failure;
-use report::{STATUS_USAGE, STATUS_YES};
+use report::{STATUS_USAGE, STATUS_YES, memory, status_of};
 use std::io::Write;
 use std::process::ExitCode;
 use std::rt::Runtime;
 use std::thread::Threads;
 use std::{env, fs};
-use work::work;
 
 /// The bytes of a file, if it can be read.
 fn bytes_of(rt: &(impl Runtime + AllocGlobal), path: &str) -> Result<Option<Vec<u8>>, Failure> {
@@ -58,7 +55,8 @@ fn answer<O: Write, E: Write>(
     for path in line.paths(rt.alloc())? {
         files.push(bytes_of(rt, path)?)?;
     }
-    Ok(work(rt, rt.alloc(), line, files.as_slice(), out, err))
+    let printed = work(rt, rt.alloc(), line, files.as_slice(), out, err);
+    Ok(status_of(printed))
 }
 
 /// Reads the command line and does what it asks for.
@@ -94,10 +92,7 @@ fn ended<O: Write, E: Write>(
     match run(rt, out, err) {
         Ok(status) => status,
         Err(Failure::Outside) => STATUS_USAGE,
-        Err(Failure::Memory) => match report::memory(err) {
-            Ok(status) => status,
-            Err(_) => STATUS_USAGE,
-        },
+        Err(Failure::Memory) => status_of(memory(err)),
     }
 }
 

@@ -2,13 +2,13 @@
 use crate::barrier_tests::{ENDED, FILLED, FIVE, PUBLISHED, SIX};
 use crate::calling_tests::{FOUR, FOUR_ENDED, LATE, THREE, THREE_ENDED};
 use crate::reading_tests::CLAIM;
-use crate::report::{STATUS_NO, STATUS_UNREADABLE, STATUS_USAGE, STATUS_YES};
 use crate::tests::{HEAD, ONE, Printed, does, joined};
-use crate::work::work;
 use command_line::Line;
+use commands::work;
 use ir_text::read;
 use layout::Program;
 use replay::drawn_trace;
+use report::{STATUS_NO, STATUS_UNREADABLE, STATUS_USAGE, STATUS_YES, status_of};
 use std::alloc::{AllocError, Global};
 use std::test::Fail;
 use std::thread::Threads;
@@ -233,8 +233,8 @@ fn fault_without(
     line: &Line<'_>,
 ) -> Result<(u8, Vec<u8>), AllocError> {
     let mut err = Vec::new(alloc);
-    let status = work(rt, alloc, line, files, &mut Vec::new(alloc), &mut err);
-    Ok((status, err))
+    let printed = work(rt, alloc, line, files, &mut Vec::new(alloc), &mut err);
+    Ok((status_of(printed), err))
 }
 
 #[test]
@@ -321,7 +321,7 @@ fn answer_to(
         Some(joined(alloc, [trace].as_slice())?),
     ]?;
     let mut out = Vec::new(alloc);
-    work(
+    let printed = work(
         rt,
         alloc,
         line,
@@ -329,6 +329,7 @@ fn answer_to(
         &mut out,
         &mut Vec::new(alloc),
     );
+    status_of(printed);
     text_of(alloc, out.as_slice())
 }
 

@@ -1,7 +1,7 @@
 //! Whole commands, from the bytes of the files to the printed lines and the status.
-use crate::report::{STATUS_NO, STATUS_UNREADABLE, STATUS_USAGE, STATUS_YES};
-use crate::work::work;
 use command_line::Line;
+use commands::work;
+use report::{STATUS_NO, STATUS_UNREADABLE, STATUS_USAGE, STATUS_YES, status_of};
 use std::alloc::{AllocError, Global};
 use std::io;
 use std::io::Write;
@@ -52,7 +52,8 @@ pub(crate) fn does(
     files.push(Some(joined(alloc, [second].as_slice())?))?;
     let mut out = Vec::new(alloc);
     let mut err = Vec::new(alloc);
-    let status = work(rt, alloc, line, files.as_slice(), &mut out, &mut err);
+    let printed = work(rt, alloc, line, files.as_slice(), &mut out, &mut err);
+    let status = status_of(printed);
     Ok(
         status == wanted.status
             && out.as_slice() == wanted.out.as_bytes()
@@ -347,8 +348,8 @@ fn refuses_a_long_text(rt: HostRuntime) -> Result<(), Fail> {
     let files = vec![in alloc; Some(vec![in alloc; b' '; 16_777_217]?), None]?;
     let mut out = Vec::new(alloc);
     let mut err = Vec::new(alloc);
-    let status = work(&rt, alloc, &CHECK, files.as_slice(), &mut out, &mut err);
-    assert_eq!(rt; status, STATUS_UNREADABLE);
+    let printed = work(&rt, alloc, &CHECK, files.as_slice(), &mut out, &mut err);
+    assert_eq!(rt; status_of(printed), STATUS_UNREADABLE);
     assert!(rt; out.is_empty() && err.as_slice() == b"error L8 1:16777217\n".as_slice());
     Ok(())
 }
@@ -366,7 +367,7 @@ fn names_the_file_that_cannot_be_read(rt: HostRuntime) -> Result<(), Fail> {
         let mut out = Vec::new(alloc);
         let mut err = Vec::new(alloc);
         assert_eq!(rt;
-            work(&rt, alloc, &CHECK, files, &mut out, &mut err),
+            status_of(work(&rt, alloc, &CHECK, files, &mut out, &mut err)),
             STATUS_USAGE
         );
         assert!(rt; out.is_empty() && err.as_slice() == fault.as_bytes());
@@ -392,7 +393,7 @@ impl Write for Full {
 fn ends_with_a_failed_write(rt: HostRuntime) -> Result<(), Fail> {
     let alloc = rt.alloc();
     let mut files: Vec<Option<Vec<u8>>> = Vec::new(alloc);
-    let status = work(
+    let printed = work(
         &rt,
         alloc,
         &CHECK,
@@ -400,10 +401,10 @@ fn ends_with_a_failed_write(rt: HostRuntime) -> Result<(), Fail> {
         &mut Vec::new(alloc),
         &mut Full,
     );
-    assert_eq!(rt; status, STATUS_USAGE);
+    assert_eq!(rt; status_of(printed), STATUS_USAGE);
     files.push(Some(Vec::new(alloc)))?;
     files.push(Some(joined(alloc, ["cert 1"].as_slice())?))?;
-    let status = work(
+    let printed = work(
         &rt,
         alloc,
         &CHECK,
@@ -411,6 +412,6 @@ fn ends_with_a_failed_write(rt: HostRuntime) -> Result<(), Fail> {
         &mut Full,
         &mut Vec::new(alloc),
     );
-    assert_eq!(rt; status, STATUS_USAGE);
+    assert_eq!(rt; status_of(printed), STATUS_USAGE);
     Ok(())
 }

@@ -1,7 +1,7 @@
 -- A way from block to block: what is known behind it holds of the frame that entered.
 use Rattle.std.proofs.Common.{◌≡◌, ℕ, suc, ◌+◌, ◌<◌, ◌≤◌, ◌^◌, List, [], ◌∷◌, length, refl, sym, ap, ◌∙◌, subst, arith, true, false, Bool, Option, Some, None, slice_get, slice_set, take, inl, inr}
 use Rattle.std.proofs.lemmas.List.{length-set}
-use Rattle.std.proofs.lemmas.Nat.{mod_below, pow_below, pow_pos}
+use Rattle.std.proofs.lemmas.Nat.{mod_below, pow_pos}
 use Rattle.std.proofs.lemmas.Bool.{cases_lt}
 use Rattle.std.proofs.lemmas.Grind.{common_steps}
 use Rattle.std.specs.Prelude.{◌⊎◌, ◌==◌, ◌%◌, nat_lt, not, if◌then◌else◌, position}
@@ -35,6 +35,7 @@ use Rattle.rule_operands.specs.Standing.{instructions_of}
 use Rattle.rule_forms.specs.Bounds.{below_next}
 use Rattle.certified.specs.Ways as w
 use Rattle.certified.specs.Ways.{Scene, operand_from, constant_comes_in, number_comes_in, known_comes_in, phi_comes_in, named_comes_in, comes_in}
+use Rattle.machine_values.proofs.WrappedFits.{wrapped_fits}
 use Rattle.machine_values.specs.declared.value.Value.{Value}
 use Rattle.machine_values.specs.declared.value.Value.TheVariants as value
 use Rattle.machine_values.specs.Kinds.{register_at, bits_of, bits_at, modulus, wrapped}
@@ -74,18 +75,7 @@ bits_same m written bits e = by (slice_get m.types written) refl e where
   by (Some (type.Struct a b)) is e = absurd cc
   by (Some (type.Named n)) is e = absurd cc
 
--- a number as an integer of so many bits fits them, and is no more than it was
-pub wrapped_fits : (bits n : ℕ) → wrapped bits n < 2 ^ bits
-wrapped_fits bits n = pick (cases_lt bits 64) where
-  pick : (bits < 64) ⊎ (64 ≤ bits) → wrapped bits n < 2 ^ bits
-  pick (inl lt) = rw (lt_true bits 64 lt) (mod_below n (2 ^ bits) (pow_pos bits))
-  pick (inr le) =
-      let b : n % 2 ^ 64 < 2 ^ 64 = mod_below n (2 ^ 64) (pow_pos 64) in
-      rw (lt_false bits 64 le) (above (cases_lt 64 bits) b) where
-        above : (64 < bits) ⊎ (bits ≤ 64) → n % 2 ^ 64 < 2 ^ 64 → n % 2 ^ 64 < 2 ^ bits
-        above (inl more) b = let q = pow_below 64 bits more in omega (arith, q, b)
-        above (inr less) b = let e : 64 ≡ bits = omega (arith, le, less) in subst (λ x. n % 2 ^ 64 < 2 ^ x) e b
-
+-- a remainder, and a number as an integer of so many bits, are no more than the number was
 mod_le : (n k : ℕ) → 0 < k → n % k ≤ n
 mod_le n k pos = pick (cases_lt n k) where
   pick : (n < k) ⊎ (k ≤ n) → n % k ≤ n

@@ -13,7 +13,8 @@ use Rattle.machine_values.specs.Kinds.{wrapped}
 use Rattle.machine_values.specs.Integers.{computed, resized, truth}
 use Rattle.fact_meaning.specs.Meaning.{IsBelow, IsInteger}
 use Rattle.fact_meaning.proofs.Lists.{lt_true, lt_false}
-use Rattle.fact_meaning.proofs.Edges.{wrapped_fits, wrapped_le}
+use Rattle.machine_values.proofs.WrappedFits.{wrapped_fits}
+use Rattle.fact_meaning.proofs.Edges.{wrapped_le}
 
 pub below_less : (m n : ℕ) (below : Option ℕ) → m ≤ n → IsBelow n below → IsBelow m below
 below_less m n None le b = tt

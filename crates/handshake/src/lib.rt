@@ -3,8 +3,6 @@
 
 mod laws;
 mod safepoint;
-#[cfg(test)]
-mod tests;
 mod waiting;
 
 pub use colours::cycle_of;

@@ -30,7 +30,7 @@ use Rattle.ir_tokens.specs.Keywords.{kind_in, other_word}
 use Rattle.ir_cursor.specs.Cursor.{name}
 use Rattle.ir_parts.specs.Written.{integer, bits_at}
 use Rattle.ir_print.specs.Readings.{ConstantsAreRead, IntegerTypesAreRead}
-use Rattle.ir_print.proofs.Seams.{both}
+use Rattle.name_text.proofs.Seams.{both}
 use Rattle.ir_print.proofs.Words.{second_of, word_comes, number_comes}
 
 -- ---- numbers

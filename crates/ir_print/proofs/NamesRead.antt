@@ -1,14 +1,15 @@
 -- Printed names are read as those names.
-use Rattle.std.proofs.Common.{◌≡◌, ℕ, ◌<◌, ◌^◌, Bool, true, false, not, if◌then◌else◌, [], ◌∷◌, ◌++◌, Option, refl, ap, sym, subst, ◌∙◌, arith, inl, inr, ◌⊎◌}
-use Rattle.std.specs.Prelude.{◌==◌, ◌&&◌, ◌||◌, nat_lt, nat_le, slice_get, option_and_then}
+use Rattle.std.proofs.Common.{◌≡◌, ℕ, ◌<◌, ◌^◌, Bool, true, false, not, [], ◌∷◌, ◌++◌, Option, refl, ap, sym, subst, ◌∙◌, arith, inl, inr, ◌⊎◌}
+use Rattle.std.specs.Prelude.{nat_lt, slice_get, option_and_then}
 use Rattle.std.specs.List.{list_all}
 use Rattle.std.proofs.lemmas.Bool.Decides.{nat_tests}
 use Rattle.ir_tokens.specs.declared.token.Kind.{Kind}
 use Rattle.ir_tokens.specs.declared.token.Kind.TheVariants as k
 use Rattle.ir_tokens.specs.Bytes.{Text, is_digit}
-use Rattle.ir_ast.specs.LocalKeys.{needs_mark, key_of_name}
+use Rattle.ir_ast.specs.LocalKeys.{key_of_name}
 use Rattle.ir_ast.specs.Names.{place_of, number_of}
 use Rattle.ir_ast.specs.declared.operand.Operand.TheVariants.{Local, Global}
+use Rattle.ir_ast.proofs.Keys.{name_again, no_number}
 use Rattle.ir_cursor.specs.Cursor.{kind, next, spelled, local_key}
 use Rattle.ir_cursor.specs.Place.{Place}
 use Rattle.ir_cursor.specs.RuntimeNames.{is_intrinsic, is_left_out}
@@ -17,7 +18,9 @@ use Rattle.ir_cursor.specs.declared.uses.Wanted.TheVariants as wants
 use Rattle.ir_parts.specs.declared.input.Input.{Input}
 use Rattle.ir_parts.specs.Names.{struct_name, struct_number, used_symbol, symbol_number, callee, used_global, used_local, local_number, used_label, used_label_by, sort_of_symbol, is_function, with_struct_use, with_symbol_use, with_local_use, target, new_value, is_known_local, is_local, new_label, quoted}
 use Rattle.ir_parts.specs.Operand.{operand, operand_by}
-use Rattle.ir_print.specs.Names.{key_text, name_text}
+use Rattle.name_text.specs.Names.{name_text}
+use Rattle.name_text.specs.declared.blank.Blank.TheVariants as blank
+use Rattle.ir_print.specs.Names.{key_text}
 use Rattle.std.specs.Prelude.{codes}
 use Rattle.ir_ast.specs.declared.function.LocalSort.TheVariants.{Unknown}
 use Rattle.ir_cursor.specs.Table.{mentioned}
@@ -27,29 +30,21 @@ use Rattle.ir_tokens.specs.Keywords.{word_kind, keywords}
 use Rattle.ir_print.specs.Names.{local_text}
 use Rattle.ir_print.specs.Readings.{IsKey, LocalsAreRead, LocalOperandsAreRead, TargetsAreRead, NewValuesAreRead, LabelsAreRead, CollectorsAreRead, GlobalOperandsAreRead, CalleesAreRead, StructNamesAreRead}
 use Rattle.ir_print.specs.Standing.{Stands, IsSeam, AreBlanks, AreDigits}
-use Rattle.ir_print.proofs.Seams.{both}
-use Rattle.ir_print.proofs.Spelled.{name_spelled, digits_spelled, label_spelled, quoted_spelled}
+use Rattle.name_text.proofs.Seams.{both}
+use Rattle.name_text.proofs.Reading.{name_spelled, digits_spelled}
+use Rattle.ir_print.proofs.Spelled.{label_spelled, quoted_spelled}
 use Rattle.ir_print.proofs.Words.{global_comes, local_comes, local_number_comes, word_comes, expected, quoted_comes, label_comes, seen}
 
 -- ---- keys
 
-digits_text : (key : Text) → AreDigits key → key_text key ≡ key
+-- a number is printed as it is
+pub digits_text : (key : Text) → AreDigits key → key_text key ≡ key
 digits_text [] own = absurd (omega (arith, own.0))
 digits_text (b ∷ key) own = let digit = (both (is_digit b) (list_all is_digit key) own.1).0 in rw digit refl
 
-none_of : (a b : Bool) → (a || b) ≡ false → (a ≡ false) × (b ≡ false)
-none_of true b e = absurd cc
-none_of false b e = (refl, e)
-
-name_key_text : (name : Text) → key_text (key_of_name name) ≡ name_text name
-name_key_text name = by name (needs_mark name) refl where
-  by : (name : Text) (t : Bool) → needs_mark name ≡ t → key_text (if t then 34 ∷ name else name) ≡ name_text name
-  by name true e = refl
-  by [] false e = refl
-  by (b ∷ name) false e =
-      let parts = none_of (nat_le 48 b && nat_le b 57) (b == 34) e in
-      ap (λ (t : Bool). if t then b ∷ name else name_text (if b == 34 then name else b ∷ name)) parts.0
-      ∙ ap (λ (t : Bool). name_text (if t then name else b ∷ name)) parts.1
+-- the key of a name is printed as that name
+pub name_key_text : (name : Text) → key_text (key_of_name name) ≡ name_text blank.Kept name
+name_key_text name = rw (no_number name) (ap (name_text blank.Kept) (name_again name))
 
 -- a local name or a number in its place
 abbrev IsLocalKind : Kind → Type 0
@@ -67,9 +62,9 @@ key_comes place gap key rest (inl digits) blanks seam at =
     (inr w.0, rw (w.0, spelled_so) digits.1, w.3)
 key_comes place gap key rest (inr named) blanks seam at =
     let name = named.0 in
-    let text : key_text key ≡ name_text name = ap key_text named.2 ∙ name_key_text name in
+    let text : key_text key ≡ name_text blank.Kept name = ap key_text named.2 ∙ name_key_text name in
     let w = local_comes place gap name rest blanks named.1 seam (subst (λ (x : Text). Stands place (gap ++ 37 ∷ (x ++ rest))) text at) in
-    let spelled_so : spelled place ≡ name = w.2 ∙ name_spelled name named.1 in
+    let spelled_so : spelled place ≡ name = w.2 ∙ name_spelled blank.Kept name named.1 in
     (inl w.0, rw (w.0, spelled_so) (sym named.2), w.3)
 
 -- ---- local names
@@ -117,7 +112,7 @@ pub new_values_are_read : NewValuesAreRead
 unfolding new_value local_key
 new_values_are_read name i gap rest own less is_free room blanks seam at =
     let w = local_comes i.cursor gap name rest blanks own seam at in
-    let spelled_so : spelled i.cursor ≡ name = w.2 ∙ name_spelled name own in
+    let spelled_so : spelled i.cursor ≡ name = w.2 ∙ name_spelled blank.Kept name own in
     let key : local_key i.cursor ≡ key_of_name name = rw (w.0, spelled_so) refl in
     let same : local_number i ≡ number_of (key_of_name name) i.locals.names = ap (λ (x : Text). number_of x i.locals.names) key in
     let in_range = ap (λ (n : ℕ). nat_lt n 4294967296) same ∙ few (number_of (key_of_name name) i.locals.names) less in
@@ -170,7 +165,7 @@ global_read bits i name is e own no_function less =
 pub global_operands_are_read : GlobalOperandsAreRead
 global_operands_are_read bits name i gap rest own no_intrinsic no_function less blanks seam at =
     let w = global_comes i.cursor gap name rest blanks own seam at in
-    let e : spelled i.cursor ≡ name = w.2 ∙ name_spelled name own in
+    let e : spelled i.cursor ≡ name = w.2 ∙ name_spelled blank.Kept name own in
     (global_read bits i name w.0 e no_intrinsic no_function less, e, w.3)
 
 callee_read : (i : Input) (name : Text) → spelled i.cursor ≡ name → is_left_out name ≡ false → number_of name i.symbols.names < 2 ^ 32 → callee.says i (number_of name i.symbols.names) (with_symbol_use true i)
@@ -181,7 +176,7 @@ callee_read i name e own less =
 pub callees_are_read : CalleesAreRead
 callees_are_read name i gap rest own known less blanks seam at =
     let w = global_comes i.cursor gap name rest blanks own seam at in
-    let e : spelled i.cursor ≡ name = w.2 ∙ name_spelled name own in
+    let e : spelled i.cursor ≡ name = w.2 ∙ name_spelled blank.Kept name own in
     (callee_read i name e known less, e, w.3)
 
 -- ---- names of structs
@@ -195,5 +190,5 @@ struct_read i name e less =
 pub struct_names_are_read : StructNamesAreRead
 struct_names_are_read name i gap rest own less blanks seam at =
     let w = local_comes i.cursor gap name rest blanks own seam at in
-    let e : spelled i.cursor ≡ name = w.2 ∙ name_spelled name own in
+    let e : spelled i.cursor ≡ name = w.2 ∙ name_spelled blank.Kept name own in
     (struct_read i name e less, e, w.3)

@@ -15,7 +15,7 @@ use Rattle.ir_parts.specs.declared.input.Input.{Input}
 use Rattle.ir_parts.specs.Names.{local_number, is_known_local, is_local, is_at, is_written_next, next_number, take_number, new_value, numbered_value, with_number_taken}
 use Rattle.ir_print.specs.Readings.{NumberedValuesAreRead}
 use Rattle.ir_print.proofs.Constants.{are_digits, decimal_value}
-use Rattle.ir_print.proofs.Spelled.{digits_spelled}
+use Rattle.name_text.proofs.Reading.{digits_spelled}
 use Rattle.ir_print.proofs.Words.{local_number_comes}
 
 -- ---- numbers have no zeros before them

@@ -1,20 +1,14 @@
 -- Where a token ends: what stands behind it goes on with no name, and makes no label of it.
-use Rattle.std.proofs.Common.{◌≡◌, ℕ, Bool, true, false, [], ◌∷◌, ◌++◌, refl, ap, sym, ◌∙◌}
-use Rattle.std.specs.Prelude.{◌==◌, ◌&&◌, ◌||◌}
-use Rattle.std.specs.List.{list_all}
+use Rattle.std.proofs.Common.{◌≡◌, ℕ, Bool, true, false, [], ◌∷◌, refl, ap, sym, ◌∙◌}
+use Rattle.std.specs.Prelude.{◌==◌}
 use Rattle.std.proofs.lemmas.Bool.{eqb-true}
 use Rattle.ir_tokens.specs.declared.class.Class.{Class}
 use Rattle.ir_tokens.specs.declared.class.Class.TheVariants as c
 use Rattle.ir_tokens.specs.declared.token.Kind.{Kind}
 use Rattle.ir_tokens.specs.Bytes.{Text, is_letter, is_digit, class_of, first_class, is_name, is_name_class}
-use Rattle.ir_tokens.specs.Form.{Passes, begins}
+use Rattle.ir_tokens.specs.Form.{begins}
 use Rattle.ir_tokens.specs.Tokens.{label_or}
-use Rattle.ir_print.specs.Names.{begins_plain}
 use Rattle.ir_print.specs.Standing.{ends_token, IsSeam}
-
-pub both : (a b : Bool) → (a && b) ≡ true → (a ≡ true) × (b ≡ true)
-both true b e = (refl, e)
-both false b e = absurd cc
 
 no_name_class : (x : Class) → ends_token x ≡ true → is_name_class x ≡ false
 no_name_class c.Letter e = absurd cc
@@ -52,26 +46,3 @@ apart_by f v b true e none is =
 
 pub apart : (f : ℕ → Bool) (v b : ℕ) → f v ≡ false → f b ≡ true → b == v ≡ false
 apart f v b = apart_by f v b (b == v) refl
-
--- ---- plain names
-
-pub letter_class : (b : ℕ) → is_letter b ≡ true → class_of b ≡ c.Letter
-unfolding class_of
-letter_class b e = rw e refl
-
-pub digit_class : (b : ℕ) → is_letter b ≡ false → is_digit b ≡ true → class_of b ≡ c.Digit
-unfolding class_of
-digit_class b e f = rw (e, f) refl
-
-is_name_by : (b : ℕ) (t : Bool) → is_letter b ≡ t → (is_letter b || is_digit b) ≡ true → is_name b ≡ true
-unfolding is_name class_of
-is_name_by b true e plain = rw e refl
-is_name_by b false e plain = let digit : is_digit b ≡ true = rw e at plain in rw (e, digit) refl
-
-pub passes : (name : Text) → list_all (λ byte. is_letter byte || is_digit byte) name ≡ true → Passes is_name name
-passes [] e = tt
-passes (b ∷ name) e = let parts = both (is_letter b || is_digit b) _ e in (is_name_by b (is_letter b) refl parts.0, passes name parts.1)
-
-pub first_letter : (name rest : Text) → begins_plain name ≡ true → first_class (name ++ rest) ≡ c.Letter
-first_letter [] rest e = absurd cc
-first_letter (b ∷ name) rest e = letter_class b e

@@ -13,9 +13,12 @@ use Rattle.ir_cursor.specs.Place.{Place}
 use Rattle.ir_cursor.specs.Cursor.{kind, sees, same_kind}
 use Rattle.ir_parts.specs.declared.input.Input.{Input}
 use Rattle.ir_parts.specs.Input.{expect, advanced}
-use Rattle.ir_print.specs.Names.{is_plain, quoted_byte, quoted_text, name_text}
-use Rattle.ir_print.specs.Standing.{Stands, IsSeam, AreBlanks, AreBytes, AreDigits}
-use Rattle.ir_print.proofs.Seams.{both, apart}
+use Rattle.name_text.specs.Names.{is_plain, quoted_byte, quoted_text, name_text}
+use Rattle.name_text.specs.Readings.{AreBytes}
+use Rattle.name_text.specs.declared.blank.Blank.TheVariants as blank
+use Rattle.ir_print.specs.Standing.{Stands, IsSeam, AreBlanks, AreDigits}
+use Rattle.name_text.proofs.Seams.{both, is_no}
+use Rattle.ir_print.proofs.Seams.{apart}
 use Rattle.ir_print.proofs.Spelled.{word_read, number_read, global_read, local_read, local_number_read, quoted_read, label_read}
 use Rattle.ir_print.proofs.Standing.{Comes, comes}
 use denote.Enum.Bare.{true_same}
@@ -34,12 +37,9 @@ past_blanks (b ∷ gap) at blanks begins =
     let parts = both (is_blank b) (list_all is_blank gap) blanks in
     rw (apart is_blank 59 b refl parts.0, parts.0) (past_blanks gap at parts.1 begins)
 
-abbrev is_plain_byte : ℕ → Bool
-is_plain_byte byte = is_letter byte || is_digit byte
-
-no_gap : (b : ℕ) (bs : Text) → is_plain_byte b ≡ true → begins_gap (b ∷ bs) ≡ false
-no_gap b bs e =
-    rw (apart is_plain_byte 59 b refl e, apart is_plain_byte 32 b refl e, apart is_plain_byte 9 b refl e, apart is_plain_byte 10 b refl e, apart is_plain_byte 13 b refl e) refl
+-- no gap begins with a letter or a digit
+pub no_gap : (b : ℕ) (bs : Text) → (is_letter b || is_digit b) ≡ true → begins_gap (b ∷ bs) ≡ false
+no_gap b bs e = rw (is_no b 59 refl e, is_no b 32 refl e, is_no b 9 refl e, is_no b 10 refl e, is_no b 13 refl e) refl
 
 first_of : (a b : Bool) → a ≡ true → (a || b) ≡ true
 first_of true b e = refl
@@ -84,31 +84,31 @@ close_round_comes place rest at = sign_comes place [] 41 rest k.CloseRound refl 
 
 -- ---- names
 
-pub global_comes : (place : Place) (gap name rest : Text) → AreBlanks gap → AreBytes name → IsSeam rest → Stands place (gap ++ 64 ∷ (name_text name ++ rest)) → Comes place k.GlobalName (64 ∷ name_text name) rest
+pub global_comes : (place : Place) (gap name rest : Text) → AreBlanks gap → AreBytes name → IsSeam rest → Stands place (gap ++ 64 ∷ (name_text blank.Kept name ++ rest)) → Comes place k.GlobalName (64 ∷ name_text blank.Kept name) rest
 global_comes place gap name rest blanks own seam at =
-    comes place gap 64 (name_text name ++ rest) (64 ∷ name_text name) rest k.GlobalName (past_blanks gap (64 ∷ (name_text name ++ rest)) blanks refl) (global_read name rest own seam) refl (omega arith) at
+    comes place gap 64 (name_text blank.Kept name ++ rest) (64 ∷ name_text blank.Kept name) rest k.GlobalName (past_blanks gap (64 ∷ (name_text blank.Kept name ++ rest)) blanks refl) (global_read name rest own seam) refl (omega arith) at
 
-pub local_comes : (place : Place) (gap name rest : Text) → AreBlanks gap → AreBytes name → IsSeam rest → Stands place (gap ++ 37 ∷ (name_text name ++ rest)) → Comes place k.LocalName (37 ∷ name_text name) rest
+pub local_comes : (place : Place) (gap name rest : Text) → AreBlanks gap → AreBytes name → IsSeam rest → Stands place (gap ++ 37 ∷ (name_text blank.Kept name ++ rest)) → Comes place k.LocalName (37 ∷ name_text blank.Kept name) rest
 local_comes place gap name rest blanks own seam at =
-    comes place gap 37 (name_text name ++ rest) (37 ∷ name_text name) rest k.LocalName (past_blanks gap (37 ∷ (name_text name ++ rest)) blanks refl) (local_read name rest own seam) refl (omega arith) at
+    comes place gap 37 (name_text blank.Kept name ++ rest) (37 ∷ name_text blank.Kept name) rest k.LocalName (past_blanks gap (37 ∷ (name_text blank.Kept name ++ rest)) blanks refl) (local_read name rest own seam) refl (omega arith) at
 
 pub local_number_comes : (place : Place) (gap digits rest : Text) → AreBlanks gap → AreDigits digits → IsSeam rest → Stands place (gap ++ 37 ∷ (digits ++ rest)) → Comes place k.LocalNumber (37 ∷ digits) rest
 local_number_comes place gap digits rest blanks own seam at =
     comes place gap 37 (digits ++ rest) (37 ∷ digits) rest k.LocalNumber (past_blanks gap (37 ∷ (digits ++ rest)) blanks refl) (local_number_read digits rest own seam) refl (omega arith) at
 
-pub quoted_comes : (place : Place) (gap name rest : Text) → AreBlanks gap → AreBytes name → IsSeam rest → Stands place (gap ++ (quoted_text name ++ rest)) → Comes place k.Quoted (quoted_text name) rest
+pub quoted_comes : (place : Place) (gap name rest : Text) → AreBlanks gap → AreBytes name → IsSeam rest → Stands place (gap ++ (quoted_text blank.Kept name ++ rest)) → Comes place k.Quoted (quoted_text blank.Kept name) rest
 quoted_comes place gap name rest blanks own seam at =
-    let bytes = (flat_map quoted_byte name ++ 34 ∷ []) ++ rest in
-    comes place gap 34 bytes (quoted_text name) rest k.Quoted (past_blanks gap (34 ∷ bytes) blanks refl) (quoted_read name rest own seam) refl (omega arith) at
+    let bytes = (flat_map (quoted_byte blank.Kept) name ++ 34 ∷ []) ++ rest in
+    comes place gap 34 bytes (quoted_text blank.Kept name) rest k.Quoted (past_blanks gap (34 ∷ bytes) blanks refl) (quoted_read name rest own seam) refl (omega arith) at
 
 -- the label of a block
-pub label_comes : (place : Place) (gap name rest : Text) → AreBlanks gap → AreBytes name → Stands place (gap ++ (name_text name ++ 58 ∷ rest)) → Comes place k.LabelName (name_text name ++ 58 ∷ []) rest
+pub label_comes : (place : Place) (gap name rest : Text) → AreBlanks gap → AreBytes name → Stands place (gap ++ (name_text blank.Kept name ++ 58 ∷ rest)) → Comes place k.LabelName (name_text blank.Kept name ++ 58 ∷ []) rest
 label_comes place gap name rest blanks own at = by name (is_plain name) refl (label_read name rest own) at where
-  by : (name : Text) (t : Bool) → is_plain name ≡ t → token.read ((if t then name else quoted_text name) ++ 58 ∷ rest) ≡ Some (k.LabelName, rest)
-      → Stands place (gap ++ ((if t then name else quoted_text name) ++ 58 ∷ rest)) → Comes place k.LabelName ((if t then name else quoted_text name) ++ 58 ∷ []) rest
+  by : (name : Text) (t : Bool) → is_plain name ≡ t → token.read ((if t then name else quoted_text blank.Kept name) ++ 58 ∷ rest) ≡ Some (k.LabelName, rest)
+      → Stands place (gap ++ ((if t then name else quoted_text blank.Kept name) ++ 58 ∷ rest)) → Comes place k.LabelName ((if t then name else quoted_text blank.Kept name) ++ 58 ∷ []) rest
   by name false e read at =
-      let bytes = (flat_map quoted_byte name ++ 34 ∷ []) ++ 58 ∷ rest in
-      comes place gap 34 bytes (quoted_text name ++ 58 ∷ []) rest k.LabelName (past_blanks gap (34 ∷ bytes) blanks refl) read (sym (append_assoc (quoted_text name) (58 ∷ []) rest)) (omega arith) at
+      let bytes = (flat_map (quoted_byte blank.Kept) name ++ 34 ∷ []) ++ 58 ∷ rest in
+      comes place gap 34 bytes (quoted_text blank.Kept name ++ 58 ∷ []) rest k.LabelName (past_blanks gap (34 ∷ bytes) blanks refl) read (sym (append_assoc (quoted_text blank.Kept name) (58 ∷ []) rest)) (omega arith) at
   by [] true e read at = absurd cc
   by (b ∷ name) true e read at =
       let letter = (both (is_letter b) _ e).0 in

@@ -8,7 +8,9 @@ use Rattle.ir_ast.specs.declared.items_of_module.Global.{Global}
 use Rattle.ir_ast.specs.declared.items_of_module.StructType.{StructType}
 use Rattle.ir_ast.specs.declared.module.Module.{Module}
 use Rattle.ir_tokens.specs.Bytes.{Text}
-use Rattle.ir_print.specs.Names.{quoted_text, local_text, global_text, struct_text}
+use Rattle.name_text.specs.Names.{quoted_text}
+use Rattle.name_text.specs.declared.blank.Blank.TheVariants as blank
+use Rattle.ir_print.specs.Names.{local_text, global_text, struct_text}
 use Rattle.ir_print.specs.Types.{type_text}
 use Rattle.ir_print.specs.Operands.{constant_text, listed}
 use Rattle.ir_print.specs.Blocks.{block_text}
@@ -37,7 +39,7 @@ parameter_text m locals parameter = type_text m parameter.written ++ 32 ∷ loca
 -- `gc "name"`, if the function has a collector, behind a blank
 abbrev pub collector_text : Option Text → Text
 collector_text None = []
-collector_text (Some name) = codes " gc " ++ quoted_text name
+collector_text (Some name) = codes " gc " ++ quoted_text blank.Kept name
 
 -- `define T @f(T %a, ..) gc "name" {`, and the end of the line
 abbrev pub head_line : Module → Function → Text

@@ -19,9 +19,12 @@ use Rattle.ir_parts.specs.Operand.{constant, operand}
 use Rattle.ir_ast.specs.declared.function.LocalSort.TheVariants.{Unknown}
 use Rattle.ir_cursor.specs.Table.{mentioned}
 use Rattle.ir_print.specs.Instructions.{target_text}
-use Rattle.ir_print.specs.Names.{name_at, name_text, local_text, quoted_text}
+use Rattle.name_text.specs.Names.{name_text, quoted_text}
+use Rattle.name_text.specs.Readings.{AreBytes}
+use Rattle.name_text.specs.declared.blank.Blank.TheVariants as blank
+use Rattle.ir_print.specs.Names.{name_at, local_text}
 use Rattle.ir_print.specs.Fits.{FitsType, constant_shown}
-use Rattle.ir_print.specs.Standing.{Stands, IsSeam, AreBlanks, AreBytes, AreDigits}
+use Rattle.ir_print.specs.Standing.{Stands, IsSeam, AreBlanks, AreDigits}
 
 -- Behind blanks this form reads these bytes as this value and makes this state of what it reads from, and then it stands before the
 -- bytes behind them.
@@ -58,7 +61,7 @@ abbrev pub GlobalOperandsAreRead : Type 0
 GlobalOperandsAreRead =
     (bits : Option ℕ) (name : Text) (i : Input) (gap rest : Text) → AreBytes name → is_intrinsic name ≡ false
     → is_function (option_and_then (slice_get i.symbols.sorts) (place_of name i.symbols.names)) ≡ false → number_of name i.symbols.names < 2 ^ 32
-    → AreBlanks gap → IsSeam rest → Stands i.cursor (gap ++ 64 ∷ (name_text name ++ rest))
+    → AreBlanks gap → IsSeam rest → Stands i.cursor (gap ++ 64 ∷ (name_text blank.Kept name ++ rest))
     → (operand bits).says i (Global (number_of name i.symbols.names)) (with_symbol_use false i)
     × (spelled i.cursor ≡ name) × Stands (with_symbol_use false i).cursor rest
 
@@ -66,14 +69,14 @@ GlobalOperandsAreRead =
 abbrev pub CalleesAreRead : Type 0
 CalleesAreRead =
     (name : Text) (i : Input) (gap rest : Text) → AreBytes name → is_left_out name ≡ false → number_of name i.symbols.names < 2 ^ 32
-    → AreBlanks gap → IsSeam rest → Stands i.cursor (gap ++ 64 ∷ (name_text name ++ rest))
+    → AreBlanks gap → IsSeam rest → Stands i.cursor (gap ++ 64 ∷ (name_text blank.Kept name ++ rest))
     → callee.says i (number_of name i.symbols.names) (with_symbol_use true i) × (spelled i.cursor ≡ name) × Stands (with_symbol_use true i).cursor rest
 
 -- the name of a struct is read as that name in a type
 abbrev pub StructNamesAreRead : Type 0
 StructNamesAreRead =
     (name : Text) (i : Input) (gap rest : Text) → AreBytes name → number_of name i.struct_names.names < 2 ^ 32
-    → AreBlanks gap → IsSeam rest → Stands i.cursor (gap ++ 37 ∷ (name_text name ++ rest))
+    → AreBlanks gap → IsSeam rest → Stands i.cursor (gap ++ 37 ∷ (name_text blank.Kept name ++ rest))
     → struct_name.says i (number_of name i.struct_names.names) (with_struct_use i) × (spelled i.cursor ≡ name) × Stands (with_struct_use i).cursor rest
 
 -- a printed block that is gone on with is read as that block's name
@@ -89,7 +92,7 @@ abbrev pub NewValuesAreRead : Type 0
 NewValuesAreRead =
     (name : Text) (i : Input) (gap rest : Text) → AreBytes name → number_of (key_of_name name) i.locals.names < 2 ^ 32
     → is_local (slice_get (mentioned (key_of_name name) Unknown i.locals).sorts (number_of (key_of_name name) i.locals.names)) ≡ false → i.values < 1000000
-    → AreBlanks gap → IsSeam rest → Stands i.cursor (gap ++ 37 ∷ (name_text name ++ rest))
+    → AreBlanks gap → IsSeam rest → Stands i.cursor (gap ++ 37 ∷ (name_text blank.Kept name ++ rest))
     → new_value.says i (number_of (key_of_name name) i.locals.names) (with_value i) × (local_key i.cursor ≡ key_of_name name) × Stands (with_value i).cursor rest
 
 -- a printed label that is a name is read as the label of the block with this number, where the name is not defined before
@@ -97,13 +100,13 @@ abbrev pub LabelsAreRead : Type 0
 LabelsAreRead =
     (block : ℕ) (name : Text) (i : Input) (gap rest : Text) → AreBytes name → number_of (key_of_name name) i.locals.names < 2 ^ 32
     → is_local (slice_get (mentioned (key_of_name name) Unknown i.locals).sorts (number_of (key_of_name name) i.locals.names)) ≡ false
-    → AreBlanks gap → Stands i.cursor (gap ++ (name_text name ++ 58 ∷ rest))
+    → AreBlanks gap → Stands i.cursor (gap ++ (name_text blank.Kept name ++ 58 ∷ rest))
     → (new_label block).says i (number_of (key_of_name name) i.locals.names) (with_label block i) × (local_key i.cursor ≡ key_of_name name) × Stands (with_label block i).cursor rest
 
 -- the printed name of a collector is read as that name
 abbrev pub CollectorsAreRead : Type 0
 CollectorsAreRead =
-    (name : Text) (i : Input) (gap rest : Text) → AreBytes name → AreBlanks gap → IsSeam rest → Stands i.cursor (gap ++ (quoted_text name ++ rest))
+    (name : Text) (i : Input) (gap rest : Text) → AreBytes name → AreBlanks gap → IsSeam rest → Stands i.cursor (gap ++ (quoted_text blank.Kept name ++ rest))
     → quoted.says i name (advanced i) × Stands (next i.cursor) rest
 
 -- a printed integer type is read as an integer type of so many bits

@@ -1,6 +1,6 @@
 -- Where reading stands in a text.
 use Rattle.std.specs.Prelude.{◌≡◌, ℕ, ◌<◌, ◌≤◌, Bool, true, false, [], ◌++◌, length}
-use Rattle.std.specs.List.{AllByRecursion, list_all}
+use Rattle.std.specs.List.{list_all}
 use Rattle.ir_tokens.specs.declared.class.Class.{Class}
 use Rattle.ir_tokens.specs.declared.class.Class.TheVariants as class
 use Rattle.ir_tokens.specs.Bytes.{Text, is_digit, first_class}
@@ -28,10 +28,6 @@ IsSeam rest = ends_token (first_class rest) ≡ true
 -- blanks and ends of lines
 abbrev pub AreBlanks : Text → Type 0
 AreBlanks gap = list_all is_blank gap ≡ true
-
--- a text is bytes
-abbrev pub AreBytes : Text → Type 0
-AreBytes = AllByRecursion (λ byte. byte < 256)
 
 -- decimal digits, one at least
 abbrev pub AreDigits : Text → Type 0

@@ -6,11 +6,12 @@ ghost use Rattle.ir_print.specs.Items as spec;
 
 use crate::instructions::put_instructions;
 use crate::lists::{put_parameters, put_types};
-use crate::names::{put_global, put_label, put_quoted, put_struct_name};
+use crate::names::{put_global, put_label, put_struct_name};
 use crate::operands::put_constant;
 use crate::types::put_type;
 use ir_ast::{Block, Declare, Function, Global as Word, Module, Names, StructType};
 use items::Items;
+use name_text::{Blank, put_quoted};
 use std::alloc::{AllocError, Global};
 
 fn put_struct(
@@ -155,7 +156,7 @@ fn put_collector(out: &mut Vec<u8>, collector: &Option<Items<u8>>) -> Result<(),
         None => Ok(()),
         Some(name) => {
             out.extend_from_slice(b" gc ")?;
-            put_quoted(out, name.as_slice())
+            put_quoted(out, name.as_slice(), Blank::Kept)
         }
     }
 }

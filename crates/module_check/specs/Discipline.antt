@@ -9,7 +9,7 @@ use Rattle.machine_values.specs.declared.answer.Answer.{Answer}
 use Rattle.machine.specs.Machine.{start}
 use Rattle.machine.specs.Start.{argument_values}
 use Rattle.machine.specs.Log.{Safe}
-use Rattle.soundness.specs.Discipline.{IsStart}
+use Rattle.program_safety.specs.Safety.{IsStart}
 
 -- a thread that starts at a function of the program, with arguments that fit and meet what is promised of the parameters, is safe over every heap of the program, for every list of possible answers
 abbrev pub AreDisciplined : LaidOut → List Section → Type 0

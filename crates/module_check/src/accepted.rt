@@ -5,8 +5,7 @@ ghost use Rattle.program_safety.specs.Safety.{IsSafeProgram};
 
 use certificate::Certs;
 use layout::Program;
-use program_safety::program_law;
-use soundness::discipline_law;
+use program_safety::{discipline_law, program_law};
 use std::marker::Model;
 
 /// A module whose blocks are certified, each with its layouts and its certificates.

@@ -9,8 +9,7 @@ use certificate::Certs;
 use certified::{BlockFault, Refusal};
 use ir_ast::{FuncId, Module};
 use layout::{LayoutFault, Program};
-use program_safety::program_law;
-use soundness::discipline_law;
+use program_safety::{discipline_law, program_law};
 use std::alloc::Global;
 
 /// Why a module is not accepted.

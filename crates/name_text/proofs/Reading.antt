@@ -11,9 +11,9 @@ use Rattle.ir_tokens.specs.declared.token.Kind.{Kind}
 use Rattle.ir_tokens.specs.declared.token.Kind.TheVariants as k
 use Rattle.ir_tokens.specs.declared.token.Token.{Token}
 use Rattle.ir_tokens.specs.Bytes.{Text, is_letter, is_digit, class_of, first_class, is_name, digit, next}
-use Rattle.ir_tokens.specs.Form.{Form, Passes, IsQuoted}
+use Rattle.ir_tokens.specs.Form.{Form, Passes, IsQuoted, begins}
 use Rattle.ir_tokens.specs.Tokens as tokens
-use Rattle.ir_tokens.specs.Tokens.{token, quotation, token_by, global, global_by, local, local_by, past_gap, lex_from, lexed_of, make}
+use Rattle.ir_tokens.specs.Tokens.{token, quotation, global, global_by, local, local_by, past_gap, lex_from, lexed_of, make}
 use Rattle.ir_tokens.specs.Names.{begins_quote, bare, unescaped, unescaped_from, unquoted, name_of}
 use Rattle.name_text.specs.Names.{begins_plain, is_plain, first_shown, is_shown, hexadecimal, quoted_byte, quoted_text, name_text}
 use Rattle.name_text.specs.Readings.{AreBytes, whole, GlobalsAreRead, LocalsAreRead, NumbersAreRead}
@@ -81,10 +81,11 @@ module _ (blank : Blank) where
   abbrev inner : Text → Text
   inner = flat_map (quoted_byte blank)
 
-  quotes_read : (name : Text) → AreBytes name → IsQuoted (inner name ++ 34 ∷ []) name []
-  quotes_read [] own = refl
-  quotes_read (b ∷ name) own =
-      (inner name ++ 34 ∷ [], ap next (append_assoc (quoted_byte blank b) (inner name) (34 ∷ [])) ∙ byte_read b (inner name ++ 34 ∷ []) own.0, quotes_read name own.1)
+  -- a text between quotes is read as that text
+  pub quotes_read : (name rest : Text) → AreBytes name → IsQuoted (inner name ++ 34 ∷ rest) name rest
+  quotes_read [] rest own = refl
+  quotes_read (b ∷ name) rest own =
+      (inner name ++ 34 ∷ rest, ap next (append_assoc (quoted_byte blank b) (inner name) (34 ∷ rest)) ∙ byte_read b (inner name ++ 34 ∷ rest) own.0, quotes_read name rest own.1)
 
   some_bytes_by : (b : ℕ) (t : Bool) → 0 < length (if t then b ∷ [] else 92 ∷ hexadecimal (b / 16) ∷ hexadecimal (b % 16) ∷ [])
   some_bytes_by b true = omega arith
@@ -110,13 +111,15 @@ unfolding is_name class_of
 is_name_by b true e plain = rw e refl
 is_name_by b false e plain = let digit : is_digit b ≡ true = rw e at plain in rw (e, digit) refl
 
-passes : (name : Text) → list_all (λ byte. is_letter byte || is_digit byte) name ≡ true → Passes is_name name
+-- the bytes of a plain name are those of a name
+pub passes : (name : Text) → list_all (λ byte. is_letter byte || is_digit byte) name ≡ true → Passes is_name name
 passes [] e = tt
 passes (b ∷ name) e = let parts = both (is_letter b || is_digit b) _ e in (is_name_by b (is_letter b) refl parts.0, passes name parts.1)
 
-first_by : (name : Text) → begins_plain name ≡ true → first_class name ≡ c.Letter
-first_by [] e = absurd cc
-first_by (b ∷ name) e = plain_class b e
+-- a plain name begins with a letter
+pub first_letter : (name rest : Text) → begins_plain name ≡ true → first_class (name ++ rest) ≡ c.Letter
+first_letter [] rest e = absurd cc
+first_letter (b ∷ name) rest e = plain_class b e
 
 letter_no_quote : (b : ℕ) → is_letter b ≡ true → (b == 34) ≡ false
 letter_no_quote b e = by (b == 34) refl
@@ -133,36 +136,47 @@ module _ (blank : Blank) (name : Text) (own : AreBytes name) where
   abbrev written : Bool → Text
   written plain = if plain then name else quoted_text blank name
 
+  -- text in quotes, before more bytes
+  pub in_quotes : (rest : Text) → quoted_text blank name ++ rest ≡ 34 ∷ (flat_map (quoted_byte blank) name ++ 34 ∷ rest)
+  in_quotes rest = ap (λ (x : Text). 34 ∷ x) (append_assoc (flat_map (quoted_byte blank) name) (34 ∷ []) rest)
+
   -- what stands behind a sign
-  behind_sign : (f : Class → Form Kind) (x : Kind) → ((i : Text) → (f c.Letter).read i ≡ (tokens.name x).read i) → ((i : Text) → (f c.Quote).read i ≡ (quotation x).read i)
-      → (t : Bool) → is_plain name ≡ t → (f (first_class (written t))).read (written t) ≡ Some (x, [])
+  behind_sign : (rest : Text) → begins is_name rest ≡ false → (f : Class → Form Kind) (x : Kind) → ((i : Text) → (f c.Letter).read i ≡ (tokens.name x).read i)
+      → ((i : Text) → (f c.Quote).read i ≡ (quotation x).read i) → (t : Bool) → is_plain name ≡ t → (f (first_class (written t ++ rest))).read (written t ++ rest) ≡ Some (x, rest)
   unfolding class_of
-  behind_sign f x letter quote true e =
+  behind_sign rest ends f x letter quote true e =
       let parts = both (begins_plain name) _ e in
-      let read = (tokens.name x).again name x [] (name, [], (sym (append-nil name), passes name parts.1, refl), (refl, refl)) in
-      ap (λ (class : Class). (f class).read name) (first_by name parts.0) ∙ letter name ∙ read
-  behind_sign f x letter quote false e =
-      let text = quoted_text blank name in
-      let read = (quotation x).again text x [] (tt, [], (tt, flat_map (quoted_byte blank) name ++ 34 ∷ [], (refl, refl), (name, quotes_read blank name own)), (refl, refl)) in
-      quote text ∙ read
+      let read = (tokens.name x).again (name ++ rest) x rest (name, rest, (refl, passes name parts.1, ends), (refl, refl)) in
+      ap (λ (class : Class). (f class).read (name ++ rest)) (first_letter name rest parts.0) ∙ letter (name ++ rest) ∙ read
+  behind_sign rest ends f x letter quote false e =
+      let bytes : Text = 34 ∷ (flat_map (quoted_byte blank) name ++ 34 ∷ rest) in
+      let read = (quotation x).again bytes x rest (tt, rest, (tt, flat_map (quoted_byte blank) name ++ 34 ∷ rest, (refl, refl), (name, quotes_read blank name rest own)), (refl, refl)) in
+      ap (λ (i : Text). (f (first_class i)).read i) (in_quotes rest) ∙ quote bytes ∙ read
 
-  global_token : token.read (64 ∷ name_text blank name) ≡ Some (k.GlobalName, [])
+  -- a printed name behind `@` is one token, where no name goes on behind it
+  pub global_token : (rest : Text) → begins is_name rest ≡ false → token.read (64 ∷ (name_text blank name ++ rest)) ≡ Some (k.GlobalName, rest)
   unfolding token global class_of
-  global_token = behind_sign global_by k.GlobalName (λ i. refl) (λ i. refl) (is_plain name) refl
+  global_token rest ends = behind_sign rest ends global_by k.GlobalName (λ i. refl) (λ i. refl) (is_plain name) refl
 
-  local_token : token.read (37 ∷ name_text blank name) ≡ Some (k.LocalName, [])
+  -- so is one behind `%`
+  pub local_token : (rest : Text) → begins is_name rest ≡ false → token.read (37 ∷ (name_text blank name ++ rest)) ≡ Some (k.LocalName, rest)
   unfolding token local class_of
-  local_token = behind_sign local_by k.LocalName (λ i. refl) (λ i. refl) (is_plain name) refl
+  local_token rest ends = behind_sign rest ends local_by k.LocalName (λ i. refl) (λ i. refl) (is_plain name) refl
 
-  spelled_by : (t : Bool) → is_plain name ≡ t → unquoted (written t) ≡ name
-  spelled_by true e = rw (no_quote_by name (both (begins_plain name) _ e).0) refl
-  spelled_by false e =
+  -- a text in quotes spells that text
+  pub quotes_spelled : unquoted (quoted_text blank name) ≡ name
+  quotes_spelled =
       let shown = flat_map (quoted_byte blank) name in
       let long : length (quoted_text blank name) - 2 ≡ length shown = omega (arith, length-append shown (34 ∷ [])) in
       ap unescaped (ap (λ (n : ℕ). take n (shown ++ 34 ∷ [])) long ∙ take-append_seam shown (34 ∷ [])) ∙ unescaped_is blank (length shown) name own (omega arith)
 
-  spelled : unquoted (name_text blank name) ≡ name
-  spelled = spelled_by (is_plain name) refl
+  spelled_by : (t : Bool) → is_plain name ≡ t → unquoted (written t) ≡ name
+  spelled_by true e = rw (no_quote_by name (both (begins_plain name) _ e).0) refl
+  spelled_by false e = quotes_spelled
+
+  -- a printed name spells that name
+  pub name_spelled : unquoted (name_text blank name) ≡ name
+  name_spelled = spelled_by (is_plain name) refl
 
 -- ---- numbers
 
@@ -176,24 +190,30 @@ no_letter b digit = by (is_letter b) refl
     by true letter = let no = no_digit b letter in absurd cc
     by false letter = letter
 
-digit_class : (b : ℕ) → is_digit b ≡ true → class_of b ≡ c.Digit
+pub digit_class : (b : ℕ) → is_digit b ≡ true → class_of b ≡ c.Digit
 unfolding class_of
 digit_class b e = rw (no_letter b e, e) refl
 
-digits_pass : (digits : Text) → list_all is_digit digits ≡ true → Passes is_digit digits
+pub digits_pass : (digits : Text) → list_all is_digit digits ≡ true → Passes is_digit digits
 digits_pass [] e = tt
 digits_pass (b ∷ digits) e = let parts = both (is_digit b) (list_all is_digit digits) e in (parts.0, digits_pass digits parts.1)
 
-number_token : (b : ℕ) (digits : Text) → list_all is_digit (b ∷ digits) ≡ true → token.read (37 ∷ b ∷ digits) ≡ Some (k.LocalNumber, [])
+-- a number behind `%` is one token, where no digit goes on behind it
+pub number_token : (b : ℕ) (digits rest : Text) → list_all is_digit (b ∷ digits) ≡ true → begins is_digit rest ≡ false → token.read (37 ∷ b ∷ (digits ++ rest)) ≡ Some (k.LocalNumber, rest)
 unfolding token local class_of
-number_token b digits e =
+number_token b digits rest e ends =
     let number = b ∷ digits in
     let first = (both (is_digit b) (list_all is_digit digits) e).0 in
-    let read = (tokens.digits k.LocalNumber).again number k.LocalNumber [] (number, [], (sym (append-nil number), digits_pass number e, refl), (refl, refl)) in
-    ap (λ (class : Class). (local_by class).read number) (digit_class b first) ∙ read
+    let read = (tokens.digits k.LocalNumber).again (number ++ rest) k.LocalNumber rest (number, rest, (refl, digits_pass number e, ends), (refl, refl)) in
+    ap (λ (class : Class). (local_by class).read (number ++ rest)) (digit_class b first) ∙ read
 
 digit_no_quote : (b : ℕ) → is_digit b ≡ true → (b == 34) ≡ false
 digit_no_quote b digit = grind (arith, nat_tests)
+
+-- digits spell themselves
+pub digits_spelled : (digits : Text) → list_all is_digit digits ≡ true → unquoted digits ≡ digits
+digits_spelled [] e = refl
+digits_spelled (b ∷ digits) e = rw (digit_no_quote b (both (is_digit b) (list_all is_digit digits) e).0) refl
 
 -- ---- the one token of a text
 
@@ -222,17 +242,19 @@ pub globals_are_read : GlobalsAreRead
 unfolding past_gap
 globals_are_read blank name own =
     let text = 64 ∷ name_text blank name in
-    (one_token 64 (name_text blank name) k.GlobalName refl (global_token blank name own), name_is k.GlobalName text name (spelled blank name own))
+    let read = ap (λ (x : Text). token.read (64 ∷ x)) (sym (append-nil (name_text blank name))) ∙ global_token blank name own [] refl in
+    (one_token 64 (name_text blank name) k.GlobalName refl read, name_is k.GlobalName text name (name_spelled blank name own))
 
 pub locals_are_read : LocalsAreRead
 unfolding past_gap
 locals_are_read blank name own =
     let text = 37 ∷ name_text blank name in
-    (one_token 37 (name_text blank name) k.LocalName refl (local_token blank name own), name_is k.LocalName text name (spelled blank name own))
+    let read = ap (λ (x : Text). token.read (37 ∷ x)) (sym (append-nil (name_text blank name))) ∙ local_token blank name own [] refl in
+    (one_token 37 (name_text blank name) k.LocalName refl read, name_is k.LocalName text name (name_spelled blank name own))
 
 pub numbers_are_read : NumbersAreRead
 unfolding past_gap
 numbers_are_read [] some e = absurd (omega (arith, some))
 numbers_are_read (b ∷ digits) some e =
-    let first = (both (is_digit b) (list_all is_digit digits) e).0 in
-    (one_token 37 (b ∷ digits) k.LocalNumber refl (number_token b digits e), name_is k.LocalNumber (37 ∷ b ∷ digits) (b ∷ digits) (rw (digit_no_quote b first) refl))
+    let read = ap (λ (x : Text). token.read (37 ∷ b ∷ x)) (sym (append-nil digits)) ∙ number_token b digits [] e refl in
+    (one_token 37 (b ∷ digits) k.LocalNumber refl read, name_is k.LocalNumber (37 ∷ b ∷ digits) (b ∷ digits) (digits_spelled (b ∷ digits) e))

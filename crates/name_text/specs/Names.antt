@@ -4,6 +4,8 @@ use Rattle.std.specs.List.{list_all, flat_map}
 use Rattle.ir_tokens.specs.Bytes.{Text, is_letter, is_digit}
 use Rattle.name_text.specs.declared.blank.Blank.{Blank}
 use Rattle.name_text.specs.declared.blank.Blank.TheVariants as blank
+use Rattle.name_text.specs.declared.quoted.QuotedByte.{QuotedByte}
+use Rattle.name_text.specs.declared.quoted.QuotedByte.TheVariants as quoted
 
 -- whether a letter stands at the front
 abbrev pub begins_plain : Text → Bool
@@ -30,6 +32,11 @@ hexadecimal digit = if nat_lt digit 10 then 48 + digit else 55 + digit
 -- a byte between quotes
 abbrev pub quoted_byte : Blank → ℕ → Text
 quoted_byte blank byte = if is_shown blank byte then byte ∷ [] else 92 ∷ hexadecimal (byte / 16) ∷ hexadecimal (byte % 16) ∷ []
+
+-- the bytes that are given for a byte between quotes
+abbrev pub bytes_of : QuotedByte → Text
+bytes_of (quoted.Shown bytes) = bytes
+bytes_of (quoted.Escaped bytes) = bytes
 
 -- a text in quotes
 abbrev pub quoted_text : Blank → Text → Text

@@ -8,12 +8,14 @@ mod names;
 mod naming;
 mod numbers;
 mod places;
+mod quoted;
 mod words;
 
 pub use blank::Blank;
 pub use laws::name_law;
-pub use names::put_name;
+pub use names::{is_plain, put_name, put_quoted, quoted_byte};
 pub use naming::{Sigil, name_in};
 pub use numbers::{decimal, is_digit, is_number, number_of_word};
 pub use places::place;
+pub use quoted::QuotedByte;
 pub use words::{ends_line, past_blanks, past_lines, past_word, word};

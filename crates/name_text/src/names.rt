@@ -6,6 +6,7 @@ ghost use Rattle.name_text.specs.Names as spec;
 
 use crate::blank::Blank;
 use crate::numbers::is_digit;
+use crate::quoted::QuotedByte;
 use std::alloc::AllocError;
 
 fn is_letter(byte: u8) -> bool
@@ -30,7 +31,7 @@ fn has_plain_bytes(name: &[u8]) -> bool
 }
 
 /// Whether a name stands without quotes.
-fn is_plain(name: &[u8]) -> bool
+pub fn is_plain(name: &[u8]) -> bool
     ensures { result ≡ spec.is_plain name.now }
 {
     begins_plain(name) && has_plain_bytes(name)
@@ -60,22 +61,33 @@ fn hexadecimal(digit: u8) -> u8
     if digit < 10 { 48 + digit } else { 55 + digit }
 }
 
-fn put_quoted_byte(out: &mut Vec<u8>, byte: u8, blank: Blank) -> Result<(), AllocError>
-    ensures { OnOk result (out.new.items ≡ out.old.items ++ spec.quoted_byte blank byte) }
+/// A byte as it stands between quotes.
+pub fn quoted_byte(byte: u8, blank: Blank) -> QuotedByte
+    ensures { spec.bytes_of result ≡ spec.quoted_byte blank byte }
 {
     if is_shown(byte, blank) {
-        out.extend_from_slice(&[byte])
+        QuotedByte::Shown([byte])
     } else {
-        out.extend_from_slice(&[b'\\', hexadecimal(byte / 16), hexadecimal(byte % 16)])
+        QuotedByte::Escaped([b'\\', hexadecimal(byte / 16), hexadecimal(byte % 16)])
     }
 }
 
-fn put_quoted(out: &mut Vec<u8>, name: &[u8], blank: Blank) -> Result<(), AllocError>
+fn put_quoted_bytes(out: &mut Vec<u8>, name: &[u8], blank: Blank) -> Result<(), AllocError>
     ensures { OnOk result (out.new.items ≡ out.old.items ++ flat_map (spec.quoted_byte blank) name.now) }
 {
     for byte in name {
-        put_quoted_byte(out, *byte, blank)?;
+        out.extend_from_slice(quoted_byte(*byte, blank).bytes())?;
     }
+    Ok(())
+}
+
+/// A text in quotes.
+pub fn put_quoted(out: &mut Vec<u8>, name: &[u8], blank: Blank) -> Result<(), AllocError>
+    ensures { OnOk result (out.new.items ≡ out.old.items ++ spec.quoted_text blank name.now) }
+{
+    out.push(b'"')?;
+    put_quoted_bytes(out, name, blank)?;
+    out.push(b'"')?;
     Ok(())
 }
 
@@ -84,10 +96,8 @@ pub fn put_name(out: &mut Vec<u8>, name: &[u8], blank: Blank) -> Result<(), Allo
     ensures { OnOk result (out.new.items ≡ out.old.items ++ spec.name_text blank name.now) }
 {
     if is_plain(name) {
-        return out.extend_from_slice(name);
+        out.extend_from_slice(name)
+    } else {
+        put_quoted(out, name, blank)
     }
-    out.push(b'"')?;
-    put_quoted(out, name, blank)?;
-    out.push(b'"')?;
-    Ok(())
 }

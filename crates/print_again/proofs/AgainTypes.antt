@@ -24,7 +24,8 @@ use Rattle.ir_parts.specs.Written as w
 use Rattle.ir_parts.specs.Written.{no_parameters, integer, bits_at, begins_unread_type}
 use Rattle.ir_print.specs.Standing.{Stands, IsSeam, AreBlanks}
 use Rattle.ir_print.proofs.Constants.{integer_types_are_read, are_digits}
-use Rattle.ir_print.proofs.Spelled.{name_spelled}
+use Rattle.name_text.specs.declared.blank.Blank.TheVariants as blank
+use Rattle.name_text.proofs.Reading.{name_spelled}
 use Rattle.ir_print.proofs.Words.{sign_comes, number_comes, local_comes, seen}
 use Rattle.printable.specs.Definitions.{defined_structs}
 use Rattle.printable.specs.Shapes.{Shape, Integer, Pointer, Array, Empty, Struct, Named, HasShape, IsWritten, IsStruct, levels}
@@ -238,7 +239,7 @@ module _ {m : Module} {f : Function} (v : Invariant m f) where
     by (suc room) number i gap rest s own has le blanks ends ready =
         let r = local_comes i.cursor gap name rest blanks own.0 ends.0 ready.stands in
         over_reads room number (type.Named has.0) i rest s has.1 ends
-        (one_token (w.name_again has.0) i (gap ++ (shown false (Named name) ++ rest)) rest s s (name_said name has.0 i r.0 (r.2 ∙ name_spelled name own.0) has.2) ready r.3
+        (one_token (w.name_again has.0) i (gap ++ (shown false (Named name) ++ rest)) rest s s (name_said name has.0 i r.0 (r.2 ∙ name_spelled blank.Kept name own.0) has.2) ready r.3
         (shorter v gap (shown false (Named name)) rest s s (omega arith)))
   again_claims Empty = (by, no_field) where
     by : AgainClaim Empty

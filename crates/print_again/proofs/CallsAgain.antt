@@ -22,7 +22,7 @@ use Rattle.ir_parts.specs.Written as w
 use Rattle.ir_instructions.specs.Lists as lists
 use Rattle.ir_print.specs.Operands.{argument_text}
 use Rattle.ir_print.specs.Instructions.{op_text}
-use Rattle.ir_print.specs.Standing.{IsSeam, AreBlanks, AreBytes}
+use Rattle.ir_print.specs.Standing.{IsSeam, AreBlanks}
 use Rattle.ir_print.specs.Types.{type_text, type_within, type_by}
 use Rattle.printable.specs.Printable.{IsScalar, IsArgument}
 use Rattle.printable.specs.Shapes.{IsIn, Shape}
@@ -43,7 +43,10 @@ use Rattle.ir_instructions.specs.Calls as calls
 use Rattle.ir_decorations.specs.declared.decorating.Spot.TheVariants as spot
 use Rattle.ir_parts.specs.Names.{callee, with_symbol_use}
 use Rattle.ir_ast.specs.Names.{number_of}
-use Rattle.ir_print.specs.Names.{name_at, name_text, global_text}
+use Rattle.name_text.specs.Names.{name_text}
+use Rattle.name_text.specs.Readings.{AreBytes}
+use Rattle.name_text.specs.declared.blank.Blank.TheVariants as blank
+use Rattle.ir_print.specs.Names.{name_at, global_text}
 use Rattle.ir_print.specs.Operands.{listed}
 use Rattle.ir_print.proofs.NamesRead.{callees_are_read}
 use Rattle.ir_print.proofs.Words.{global_comes}
@@ -88,7 +91,7 @@ unfolding trailing
 trailing_said t i e = ([], i, (ap not e, refl), (refl, refl))
 
 -- the name of a function ends a type
-ends_callee : (name behind : Text) → AreBytes name → IsSeam behind → EndsType (32 ∷ 64 ∷ (name_text name ++ behind))
+ends_callee : (name behind : Text) → AreBytes name → IsSeam behind → EndsType (32 ∷ 64 ∷ (name_text blank.Kept name ++ behind))
 unfolding class_of
 ends_callee name behind own seam = (refl, λ i at. ap ends_type (global_comes i.cursor (32 ∷ []) name behind refl own seam at).0)
 
@@ -112,7 +115,7 @@ module _ {m : Module} {f : Function} (v : Invariant m f) where
       let g1 = global_comes i.cursor (32 ∷ []) name t1 refl is.0 refl ready.stands in
       let a : Reads v s calls.called i (40 ∷ (listed (argument_text m f.locals) xs ++ 41 ∷ rest)) (λ n o. slice_get o.symbols.names n ≡ Some (name_at m.symbols callee)) =
       looked v (λ i. kind i.cursor) calls.called_by i (40 ∷ (listed (argument_text m f.locals) xs ++ 41 ∷ rest)) s (λ n o. slice_get o.symbols.names n ≡ Some (name_at m.symbols callee)) k.GlobalName g1.0
-      (number_of name i.symbols.names, with_symbol_use true i, c.0, symbol_ready v true i _ t1 s name c.1 there ready (sign_less v 64 (32 ∷ []) (name_text name) t1) c.2, symbol_grows v true i, symbol_there v i name true c.1) in
+      (number_of name i.symbols.names, with_symbol_use true i, c.0, symbol_ready v true i _ t1 s name c.1 there ready (sign_less v 64 (32 ∷ []) (name_text blank.Kept name) t1) c.2, symbol_grows v true i, symbol_there v i name true c.1) in
       on v v calls.called round_form i t1 rest s s (λ n o. slice_get o.symbols.names n ≡ Some (name_at m.symbols callee)) good a
       (λ fn o ready g named.
       on v v (expect k.OpenRound) (λ _. arguments_form fn) o t2 rest s s (λ _ q. advanced o ≡ q) good
@@ -132,7 +135,7 @@ module _ {m : Module} {f : Function} (v : Invariant m f) where
       let latero = later_before o q n others h laterq in
       let lateri = later_before i o n others g latero in
       ap (λ (y : Text). call_by y (global_text n fn) (listed (argument_text n others) ys)) (prints n others lateri)
-      ∙ ap (λ (y : Option Text). call_by (type_text m returned) (64 ∷ name_text (unwrap_or y [])) (listed (argument_text n others) ys)) (stays o.symbols.names n.symbols fn (name_at m.symbols callee) latero.symbols named)
+      ∙ ap (λ (y : Option Text). call_by (type_text m returned) (64 ∷ name_text blank.Kept (unwrap_or y [])) (listed (argument_text n others) ys)) (stays o.symbols.names n.symbols fn (name_at m.symbols callee) latero.symbols named)
       ∙ ap (λ (y : Text). call_by (type_text m returned) (global_text m callee) y)
       (listed_by (λ x. argument_text n others x) ys ∙ ap (λ (zs : List Text). listed (λ (x : Text). x) zs) (lists_print n others laterr) ∙ sym (listed_by (λ x. argument_text m f.locals x) xs))))))))
     where

@@ -22,7 +22,7 @@ use Rattle.ir_parts.specs.Input.{advanced, expect}
 use Rattle.ir_instructions.specs.Integers as integers
 use Rattle.ir_instructions.specs.Memory as memory
 use Rattle.ir_print.specs.Instructions.{op_text, typed, pair_text, placed_text, converted_text, arithmetic_word, comparison_word}
-use Rattle.ir_print.specs.Names.{is_plain}
+use Rattle.name_text.specs.Names.{is_plain}
 use Rattle.ir_print.specs.Standing.{IsSeam, AreBlanks}
 use Rattle.ir_print.specs.Types.{type_text}
 use Rattle.printable.specs.Printable.{ArePair, IsConverted}

@@ -26,13 +26,16 @@ use Rattle.ir_parts.specs.Names.{is_function, sort_of_symbol, symbol_number, use
 use Rattle.ir_parts.specs.Operand as form
 use Rattle.ir_parts.specs.Written as w
 use Rattle.ir_print.specs.Fits.{FitsType, is_bit_width, constant_shown}
-use Rattle.ir_print.specs.Names.{name_at, name_text, key_text, local_text, global_text}
+use Rattle.name_text.specs.Names.{name_text}
+use Rattle.name_text.specs.Readings.{AreBytes}
+use Rattle.name_text.specs.declared.blank.Blank.TheVariants as blank
+use Rattle.ir_print.specs.Names.{name_at, key_text, local_text, global_text}
 use Rattle.ir_print.specs.Operands.{is_bit, number_text, constant_text, operand_text, cast_text}
-use Rattle.ir_print.specs.Standing.{Stands, IsSeam, AreBlanks, AreBytes}
+use Rattle.ir_print.specs.Standing.{Stands, IsSeam, AreBlanks}
 use Rattle.ir_print.specs.Types.{type_text}
 use Rattle.ir_print.proofs.Constants.{constant_is_read}
 use Rattle.ir_print.proofs.NamesRead.{local_operands_are_read}
-use Rattle.ir_print.proofs.Spelled.{name_spelled}
+use Rattle.name_text.proofs.Reading.{name_spelled}
 use Rattle.ir_print.proofs.Words.{global_comes, sign_comes, word_comes}
 use Rattle.printable.specs.Printable.{IsType, IsGlobalUse, IsOperand}
 use Rattle.printable.specs.Shapes.{IsIn, Shape, Integer, Pointer, Array, Empty, Struct, Named, HasShape, bits_of_shape, is_pointer_shape}
@@ -165,7 +168,7 @@ unfolding class_of
 ends_round behind = (refl, λ i at. ap ends_type (sign_comes i.cursor [] 41 behind k.CloseRound refl refl refl at).0)
 
 -- the name of a global ends a type
-ends_global : (name behind : Text) → AreBytes name → IsSeam behind → EndsType (32 ∷ 64 ∷ (name_text name ++ behind))
+ends_global : (name behind : Text) → AreBytes name → IsSeam behind → EndsType (32 ∷ 64 ∷ (name_text blank.Kept name ++ behind))
 unfolding class_of
 ends_global name behind own seam = (refl, λ i at. ap ends_type (global_comes i.cursor (32 ∷ []) name behind refl own seam at).0)
 
@@ -278,22 +281,22 @@ module _ {m : Module} {f : Function} (v : Invariant m f) where
 
   -- the name of a global as an operand
   pub global_reads : (name : Text) (i : Input) (gap rest : Text) (s : ℕ) → IsIn (used_symbols m false) name → is_intrinsic name ≡ false → AreBlanks gap → IsSeam rest
-      → Ready v s i (gap ++ 64 ∷ (name_text name ++ rest)) → Reads v s used_global i rest (λ n o. slice_get o.symbols.names n ≡ Some name)
+      → Ready v s i (gap ++ 64 ∷ (name_text blank.Kept name ++ rest)) → Reads v s used_global i rest (λ n o. slice_get o.symbols.names n ≡ Some name)
   global_reads name i gap rest s there own blanks seam ready =
       let is = v.is_symbol false name there in
       let c = global_comes i.cursor gap name rest blanks is.0 seam ready.stands in
-      let e : spelled i.cursor ≡ name = c.2 ∙ name_spelled name is.0 in
+      let e : spelled i.cursor ≡ name = c.2 ∙ name_spelled blank.Kept name is.0 in
       let n = number_of name i.symbols.names in (
         number_of name i.symbols.names,
         with_symbol_use false i,
         global_said i name e own (v.no_function i name there ready.holds) (symbol_few i _ s name ready),
-        symbol_ready false i (gap ++ 64 ∷ (name_text name ++ rest)) rest s name e there ready (sign_less 64 gap (name_text name) rest) c.3,
+        symbol_ready false i (gap ++ 64 ∷ (name_text blank.Kept name ++ rest)) rest s name e there ready (sign_less 64 gap (name_text blank.Kept name) rest) c.3,
         symbol_grows false i,
         symbol_there i name false e,
       )
 
   -- the name of a global comes
-  pub global_seen : (name : Text) (i : Input) (gap rest : Text) (s : ℕ) → AreBytes name → AreBlanks gap → IsSeam rest → Ready v s i (gap ++ 64 ∷ (name_text name ++ rest)) → kind i.cursor ≡ k.GlobalName
+  pub global_seen : (name : Text) (i : Input) (gap rest : Text) (s : ℕ) → AreBytes name → AreBlanks gap → IsSeam rest → Ready v s i (gap ++ 64 ∷ (name_text blank.Kept name ++ rest)) → kind i.cursor ≡ k.GlobalName
   global_seen name i gap rest s own blanks seam ready = (global_comes i.cursor gap name rest blanks own seam ready.stands).0
 
   -- ---- operands
@@ -332,7 +335,7 @@ module _ {m : Module} {f : Function} (v : Invariant m f) where
       (go_on v used_global (λ n. pure (operand.Global n)) i rest rest s s (λ n o. slice_get o.symbols.names n ≡ Some name) good
       (global_reads name i gap rest s used.0 used.1 blanks seam ready)
       (λ number o ready g there. given v (operand.Global number) o rest s good ready
-      (λ n others later t has. ap (λ (x : Text). 64 ∷ name_text x) (name_later o.symbols.names n.symbols number name later.symbols there))))
+      (λ n others later t has. ap (λ (x : Text). 64 ∷ name_text blank.Kept x) (name_later o.symbols.names n.symbols number name later.symbols there))))
 
   -- a bitcast of a global is read as an operand
   cast_reads : (shape first second : Shape) (from symbol to : ℕ) (i : Input) (gap rest : Text) (s : ℕ)
@@ -350,10 +353,10 @@ module _ {m : Module} {f : Function} (v : Invariant m f) where
       let t5 = 41 ∷ rest in
       let t4 = shown false second ++ t5 in
       let t3 = codes " to " ++ t4 in
-      let t2 = 32 ∷ 64 ∷ (name_text name ++ t3) in
+      let t2 = 32 ∷ 64 ∷ (name_text blank.Kept name ++ t3) in
       let t1 = shown false first ++ t2 in
       let there : Ready v s i (gap ++ (cast_by (shown false first) (global_text m symbol) (shown false second) ++ rest)) = subst (λ (x : Text). Ready v s i (gap ++ (x ++ rest))) whole ready in
-      let there : Ready v s i (gap ++ (codes "bitcast" ++ (32 ∷ 40 ∷ (shown false first ++ (32 ∷ 64 ∷ (name_text (name_at m.symbols symbol) ++ (codes " to " ++ (shown false second ++ 41 ∷ rest)))))))) = simp append_assoc at there in
+      let there : Ready v s i (gap ++ (codes "bitcast" ++ (32 ∷ 40 ∷ (shown false first ++ (32 ∷ 64 ∷ (name_text blank.Kept (name_at m.symbols symbol) ++ (codes " to " ++ (shown false second ++ 41 ∷ rest)))))))) = simp append_assoc at there in
       looked v (λ i. kind i.cursor) (form.operand_by (bits_of_shape shape)) i rest s good k.Bitcast (word_seen v (codes "bitcast") i gap (32 ∷ 40 ∷ t1) s blanks refl refl there)
       (go_on v skip (λ _. form.cast_behind) i (32 ∷ 40 ∷ t1) rest s s (λ _ o. advanced i ≡ o) good
       (word_skipped v (codes "bitcast") i gap (32 ∷ 40 ∷ t1) s s blanks refl refl (omega arith) there)
@@ -382,7 +385,7 @@ module _ {m : Module} {f : Function} (v : Invariant m f) where
       let laterq = later_before q r n others hh (later_before r r2 n others h2 later2) in
       let latero = later_before o q n others h laterq in
       ap (λ (x : Text). cast_by x (global_text n number) (type_text n p2.id)) (read_shown first p.id o n others read.has_shape a.1 latero)
-      ∙ ap (λ (x : Text). cast_by (shown false first) (64 ∷ name_text x) (type_text n p2.id)) (name_later q.symbols.names n.symbols number name laterq.symbols there)
+      ∙ ap (λ (x : Text). cast_by (shown false first) (64 ∷ name_text blank.Kept x) (type_text n p2.id)) (name_later q.symbols.names n.symbols number name laterq.symbols there)
       ∙ ap (λ (x : Text). cast_by (shown false first) (global_text m symbol) x) (read_shown second p2.id r2 n others read2.has_shape b.1 later2)
       ∙ sym whole)))))))))
 

@@ -32,7 +32,7 @@ use Rattle.ir_instructions.specs.Integers as integers
 use Rattle.ir_instructions.specs.Memory as memory
 use Rattle.ir_print.specs.Operands.{operand_text, typed_text}
 use Rattle.ir_print.specs.Instructions.{op_text, typed, pair_text, converted_text, arithmetic_word, resize_word, comparison_word}
-use Rattle.ir_print.specs.Names.{is_plain}
+use Rattle.name_text.specs.Names.{is_plain}
 use Rattle.ir_print.specs.Standing.{Stands, IsSeam, AreBlanks}
 use Rattle.ir_print.specs.Types.{type_text}
 use Rattle.printable.specs.Printable.{IsType, IsScalar, ArePair, IsConverted}

@@ -15,7 +15,8 @@ use Rattle.ir_parts.specs.declared.written.WrittenType.{WrittenType}
 use Rattle.ir_parts.specs.Input.{unexpected}
 use Rattle.ir_parts.specs.Written as w
 use Rattle.ir_parts.specs.Written.{is_scalar, is_passed, is_held, part}
-use Rattle.ir_print.specs.Names.{name_text}
+use Rattle.name_text.specs.Names.{name_text}
+use Rattle.name_text.specs.declared.blank.Blank.TheVariants as blank
 use Rattle.ir_print.specs.Types.{type_text, type_within, type_by, fields_text, further_field}
 use Rattle.ir_print.specs.Standing.{AreBlanks}
 use Rattle.printable.specs.Definitions.{defined_structs}
@@ -107,7 +108,7 @@ module _ (n : Module) where
     part_shown : PartShown (Named name)
     part_shown zero number h le = absurd (no_level (Named name) le)
     part_shown (suc room) number h le =
-        at_type room number _ h.1 ∙ ap (λ (x : Option Text). 37 ∷ name_text (unwrap_or x [])) (place_holds name n.struct_names h.0 h.2)
+        at_type room number _ h.1 ∙ ap (λ (x : Option Text). 37 ∷ name_text blank.Kept (unwrap_or x [])) (place_holds name n.struct_names h.0 h.2)
 
     fields_shown : FieldsShown (Named name)
     fields_shown room zero number h le less = absurd (omega (arith, less))

@@ -10,7 +10,8 @@ use Rattle.ir_parts.specs.declared.written.Base.{Base}
 use Rattle.ir_parts.specs.declared.written.Base.TheVariants as base
 use Rattle.ir_parts.specs.declared.written.WrittenType.{WrittenType}
 use Rattle.ir_parts.specs.Written.{bits_of, is_scalar, is_passed, is_held}
-use Rattle.ir_print.specs.Names.{name_text}
+use Rattle.name_text.specs.Names.{name_text}
+use Rattle.name_text.specs.declared.blank.Blank.TheVariants as blank
 use Rattle.printable.specs.Shapes.{Shape, Integer, Pointer, Array, Empty, Struct, Named, HasShape, levels, bits_of_shape, is_scalar_shape, is_pointer_shape, is_passed_shape, is_held_shape}
 use Rattle.printable.proofs.Tables.{Begins, stays, place_stays}
 use Rattle.print_again.proofs.State.{Grows}
@@ -22,7 +23,7 @@ shown false (Pointer part) = shown false part ++ 42 ∷ []
 shown false (Array count part) = 91 ∷ decimal count ++ codes " x " ++ shown false part ++ 93 ∷ []
 shown false Empty = codes "{}"
 shown false (Struct first rest) = codes "{ " ++ shown false first ++ shown true rest ++ codes " }"
-shown false (Named name) = 37 ∷ name_text name
+shown false (Named name) = 37 ∷ name_text blank.Kept name
 shown true (Struct first rest) = codes ", " ++ shown false first ++ shown true rest
 shown true _ = []
 

@@ -13,8 +13,9 @@ use Rattle.ir_parts.specs.Input.{Form, advanced}
 use Rattle.ir_parts.specs.Names.{is_function, with_struct_use, with_symbol_use, with_local_use}
 use Rattle.ir_parts.specs.Written.{with_type_interned}
 use Rattle.ir_cursor.specs.RuntimeNames.{is_left_out}
+use Rattle.name_text.specs.Readings.{AreBytes}
 use Rattle.ir_print.specs.Readings.{IsKey}
-use Rattle.ir_print.specs.Standing.{Stands, AreBytes}
+use Rattle.ir_print.specs.Standing.{Stands}
 use Rattle.printable.specs.Definitions.{value_keys, label_keys, target_keys, defined_structs, defined_globals, functions_of}
 use Rattle.printable.specs.Shapes.{IsIn}
 use Rattle.printable.proofs.Tables.{Begins, AreOrdered}

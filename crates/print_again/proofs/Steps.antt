@@ -17,7 +17,7 @@ use Rattle.ir_cursor.specs.declared.fault.Fault.{Fault}
 use Rattle.ir_parts.specs.declared.input.Input.{Input}
 use Rattle.ir_parts.specs.Input.{Form, left, advanced, skip, expect, sees_is}
 use Rattle.ir_parts.specs.Written.{intern, with_type_interned, place_in_table}
-use Rattle.ir_print.specs.Names.{is_plain}
+use Rattle.name_text.specs.Names.{is_plain}
 use Rattle.ir_print.specs.Standing.{Stands, IsSeam, AreBlanks}
 use Rattle.ir_print.proofs.Words.{word_comes, sign_comes, expected}
 use Rattle.printable.proofs.Tables.{IsRestBefore, begins_itself, begins_further, type_within, type_begins, type_there, type_ordered, type_length}

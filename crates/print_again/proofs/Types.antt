@@ -23,12 +23,14 @@ use Rattle.ir_parts.specs.Input.{limit, advanced, skip}
 use Rattle.ir_parts.specs.Names.{struct_name, with_struct_use}
 use Rattle.ir_parts.specs.Written as w
 use Rattle.ir_parts.specs.Written.{intern, integer, pointers, star_or, at_star, starred as with_starred, with_stars, no_parameters, part_of, interned, part, firm, over, type_within}
-use Rattle.ir_print.specs.Names.{name_text, is_plain, quoted_text}
-use Rattle.ir_print.specs.Standing.{Stands, IsSeam, AreBlanks, AreDigits, AreBytes}
+use Rattle.name_text.specs.Names.{name_text, is_plain, quoted_text}
+use Rattle.name_text.specs.Readings.{AreBytes}
+use Rattle.name_text.specs.declared.blank.Blank.TheVariants as blank
+use Rattle.ir_print.specs.Standing.{Stands, IsSeam, AreBlanks, AreDigits}
 use Rattle.ir_print.specs.Stars.{stars}
 use Rattle.ir_print.proofs.Constants.{integer_types_are_read, are_digits, decimal_value}
 use Rattle.ir_print.proofs.NamesRead.{struct_names_are_read}
-use Rattle.ir_print.proofs.Seams.{both}
+use Rattle.name_text.proofs.Seams.{both}
 use Rattle.ir_print.proofs.Words.{local_comes, seen}
 use Rattle.printable.specs.Definitions.{defined_structs}
 use Rattle.printable.specs.Shapes.{IsIn, Shape, Integer, Pointer, Named, HasShape, levels}
@@ -54,9 +56,9 @@ abbrev pub EndsType : Text → Type 0
 EndsType rest = IsSeam rest × Comes ends_type rest
 
 -- a printed name is not empty
-name_text_some : (name : Text) → 1 ≤ length (name_text name)
+name_text_some : (name : Text) → 1 ≤ length (name_text blank.Kept name)
 name_text_some name = by name (is_plain name) refl where
-  by : (name : Text) (t : Bool) → is_plain name ≡ t → 1 ≤ length (if t then name else quoted_text name)
+  by : (name : Text) (t : Bool) → is_plain name ≡ t → 1 ≤ length (if t then name else quoted_text blank.Kept name)
   by name false e = omega arith
   by [] true e = absurd cc
   by (b ∷ name) true e = omega arith
@@ -176,12 +178,12 @@ module _ {m : Module} {f : Function} (v : Invariant m f) where
 
   -- the name of a struct
   pub struct_read : (name : Text) (i : Input) (gap behind : Text) (s : ℕ) → AreBytes name → IsIn (defined_structs m) name → AreBlanks gap → IsSeam behind
-      → Ready v s i (gap ++ 37 ∷ (name_text name ++ behind)) → Reads v (s + 1) struct_name i behind (λ n o. place_of name o.struct_names.names ≡ Some n)
+      → Ready v s i (gap ++ 37 ∷ (name_text blank.Kept name ++ behind)) → Reads v (s + 1) struct_name i behind (λ n o. place_of name o.struct_names.names ≡ Some n)
   struct_read name i gap behind s own there blanks seam ready =
       let room = ready.room in
       let names = i.struct_names.names in
-      let a = length-append gap (37 ∷ (name_text name ++ behind)) in
-      let b = length-append (name_text name) behind in
+      let a = length-append gap (37 ∷ (name_text blank.Kept name ++ behind)) in
+      let b = length-append (name_text blank.Kept name) behind in
       let some = name_text_some name in
       let types = room.types in
       let structs = room.structs in

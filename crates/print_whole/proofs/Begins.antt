@@ -15,9 +15,9 @@ use Rattle.ir_print.specs.Instructions.{op_text, ends_block}
 use Rattle.ir_print.specs.Names.{key_text}
 use Rattle.ir_print.specs.Readings.{IsKey}
 use Rattle.ir_print.specs.Standing.{Stands, IsSeam, AreBlanks}
+use Rattle.ir_print.proofs.NamesRead.{digits_text, name_key_text}
 use Rattle.ir_print.proofs.Words.{word_comes, local_comes, local_number_comes}
 use Rattle.printable.specs.Printable.{gives_value}
-use Rattle.print_whole.proofs.NewValues.{digits_key, name_key}
 use Rattle.print_whole.proofs.OpNeeds.{begins_body_line}
 
 -- a value's name begins a line, and ends no block
@@ -26,10 +26,10 @@ IsLocalKind x = (x ≡ k.LocalName) ⊎ (x ≡ k.LocalNumber)
 
 pub local_kind : (place : Place) (gap key rest : Text) → IsKey key → AreBlanks gap → IsSeam rest → Stands place (gap ++ 37 ∷ (key_text key ++ rest)) → IsLocalKind (kind place)
 local_kind place gap key rest (inl digits) blanks seam at =
-    inr (local_number_comes place gap key rest blanks digits.0 seam (subst (λ (x : Text). Stands place (gap ++ 37 ∷ (x ++ rest))) (digits_key key digits.0) at)).0
+    inr (local_number_comes place gap key rest blanks digits.0 seam (subst (λ (x : Text). Stands place (gap ++ 37 ∷ (x ++ rest))) (digits_text key digits.0) at)).0
 local_kind place gap key rest (inr named) blanks seam at =
     let e = named.2 in
-    inl (local_comes place gap named.0 rest blanks named.1 seam (subst (λ (x : Text). Stands place (gap ++ 37 ∷ (x ++ rest))) (ap key_text e ∙ name_key named.0) at)).0
+    inl (local_comes place gap named.0 rest blanks named.1 seam (subst (λ (x : Text). Stands place (gap ++ 37 ∷ (x ++ rest))) (ap key_text e ∙ name_key_text named.0) at)).0
 
 -- an operation without a value that ends no block
 pub plain_kind : (m : Module) (locals : List Text) (x : Op) (place : Place) (rest : Text) → ends_block x ≡ false → gives_value m x ≡ false

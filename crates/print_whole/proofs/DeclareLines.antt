@@ -18,9 +18,12 @@ use Rattle.ir_parts.specs.Names.{with_symbol}
 use Rattle.ir_text.specs.ItemsOfText.{declaration, function_name, function_name_by, item, item_by, with_declare}
 use Rattle.ir_text.specs.Parameters.{declared_parameters}
 use Rattle.ir_print.specs.Items.{declare_line}
-use Rattle.ir_print.specs.Names.{name_at, name_text, global_text}
+use Rattle.name_text.specs.Names.{name_text}
+use Rattle.name_text.specs.Readings.{AreBytes}
+use Rattle.name_text.specs.declared.blank.Blank.TheVariants as blank
+use Rattle.ir_print.specs.Names.{name_at, global_text}
 use Rattle.ir_print.specs.Operands.{listed}
-use Rattle.ir_print.specs.Standing.{AreBlanks, AreBytes}
+use Rattle.ir_print.specs.Standing.{AreBlanks}
 use Rattle.ir_print.specs.Types.{type_text}
 use Rattle.ir_print.proofs.Words.{global_comes}
 use Rattle.printable.specs.Definitions.{defined_globals}
@@ -61,7 +64,7 @@ abbrev behind_open : Module → Declare → (rest : Text) → Text
 behind_open m d rest = listed (type_text m) d.parameters ++ 41 ∷ 10 ∷ rest
 
 abbrev behind_result : Module → Declare → (rest : Text) → Text
-behind_result m d rest = 32 ∷ 64 ∷ (name_text (name_at m.symbols d.symbol) ++ 40 ∷ behind_open m d rest)
+behind_result m d rest = 32 ∷ 64 ∷ (name_text blank.Kept (name_at m.symbols d.symbol) ++ 40 ∷ behind_open m d rest)
 
 line_is : (m : Module) (d : Declare) (rest : Text) → declare_line m d ++ rest ≡ codes "declare " ++ (type_text m d.returned ++ behind_result m d rest)
 line_is m d rest =
@@ -93,7 +96,7 @@ module _ (m : Module) (f : Function) (named : AreNamed m f) (types : TypesRead m
       (λ is. apart (subst (λ (x : Text). IsIn far.globals x) e is)) (λ is. never (subst (λ (x : Text). IsIn (defined_globals m) x) e is)) h)
 
   name_reads : (number : ℕ) (i : Input) (name rest : Text) → AreBytes name → is_left_out name ≡ false → (IsIn far.symbols name → ⊥) → (IsIn far.globals name → ⊥) → (IsIn (defined_globals m) name → ⊥)
-      → Ready (known m f named far) 0 i (32 ∷ 64 ∷ (name_text name ++ 40 ∷ rest))
+      → Ready (known m f named far) 0 i (32 ∷ 64 ∷ (name_text blank.Kept name ++ 40 ∷ rest))
       → Goes (known m f named (far_named name)) 0 (function_name (symbol.Declared number)) i (40 ∷ rest) (λ n o. slice_get o.symbols.names n ≡ Some name)
   unfolding function_name class_of
   name_reads number i name rest own allowed none apart never ready =
@@ -108,7 +111,7 @@ module _ (m : Module) (f : Function) (named : AreNamed m f) (types : TypesRead m
       → AreAlike (λ a b. type_text m a ≡ type_text n b) d.parameters x.parameters → declare_line m d ≡ declare_line n x
   same_line n d x result name ps =
       ap (λ (t : Text). codes "declare " ++ t ++ 32 ∷ global_text m d.symbol ++ 40 ∷ listed (type_text m) d.parameters ++ codes ")\n") result
-      ∙ ap (λ (t : Text). codes "declare " ++ type_text n x.returned ++ 32 ∷ 64 ∷ name_text t ++ 40 ∷ listed (type_text m) d.parameters ++ codes ")\n") name
+      ∙ ap (λ (t : Text). codes "declare " ++ type_text n x.returned ++ 32 ∷ 64 ∷ name_text blank.Kept t ++ 40 ∷ listed (type_text m) d.parameters ++ codes ")\n") name
       ∙ ap (λ (t : Text). codes "declare " ++ type_text n x.returned ++ 32 ∷ global_text n x.symbol ++ 40 ∷ t ++ codes ")\n") (same_listed (type_text m) (type_text n) d.parameters x.parameters ps)
 
   pub declare_goes : (d : Declare) (i : Input) (gap rest : Text) → IsDeclare m d → AreBytes (name_at m.symbols d.symbol) → is_left_out (name_at m.symbols d.symbol) ≡ false

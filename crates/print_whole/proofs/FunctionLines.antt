@@ -20,10 +20,13 @@ use Rattle.ir_text.specs.ItemsOfText.{definition, head, function_name, function_
 use Rattle.ir_text.specs.Parameters.{parameters}
 use Rattle.ir_print.specs.Blocks.{block_text}
 use Rattle.ir_print.specs.Items.{head_line, function_text, parameter_text, collector_text}
-use Rattle.ir_print.specs.Names.{name_at, name_text, global_text}
+use Rattle.name_text.specs.Names.{name_text}
+use Rattle.name_text.specs.Readings.{AreBytes}
+use Rattle.name_text.specs.declared.blank.Blank.TheVariants as blank
+use Rattle.ir_print.specs.Names.{name_at, global_text}
 use Rattle.ir_print.specs.Operands.{listed}
 use Rattle.ir_print.specs.Readings.{IsKey}
-use Rattle.ir_print.specs.Standing.{AreBlanks, AreBytes}
+use Rattle.ir_print.specs.Standing.{AreBlanks}
 use Rattle.ir_print.specs.Types.{type_text}
 use Rattle.ir_print.proofs.Words.{global_comes}
 use Rattle.printable.specs.Definitions.{AreDefined, defined_keys, parameter_key, parameter_keys, value_keys_of, block_keys, defined_globals}
@@ -72,7 +75,7 @@ abbrev behind_open : Module → Function → (rest : Text) → Text
 behind_open m f rest = listed (parameter_text m f.locals) f.parameters ++ 41 ∷ behind_close f rest
 
 abbrev behind_result : Module → Function → (rest : Text) → Text
-behind_result m f rest = 32 ∷ 64 ∷ (name_text (name_at m.symbols f.symbol) ++ 40 ∷ behind_open m f rest)
+behind_result m f rest = 32 ∷ 64 ∷ (name_text blank.Kept (name_at m.symbols f.symbol) ++ 40 ∷ behind_open m f rest)
 
 head_is : (m : Module) (f : Function) (rest : Text) → head_line m f ++ rest ≡ codes "define " ++ (type_text m f.returned ++ behind_result m f rest)
 head_is m f rest =
@@ -123,7 +126,7 @@ module _ (m : Module) (f : Function) (named : AreNamed m f) (nobody_named : AreN
 
   -- the name of the function
   name_reads : (number : ℕ) (i : Input) (name rest : Text) → AreBytes name → is_left_out name ≡ false → (IsIn far.symbols name → ⊥) → (IsIn far.globals name → ⊥) → (IsIn (defined_globals m) name → ⊥)
-      → Ready (known m f named (outside far)) 0 i (32 ∷ 64 ∷ (name_text name ++ 40 ∷ rest))
+      → Ready (known m f named (outside far)) 0 i (32 ∷ 64 ∷ (name_text blank.Kept name ++ 40 ∷ rest))
       → Goes (known m f named (far_named name)) 0 (function_name (symbol.Defined number)) i (40 ∷ rest) (λ n o. slice_get o.symbols.names n ≡ Some name)
   unfolding function_name class_of
   name_reads number i name rest own allowed none apart never ready =
@@ -143,7 +146,7 @@ module _ (m : Module) (f : Function) (named : AreNamed m f) (nobody_named : AreN
       → AreAlike (λ x y. parameter_text m f.locals x ≡ parameter_text n g.locals y) f.parameters g.parameters → f.collector ≡ g.collector → head_line m f ≡ head_line n g
   same_head n g result name ps c =
       ap (λ (t : Text). codes "define " ++ t ++ 32 ∷ global_text m f.symbol ++ 40 ∷ listed (parameter_text m f.locals) f.parameters ++ 41 ∷ collector_text f.collector ++ codes " {\n") result
-      ∙ ap (λ (t : Text). codes "define " ++ type_text n g.returned ++ 32 ∷ 64 ∷ name_text t ++ 40 ∷ listed (parameter_text m f.locals) f.parameters ++ 41 ∷ collector_text f.collector ++ codes " {\n") name
+      ∙ ap (λ (t : Text). codes "define " ++ type_text n g.returned ++ 32 ∷ 64 ∷ name_text blank.Kept t ++ 40 ∷ listed (parameter_text m f.locals) f.parameters ++ 41 ∷ collector_text f.collector ++ codes " {\n") name
       ∙ ap (λ (t : Text). codes "define " ++ type_text n g.returned ++ 32 ∷ global_text n g.symbol ++ 40 ∷ t ++ 41 ∷ collector_text f.collector ++ codes " {\n")
       (same_listed (parameter_text m f.locals) (parameter_text n g.locals) f.parameters g.parameters ps)
       ∙ ap (λ (t : Option Text). codes "define " ++ type_text n g.returned ++ 32 ∷ global_text n g.symbol ++ 40 ∷ listed (parameter_text n g.locals) g.parameters ++ 41 ∷ collector_text t ++ codes " {\n") c

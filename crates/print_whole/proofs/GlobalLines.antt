@@ -26,9 +26,12 @@ use Rattle.ir_decorations.specs.Decorations.{begins_decoration}
 use Rattle.ir_text.specs.ItemsOfText.{global, is_constant, is_constant_by, initial, is_initial, item, item_by, with_global}
 use Rattle.ir_print.specs.Fits.{FitsType, constant_shown}
 use Rattle.ir_print.specs.Items.{global_line, global_word}
-use Rattle.ir_print.specs.Names.{name_at, name_text, global_text}
+use Rattle.name_text.specs.Names.{name_text}
+use Rattle.name_text.specs.Readings.{AreBytes}
+use Rattle.name_text.specs.declared.blank.Blank.TheVariants as blank
+use Rattle.ir_print.specs.Names.{name_at, global_text}
 use Rattle.ir_print.specs.Operands.{constant_text, is_bit, number_text, truth_text, bit_of}
-use Rattle.ir_print.specs.Standing.{Stands, IsSeam, AreBlanks, AreBytes}
+use Rattle.ir_print.specs.Standing.{Stands, IsSeam, AreBlanks}
 use Rattle.ir_print.specs.Types.{type_text}
 use Rattle.ir_print.proofs.Constants.{are_digits, constants_are_read}
 use Rattle.ir_print.proofs.Words.{global_comes, word_comes, number_comes}
@@ -113,7 +116,7 @@ word_seam false rest = refl
 abbrev pub behind_word : Module → Global → (rest : Text) → Text
 behind_word m g rest = type_text m g.held ++ 32 ∷ (constant_text m g.held g.initial ++ 10 ∷ rest)
 
-pub line_is : (m : Module) (g : Global) (rest : Text) → global_line m g ++ rest ≡ 64 ∷ (name_text (name_at m.symbols g.symbol) ++ (global_word g.is_constant ++ behind_word m g rest))
+pub line_is : (m : Module) (g : Global) (rest : Text) → global_line m g ++ rest ≡ 64 ∷ (name_text blank.Kept (name_at m.symbols g.symbol) ++ (global_word g.is_constant ++ behind_word m g rest))
 line_is m g rest =
     let a = global_text m g.symbol in
     let w = global_word g.is_constant in
@@ -163,7 +166,7 @@ module _ (m : Module) (f : Function) (named : AreNamed m f) (types : TypesRead m
   same_line : (n : Module) (g x : Global) → name_at m.symbols g.symbol ≡ name_at n.symbols x.symbol → g.is_constant ≡ x.is_constant → type_text m g.held ≡ type_text n x.held
       → constant_text m g.held g.initial ≡ constant_text n x.held x.initial → global_line m g ≡ global_line n x
   same_line n g x name c held first =
-      ap (λ (t : Text). 64 ∷ name_text t ++ global_word g.is_constant ++ type_text m g.held ++ 32 ∷ constant_text m g.held g.initial ++ 10 ∷ []) name
+      ap (λ (t : Text). 64 ∷ name_text blank.Kept t ++ global_word g.is_constant ++ type_text m g.held ++ 32 ∷ constant_text m g.held g.initial ++ 10 ∷ []) name
       ∙ ap (λ (t : Bool). global_text n x.symbol ++ global_word t ++ type_text m g.held ++ 32 ∷ constant_text m g.held g.initial ++ 10 ∷ []) c
       ∙ ap (λ (t : Text). global_text n x.symbol ++ global_word x.is_constant ++ t ++ 32 ∷ constant_text m g.held g.initial ++ 10 ∷ []) held
       ∙ ap (λ (t : Text). global_text n x.symbol ++ global_word x.is_constant ++ type_text n x.held ++ 32 ∷ t ++ 10 ∷ []) first

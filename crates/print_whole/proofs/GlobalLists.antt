@@ -12,6 +12,7 @@ use Rattle.ir_tokens.specs.Tokens.{past_gap}
 use Rattle.ir_cursor.specs.Cursor.{kind}
 use Rattle.ir_parts.specs.declared.input.Input.{Input}
 use Rattle.ir_text.specs.ItemsOfText.{item, at_end_of_text}
+use Rattle.name_text.specs.Readings.{AreBytes}
 use Rattle.ir_print.specs.Items.{function_text, declare_line, global_line, global_word}
 use Rattle.ir_ast.specs.declared.items_of_module.Global.{Global}
 use Rattle.print_whole.proofs.GlobalLines.{global_goes, line_is, behind_word}
@@ -22,7 +23,7 @@ use Rattle.print_again.proofs.Types.{Comes}
 use Rattle.print_whole.proofs.Results.{begins_item}
 use Rattle.print_whole.proofs.FunctionLists.{function_names}
 use Rattle.ir_print.specs.Names.{name_at}
-use Rattle.ir_print.specs.Standing.{Stands, IsSeam, AreBlanks, AreBytes}
+use Rattle.ir_print.specs.Standing.{Stands, IsSeam, AreBlanks}
 use Rattle.printable.specs.Definitions.{AreNew, defined_globals}
 use Rattle.printable.specs.Printable.{IsFunction, IsGlobal, IsDeclare, IsPrintable, IsSymbol}
 use Rattle.printable.specs.Shapes.{IsIn}

@@ -28,8 +28,8 @@ use Rattle.ir_parts.specs.Names as names
 use Rattle.ir_text.specs.Late.{is_right}
 use Rattle.ir_text.specs.Late as late
 use Rattle.ir_cursor.specs.RuntimeNames.{is_left_out}
+use Rattle.name_text.specs.Readings.{AreBytes}
 use Rattle.ir_print.specs.Readings.{IsKey}
-use Rattle.ir_print.specs.Standing.{AreBytes}
 use Rattle.printable.specs.Definitions.{defined_structs, defined_globals}
 use Rattle.printable.specs.Shapes.{IsIn}
 use Rattle.print_again.proofs.State.{Invariant, used_keys, used_symbols}

@@ -17,11 +17,13 @@ use Rattle.ir_cursor.specs.Table.{mentioned, defined}
 use Rattle.ir_parts.specs.declared.input.Input.{Input}
 use Rattle.ir_parts.specs.Names as names
 use Rattle.ir_text.specs.Blocks.{block_label, label_by}
-use Rattle.ir_print.specs.Names.{name_text, key_text}
+use Rattle.name_text.specs.Names.{name_text}
+use Rattle.name_text.specs.declared.blank.Blank.TheVariants as blank
+use Rattle.ir_print.specs.Names.{key_text}
 use Rattle.ir_print.specs.Readings.{IsKey}
 use Rattle.ir_print.specs.Standing.{Stands}
 use Rattle.ir_print.proofs.Constants.{are_digits}
-use Rattle.ir_print.proofs.NamesRead.{labels_are_read}
+use Rattle.ir_print.proofs.NamesRead.{digits_text, name_key_text, labels_are_read}
 use Rattle.ir_print.proofs.Words.{label_comes}
 use Rattle.printable.specs.Shapes.{IsIn}
 use Rattle.printable.proofs.Tables.{begins_itself, name_begins, name_length, name_there, number_within}
@@ -30,7 +32,7 @@ use Rattle.print_whole.proofs.Known.{Far, AreNamed, LocalsKnown, known}
 use Rattle.print_whole.proofs.Defining.{local_is_new, label_defined}
 use Rattle.print_whole.proofs.Forms.{Widens}
 use Rattle.print_whole.proofs.NewLabels.{label_number_comes, numbered_label_read}
-use Rattle.print_whole.proofs.NewValues.{digits_key, name_key, IsNext, unnamed_then}
+use Rattle.print_whole.proofs.NewValues.{IsNext, unnamed_then}
 
 few_blocks : (n : ℕ) → n < 65535 → nat_lt n 65535 ≡ true
 few_blocks n less = grind (arith, nat_tests)
@@ -44,10 +46,10 @@ two_bytes word rest s = let w = length-append word (58 ∷ rest) in omega (arith
 
 -- a label comes
 pub label_kind : (place : Place) (key rest : Text) → IsKey key → Stands place (10 ∷ (key_text key ++ 58 ∷ rest)) → (kind place ≡ k.LabelName) ⊎ (kind place ≡ k.LabelNumber)
-label_kind place key rest (inl digits) at = inr (label_number_comes place key rest digits.0 (subst (λ (x : Text). Stands place (10 ∷ (x ++ 58 ∷ rest))) (digits_key key digits.0) at)).0
+label_kind place key rest (inl digits) at = inr (label_number_comes place key rest digits.0 (subst (λ (x : Text). Stands place (10 ∷ (x ++ 58 ∷ rest))) (digits_text key digits.0) at)).0
 label_kind place key rest (inr named) at =
     let e = named.2 in
-    inl (label_comes place (10 ∷ []) named.0 rest refl named.1 (subst (λ (x : Text). Stands place (10 ∷ (x ++ 58 ∷ rest))) (ap key_text e ∙ name_key named.0) at)).0
+    inl (label_comes place (10 ∷ []) named.0 rest refl named.1 (subst (λ (x : Text). Stands place (10 ∷ (x ++ 58 ∷ rest))) (ap key_text e ∙ name_key_text named.0) at)).0
 
 module _ (m : Module) (f : Function) (named : AreNamed m f) (far : Far) where
   abbrev pub far_label : (key : Text) (unnamed : ℕ) → Far
@@ -119,7 +121,7 @@ module _ (m : Module) (f : Function) (named : AreNamed m f) (far : Far) where
       let wide : far.unnamed < 2 ^ 64 = omega (arith, few_numbers) in
       let within = number_within (text.decimal far.unnamed) i.locals.names in
       let number : number_of (text.decimal far.unnamed) i.locals.names < 2 ^ 32 = omega (arith, room_locals, within) in
-      let shown : key_text key ≡ text.decimal far.unnamed = ap key_text e ∙ digits_key (text.decimal far.unnamed) (are_digits far.unnamed wide) in
+      let shown : key_text key ≡ text.decimal far.unnamed = ap key_text e ∙ digits_text (text.decimal far.unnamed) (are_digits far.unnamed wide) in
       let new = local_is_new f far.seen far.values far.labels far.pending i.locals i.local_uses (text.decimal far.unnamed) h.2 (λ is. none (subst (λ (x : Text). IsIn far.seen x) (sym e) is)) in
       let w = numbered_label_read far.unnamed (length far.labels) i rest h.3.unnamed_is few_numbers number new (subst (λ (x : Text). Stands i.cursor (10 ∷ (x ++ 58 ∷ rest))) shown ready.stands) in
       let o = names.with_label (length far.labels) (names.with_number_taken i) in
@@ -138,7 +140,7 @@ module _ (m : Module) (f : Function) (named : AreNamed m f) (far : Far) where
       let room_locals = ready.room.locals in
       let within = number_within (key_of_name other.0) i.locals.names in
       let number : number_of (key_of_name other.0) i.locals.names < 2 ^ 32 = omega (arith, room_locals, within) in
-      let shown : key_text key ≡ name_text other.0 = ap key_text e ∙ name_key other.0 in
+      let shown : key_text key ≡ name_text blank.Kept other.0 = ap key_text e ∙ name_key_text other.0 in
       let new = local_is_new f far.seen far.values far.labels far.pending i.locals i.local_uses (key_of_name other.0) h.2 (λ is. none (subst (λ (x : Text). IsIn far.seen x) (sym e) is)) in
       let at = subst (λ (x : Text). Stands i.cursor (10 ∷ (x ++ 58 ∷ rest))) shown ready.stands in
       let w = labels_are_read (length far.labels) other.0 i (10 ∷ []) rest other.1 number new refl at in

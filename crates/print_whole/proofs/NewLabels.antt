@@ -20,24 +20,16 @@ use Rattle.ir_parts.specs.Names as names
 use Rattle.ir_print.specs.Readings.{IsKey}
 use Rattle.ir_print.specs.Standing.{Stands, AreDigits}
 use Rattle.ir_print.proofs.Constants.{are_digits, decimal_value}
-use Rattle.ir_print.proofs.Seams.{both, apart}
+use Rattle.name_text.proofs.Seams.{both}
 use Rattle.ir_print.proofs.Spelled.{label_number_read, label_number_spelled}
 use Rattle.ir_print.proofs.Standing.{Comes, comes}
+use Rattle.ir_print.proofs.Words.{no_gap, second_of}
 use Rattle.print_whole.proofs.Forms.{few}
 
 -- ---- labels that are numbers
 
-abbrev is_plain_byte : ℕ → Bool
-is_plain_byte byte = is_letter byte || is_digit byte
-
-second_of : (a b : Bool) → b ≡ true → (a || b) ≡ true
-second_of true b e = refl
-second_of false b e = e
-
 digit_begins : (b : ℕ) (bytes : Text) → is_digit b ≡ true → begins_gap (b ∷ bytes) ≡ false
-digit_begins b bytes e =
-    let plain = second_of (is_letter b) (is_digit b) e in
-    rw (apart is_plain_byte 59 b refl plain, apart is_plain_byte 32 b refl plain, apart is_plain_byte 9 b refl plain, apart is_plain_byte 10 b refl plain, apart is_plain_byte 13 b refl plain) refl
+digit_begins b bytes e = no_gap b bytes (second_of (is_letter b) (is_digit b) e)
 
 past_line : (b : ℕ) (bytes : Text) → begins_gap (b ∷ bytes) ≡ false → past_gap false (10 ∷ b ∷ bytes) ≡ b ∷ bytes
 unfolding past_gap

@@ -8,9 +8,11 @@ use Rattle.ir_cursor.specs.Cursor.{spelled}
 use Rattle.ir_cursor.specs.RuntimeNames.{is_left_out}
 use Rattle.ir_parts.specs.declared.input.Input.{Input}
 use Rattle.ir_parts.specs.Names as names
-use Rattle.ir_print.specs.Names.{name_text}
-use Rattle.ir_print.specs.Standing.{IsSeam, AreBlanks, AreBytes}
-use Rattle.ir_print.proofs.Spelled.{name_spelled}
+use Rattle.name_text.specs.Names.{name_text}
+use Rattle.name_text.specs.Readings.{AreBytes}
+use Rattle.name_text.specs.declared.blank.Blank.TheVariants as blank
+use Rattle.ir_print.specs.Standing.{IsSeam, AreBlanks}
+use Rattle.name_text.proofs.Reading.{name_spelled}
 use Rattle.ir_print.proofs.Words.{local_comes, global_comes}
 use Rattle.printable.specs.Shapes.{IsIn}
 use Rattle.printable.proofs.Tables.{begins_itself, name_begins, name_length, name_there, number_within}
@@ -30,15 +32,15 @@ module _ (m : Module) (f : Function) (named : AreNamed m f) (far : Far) where
   far_struct name = record far { structs = far.structs ++ name ∷ [] }
 
   pub new_struct_goes : (name : Text) (i : Input) (gap rest : Text) (s : ℕ) → AreBytes name → (IsIn far.structs name → ⊥) → length far.struct_types < 2 ^ 32
-      → AreBlanks gap → IsSeam rest → Ready (known m f named far) s i (gap ++ 37 ∷ (name_text name ++ rest))
+      → AreBlanks gap → IsSeam rest → Ready (known m f named far) s i (gap ++ 37 ∷ (name_text blank.Kept name ++ rest))
       → Goes (known m f named (far_struct name)) s names.new_struct i rest (λ n o. slice_get o.struct_names.names n ≡ Some name)
   unfolding names.new_struct
   new_struct_goes name i gap rest s own none less blanks seam ready =
       let w = local_comes i.cursor gap name rest blanks own seam ready.stands in
-      let e : spelled i.cursor ≡ name = w.2 ∙ name_spelled name own in
+      let e : spelled i.cursor ≡ name = w.2 ∙ name_spelled blank.Kept name own in
       let h = ready.holds in
       let r = ready.room in
-      let one = one_byte gap 37 (name_text name) rest s in
+      let one = one_byte gap 37 (name_text blank.Kept name) rest s in
       let room_structs = r.structs in
       let within = number_within (spelled i.cursor) i.struct_names.names in
       let number : names.struct_number i < 2 ^ 32 = omega (arith, room_structs, within) in
@@ -90,15 +92,15 @@ module _ (m : Module) (f : Function) (named : AreNamed m f) (far : Far) where
 
   pub new_symbol_goes : (more_globals more_functions : List Text) (sort : SymbolSort) (name : Text) (i : Input) (gap rest : Text) (s : ℕ) → AreBytes name → is_left_out name ≡ false → (IsIn far.symbols name → ⊥)
       → SymbolsThen more_globals more_functions name sort i
-      → AreBlanks gap → IsSeam rest → Ready (known m f named far) s i (gap ++ 64 ∷ (name_text name ++ rest))
+      → AreBlanks gap → IsSeam rest → Ready (known m f named far) s i (gap ++ 64 ∷ (name_text blank.Kept name ++ rest))
       → Goes (known m f named (far_symbol more_globals more_functions name)) s (names.new_symbol sort) i rest (λ n o. slice_get o.symbols.names n ≡ Some name)
   unfolding names.new_symbol
   new_symbol_goes more_globals more_functions sort name i gap rest s own allowed none then blanks seam ready =
       let w = global_comes i.cursor gap name rest blanks own seam ready.stands in
-      let e : spelled i.cursor ≡ name = w.2 ∙ name_spelled name own in
+      let e : spelled i.cursor ≡ name = w.2 ∙ name_spelled blank.Kept name own in
       let h = ready.holds in
       let r = ready.room in
-      let one = one_byte gap 64 (name_text name) rest s in
+      let one = one_byte gap 64 (name_text blank.Kept name) rest s in
       let room_symbols = r.symbols in
       let within = number_within (spelled i.cursor) i.symbols.names in
       let number : names.symbol_number i < 2 ^ 32 = omega (arith, room_symbols, within) in

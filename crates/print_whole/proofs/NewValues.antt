@@ -1,27 +1,27 @@
 -- Local names that are defined are read, and from there on it is known what they stand for.
 use Rattle.std.proofs.Common.{◌≡◌, ℕ, ◌+◌, ◌<◌, ◌^◌, false, List, [], ◌∷◌, ◌++◌, slice_get, Some, refl, sym, ap, subst, ◌∙◌, arith, inl, inr, ◌⊎◌}
 use Rattle.std.specs.Fmt as text
-use Rattle.std.specs.List.{list_all}
 use Rattle.ir_ast.specs.LocalKeys.{key_of_name}
 use Rattle.ir_ast.specs.Names.{number_of, numbered}
 use Rattle.ir_ast.specs.declared.function.Function.{Function}
 use Rattle.ir_ast.specs.declared.function.LocalSort.TheVariants as local
 use Rattle.ir_ast.specs.declared.module.Module.{Module}
-use Rattle.ir_ast.proofs.Keys.{name_again, no_number}
 use Rattle.ir_tokens.specs.declared.token.Kind.{Kind}
 use Rattle.ir_tokens.specs.declared.token.Kind.TheVariants as k
-use Rattle.ir_tokens.specs.Bytes.{Text, is_digit}
+use Rattle.ir_tokens.specs.Bytes.{Text}
 use Rattle.ir_cursor.specs.Cursor.{kind, local_key}
 use Rattle.ir_cursor.specs.Table.{mentioned}
 use Rattle.ir_parts.specs.declared.input.Input.{Input}
 use Rattle.ir_parts.specs.Input.{Form}
 use Rattle.ir_parts.specs.Names as names
-use Rattle.ir_print.specs.Names.{name_text, key_text}
-use Rattle.ir_print.specs.Standing.{Stands, IsSeam, AreBlanks, AreBytes, AreDigits}
+use Rattle.name_text.specs.Names.{name_text}
+use Rattle.name_text.specs.Readings.{AreBytes}
+use Rattle.name_text.specs.declared.blank.Blank.TheVariants as blank
+use Rattle.ir_print.specs.Names.{key_text}
+use Rattle.ir_print.specs.Standing.{Stands, IsSeam, AreBlanks}
 use Rattle.ir_print.proofs.Constants.{are_digits}
-use Rattle.ir_print.proofs.NamesRead.{new_values_are_read}
+use Rattle.ir_print.proofs.NamesRead.{digits_text, name_key_text, new_values_are_read}
 use Rattle.ir_print.proofs.Numbered.{numbered_values_are_read}
-use Rattle.ir_print.proofs.Seams.{both}
 use Rattle.ir_print.proofs.Words.{local_comes, local_number_comes}
 use Rattle.printable.specs.Shapes.{IsIn}
 use Rattle.printable.proofs.Tables.{begins_itself, name_begins, name_length, name_there, number_within}
@@ -32,13 +32,6 @@ use Rattle.print_whole.proofs.Forms.{Widens}
 use Rattle.print_whole.proofs.NewNames.{one_byte}
 
 -- ---- keys
-
-pub digits_key : (key : Text) → AreDigits key → key_text key ≡ key
-digits_key [] own = absurd (omega (arith, own.0))
-digits_key (b ∷ key) own = let digit = (both (is_digit b) (list_all is_digit key) own.1).0 in rw digit refl
-
-pub name_key : (name : Text) → key_text (key_of_name name) ≡ name_text name
-name_key name = rw (no_number name) (ap name_text (name_again name))
 
 -- a key that is defined next: the next number, or a name
 abbrev pub IsNext : (unnamed : ℕ) → Text → Type 0
@@ -95,13 +88,13 @@ module _ (m : Module) (f : Function) (named : AreNamed m f) (far : Far) where
       (value_begun f far.seen far.values far.labels i.locals i.local_uses key before)))
 
   named_value : (name : Text) (i : Input) (gap rest : Text) (s : ℕ) → AreBytes name → (IsIn far.seen (key_of_name name) → ⊥) → far.count < 1000000 → far.pending ≡ []
-      → AreBlanks gap → IsSeam rest → Ready (known m f named far) s i (gap ++ 37 ∷ (name_text name ++ rest))
+      → AreBlanks gap → IsSeam rest → Ready (known m f named far) s i (gap ++ 37 ∷ (name_text blank.Kept name ++ rest))
       → ValueGoes (key_of_name name) names.new_value k.LocalName far.unnamed i rest s
   named_value name i gap rest s own none many waits blanks seam ready =
       let key = key_of_name name in
       let h = ready.holds in
       let r = ready.room in
-      let one = one_byte gap 37 (name_text name) rest s in
+      let one = one_byte gap 37 (name_text blank.Kept name) rest s in
       let room_locals = r.locals in
       let within = number_within key i.locals.names in
       let number : number_of key i.locals.names < 2 ^ 32 = omega (arith, room_locals, within) in
@@ -199,14 +192,14 @@ module _ (m : Module) (f : Function) (named : AreNamed m f) (far : Far) where
       → ValueGoes key (value_by key is) (kind_then k.LocalNumber k.LocalName far.unnamed key is) (unnamed_then far.unnamed key is) i rest s
   value_goes key (inl e) i gap rest s none many few_numbers waits blanks seam ready =
       let wide : far.unnamed < 2 ^ 64 = omega (arith, few_numbers) in
-      let own = digits_key (text.decimal far.unnamed) (are_digits far.unnamed wide) in
+      let own = digits_text (text.decimal far.unnamed) (are_digits far.unnamed wide) in
       let shown : key_text key ≡ text.decimal far.unnamed = ap key_text e ∙ own in
       subst (λ (x : Text). ValueGoes x names.numbered_value k.LocalNumber (far.unnamed + 1) i rest s) (sym e)
       (number_value i gap rest s (λ is. none (subst (λ (x : Text). IsIn far.seen x) (sym e) is)) many few_numbers waits blanks seam
       (subst (λ (x : Text). Ready (known m f named far) s i (gap ++ 37 ∷ (x ++ rest))) shown ready))
   value_goes key (inr other) i gap rest s none many few_numbers waits blanks seam ready =
       let e = other.2 in
-      let shown : key_text key ≡ name_text other.0 = ap key_text e ∙ name_key other.0 in
+      let shown : key_text key ≡ name_text blank.Kept other.0 = ap key_text e ∙ name_key_text other.0 in
       subst (λ (x : Text). ValueGoes x names.new_value k.LocalName far.unnamed i rest s) (sym e)
       (named_value other.0 i gap rest s other.1 (λ is. none (subst (λ (x : Text). IsIn far.seen x) (sym e) is)) many waits blanks seam
       (subst (λ (x : Text). Ready (known m f named far) s i (gap ++ 37 ∷ (x ++ rest))) shown ready))

@@ -17,8 +17,10 @@ use Rattle.ir_decorations.specs.declared.decorating.Spot.TheVariants as spot
 use Rattle.ir_decorations.specs.Decorations.{begins_decoration, decorations, either}
 use Rattle.ir_text.specs.ItemsOfText.{void_result, defined_result, defined_result_by, declared_result, declared_result_by, head_end, collector, collector_name}
 use Rattle.ir_print.specs.Items.{collector_text}
-use Rattle.ir_print.specs.Names.{name_text, quoted_text}
-use Rattle.ir_print.specs.Standing.{Stands, IsSeam, AreBlanks, AreBytes}
+use Rattle.name_text.specs.Names.{name_text, quoted_text}
+use Rattle.name_text.specs.Readings.{AreBytes}
+use Rattle.name_text.specs.declared.blank.Blank.TheVariants as blank
+use Rattle.ir_print.specs.Standing.{Stands, IsSeam, AreBlanks}
 use Rattle.ir_print.specs.Types.{type_text}
 use Rattle.ir_print.specs.Types as printed
 use Rattle.ir_print.proofs.NamesRead.{collectors_are_read}
@@ -66,7 +68,7 @@ declared_by k.OpenSquare i o n e h = h
 declared_by k.OpenBrace i o n e h = h
 declared_by _ i o n e h = absurd cc
 
-ends_global : (name rest : Text) → AreBytes name → IsSeam rest → EndsType (32 ∷ 64 ∷ (name_text name ++ rest))
+ends_global : (name rest : Text) → AreBytes name → IsSeam rest → EndsType (32 ∷ 64 ∷ (name_text blank.Kept name ++ rest))
 unfolding class_of
 ends_global name rest own seam = (refl, λ j at. ap ends_type (global_comes j.cursor (32 ∷ []) name rest refl own seam at).0)
 
@@ -92,11 +94,11 @@ opens_body k.OpenBrace = true
 opens_body _ = false
 
 module _ (m : Module) (f : Function) (v : Invariant m f) (types : TypesRead m) where
-  void_reads : (i : Input) (gap name rest : Text) → AreBytes name → IsSeam rest → AreBlanks gap → Ready v 0 i (gap ++ (codes "void" ++ 32 ∷ 64 ∷ (name_text name ++ rest)))
-      → Reads v 0 void_result i (32 ∷ 64 ∷ (name_text name ++ rest)) (λ n o. slice_get o.types n ≡ Some type.Void)
+  void_reads : (i : Input) (gap name rest : Text) → AreBytes name → IsSeam rest → AreBlanks gap → Ready v 0 i (gap ++ (codes "void" ++ 32 ∷ 64 ∷ (name_text blank.Kept name ++ rest)))
+      → Reads v 0 void_result i (32 ∷ 64 ∷ (name_text blank.Kept name ++ rest)) (λ n o. slice_get o.types n ≡ Some type.Void)
   unfolding class_of
   void_reads i gap name rest own seam blanks ready =
-      let behind = 32 ∷ 64 ∷ (name_text name ++ rest) in
+      let behind = 32 ∷ 64 ∷ (name_text blank.Kept name ++ rest) in
       let a = word_skipped v (codes "void") i gap behind 0 4 blanks refl refl (omega arith) ready in
       let p = a.1 in
       let none = unlike k.OpenRound is_global p refl (ap is_global (global_comes p.cursor (32 ∷ []) name rest refl own seam a.3.stands).0) in
@@ -105,11 +107,11 @@ module _ (m : Module) (f : Function) (v : Invariant m f) (types : TypesRead m) w
       (b.0, b.1, (tt, p, (tt, p, a.2, (ap not none, refl)), b.2), less_spare v o behind 3 0 (omega arith) b.3, grows_further i p o a.4 b.4, b.5)
 
   pub defined_result_reads : (returned : ℕ) (i : Input) (gap name rest : Text) → IsVoid m returned ⊎ IsPassed m returned → AreBytes name → IsSeam rest → AreBlanks gap
-      → Ready v 0 i (gap ++ (type_text m returned ++ 32 ∷ 64 ∷ (name_text name ++ rest)))
-      → Reads v 0 defined_result i (32 ∷ 64 ∷ (name_text name ++ rest)) (IsResultRead m returned)
+      → Ready v 0 i (gap ++ (type_text m returned ++ 32 ∷ 64 ∷ (name_text blank.Kept name ++ rest)))
+      → Reads v 0 defined_result i (32 ∷ 64 ∷ (name_text blank.Kept name ++ rest)) (IsResultRead m returned)
   unfolding defined_result word_kind keywords class_of
   defined_result_reads returned i gap name rest (inl is_void) own seam blanks ready =
-      let behind = 32 ∷ 64 ∷ (name_text name ++ rest) in
+      let behind = 32 ∷ 64 ∷ (name_text blank.Kept name ++ rest) in
       let e = void_shown m returned is_void in
       let here = subst (λ (t : Text). Ready v 0 i (gap ++ (t ++ behind))) e ready in
       let comes = (word_comes i.cursor gap (codes "void") behind blanks refl refl here.stands).0 in
@@ -125,7 +127,7 @@ module _ (m : Module) (f : Function) (v : Invariant m f) (types : TypesRead m) w
         λ later others is_later. e ∙ sym (void_shown later n (stays o.types later.types n type.Void is_later.types a.5)),
       )
   defined_result_reads returned i gap name rest (inr is_passed) own seam blanks ready =
-      let behind = 32 ∷ 64 ∷ (name_text name ++ rest) in
+      let behind = 32 ∷ 64 ∷ (name_text blank.Kept name ++ rest) in
       let shape = is_passed.0 in
       let is_type = is_passed.1 in
       let begins = types.type_comes shape returned i.cursor gap behind is_type blanks refl ready.stands in
@@ -144,11 +146,11 @@ module _ (m : Module) (f : Function) (v : Invariant m f) (types : TypesRead m) w
       )
 
   pub declared_result_reads : (returned : ℕ) (i : Input) (gap name rest : Text) → IsVoid m returned ⊎ IsAnyType m returned → AreBytes name → IsSeam rest → AreBlanks gap
-      → Ready v 0 i (gap ++ (type_text m returned ++ 32 ∷ 64 ∷ (name_text name ++ rest)))
-      → Reads v 0 declared_result i (32 ∷ 64 ∷ (name_text name ++ rest)) (IsResultRead m returned)
+      → Ready v 0 i (gap ++ (type_text m returned ++ 32 ∷ 64 ∷ (name_text blank.Kept name ++ rest)))
+      → Reads v 0 declared_result i (32 ∷ 64 ∷ (name_text blank.Kept name ++ rest)) (IsResultRead m returned)
   unfolding declared_result word_kind keywords class_of
   declared_result_reads returned i gap name rest (inl is_void) own seam blanks ready =
-      let behind = 32 ∷ 64 ∷ (name_text name ++ rest) in
+      let behind = 32 ∷ 64 ∷ (name_text blank.Kept name ++ rest) in
       let e = void_shown m returned is_void in
       let here = subst (λ (t : Text). Ready v 0 i (gap ++ (t ++ behind))) e ready in
       let comes = (word_comes i.cursor gap (codes "void") behind blanks refl refl here.stands).0 in
@@ -164,7 +166,7 @@ module _ (m : Module) (f : Function) (v : Invariant m f) (types : TypesRead m) w
         λ later others is_later. e ∙ sym (void_shown later n (stays o.types later.types n type.Void is_later.types a.5)),
       )
   declared_result_reads returned i gap name rest (inr is_any) own seam blanks ready =
-      let behind = 32 ∷ 64 ∷ (name_text name ++ rest) in
+      let behind = 32 ∷ 64 ∷ (name_text blank.Kept name ++ rest) in
       let shape = is_any.0 in
       let is_type = is_any.1 in
       let begins = types.type_comes shape returned i.cursor gap behind is_type blanks refl ready.stands in
@@ -201,20 +203,20 @@ module _ (m : Module) (f : Function) (v : Invariant m f) (types : TypesRead m) w
       (None, i, (tt, i, plain, (None, i, said, (tt, i, plain, (refl, refl)))), ready, grows_itself i, refl)
   head_end_reads (Some name) i rest own ready =
       let behind = 32 ∷ 123 ∷ rest in
-      let word = word_comes i.cursor (32 ∷ []) (codes "gc") (32 ∷ (quoted_text name ++ behind)) refl refl refl here.stands in
+      let word = word_comes i.cursor (32 ∷ []) (codes "gc") (32 ∷ (quoted_text blank.Kept name ++ behind)) refl refl refl here.stands in
       let plain = defined_plain i k.Gc word.0 (λ first. refl) in
-      let a = word_skipped v (codes "gc") i (32 ∷ []) (32 ∷ (quoted_text name ++ behind)) 0 0 refl refl refl (omega arith) here in
+      let a = word_skipped v (codes "gc") i (32 ∷ []) (32 ∷ (quoted_text blank.Kept name ++ behind)) 0 0 refl refl refl (omega arith) here in
       let p = a.1 in
       let q = collectors_are_read name p (32 ∷ []) behind own refl refl a.3.stands in
       let o = advanced p in
-      let size = length-append (quoted_text name) behind in
-      let ready_o = passed v p (32 ∷ (quoted_text name ++ behind)) behind 0 0 a.3 q.1 (omega (arith, size)) in
+      let size = length-append (quoted_text blank.Kept name) behind in
+      let ready_o = passed v p (32 ∷ (quoted_text blank.Kept name ++ behind)) behind 0 0 a.3 q.1 (omega (arith, size)) in
       let e = brace_plain o rest q.1 in
       let plain_o = defined_plain o k.OpenBrace e (λ first. refl) in
       let said = subst (λ (b : Bool). (either collector_name (pure None) b).says i (Some name) o) (sym (seen k.Gc i word.0)) (name, o, (tt, p, a.2, q.0), (refl, refl)) in
       (Some name, advanced p, (tt, i, plain, (Some name, o, said, (tt, o, plain_o, (refl, refl)))), ready_o, grows_further i p o a.4 (grows_advanced v p), refl) where
-        here : Ready v 0 i ((32 ∷ []) ++ (codes "gc" ++ 32 ∷ (quoted_text name ++ 32 ∷ 123 ∷ rest)))
-        here = subst (λ (t : Text). Ready v 0 i t) (append_assoc (codes " gc ") (quoted_text name) (32 ∷ 123 ∷ rest)) ready
+        here : Ready v 0 i ((32 ∷ []) ++ (codes "gc" ++ 32 ∷ (quoted_text blank.Kept name ++ 32 ∷ 123 ∷ rest)))
+        here = subst (λ (t : Text). Ready v 0 i t) (append_assoc (codes " gc ") (quoted_text blank.Kept name) (32 ∷ 123 ∷ rest)) ready
 
   -- no collector is written behind a declared function, and a further item or the end of the text comes
   pub declared_end_reads : (i : Input) (rest : Text) → Comes begins_item rest → Ready v 0 i rest → Reads v 0 (head_end spot.Declared) i rest (λ y o. i ≡ o)

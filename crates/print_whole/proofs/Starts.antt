@@ -10,9 +10,9 @@ use Rattle.ir_cursor.specs.RuntimeNames.{is_left_out}
 use Rattle.ir_cursor.specs.declared.uses.Wanted.{Wanted}
 use Rattle.ir_cursor.specs.declared.uses.Wanted.TheVariants as wants
 use Rattle.ir_text.specs.Read.{start}
+use Rattle.name_text.specs.Readings.{AreBytes}
 use Rattle.ir_print.specs.Names.{name_at}
 use Rattle.ir_print.specs.Readings.{IsKey}
-use Rattle.ir_print.specs.Standing.{AreBytes}
 use Rattle.printable.specs.Definitions.{AreDefined, defined_keys, parameter_keys, block_keys, value_keys_of, value_keys, label_keys, defined_globals, functions_of}
 use Rattle.printable.specs.Printable.{IsFunction, IsPrintable, IsSymbol}
 use Rattle.printable.specs.Shapes.{IsIn}

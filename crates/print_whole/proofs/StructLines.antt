@@ -14,8 +14,11 @@ use Rattle.ir_parts.specs.Input.{Form, expect}
 use Rattle.ir_parts.specs.Names.{new_struct}
 use Rattle.ir_text.specs.ItemsOfText.{struct_type, struct_behind, body, body_by, add_struct, with_struct_type}
 use Rattle.ir_print.specs.Items.{struct_line}
-use Rattle.ir_print.specs.Names.{name_at, name_text, struct_text}
-use Rattle.ir_print.specs.Standing.{Stands, AreBlanks, AreBytes}
+use Rattle.name_text.specs.Names.{name_text}
+use Rattle.name_text.specs.Readings.{AreBytes}
+use Rattle.name_text.specs.declared.blank.Blank.TheVariants as blank
+use Rattle.ir_print.specs.Names.{name_at, struct_text}
+use Rattle.ir_print.specs.Standing.{Stands, AreBlanks}
 use Rattle.ir_print.specs.Types.{type_text}
 use Rattle.ir_print.proofs.Words.{sign_comes}
 use Rattle.printable.specs.Printable.{IsType}
@@ -33,7 +36,7 @@ pub name_is : (names : List Text) (n : ℕ) (name : Text) → slice_get names n 
 name_is names n name e = ap (λ (o : Option Text). unwrap_or o []) e
 
 pub line_is : (m : Module) (struct : StructType) (rest : Text)
-    → struct_line m struct ++ rest ≡ 37 ∷ (name_text (name_at m.struct_names struct.name) ++ (codes " = type " ++ (type_text m struct.body ++ 10 ∷ rest)))
+    → struct_line m struct ++ rest ≡ 37 ∷ (name_text blank.Kept (name_at m.struct_names struct.name) ++ (codes " = type " ++ (type_text m struct.body ++ 10 ∷ rest)))
 line_is m struct rest =
     let name = struct_text m struct.name in
     let body = type_text m struct.body in
@@ -115,7 +118,7 @@ module _ (m : Module) (f : Function) (named : AreNamed m f) (types : TypesRead m
               let there = name_is n.struct_names x.name name (stays i.struct_names.names n.struct_names x.name name later.structs is_name) in
               let body_shape = shape_stays i.types n.types i.struct_names.names n.struct_names shape x.body later.types later.structs has_shape in
               let body_text : type_text m struct.body ≡ type_text n x.body = types.types_shown m shape struct.body is_type.0 is_type.1 ∙ sym (types.types_shown n shape x.body body_shape is_type.1) in
-              ap (λ (y : Text). 37 ∷ name_text y ++ codes " = type " ++ type_text m struct.body ++ 10 ∷ []) (sym there)
+              ap (λ (y : Text). 37 ∷ name_text blank.Kept y ++ codes " = type " ++ type_text m struct.body ++ 10 ∷ []) (sym there)
               ∙ ap (λ (y : Text). struct_text n x.name ++ codes " = type " ++ y ++ 10 ∷ []) body_text,
         ),
       )

@@ -13,6 +13,7 @@ use Rattle.ir_tokens.specs.Tokens.{past_gap}
 use Rattle.ir_cursor.specs.Cursor.{kind}
 use Rattle.ir_parts.specs.declared.input.Input.{Input}
 use Rattle.ir_text.specs.ItemsOfText.{item, item_by, at_end_of_text}
+use Rattle.name_text.specs.Readings.{AreBytes}
 use Rattle.ir_print.specs.Items.{struct_line, declare_line, global_line}
 use Rattle.ir_ast.specs.declared.items_of_module.Global.{Global}
 use Rattle.ir_ast.specs.declared.items_of_module.StructType.{StructType}
@@ -24,7 +25,7 @@ use Rattle.ir_print.specs.Types.{type_text}
 use Rattle.ir_ast.specs.declared.items_of_module.Declare.{Declare}
 use Rattle.print_whole.proofs.FunctionLists.{function_names}
 use Rattle.ir_print.specs.Names.{name_at}
-use Rattle.ir_print.specs.Standing.{Stands, AreBlanks, AreBytes}
+use Rattle.ir_print.specs.Standing.{Stands, AreBlanks}
 use Rattle.printable.specs.Definitions.{AreNew}
 use Rattle.printable.specs.Printable.{IsStructType, IsPrintable}
 use Rattle.print_again.specs.Again.{AreAlike, IsFunctionAgain}

@@ -3,8 +3,8 @@ use Rattle.std.specs.Prelude.{◌≡◌, ◌≤◌, length}
 use Rattle.ir_ast.specs.declared.module.Module.{Module}
 use Rattle.ir_tokens.specs.Bytes.{Text}
 use Rattle.ir_text.specs.Read.{IsText, text_limit}
+use Rattle.name_text.specs.Readings.{AreBytes}
 use Rattle.ir_print.specs.Items.{text_of}
-use Rattle.ir_print.specs.Standing.{AreBytes}
 use Rattle.printable.specs.Printable.{IsPrintable}
 use Rattle.print_again.specs.Again.{IsAgain}
 

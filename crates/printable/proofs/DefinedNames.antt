@@ -7,7 +7,8 @@ use Rattle.std.proofs.lemmas.List.{append-nil}
 use Rattle.ir_ast.specs.LocalKeys.{key_of_name}
 use Rattle.ir_cursor.specs.Number as numbers
 use Rattle.ir_tokens.specs.Bytes.{Text, is_digit}
-use Rattle.ir_print.specs.Standing.{AreBytes, AreDigits}
+use Rattle.name_text.specs.Readings.{AreBytes}
+use Rattle.ir_print.specs.Standing.{AreDigits}
 use Rattle.ir_print.proofs.Constants.{are_digits, decimal_value}
 use Rattle.printable.specs.Definitions.{AreDefined}
 use Rattle.printable.specs.Shapes.{IsIn}

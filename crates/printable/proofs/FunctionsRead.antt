@@ -19,7 +19,7 @@ use Rattle.ir_decorations.specs.declared.decorating.Spot.TheVariants as spot
 use Rattle.ir_text.specs.Blocks.{blocks}
 use Rattle.ir_text.specs.ItemsOfText.{collector_name, collector, head_end, open_body_by, open_body}
 use Rattle.ir_text.specs.Parameters.{parameters}
-use Rattle.ir_print.specs.Standing.{AreBytes}
+use Rattle.name_text.specs.Readings.{AreBytes}
 use Rattle.printable.specs.FunctionNames.{HasNames}
 use Rattle.printable.specs.Printable.{IsVoid, IsPassed, IsCollector, IsFunction}
 use Rattle.printable.proofs.Blocks.{with_blocks, with_parameters, blocks_keep, parameters_keep}

@@ -13,8 +13,8 @@ use Rattle.ir_cursor.specs.declared.table.Table.{Table}
 use Rattle.ir_parts.specs.declared.input.Input.{Input}
 use Rattle.ir_text.specs.Read.{module_of}
 use Rattle.ir_tokens.specs.Bytes.{Text}
+use Rattle.name_text.specs.Readings.{AreBytes}
 use Rattle.ir_print.specs.Names.{name_at}
-use Rattle.ir_print.specs.Standing.{AreBytes}
 use Rattle.printable.specs.Definitions.{AreNew, defined_structs, defined_globals, declared_functions, defined_functions, functions_of}
 use Rattle.printable.specs.Printable.{IsSymbol}
 use Rattle.printable.specs.Shapes.{IsIn}

@@ -19,7 +19,7 @@ use Rattle.ir_cursor.specs.declared.table.Table.{Table}
 use Rattle.ir_parts.specs.declared.input.Input.{Input}
 use Rattle.ir_parts.specs.Names.{struct_number, symbol_number, is_known_struct, is_known_symbol, with_struct, with_symbol, new_struct, new_symbol}
 use Rattle.ir_text.specs.ItemsOfText.{with_struct_type, with_global, with_declare, function_of, with_function}
-use Rattle.ir_print.specs.Standing.{AreBytes}
+use Rattle.name_text.specs.Readings.{AreBytes}
 use Rattle.printable.specs.Printable.{IsSymbol}
 use Rattle.printable.proofs.Forms.{Keeps, Any}
 use Rattle.printable.proofs.ModuleState.{Pending, no_one, struct_names_of, symbols_of, Stands, Kept, kept_of, Leads, next_bytes, next_spells, struct_name_begins, symbol_begins}

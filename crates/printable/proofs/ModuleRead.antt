@@ -24,7 +24,7 @@ use Rattle.ir_text.specs.ItemsOfText.{function_name_by, function_name, head_end,
 use Rattle.ir_text.specs.Late.{late_fault}
 use Rattle.ir_text.specs.Parameters.{parameters}
 use Rattle.ir_text.specs.Read.{module_of, start, IsText}
-use Rattle.ir_print.specs.Standing.{AreBytes}
+use Rattle.name_text.specs.Readings.{AreBytes}
 use Rattle.printable.specs.FunctionNames.{HasNames}
 use Rattle.printable.specs.ModuleNames.{HasModuleNames}
 use Rattle.printable.specs.Printable.{IsPrintable, IsFunction, IsVoid, IsPassed, IsStructType, IsGlobal, IsDeclare}

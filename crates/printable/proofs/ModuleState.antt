@@ -25,8 +25,9 @@ use Rattle.ir_parts.specs.Names.{struct_number, with_struct_use, symbol_number, 
 use Rattle.ir_parts.specs.Written.{with_type_interned}
 use Rattle.ir_text.specs.Late.{is_struct, is_right, is_right_struct, is_right_symbol}
 use Rattle.ir_text.specs.Read.{module_of}
+use Rattle.name_text.specs.Readings.{AreBytes}
 use Rattle.ir_print.specs.Names.{name_at}
-use Rattle.ir_print.specs.Standing.{AreBytes, AreDigits}
+use Rattle.ir_print.specs.Standing.{AreDigits}
 use Rattle.printable.specs.Definitions.{defined_structs, declared_functions, defined_functions}
 use Rattle.printable.specs.Printable.{IsSymbol}
 use Rattle.printable.specs.Shapes.{IsIn}

@@ -10,7 +10,7 @@ use Rattle.ir_cursor.specs.Table.{mentioned, sorts_with, defined}
 use Rattle.ir_cursor.specs.declared.table.Table.{Table}
 use Rattle.ir_parts.specs.Names.{is_struct, is_symbol}
 use Rattle.ir_tokens.specs.Bytes.{Text}
-use Rattle.ir_print.specs.Standing.{AreBytes}
+use Rattle.name_text.specs.Readings.{AreBytes}
 use Rattle.printable.specs.Printable.{IsSymbol}
 use Rattle.printable.proofs.LocalNames.{set_length, set_there, set_was}
 use Rattle.printable.proofs.Tables.{begins_with, stays, at_end, at_end_or_before, place_there, place_stays}

@@ -10,7 +10,7 @@ use Rattle.ir_tokens.specs.Form.{on_next}
 use Rattle.ir_tokens.specs.Names.{spelling, bare, begins_quote, inside, unescaped_from, unescaped, unquoted}
 use Rattle.ir_cursor.specs.Cursor.{spelled, spelled_first}
 use Rattle.ir_cursor.specs.Place.{Place}
-use Rattle.ir_print.specs.Standing.{AreBytes}
+use Rattle.name_text.specs.Readings.{AreBytes}
 
 take_bytes : (n : ℕ) (s : Text) → AreBytes s → AreBytes (take n s)
 take_bytes zero s h = tt

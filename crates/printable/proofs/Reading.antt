@@ -15,7 +15,7 @@ use Rattle.ir_parts.specs.declared.input.Input.{Input}
 use Rattle.ir_parts.specs.Input.{advanced}
 use Rattle.ir_parts.specs.Names.{with_struct_use, with_symbol_use, with_local_use, with_sort, new_value, numbered_value, unnamed_value, new_label, numbered_label, unnamed_label}
 use Rattle.ir_parts.specs.Written.{with_type_interned}
-use Rattle.ir_print.specs.Standing.{AreBytes}
+use Rattle.name_text.specs.Readings.{AreBytes}
 use Rattle.printable.specs.Definitions.{value_keys, label_keys, target_keys, defined_structs, defined_globals, functions_of}
 use Rattle.printable.specs.Shapes.{IsIn}
 use Rattle.printable.proofs.Forms.{Keeps, Any}

@@ -16,7 +16,7 @@ use Rattle.ir_parts.specs.declared.written.WrittenType.{WrittenType}
 use Rattle.ir_parts.specs.Input.{limit, unexpected, advanced, advanced_falls, skip, expect}
 use Rattle.ir_parts.specs.Names.{struct_name, struct_number, with_struct_use, with_struct_use_falls}
 use Rattle.ir_parts.specs.Written.{intern, interned, place_in_table, with_type_interned, with_type_interned_falls}
-use Rattle.ir_print.specs.Standing.{AreBytes}
+use Rattle.name_text.specs.Readings.{AreBytes}
 use Rattle.printable.specs.Definitions.{defined_structs}
 use Rattle.printable.specs.Shapes.{IsIn}
 use Rattle.printable.proofs.Forms.{Keeps, Same, Any, stepped, where_true}

@@ -9,7 +9,7 @@ use Rattle.ir_ast.specs.declared.function.LocalSort.{LocalSort}
 use Rattle.ir_ast.specs.declared.function.LocalSort.TheVariants as local
 use Rattle.ir_ast.specs.declared.function.Parameter.{Parameter}
 use Rattle.ir_tokens.specs.Bytes.{Text}
-use Rattle.ir_print.specs.Standing.{AreBytes}
+use Rattle.name_text.specs.Readings.{AreBytes}
 
 -- the key of a name
 abbrev pub IsKeyOfName : Text → Type 0

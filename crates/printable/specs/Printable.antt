@@ -25,10 +25,10 @@ use Rattle.ir_cursor.specs.RuntimeNames.{is_intrinsic, is_left_out}
 use Rattle.ir_instructions.specs.CaseValues.{value_of, is_among, with_value}
 use Rattle.ir_instructions.specs.Sites.{is_phi}
 use Rattle.ir_instructions.specs.declared.case_values.CaseValue.{CaseValue}
+use Rattle.name_text.specs.Readings.{AreBytes}
 use Rattle.ir_print.specs.Fits.{FitsType}
 use Rattle.ir_print.specs.Instructions.{ends_block}
 use Rattle.ir_print.specs.Names.{name_at}
-use Rattle.ir_print.specs.Standing.{AreBytes}
 use Rattle.printable.specs.Definitions.{AreDefined, AreNew, defined_keys, value_keys, label_keys, target_keys, defined_structs, defined_globals, functions_of}
 use Rattle.printable.specs.Shapes.{IsIn, Shape, HasShape, IsWritten, levels, bits_of_shape, is_scalar_shape, is_pointer_shape, is_struct_shape, is_passed_shape, is_held_shape}
 

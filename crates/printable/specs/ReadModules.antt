@@ -2,7 +2,7 @@
 use Rattle.ir_ast.specs.declared.module.Module.{Module}
 use Rattle.ir_tokens.specs.Bytes.{Text}
 use Rattle.ir_text.specs.Read.{IsText}
-use Rattle.ir_print.specs.Standing.{AreBytes}
+use Rattle.name_text.specs.Readings.{AreBytes}
 use Rattle.printable.specs.ModuleNames.{HasModuleNames}
 use Rattle.printable.specs.Printable.{IsPrintable}
 

@@ -4,7 +4,7 @@ use Rattle.ir_ast.specs.Names.{place_of}
 use Rattle.ir_ast.specs.declared.ir_type.IrType.{IrType}
 use Rattle.ir_ast.specs.declared.ir_type.IrType.TheVariants as type
 use Rattle.ir_tokens.specs.Bytes.{Text}
-use Rattle.ir_print.specs.Standing.{AreBytes}
+use Rattle.name_text.specs.Readings.{AreBytes}
 
 -- the element is one of the list
 abbrev pub IsIn : {A : Type 0} → List A → A → Type 0

@@ -1,3 +1,4 @@
+pub mod Threads
 pub mod Heaps
 pub mod Kinds
 pub mod View

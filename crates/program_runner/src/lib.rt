@@ -6,4 +6,5 @@ mod laws;
 mod program_thread;
 
 pub use laws::begun_law;
+pub use program_safety::program_law;
 pub use program_thread::ProgramThread;

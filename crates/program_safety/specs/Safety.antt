@@ -7,7 +7,7 @@ use Rattle.layout.specs.Globals.{IsHeapFor}
 use Rattle.certificate.specs.declared.section.Section.{Section}
 use Rattle.machine.specs.Machine.{start}
 use Rattle.machine.specs.Start.{argument_values}
-use Rattle.soundness.specs.Discipline.{IsStart, AreCertified}
+pub use Rattle.soundness.specs.Discipline.{AreCertified, CertifiedIsNeverWrong, IsStart, MeetPromises}
 use Rattle.schedules.specs.Promises.{AreCareful, IsSafe}
 use Rattle.program_safety.specs.Threads.{ProgramThread, program_machine}
 

@@ -6,3 +6,4 @@ mod program_machine;
 
 pub use law::program_law;
 pub use program_machine::ProgramMachine;
+pub use soundness::discipline_law;

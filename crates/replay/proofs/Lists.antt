@@ -6,8 +6,7 @@ use Rattle.std.proofs.lemmas.Bool.{cases_lt}
 use Rattle.layout.specs.Layouts.{LaidOut}
 use Rattle.schedules.specs.ModuleRuns.{IsModuleRun}
 use Rattle.schedules.specs.Broken.{IsBroken, IsCause}
-use Rattle.program_safety.specs.Threads.{program_machine}
-use Rattle.program_runner.specs.Heaps.{heap_of}
+use Rattle.world.specs.Runs.{program_machine, heap_of}
 use Rattle.trace_text.specs.declared.trace.Setup.{Setup}
 use Rattle.actors.specs.declared.actor.Actor.{Actor}
 use Rattle.world.specs.Setups.{starts_of}

@@ -21,8 +21,7 @@ use Rattle.machine.specs.Start.{argument_values}
 use Rattle.schedules.specs.Machine.{Reference}
 use Rattle.schedules.specs.Moves.{IsIn, null}
 use Rattle.schedules.specs.Broken.{IsRoot, Reached, globals, from, further, IsGone, IsBroken}
-use Rattle.program_safety.specs.Threads.{program_machine, reference_in, names}
-use Rattle.program_runner.specs.Heaps.{value_at_start, value_of_global, heap_of}
+use Rattle.world.specs.Runs.{program_machine, reference_in, names, value_at_start, value_of_global, heap_of}
 use Rattle.trace_text.specs.declared.trace.Setup.{Setup}
 use Rattle.trace_text.specs.declared.trace.Start.{Start}
 use Rattle.actors.specs.Runs.{run_by}

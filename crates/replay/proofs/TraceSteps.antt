@@ -5,8 +5,7 @@ use Rattle.std.proofs.lemmas.List.{append-nil, reverse-append, reverse-reverse, 
 use Rattle.std.proofs.lemmas.List.Sums.{sum_by-cons}
 use Rattle.layout.specs.Layouts.{LaidOut}
 use Rattle.schedules.proofs.Causes.{shows_broken}
-use Rattle.program_safety.specs.Threads.{program_machine}
-use Rattle.program_runner.specs.Heaps.{heap_of}
+use Rattle.world.specs.Runs.{program_machine, heap_of}
 use Rattle.trace_text.specs.Traces.{IsActorOf, IsTraceOf, step_sum}
 use Rattle.trace_text.specs.declared.trace.Setup.{Setup}
 use Rattle.trace_text.specs.declared.trace.Steps.{Steps}

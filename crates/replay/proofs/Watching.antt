@@ -6,8 +6,7 @@ use Rattle.colours.specs.declared.place.Place.TheVariants.{Posted}
 use Rattle.colours.specs.Runs.{word_after}
 use Rattle.schedules.specs.ModuleRuns.{IsModuleRun, heap_of as events_of}
 use Rattle.schedules.specs.Broken.{IsBroken}
-use Rattle.program_safety.specs.Threads.{program_machine}
-use Rattle.program_runner.specs.Heaps.{heap_of}
+use Rattle.world.specs.Runs.{program_machine, heap_of}
 use Rattle.trace_text.specs.Traces.{IsActorOf}
 use Rattle.trace_text.specs.declared.trace.Actor.{Actor as TracedActor}
 use Rattle.trace_text.specs.declared.trace.Setup.{Setup}

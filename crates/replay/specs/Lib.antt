@@ -3,3 +3,5 @@ pub mod Outcomes
 pub mod Watched
 pub mod Soaks
 pub mod CauseNames
+pub mod Faults
+pub mod Ends

@@ -4,8 +4,7 @@ use Rattle.layout.specs.Layouts.{LaidOut}
 use Rattle.schedules.specs.ModuleRuns.{Happening, IsModuleRun}
 use Rattle.schedules.specs.Broken as broken
 use Rattle.schedules.specs.Broken.{IsBroken, IsCause}
-use Rattle.program_safety.specs.Threads.{program_machine}
-use Rattle.program_runner.specs.Heaps.{heap_of}
+use Rattle.world.specs.Runs.{program_machine, heap_of}
 use Rattle.trace_text.specs.declared.trace.Setup.{Setup}
 use Rattle.trace_text.specs.declared.trace.Steps.{Steps}
 use Rattle.actors.specs.declared.actor.Actor.{Actor}

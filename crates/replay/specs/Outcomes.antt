@@ -6,7 +6,7 @@ use Rattle.colours.specs.Runs.{word_after}
 use Rattle.schedules.specs.Moves.{Claims}
 use Rattle.schedules.specs.ModuleRuns.{Happening, OfThread, OfCollector, heap_of as events_of}
 use Rattle.layout.specs.Layouts.{LaidOut}
-use Rattle.program_runner.specs.Heaps.{heap_of}
+use Rattle.world.specs.Runs.{heap_of}
 use Rattle.trace_text.specs.declared.trace.Setup.{Setup}
 use Rattle.trace_text.specs.declared.trace.Trace.{Trace}
 use Rattle.actors.specs.declared.actor.Actor.{Actor}

@@ -2,8 +2,7 @@
 use Rattle.std.specs.Prelude.{ℕ, ◌≡◌, ◌<◌, ◌+◌, ◌^◌, Bool, true, false, Option, Some, None, List, [], ◌∷◌, ◌++◌, length, reverse, count_by}
 use Rattle.layout.specs.Layouts.{LaidOut}
 use Rattle.schedules.specs.Broken.{IsBroken, IsCause}
-use Rattle.program_safety.specs.Threads.{program_machine}
-use Rattle.program_runner.specs.Heaps.{heap_of}
+use Rattle.world.specs.Runs.{program_machine, heap_of}
 use Rattle.trace_text.specs.declared.trace.Setup.{Setup}
 use Rattle.actors.specs.declared.actor.Actor.{Actor}
 use Rattle.world.specs.Setups.{starts_of}

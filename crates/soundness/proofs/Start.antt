@@ -25,12 +25,12 @@ use Rattle.certified.specs.Ways.{parameters_given}
 use Rattle.machine_values.specs.declared.value.Value.{Value}
 use Rattle.machine_values.specs.declared.value.Value.TheVariants as value
 use Rattle.machine_values.specs.Kinds.{is_integer, bits_of, bits_at, wrapped, register_at}
+use Rattle.machine_values.proofs.WrappedFits.{wrapped_fits}
 use Rattle.machine.specs.Machine.{slot_value, initial, with_arguments}
 use Rattle.machine.specs.Start.{is_reference_parameter, argument_fits, arguments_fit, argument_values}
 use Rattle.machine.specs.Log.{Log}
 use Rattle.fact_meaning.specs.Meaning.{Cells, Guarded, IsBelow, IsInteger, Means, ClassMeans, WasTested, FitsReference, FitsSlot, SlotMeans, Holds}
 use Rattle.fact_meaning.proofs.Change.{at_more}
-use Rattle.fact_meaning.proofs.Edges.{wrapped_fits}
 use Rattle.fact_meaning.proofs.Lists.{both, equal, got, replicated}
 use Rattle.soundness.specs.Discipline.{MeetPromises}
 use Rattle.soundness.proofs.Receive.{IsGiven, given_fewer, received}

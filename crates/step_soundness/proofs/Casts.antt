@@ -38,7 +38,8 @@ use Rattle.fact_meaning.proofs.Lists.{both, either_true, equal, at_other, at_map
 use Rattle.fact_meaning.proofs.KindLemmas.{refers_same, leads_same, constant_passes, bits_are}
 use Rattle.fact_meaning.proofs.Keep.{Beside, unequal, forget_cell, off_cell, without_same, means_without, known_within}
 use Rattle.fact_meaning.proofs.Change.{apart_turned, define_keeps, define_plain, new_keeps}
-use Rattle.fact_meaning.proofs.Edges.{wrapped_fits, wrapped_le}
+use Rattle.machine_values.proofs.WrappedFits.{wrapped_fits}
+use Rattle.fact_meaning.proofs.Edges.{wrapped_le}
 use Rattle.fact_meaning.proofs.SlotsKeep.{same_written}
 use Rattle.fact_meaning.proofs.Places.{holds_as_asked}
 use Rattle.step_soundness.specs.Goes.{Goes}

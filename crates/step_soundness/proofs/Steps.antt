@@ -41,7 +41,8 @@ use Rattle.step_soundness.specs.Goes.{Goes}
 use Rattle.fact_meaning.proofs.Lists.{both, equal}
 use Rattle.fact_meaning.proofs.Keep.{log_keeps, known_within}
 use Rattle.fact_meaning.proofs.SlotsKeep.{end_keeps}
-use Rattle.fact_meaning.proofs.Edges.{wrapped_fits, wrapped_le}
+use Rattle.machine_values.proofs.WrappedFits.{wrapped_fits}
+use Rattle.fact_meaning.proofs.Edges.{wrapped_le}
 use Rattle.fact_meaning.proofs.KindLemmas.{constant_passes, bits_are, integer_same}
 
 -- a step without an effect on the heap

@@ -11,6 +11,3 @@ pub use collector::Collector;
 pub use laws::{heap_law, order_law, stage_law, trace_law, word_law};
 pub use motion::Motion;
 pub use words::Words;
-
-#[cfg(test)]
-mod tests;

@@ -5,6 +5,7 @@ use Rattle.ir_ast.specs.declared.function.Function.{Function}
 use Rattle.ir_ast.specs.declared.module.Module.{Module}
 use Rattle.layout.specs.Layouts.{LaidOut}
 use Rattle.ir_tokens.specs.Bytes.{Text}
+use Rattle.name_text.specs.Readings.{AreBytes}
 use Rattle.pools.specs.Heap.{cells_in}
 use Rattle.trace_text.specs.Names.{function_named, layout_named}
 use Rattle.trace_text.specs.Print.{name_at, name_text, struct_name}
@@ -16,7 +17,7 @@ use Rattle.trace_text.specs.declared.trace.Trace.{Trace}
 
 -- a name of bytes that stays within a text's limit when it is printed
 abbrev pub IsShort : Text → Type 0
-IsShort name = AllByRecursion (λ byte. byte < 256) name × (length (name_text name) < 2 ^ 24)
+IsShort name = AreBytes name × (length (name_text name) < 2 ^ 24)
 
 -- the name of a function, if there is one
 abbrev pub symbol_name : Module → Option Function → Text

@@ -27,7 +27,7 @@ use Rattle.stepping.specs.Ends as stepping
 use Rattle.layout.specs.Layouts.{LaidOut}
 use Rattle.world.specs.declared.thread_end.ThreadEnd.{ThreadEnd}
 use Rattle.world.specs.declared.thread_end.ThreadEnd.TheVariants as thread
-use Rattle.program_safety.specs.Threads.{ProgramThread, program_machine, names}
+use Rattle.program_runner.specs.Threads.{ProgramThread, program_machine, names}
 use Rattle.program_runner.specs.Heaps as heaps
 use Rattle.program_runner.specs.Kinds.{FitsThread}
 use Rattle.trace_text.specs.declared.trace.Setup as traced

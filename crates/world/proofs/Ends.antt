@@ -17,7 +17,7 @@ use Rattle.actors.specs.Rows.{word_at}
 use Rattle.actors.specs.Stands.{standing}
 use Rattle.actors.proofs.Drawn.{drawn}
 use Rattle.stepping.specs.Ends as stepping
-use Rattle.program_safety.specs.Threads.{program_machine}
+use Rattle.program_runner.specs.Threads.{program_machine}
 use Rattle.program_runner.specs.Heaps as heaps
 use Rattle.program_runner.specs.Kinds.{FitsThread}
 use Rattle.world.specs.Setups.{starts_of}

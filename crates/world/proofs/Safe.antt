@@ -9,8 +9,7 @@ use Rattle.layout.specs.Layouts.{LaidOut}
 use Rattle.certificate.specs.declared.section.Section.{Section}
 use Rattle.machine.specs.Machine.{State, start}
 use Rattle.machine.specs.Start.{takes_reference, arguments_fit, argument_values}
-use Rattle.program_safety.specs.Safety.{IsBegun, CertifiedIsSafe}
-use Rattle.program_safety.specs.Threads.{ProgramThread}
+use Rattle.program_runner.specs.Threads.{IsBegun, CertifiedIsSafe, ProgramThread}
 use Rattle.program_runner.specs.Begun.{heap_is}
 use Rattle.program_runner.specs.Heaps.{heap_of}
 use Rattle.trace_text.specs.Traces.{IsStartOf}

@@ -10,8 +10,7 @@ use Rattle.actors.specs.Runs.{IsActor}
 use Rattle.stepping.specs.declared.acting.Actors.{Actors}
 use Rattle.stepping.specs.declared.happening.Step.{Step}
 use Rattle.stepping.specs.Ends as stepping
-use Rattle.program_safety.specs.Safety.{CertifiedIsSafe}
-use Rattle.program_safety.specs.Threads.{ProgramThread, program_machine}
+use Rattle.program_runner.specs.Threads.{CertifiedIsSafe, ProgramThread, program_machine}
 use Rattle.program_runner.specs.Heaps.{heap_of}
 use Rattle.program_runner.specs.Kinds.{FitsThread}
 use Rattle.trace_text.specs.Traces.{IsActorOf}

@@ -10,7 +10,7 @@ use Rattle.actors.specs.declared.stand.Stance.{Stance}
 use Rattle.actors.specs.declared.stand.Stance.TheVariants.{Ready, MarkingOld, MarkingNew, Writing, Trying, Answering, Ended}
 use Rattle.actors.specs.declared.stand.Stand.{Stand}
 use Rattle.actors.specs.Stands.{phase_at}
-use Rattle.program_safety.specs.Threads.{ProgramThread, names}
+use Rattle.program_runner.specs.Threads.{ProgramThread, names}
 use Rattle.program_runner.specs.Heaps.{heap_of}
 use Rattle.world.specs.declared.thread_end.ThreadEnd.{ThreadEnd}
 use Rattle.world.specs.declared.thread_end.ThreadEnd.TheVariants as thread

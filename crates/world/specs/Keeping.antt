@@ -1,6 +1,6 @@
 -- What a world keeps of the ends of its threads.
 use Rattle.std.specs.Prelude.{ℕ, Option, Some, None, List, slice_get, slice_set, unwrap_or}
-use Rattle.program_safety.specs.Threads.{ProgramThread}
+use Rattle.program_runner.specs.Threads.{ProgramThread}
 use Rattle.trace_text.specs.declared.trace.Actor.{Actor}
 use Rattle.trace_text.specs.declared.trace.Actor.TheVariants.{Thread, Collector}
 use Rattle.actors.specs.declared.stand.Stance.{Stance}

@@ -1,3 +1,4 @@
+pub mod Runs
 pub mod Setups
 pub mod Worlds
 pub mod ThreadEnds

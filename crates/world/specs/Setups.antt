@@ -8,9 +8,8 @@ use Rattle.machine.specs.Machine.{start}
 use Rattle.machine.specs.Start.{argument_values, StartsByReference, StartsWrongly}
 use Rattle.machine.specs.declared.thread.StartFault.{StartFault}
 use Rattle.machine.specs.declared.thread.StartFault.TheVariants as start_fault
-use Rattle.soundness.specs.Discipline.{AreCertified, MeetPromises}
+use Rattle.program_runner.specs.Threads.{AreCertified, MeetPromises, ProgramThread, program_machine, ended}
 use Rattle.schedules.specs.Promises.{IsSafe}
-use Rattle.program_safety.specs.Threads.{ProgramThread, program_machine, ended}
 use Rattle.program_runner.specs.Heaps.{heap_of}
 use Rattle.trace_text.specs.Traces.{IsStartOf}
 use Rattle.trace_text.specs.declared.trace.Setup.{Setup}

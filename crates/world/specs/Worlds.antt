@@ -13,7 +13,7 @@ use Rattle.layout.specs.Layouts.{LaidOut}
 use Rattle.machine.specs.declared.ending.Ending.{Ending}
 use Rattle.machine.specs.declared.ending.Ending.TheVariants.{Returned, Over}
 use Rattle.machine.specs.Endings.{ending}
-use Rattle.program_safety.specs.Threads.{ProgramThread, program_machine, names}
+use Rattle.program_runner.specs.Threads.{ProgramThread, program_machine, names}
 use Rattle.program_runner.specs.Heaps.{heap_of}
 use Rattle.program_runner.specs.Kinds.{FitsThread}
 use Rattle.trace_text.specs.declared.trace.Actor as traced

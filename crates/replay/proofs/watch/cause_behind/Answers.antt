@@ -1,6 +1,5 @@
 use Rattle.std.proofs.Common.{◌∷◌, subst}
-use Rattle.program_safety.specs.Threads.{program_machine}
-use Rattle.program_runner.specs.Heaps.{heap_of}
+use Rattle.world.specs.Runs.{program_machine, heap_of}
 use Rattle.actors.specs.Causes.{IsStepCause}
 use Rattle.actors.specs.Runs.{run_by}
 use Rattle.reach.specs.Reach.{IsFirstGone}

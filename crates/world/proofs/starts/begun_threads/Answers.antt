@@ -1,7 +1,7 @@
 use Rattle.std.proofs.Common.{◌≡◌, ◌≤◌, List, ◌++◌, [], ◌∷◌, Some, length, map, take, slice_get, refl, sym, ap, ◌∙◌, subst, arith, add-one}
 use Rattle.std.proofs.lemmas.Option.{slice_get_read}
 use Rattle.std.proofs.lemmas.Result.{err_from_is_err_and}
-use Rattle.program_safety.specs.Threads.{ProgramThread}
+use Rattle.program_runner.specs.Threads.{ProgramThread}
 use Rattle.trace_text.specs.declared.trace.Start.{Start}
 use Rattle.world.specs.Setups.{begun_at}
 use Rattle.world.proofs.Safe.{first_fault, no_fault_before, one_more, one_more_begun, all_begun}

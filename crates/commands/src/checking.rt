@@ -1,0 +1,89 @@
+//! The command `check`.
+
+use crate::files::file_at;
+use certificate::Certs;
+use certificate_text::read_cert;
+use ir_ast::Module;
+use ir_text::read;
+use module_check::{NotAccepted, Refusal, Verdict, check};
+use std::alloc::Global;
+use std::io;
+use std::io::Write;
+
+/// Prints the first refusal of a module.
+fn report_refusal<O: Write, E: Write>(
+    alloc: Global,
+    answer: &NotAccepted,
+    refusal: &Refusal,
+    out: &mut O,
+    err: &mut E,
+) -> io::Result<u8> {
+    match report::line_of_refusal(alloc, &answer.of_module, &answer.certs, refusal) {
+        Ok(line) => report::refused(out, &answer.of_module, refusal, line.as_slice()),
+        Err(_) => report::memory(err),
+    }
+}
+
+/// Prints why a module is not accepted.
+fn report_verdict<O: Write, E: Write>(
+    alloc: Global,
+    answer: &NotAccepted,
+    out: &mut O,
+    err: &mut E,
+) -> io::Result<u8> {
+    match answer.verdict {
+        Verdict::Refused(refusal) => report_refusal(alloc, answer, &refusal, out, err),
+        Verdict::Layout(fault) => report::no_layouts(err, &answer.of_module, fault),
+        Verdict::Memory => report::memory(err),
+    }
+}
+
+/// Checks a module and its certificates.
+fn check_certs<O: Write, E: Write>(
+    alloc: Global,
+    of_module: Module,
+    certs: Certs,
+    out: &mut O,
+    err: &mut E,
+) -> io::Result<u8> {
+    match check(alloc, of_module, certs) {
+        Ok(accepted) => report::accepted(out, accepted.program().module().functions.len()),
+        Err(answer) => report_verdict(alloc, &answer, out, err),
+    }
+}
+
+/// Checks a module and the file of its certificates, which has this path.
+fn check_module<O: Write, E: Write>(
+    alloc: Global,
+    of_module: Module,
+    path: &str,
+    file: Option<&[u8]>,
+    out: &mut O,
+    err: &mut E,
+) -> io::Result<u8> {
+    let Some(certificate) = file else {
+        return report::no_file(err, path);
+    };
+    match read_cert(alloc, certificate, &of_module) {
+        Ok(certs) => check_certs(alloc, of_module, certs, out, err),
+        Err(fault) => report::no_certificate(err, &of_module, fault),
+    }
+}
+
+/// Checks the module and the certificate of these paths. The first fault counts: of each file in the line's order, its
+/// path and then its text, then of the layouts, then of the check.
+pub fn check_files<O: Write, E: Write>(
+    alloc: Global,
+    paths: (&str, &str),
+    files: &[Option<Vec<u8>>],
+    out: &mut O,
+    err: &mut E,
+) -> io::Result<u8> {
+    let Some(text) = file_at(files, 0) else {
+        return report::no_file(err, paths.0);
+    };
+    match read(alloc, text) {
+        Ok(of_module) => check_module(alloc, of_module, paths.1, file_at(files, 1), out, err),
+        Err(fault) => report::no_module(err, &fault),
+    }
+}

@@ -1,0 +1,47 @@
+//! The commands, from the bytes of their files to the printed lines and the status.
+
+use crate::checking::check_files;
+use crate::replaying::replay_files;
+use crate::soaking::soak_files;
+use command_line::Line;
+use std::alloc::Global;
+use std::io;
+use std::io::Write;
+use std::thread::Threads;
+
+/// Does the command of a line on the bytes of its files, in the line's order; None is a file that cannot be read.
+/// Answers the status with which the program ends, or the error of a write that failed.
+pub fn work<O: Write, E: Write>(
+    rt: &(impl Threads + Sync),
+    alloc: Global,
+    line: &Line<'_>,
+    files: &[Option<Vec<u8>>],
+    out: &mut O,
+    err: &mut E,
+) -> io::Result<u8> {
+    match *line {
+        Line::Check {
+            module_path,
+            certificate_path,
+        } => check_files(alloc, (module_path, certificate_path), files, out, err),
+        Line::Replay {
+            module_path,
+            trace_path,
+        } => replay_files(alloc, (module_path, trace_path), files, out, err),
+        Line::Soak {
+            module_path,
+            trace_path,
+            seeds,
+            steps,
+        } => soak_files(
+            rt,
+            alloc,
+            (module_path, trace_path),
+            seeds,
+            steps,
+            files,
+            out,
+            err,
+        ),
+    }
+}

@@ -1,0 +1,39 @@
+//! The command `replay`.
+ghost use Rattle.trace_text.specs.Traces.{IsTraceOf};
+
+use crate::files::{Traced, read_traced};
+use crate::runs::{no_threads, replayed, untraced};
+use replay::replay;
+use std::alloc::Global;
+use std::io;
+use std::io::Write;
+
+/// Makes the steps of a trace.
+fn replay_traced<O: Write, E: Write>(
+    alloc: Global,
+    traced: &Traced,
+    out: &mut O,
+    err: &mut E,
+) -> io::Result<u8>
+    requires { IsTraceOf traced.now.program traced.now.trace }
+{
+    match replay(alloc, &traced.program, &traced.trace) {
+        Ok(outcome) => replayed(out, &outcome),
+        Err(fault) => no_threads(err, fault),
+    }
+}
+
+/// Replays the trace of the second path in the module of the first. Behind the faults of the files, the first thread
+/// counts that does not begin.
+pub fn replay_files<O: Write, E: Write>(
+    alloc: Global,
+    paths: (&str, &str),
+    files: &[Option<Vec<u8>>],
+    out: &mut O,
+    err: &mut E,
+) -> io::Result<u8> {
+    match read_traced(alloc, paths, files) {
+        Ok(traced) => replay_traced(alloc, &traced, out, err),
+        Err(unread) => untraced(err, &unread),
+    }
+}

@@ -1,0 +1,53 @@
+//! The command `soak`.
+ghost use Rattle.trace_text.specs.Traces.{IsTraceOf};
+
+use crate::files::{Traced, read_traced};
+use crate::runs::{no_threads, soaked, untraced};
+use replay::soak;
+use std::alloc::Global;
+use std::io;
+use std::io::Write;
+use std::thread::Threads;
+
+/// Makes the steps that each of so many seeds draws, from the start of a trace.
+fn soak_traced<O: Write, E: Write>(
+    rt: &(impl Threads + Sync),
+    alloc: Global,
+    traced: &Traced,
+    seeds: u32,
+    steps: u32,
+    out: &mut O,
+    err: &mut E,
+) -> io::Result<u8>
+    requires { IsTraceOf traced.now.program traced.now.trace }
+{
+    match soak(
+        rt,
+        alloc,
+        &traced.program,
+        &traced.trace.setup,
+        seeds,
+        steps,
+    ) {
+        Ok(outcome) => soaked(out, seeds, outcome),
+        Err(fault) => no_threads(err, fault),
+    }
+}
+
+/// Runs so many seeds with so many steps each, from the start of the trace of the second path in the module of the first. The
+/// steps of the trace are left out.
+pub fn soak_files<O: Write, E: Write>(
+    rt: &(impl Threads + Sync),
+    alloc: Global,
+    paths: (&str, &str),
+    seeds: u32,
+    steps: u32,
+    files: &[Option<Vec<u8>>],
+    out: &mut O,
+    err: &mut E,
+) -> io::Result<u8> {
+    match read_traced(alloc, paths, files) {
+        Ok(traced) => soak_traced(rt, alloc, &traced, seeds, steps, out, err),
+        Err(unread) => untraced(err, &unread),
+    }
+}
