@@ -1,5 +1,4 @@
 //! The command `check`.
-
 use crate::files::file_at;
 use certificate::Certs;
 use certificate_text::read_cert;

@@ -1,5 +1,4 @@
 //! The commands, from the bytes of their files to the printed lines and the status.
-
 use crate::checking::check_files;
 use crate::replaying::replay_files;
 use crate::soaking::soak_files;
