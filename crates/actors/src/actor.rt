@@ -1,5 +1,5 @@
 /// Who makes a step.
-#[derive(Clone, Copy, Debug, PartialEq, Eq)]
+#[derive(Clone, Copy, PartialEq, Eq)]
 pub enum Actor {
     /// The thread with this number, from 0.
     Thread(u32),

@@ -3,7 +3,7 @@ use pools::LayoutId;
 
 /// What the instruction asks for at which a thread stands. A base is the cell of the globals, as cell 0, or a reference that
 /// is not null.
-#[derive(Clone, Copy, Debug, PartialEq, Eq)]
+#[derive(Clone, Copy, PartialEq, Eq)]
 pub enum Call {
     /// One step that touches no shared word.
     Local,
@@ -31,7 +31,7 @@ pub enum Call {
 }
 
 /// What a call is answered with.
-#[derive(Clone, Copy, Debug, PartialEq, Eq)]
+#[derive(Clone, Copy, PartialEq, Eq)]
 pub enum Answer {
     Done,
     /// What was read, or the cell of an alloc.

@@ -9,7 +9,7 @@ use items::Items;
 use trace_sweep::Words;
 
 /// The words that all actors share, with the births of cells and of the references in words.
-#[derive(Debug, Drop)]
+#[derive(Drop)]
 pub struct Shared {
     /// The stage that was posted last.
     pub posted: u64,

@@ -1,7 +1,7 @@
 use crate::reference::Reference;
 
 /// Where a thread stands in the call that it asks for.
-#[derive(Clone, Copy, Debug, PartialEq, Eq)]
+#[derive(Clone, Copy, PartialEq, Eq)]
 pub enum Stance {
     /// Between two calls.
     Ready,
@@ -38,7 +38,7 @@ pub enum Stance {
 }
 
 /// A thread: the state of its machine, the stage that it stored last, where it stands, and what a write under way has read.
-#[derive(Debug, Drop)]
+#[derive(Drop)]
 pub struct Stand<M> {
     pub state: M,
     pub stage: u64,

@@ -68,10 +68,24 @@ fn answer_block(
         function,
         slots: &tables.slots,
     };
-    let subject = tables.subject(scene, func);
+    let answer = answer_alone(alloc, &tables.subject(scene, func), block);
+    drop(tables);
+    answer
+}
+
+fn answer_alone(alloc: Global, subject: &Subject, block: BlockId) -> Result<(), BlockFault>
+    requires { IsReady subject.now }
+    ensures { MatchResult result (λ _. BlockCertified subject.now.scene.program.now subject.now.scene.certs.now subject.now.func block) (λ fault. IfRefused fault (FirstRefusal subject.now.scene.program.now subject.now.scene.certs.now subject.now.func block)) }
+{
     let mut facts = Facts::new(alloc, 0, 0)?;
-    let mut rooms = Rooms::new(alloc)?;
-    answer(alloc, &subject, &mut facts, &mut rooms, block)
+    let Ok(mut rooms) = Rooms::new(alloc) else {
+        drop(facts);
+        return Err(BlockFault::Memory);
+    };
+    let answer = answer(alloc, subject, &mut facts, &mut rooms, block);
+    drop(rooms);
+    drop(facts);
+    answer
 }
 
 fn answer_function(
@@ -95,10 +109,24 @@ fn answer_function(
         function,
         slots: &tables.slots,
     };
-    let subject = tables.subject(scene, func);
+    let answer = answer_blocks(alloc, &tables.subject(scene, func), count);
+    drop(tables);
+    answer
+}
+
+fn answer_blocks(alloc: Global, subject: &Subject, count: u32) -> Result<(), BlockFault>
+    requires { IsReady subject.now }
+    ensures { MatchResult result (λ _. AreBlocksCertified subject.now.scene.program.now subject.now.scene.certs.now subject.now.func count) (IsFunctionFault subject.now.scene.program.now subject.now.scene.certs.now subject.now.func count) }
+{
     let mut facts = Facts::new(alloc, 0, 0)?;
-    let mut rooms = Rooms::new(alloc)?;
-    match first_fault(alloc, &subject, &mut facts, &mut rooms, count) {
+    let Ok(mut rooms) = Rooms::new(alloc) else {
+        drop(facts);
+        return Err(BlockFault::Memory);
+    };
+    let fault = first_fault(alloc, subject, &mut facts, &mut rooms, count);
+    drop(rooms);
+    drop(facts);
+    match fault {
         Some(fault) => Err(fault),
         None => Ok(()),
     }

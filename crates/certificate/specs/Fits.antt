@@ -1,6 +1,7 @@
 -- Which certificates are certificates of a module.
-use Rattle.std.specs.Prelude.{ℕ, Bool, true, false, not, ◌&&◌, ◌||◌, ◌==◌, nat_lt, if◌then◌else◌, List, [], ◌∷◌, length, slice_get, unwrap_or, Option, Some, None, is_some}
+use Rattle.std.specs.Prelude.{ℕ, Bool, true, false, not, ◌&&◌, ◌||◌, ◌==◌, if◌then◌else◌, List, [], ◌∷◌, length, slice_get, unwrap_or, Option, Some, None, is_some}
 use Rattle.std.specs.List.{list_all, list_any, range_with_len, zip}
+pub use Rattle.ir_ast.specs.Numbers.{small}
 use Rattle.ir_ast.specs.declared.function.Function.{Function}
 use Rattle.ir_ast.specs.declared.function.LocalSort.{LocalSort}
 use Rattle.ir_ast.specs.declared.function.LocalSort.TheVariants as local
@@ -19,10 +20,6 @@ use Rattle.certificate.specs.declared.section.Promise.{Promise}
 use Rattle.certificate.specs.declared.section.Section.{Section}
 
 -- ---- numbers, layouts and words
-
--- a number below 2 to the 64
-abbrev pub small : ℕ → Option ℕ
-small n = if nat_lt n 18446744073709551616 then Some n else None
 
 -- a number other than 0
 abbrev pub from_one : Option ℕ → Option ℕ

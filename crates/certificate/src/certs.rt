@@ -10,7 +10,7 @@ use items::Items;
 use std::marker::Model;
 
 /// The certificates of a module's functions, by their numbers.
-#[derive(Debug, Drop)]
+#[derive(Drop)]
 pub struct Certs {
     sections: Items<Section>,
 }

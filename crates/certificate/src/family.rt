@@ -9,7 +9,7 @@ use pools::LayoutId;
 use types::element_type;
 
 /// What a value is, and so what can be said of it.
-#[derive(Clone, Copy, Debug, PartialEq, Eq)]
+#[derive(Clone, Copy, PartialEq, Eq)]
 pub enum Family {
     /// An integer of so many bits.
     Number(u32),

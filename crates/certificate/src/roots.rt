@@ -6,7 +6,7 @@ use ir_ast::{Argument, Block, Function, Instr, Module, Op, Operand, Runtime, Typ
 use types::{is_reference, runtime_called};
 
 /// What a local name was defined as.
-#[derive(Clone, Copy, Debug, PartialEq, Eq)]
+#[derive(Clone, Copy, PartialEq, Eq)]
 enum Source {
     /// Nothing that can be a slot.
     Nowhere,
@@ -17,7 +17,7 @@ enum Source {
 }
 
 /// An alloca: its name, and the type that its slot holds.
-#[derive(Clone, Copy, Debug, PartialEq, Eq)]
+#[derive(Clone, Copy, PartialEq, Eq)]
 struct SlotName {
     name: ValueId,
     held: TypeId,

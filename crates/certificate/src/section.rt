@@ -10,7 +10,7 @@ pub enum Mark {
 }
 
 /// What is promised of a parameter or of the result.
-#[derive(Clone, Copy, Debug, PartialEq, Eq)]
+#[derive(Clone, Copy, PartialEq, Eq)]
 pub struct Promise {
     /// `ref L`, where it is written.
     pub layout: Option<LayoutId>,
@@ -20,7 +20,7 @@ pub struct Promise {
 }
 
 /// Whether a reference was published, or has lost its cell.
-#[derive(Clone, Copy, Debug, PartialEq, Eq)]
+#[derive(Clone, Copy, PartialEq, Eq)]
 pub enum Age {
     /// No word and no other name leads to its cell.
     Fresh,
@@ -30,7 +30,7 @@ pub enum Age {
 }
 
 /// What a line of a block says of its value.
-#[derive(Clone, Copy, Debug, PartialEq, Eq)]
+#[derive(Clone, Copy, PartialEq, Eq)]
 pub enum Fact {
     Number {
         bits: u32,
@@ -52,7 +52,7 @@ pub enum Fact {
 }
 
 /// A line of a block.
-#[derive(Clone, Copy, Debug, PartialEq, Eq)]
+#[derive(Clone, Copy, PartialEq, Eq)]
 pub enum Line {
     Value {
         value: ValueId,
@@ -67,7 +67,7 @@ pub enum Line {
 }
 
 /// What the certificate of a function says.
-#[derive(Debug, Drop)]
+#[derive(Drop)]
 pub struct Section {
     pub mark: Mark,
     /// One for each parameter; none where no line names it.

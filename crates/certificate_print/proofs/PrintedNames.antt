@@ -14,7 +14,9 @@ use Rattle.ir_tokens.specs.Bytes.{Text}
 use Rattle.name_text.specs.Naming.{name_in}
 use Rattle.certificate_words.specs.Names.{value_of_word, value_by, block_of_word, function_of_word, global_by, global_of_word, layout_of_word}
 use Rattle.certificate_print.specs.Print.{name_text, key_text, name_at, local_text, global_text, layout_text, struct_name}
-use Rattle.certificate_print.specs.Named.{IsShort, AreNames, AreKeys, IsNamedFunction, IsNamed}
+use Rattle.name_text.specs.Readings.{IsShort}
+use Rattle.name_text.specs.declared.blank.Blank.TheVariants as blank
+use Rattle.certificate_print.specs.Named.{AreNames, AreKeys, IsNamedFunction, IsNamed}
 use Rattle.certificate.specs.Fits.{is_value, is_value_sort, stands_for}
 use Rattle.certificate_words.specs.declared.naming.Naming.TheVariants as naming
 use Rattle.name_text.specs.declared.naming.Sigil.TheVariants as sigil
@@ -29,7 +31,7 @@ within_got (x ∷ xs) (suc i) lt = within_got xs i (omega arith)
 
 -- a name of a table, as it is printed
 name_is : (names : List Text) (number : ℕ) → AreNames names → number < length names
-    → (name : Text) × (name_text (name_at names number) ≡ name_text name) × (is_word (name_text name) ≡ true) × IsShort name × (place_of name names ≡ Some number)
+    → (name : Text) × (name_text (name_at names number) ≡ name_text name) × (is_word (name_text name) ≡ true) × IsShort blank.Escaped name × (place_of name names ≡ Some number)
 name_is names number are lt =
     let p = within_got names number lt in
     let q = are number p.0 p.1 in

@@ -1,5 +1,5 @@
 -- The words of a printed text are read as what they were printed for.
-use Rattle.std.proofs.Common.{◌≡◌, ℕ, ◌+◌, ◌-◌, ◌<◌, ◌^◌, Bool, true, false, ◌&&◌, nat_lt, [], ◌∷◌, Option, Some, None, is_some, refl, ap, sym, ◌∙◌, inl, inr, ◌⊎◌, arith}
+use Rattle.std.proofs.Common.{◌≡◌, ℕ, ◌+◌, ◌<◌, ◌^◌, Bool, true, false, ◌&&◌, nat_lt, [], ◌∷◌, Option, Some, None, is_some, refl, ap, sym, ◌∙◌, inl, inr, ◌⊎◌, arith}
 use Rattle.std.specs.Prelude.{◌==◌, if◌then◌else◌}
 use Rattle.std.specs.List.{list_all}
 use Rattle.std.specs.Str.{bytes_eq}
@@ -18,7 +18,8 @@ use Rattle.name_text.specs.Naming.{name_in}
 use Rattle.certificate.specs.Fits as fits
 use Rattle.certificate_words.specs.Numbers.{count_of_word, bits_of_word}
 use Rattle.certificate_print.specs.Print.{name_text, key_text}
-use Rattle.certificate_print.specs.Named.{IsShort, IsNameKey, IsNumberKey}
+use Rattle.name_text.specs.Readings.{IsShort}
+use Rattle.certificate_print.specs.Named.{IsNameKey, IsNumberKey}
 use Rattle.name_text.specs.declared.naming.Sigil.TheVariants as sigil
 
 -- ---- bytes
@@ -38,15 +39,15 @@ same_bytes (b ∷ w) = rw (eq-eqb b b refl) (same_bytes w)
 -- ---- names
 
 -- the name of a layout with its sign is read as that name
-pub layout_read : (name : Text) → IsShort name → name_in sigil.Layout (37 ∷ name_text name) ≡ Some name
+pub layout_read : (name : Text) → IsShort blank.Escaped name → name_in sigil.Layout (37 ∷ name_text name) ≡ Some name
 layout_read name short = layout_spelled blank.Escaped name short.0 short.1
 
 -- and so is a global name
-pub global_read : (name : Text) → IsShort name → name_in sigil.Global (64 ∷ name_text name) ≡ Some name
+pub global_read : (name : Text) → IsShort blank.Escaped name → name_in sigil.Global (64 ∷ name_text name) ≡ Some name
 global_read name short = global_spelled blank.Escaped name short.0 short.1
 
 -- a local name is read as its key
-local_read : (name : Text) → IsShort name → name_in sigil.Local (37 ∷ name_text name) ≡ Some (key_of_name name)
+local_read : (name : Text) → IsShort blank.Escaped name → name_in sigil.Local (37 ∷ name_text name) ≡ Some (key_of_name name)
 local_read name short = local_spelled blank.Escaped name short.0 short.1
 
 -- a printed name is one word

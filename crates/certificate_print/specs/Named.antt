@@ -11,22 +11,18 @@ use Rattle.ir_ast.specs.declared.items_of_module.StructType.{StructType}
 use Rattle.ir_ast.specs.declared.items_of_module.SymbolSort.TheVariants as sort
 use Rattle.ir_ast.specs.declared.module.Module.{Module}
 use Rattle.ir_tokens.specs.Bytes.{Text, is_digit}
-use Rattle.name_text.specs.Readings.{AreBytes}
+use Rattle.name_text.specs.Readings.{IsShort}
+use Rattle.name_text.specs.declared.blank.Blank.TheVariants as blank
 use Rattle.types.specs.Globals.{global_named}
 use Rattle.certificate.specs.Fits.{is_value}
-use Rattle.certificate_print.specs.Print.{name_text}
-
--- a name of bytes that is shorter than a text may be when it is printed
-abbrev pub IsShort : Text → Type 0
-IsShort name = AreBytes name × (length (name_text name) < 2 ^ 24)
 
 -- each name of a table is such a name, and is found at its place
 abbrev pub AreNames : List Text → Type 0
-AreNames names = (number : ℕ) (name : Text) → slice_get names number ≡ Some name → IsShort name × (place_of name names ≡ Some number)
+AreNames names = (number : ℕ) (name : Text) → slice_get names number ≡ Some name → IsShort blank.Escaped name × (place_of name names ≡ Some number)
 
 -- the key of such a name
 abbrev pub IsNameKey : Text → Type 0
-IsNameKey key = (name : Text) × (key ≡ key_of_name name) × IsShort name
+IsNameKey key = (name : Text) × (key ≡ key_of_name name) × IsShort blank.Escaped name
 
 -- the number of a value or a block without a name, without zeros before it, shorter than a text may be
 abbrev pub IsNumberKey : Text → Type 0

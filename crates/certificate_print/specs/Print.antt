@@ -1,12 +1,12 @@
 -- How certificates are printed.
-use Rattle.std.specs.Prelude.{ℕ, Bool, if◌then◌else◌, List, [], ◌∷◌, ◌++◌, drop, filter, Option, Some, None, slice_get, unwrap_or, codes}
+use Rattle.std.specs.Prelude.{ℕ, Bool, if◌then◌else◌, List, [], ◌∷◌, ◌++◌, drop, filter, Option, Some, None, slice_get, codes}
 use Rattle.std.specs.List.{flat_map, join_by, range_with_len, zip}
 use Rattle.std.specs.Fmt.{decimal}
-use Rattle.ir_ast.specs.KeyNames.{is_number_key, name_of_key}
+pub use Rattle.ir_ast.specs.Names.{name_at}
+pub use Rattle.ir_ast.specs.StructNames.{struct_name}
 use Rattle.ir_ast.specs.declared.block.Block.{Block}
 use Rattle.ir_ast.specs.declared.function.Function.{Function}
 use Rattle.ir_ast.specs.declared.function.Parameter.{Parameter}
-use Rattle.ir_ast.specs.declared.items_of_module.StructType.{StructType}
 use Rattle.ir_ast.specs.declared.module.Module.{Module}
 use Rattle.ir_tokens.specs.Bytes.{Text}
 use Rattle.name_text.specs.Names as names
@@ -29,30 +29,21 @@ use Rattle.certificate.specs.declared.section.Section.{Section}
 abbrev pub name_text : Text → Text
 name_text = names.name_text blank.Escaped
 
--- the name with this number
-abbrev pub name_at : List Text → (number : ℕ) → Text
-name_at names number = unwrap_or (slice_get names number) []
-
 -- what has this key: the number of a value or a block without a name as it is, and otherwise the name
 abbrev pub key_text : Text → Text
-key_text key = if is_number_key key then key else name_text (name_of_key key)
+key_text = names.key_text blank.Escaped
 
 -- a local name with its sign
 abbrev pub local_text : Function → (value : ℕ) → Text
-local_text f value = 37 ∷ key_text (name_at f.locals value)
+local_text f value = names.local_text blank.Escaped f.locals value
 
 -- a global name with its sign
 abbrev pub global_text : Module → (symbol : ℕ) → Text
-global_text m symbol = 64 ∷ name_text (name_at m.symbols symbol)
-
--- the name of a struct, if there is one
-abbrev pub struct_name : Module → Option StructType → Text
-struct_name m None = []
-struct_name m (Some struct) = name_at m.struct_names struct.name
+global_text = names.global_text blank.Escaped
 
 -- the name of a layout's type, without its sign
 abbrev pub layout_text : Module → (layout : ℕ) → Text
-layout_text m layout = name_text (struct_name m (slice_get m.structs layout))
+layout_text = names.layout_text blank.Escaped
 
 -- ---- facts
 

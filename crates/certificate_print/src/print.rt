@@ -1,91 +1,13 @@
 //! The text of the lines of certificates.
 ghost use Rattle.std.specs.Prelude.{◌≡◌, ◌++◌, OnOk, IfOk, drop, slice_get};
 ghost use Rattle.std.specs.Option.{option_copied};
-ghost use Rattle.std.specs.Fmt.{decimal};
 ghost use Rattle.certificate_print.specs.Print as spec;
 
 use certificate::{Age, Certs, Fact, Line};
-use ir_ast::{
-    BlockId, FuncId, Function, Module, Names, SymbolId, ValueId, is_number_key, name_of_key,
-};
-use name_text::Blank;
-use pools::{LayoutId, WordSet};
+use ir_ast::{BlockId, FuncId, Function, Module, ValueId};
+use name_text::{Blank, put_global, put_layout, put_local, put_number};
+use pools::WordSet;
 use std::alloc::{AllocError, Global};
-
-/// A name, in quotes where it is not plain; words stand apart by blanks, so it shows none.
-pub(crate) fn put_name(out: &mut Vec<u8>, name: &[u8]) -> Result<(), AllocError>
-    ensures { OnOk result (out.new.items ≡ out.old.items ++ spec.name_text name.now) }
-{
-    name_text::put_name(out, name, Blank::Escaped)
-}
-
-fn name_at(names: &Names, number: usize) -> &[u8]
-    ensures { result.now ≡ spec.name_at names.now number }
-{
-    names.get(number).unwrap_or(&[])
-}
-
-/// What has this key: a number as it is, and otherwise the name.
-fn put_key(out: &mut Vec<u8>, key: &[u8]) -> Result<(), AllocError>
-    ensures { OnOk result (out.new.items ≡ out.old.items ++ spec.key_text key.now) }
-{
-    if is_number_key(key) {
-        out.extend_from_slice(key)
-    } else {
-        put_name(out, name_of_key(key))
-    }
-}
-
-/// A local name with its sign.
-pub(crate) fn put_local(
-    out: &mut Vec<u8>,
-    function: &Function,
-    value: ValueId,
-) -> Result<(), AllocError>
-    ensures { OnOk result (out.new.items ≡ out.old.items ++ spec.local_text function.now value) }
-{
-    out.push(b'%')?;
-    put_key(out, name_at(&function.locals, value.number() as usize))
-}
-
-/// A global name with its sign.
-pub(crate) fn put_global(
-    out: &mut Vec<u8>,
-    module: &Module,
-    symbol: SymbolId,
-) -> Result<(), AllocError>
-    ensures { OnOk result (out.new.items ≡ out.old.items ++ spec.global_text «module».now symbol) }
-{
-    out.push(b'@')?;
-    put_name(out, name_at(&module.symbols, symbol.number() as usize))
-}
-
-fn struct_name(module: &Module, layout: LayoutId) -> &[u8]
-    ensures { result.now ≡ spec.struct_name «module».now (slice_get «module».now.structs layout) }
-{
-    match module.structs.get(layout.number() as usize) {
-        Some(named) => name_at(&module.struct_names, named.name.number() as usize),
-        None => &[],
-    }
-}
-
-/// The name of a layout's type.
-pub(crate) fn put_layout(
-    out: &mut Vec<u8>,
-    module: &Module,
-    layout: LayoutId,
-) -> Result<(), AllocError>
-    ensures { OnOk result (out.new.items ≡ out.old.items ++ spec.layout_text «module».now layout) }
-{
-    put_name(out, struct_name(module, layout))
-}
-
-fn put_number(alloc: Global, out: &mut Vec<u8>, number: u64) -> Result<(), AllocError>
-    ensures { OnOk result (out.new.items ≡ out.old.items ++ decimal number) }
-{
-    let digits = number.to_string(alloc)?;
-    out.extend_from_slice(digits.as_bytes())
-}
 
 /// A word that may stand there.
 pub(crate) fn put_if(out: &mut Vec<u8>, stands: bool, word: &[u8]) -> Result<(), AllocError>
@@ -127,7 +49,7 @@ fn put_value(
         None => Ok(()),
         Some(value) => {
             out.extend_from_slice(word)?;
-            put_local(out, function, value)
+            put_local(out, &function.locals, value, Blank::Escaped)
         }
     }
 }
@@ -198,20 +120,20 @@ fn put_fact(
             same,
         } => {
             out.extend_from_slice(b" ref ")?;
-            put_layout(out, module, *layout)?;
+            put_layout(out, module, *layout, Blank::Escaped)?;
             put_if(out, *nonnull, b" nonnull")?;
             put_age(out, *age)?;
             put_value(out, function, b" same ", *same)
         }
         Fact::Address { base, words } => {
             out.extend_from_slice(b" addr ")?;
-            put_local(out, function, *base)?;
+            put_local(out, &function.locals, *base, Blank::Escaped)?;
             out.push(b' ')?;
             put_words(alloc, out, words)
         }
         Fact::GlobalAddress(symbol) => {
             out.extend_from_slice(b" addr ")?;
-            put_global(out, module, *symbol)
+            put_global(out, module, *symbol, Blank::Escaped)
         }
     }
 }
@@ -228,7 +150,7 @@ pub(crate) fn put_line(
 {
     match line {
         Line::Value { value, fact } => {
-            put_local(out, function, *value)?;
+            put_local(out, &function.locals, *value, Blank::Escaped)?;
             put_fact(alloc, out, module, function, fact)
         }
         Line::Slot {
@@ -237,7 +159,7 @@ pub(crate) fn put_line(
             holds,
         } => {
             out.extend_from_slice(b"slot ")?;
-            put_local(out, function, *slot)?;
+            put_local(out, &function.locals, *slot, Blank::Escaped)?;
             put_if(out, *nonnull, b" nonnull")?;
             put_value(out, function, b" holds ", *holds)
         }

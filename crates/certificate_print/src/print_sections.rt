@@ -5,10 +5,11 @@ ghost use Rattle.certificate_print.specs.Named.{IsNamed};
 ghost use Rattle.certificate_print.specs.Print as spec;
 ghost use Rattle.certificate_text.specs.Text.{IsCert};
 
-use crate::print::{put_below, put_global, put_if, put_layout, put_line, put_local};
+use crate::print::{put_below, put_if, put_line};
 use certificate::{Certs, Line, Mark, Promise, Section};
 use ir_ast::{Block, Function, Module, Parameter};
 use items::Items;
+use name_text::{Blank, put_global, put_layout, put_local};
 use pools::LayoutId;
 use std::alloc::{AllocError, Global};
 
@@ -23,7 +24,7 @@ fn put_promised_layout(
         None => Ok(()),
         Some(layout) => {
             out.extend_from_slice(b" ref ")?;
-            put_layout(out, module, layout)
+            put_layout(out, module, layout, Blank::Escaped)
         }
     }
 }
@@ -57,7 +58,7 @@ fn put_parameter(
         None => Ok(()),
         Some(promise) => {
             out.extend_from_slice(b"param ")?;
-            put_local(out, function, parameter.value)?;
+            put_local(out, &function.locals, parameter.value, Blank::Escaped)?;
             put_promise(alloc, out, module, promise)
         }
     }
@@ -123,7 +124,7 @@ fn put_block(
     ensures { OnOk result (out.new.items ≡ out.old.items ++ spec.block_text «module».now function.now block.now lines.now) }
 {
     out.extend_from_slice(b"block ")?;
-    put_local(out, function, block.label)?;
+    put_local(out, &function.locals, block.label, Blank::Escaped)?;
     out.push(b'\n')?;
     put_lines(alloc, out, module, function, lines)
 }
@@ -154,7 +155,7 @@ fn put_heading(
     ensures { OnOk result (out.new.items ≡ out.old.items ++ spec.heading_text «module».now function.now mark) }
 {
     out.extend_from_slice(b"function ")?;
-    put_global(out, module, function.symbol)?;
+    put_global(out, module, function.symbol, Blank::Escaped)?;
     match mark {
         Mark::May => out.extend_from_slice(b" may\n"),
         Mark::None => out.extend_from_slice(b" none\n"),

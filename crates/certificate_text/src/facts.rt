@@ -11,7 +11,7 @@ use ir_ast::{BlockId, Function, Module, SymbolId, ValueId};
 use std::alloc::Global;
 
 /// Which fact a word begins.
-#[derive(Clone, Copy, Debug, PartialEq, Eq)]
+#[derive(Clone, Copy, PartialEq, Eq)]
 pub enum Head {
     Number(u32),
     Reference,

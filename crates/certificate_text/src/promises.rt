@@ -9,7 +9,7 @@ use ir_ast::Module;
 use std::alloc::Global;
 
 /// What a word promises.
-#[derive(Clone, Copy, Debug, PartialEq, Eq)]
+#[derive(Clone, Copy, PartialEq, Eq)]
 pub enum Promised {
     /// `ref`.
     Layout,

@@ -8,7 +8,8 @@ use Rattle.ir_ast.specs.declared.module.Module.{Module}
 use Rattle.ir_ast.specs.declared.items_of_module.SymbolSort.{SymbolSort}
 use Rattle.ir_ast.specs.declared.items_of_module.SymbolSort.TheVariants as sort
 use Rattle.types.specs.Globals.{global_named}
-use Rattle.types.specs.References.{struct_named}
+pub use Rattle.types.specs.Globals.{sort_at}
+pub use Rattle.types.specs.References.{struct_at}
 use Rattle.ir_tokens.specs.Bytes.{Text}
 use Rattle.certificate_words.specs.declared.naming.Naming.{Naming}
 use Rattle.certificate_words.specs.declared.naming.Naming.TheVariants.{NoName, Unknown, Named}
@@ -21,11 +22,6 @@ use Rattle.name_text.specs.declared.naming.Sigil.TheVariants as sigil
 abbrev pub function_by : Option SymbolSort → Naming
 function_by (Some (sort.Defined function)) = Named function
 function_by _ = Unknown
-
--- the sort of a symbol, if there is one
-abbrev pub sort_at : Module → Option ℕ → Option SymbolSort
-sort_at m None = None
-sort_at m (Some symbol) = slice_get m.sorts symbol
 
 -- the defined function of this name
 abbrev pub function_named : Module → Option Text → Naming
@@ -101,11 +97,6 @@ block_of_word f word = block_named f (name_in sigil.Local word)
 abbrev pub layout_by : Option ℕ → Naming
 layout_by None = Unknown
 layout_by (Some layout) = Named layout
-
--- the layout of a struct name, if it is defined
-abbrev pub struct_at : Module → Option ℕ → Option ℕ
-struct_at m None = None
-struct_at m (Some name) = struct_named m name
 
 -- the layout of this name
 abbrev pub layout_named : Module → Option Text → Naming

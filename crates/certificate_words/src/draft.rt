@@ -11,7 +11,7 @@ use shadow_stack::Slots;
 use std::alloc::{AllocError, Global};
 
 /// A value that the block has to list.
-#[derive(Clone, Copy, Debug, PartialEq, Eq)]
+#[derive(Clone, Copy, PartialEq, Eq)]
 pub struct Wanted {
     pub value: ValueId,
     /// How much of the text is left where it is named.
@@ -19,7 +19,7 @@ pub struct Wanted {
 }
 
 /// What is read so far of the section of a function, and of the block that is read.
-#[derive(Debug, Drop)]
+#[derive(Drop)]
 pub struct Draft {
     /// Whether each local name is that of a root slot.
     pub roots: Items<bool>,

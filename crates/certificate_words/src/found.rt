@@ -1,7 +1,7 @@
 use std::alloc::AllocError;
 
 /// A fault, with how much of the text is left where it is found.
-#[derive(Clone, Copy, Debug, PartialEq, Eq)]
+#[derive(Clone, Copy, PartialEq, Eq)]
 pub enum Found {
     Syntax(usize),
     Version(usize),

@@ -17,7 +17,7 @@ use std::marker::Model;
 use std::mem;
 
 /// A section that is read.
-#[derive(Debug, Drop)]
+#[derive(Drop)]
 pub struct Kept {
     pub section: Section,
     /// The first block that it leaves out.

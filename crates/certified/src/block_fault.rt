@@ -14,7 +14,7 @@ pub struct Detail {
 }
 
 /// What an instruction breaks: a rule, and for a fact that an edge does not show where that one stands.
-#[derive(Clone, Copy, Debug, PartialEq, Eq)]
+#[derive(Clone, Copy, PartialEq, Eq)]
 pub struct Breach {
     pub rule: Rule,
     pub detail: Option<Detail>,

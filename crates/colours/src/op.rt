@@ -10,7 +10,7 @@ use crate::stage::{DONE, claim_at, is_async, mark_at};
 use std::marker::Model;
 
 /// A call of a thread on the heap, one operation at a time.
-#[derive(Debug, Drop)]
+#[derive(Drop)]
 pub struct Op {
     thread: usize,
     stage: u64,
@@ -18,7 +18,7 @@ pub struct Op {
 }
 
 /// A word, and the reference that will stand there.
-#[derive(Clone, Copy, Debug)]
+#[derive(Clone, Copy)]
 struct Replacement {
     cell: u32,
     word: u32,
@@ -26,7 +26,7 @@ struct Replacement {
 }
 
 /// The next operation.
-#[derive(Clone, Copy, Debug)]
+#[derive(Clone, Copy)]
 enum Next {
     Read(u32, u32),
     StorePlain(u32, u32, u64),

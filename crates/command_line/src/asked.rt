@@ -8,7 +8,7 @@ use clap::error::ErrorKind;
 use std::alloc::{AllocError, Global};
 
 /// A command with the paths of its files.
-#[derive(Clone, Copy, Debug, PartialEq, Eq)]
+#[derive(Clone, Copy, PartialEq, Eq)]
 pub enum Line<'a> {
     /// Check a module against a certificate.
     Check {

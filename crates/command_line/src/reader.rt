@@ -56,12 +56,21 @@ fn dgc_command<'a>(alloc: Global) -> Result<Command<'a>, AllocError>
     ensures app { IfOk result (λ command. app_of command ≡ dgc_app) }
     ensures own { IfOk result (λ command. (out-Command command).has_globals ≡ false) }
 {
-    Command::new(alloc, "dgc")
+    let check = files_command(alloc, "check", "CERT")?;
+    let command = Command::new(alloc, "dgc")
         .version("0.1.0")
         .subcommand_required(true)
-        .subcommand(files_command(alloc, "check", "CERT")?)?
-        .subcommand(files_command(alloc, "replay", "TRACE")?)?
-        .subcommand(soak_command(alloc)?)
+        .subcommand(check)?;
+    let Ok(replay) = files_command(alloc, "replay", "TRACE") else {
+        drop(command);
+        return Err(AllocError);
+    };
+    let command = command.subcommand(replay)?;
+    let Ok(soak) = soak_command(alloc) else {
+        drop(command);
+        return Err(AllocError);
+    };
+    command.subcommand(soak)
 }
 
 /// The paths of the module and of the other file, if both were given.
@@ -151,9 +160,12 @@ pub fn line<'a>(alloc: Global, words: &'a [&'a str]) -> Result<Line<'a>, LineFau
 {
     let matches = dgc_command(alloc)?.try_get_matches_from(words)?;
     let Some((name, given)) = matches.subcommand() else {
+        drop(matches);
         return Err(LineFault::NoCommand);
     };
-    match command_line(name, given) {
+    let line = command_line(name, given);
+    drop(matches);
+    match line {
         Some(line) => Ok(line),
         None => Err(LineFault::NoCommand),
     }

@@ -21,7 +21,7 @@ const TAKES: &str =
     "%T = type { i64 }\ndefine void @takes(%T* %t) gc \"shadow-stack\" {\nentry:\n  ret void\n}\n";
 
 /// How a thread of the first function of a text fares.
-#[derive(Clone, Copy, Debug, PartialEq, Eq)]
+#[derive(Clone, Copy, PartialEq, Eq)]
 enum Fate {
     /// Behind so many local steps it asks for something else.
     Asks { steps: u32, asked: Action },
@@ -58,7 +58,11 @@ fn fate_in(alloc: Global, program: &Program, arguments: &[u64]) -> Result<Fate, 
         return Ok(Fate::Unread);
     }
     match Thread::start(alloc, program, FuncId::new(0), arguments) {
-        Ok(mut thread) => fate_of(&mut thread),
+        Ok(mut thread) => {
+            let fate = fate_of(&mut thread);
+            drop(thread);
+            fate
+        }
         Err(StartFault::ReferenceParameter) => Ok(Fate::TakesReference),
         Err(StartFault::WrongArguments) => Ok(Fate::WrongArguments),
         Err(StartFault::Memory(error)) => Err(error),
@@ -67,7 +71,11 @@ fn fate_in(alloc: Global, program: &Program, arguments: &[u64]) -> Result<Fate, 
 
 fn tried(alloc: Global, text: &str, arguments: &[u64]) -> Result<Fate, AllocError> {
     match program_of(alloc, text) {
-        Some(program) => fate_in(alloc, &program, arguments),
+        Some(program) => {
+            let fate = fate_in(alloc, &program, arguments);
+            drop(program);
+            fate
+        }
         None => Ok(Fate::Unread),
     }
 }

@@ -22,8 +22,9 @@ const ADDS_PRINTED: &str =
 fn is_printed_as(alloc: Global, text: &[u8], printed: &[u8]) -> Result<bool, AllocError> {
     match read(alloc, text) {
         Ok(module) => {
-            let own = print(alloc, &module)?;
-            Ok(own.as_slice() == printed)
+            let own = print(alloc, &module);
+            drop(module);
+            Ok(own?.as_slice() == printed)
         }
         Err(_) => Ok(false),
     }

@@ -1,6 +1,6 @@
 //! Whole commands on texts with functions of several blocks.
 use crate::tests::{HEAD, joined, prints};
-use ir_ast::Function;
+use ir_ast::{Function, Module};
 use ir_text::{ReadFault, read};
 use report::{STATUS_UNREADABLE, STATUS_YES};
 use std::alloc::{AllocError, Global};
@@ -121,7 +121,11 @@ fn names_the_type_without_words(rt: HostRuntime) -> Result<(), Fail> {
 /// its end the name of an intrinsic that there is not.
 fn may_be_cut(alloc: Global, text: &[u8]) -> bool {
     match read(alloc, text) {
-        Ok(module) => module.functions.len() <= 1,
+        Ok(module) => {
+            let count = module.functions.len();
+            drop(module);
+            count <= 1
+        }
         Err(ReadFault::BadByte(_) | ReadFault::Unfinished(_) | ReadFault::Unexpected(_)) => true,
         Err(ReadFault::LeftOut { word, .. }) => {
             word.as_slice().starts_with(b"@llvm.") && text.ends_with(word.as_slice())
@@ -153,11 +157,8 @@ fn block_sizes(alloc: Global, function: &Function) -> Result<Vec<usize>, AllocEr
     Ok(sizes)
 }
 
-/// Whether a text is a module of one function with blocks of these sizes, two globals and a declared function.
-fn has_blocks(alloc: Global, text: &[u8], sizes: &[usize]) -> Result<bool, AllocError> {
-    let Ok(module) = read(alloc, text) else {
-        return Ok(false);
-    };
+/// Whether a module is of one function with blocks of these sizes, two globals and a declared function.
+fn are_blocks_of(alloc: Global, module: &Module, sizes: &[usize]) -> Result<bool, AllocError> {
     let is_alike = module.globals.len() == 2 && module.declares.len() == 1;
     match module.functions.as_slice() {
         [function] => {
@@ -165,6 +166,18 @@ fn has_blocks(alloc: Global, text: &[u8], sizes: &[usize]) -> Result<bool, Alloc
             Ok(is_alike && own.as_slice() == sizes)
         }
         _ => Ok(false),
+    }
+}
+
+/// Whether a text is such a module.
+fn has_blocks(alloc: Global, text: &[u8], sizes: &[usize]) -> Result<bool, AllocError> {
+    match read(alloc, text) {
+        Ok(module) => {
+            let own = are_blocks_of(alloc, &module, sizes);
+            drop(module);
+            own
+        }
+        Err(_) => Ok(false),
     }
 }
 

@@ -361,8 +361,9 @@ fn drawn_from(alloc: Global, program: &Program, seed: u32) -> Result<String, All
     match read_trace(alloc, KEPT.as_bytes(), program) {
         Ok(trace) => {
             let drawn = drawn_trace(alloc, trace, seed, 45)?;
-            let printed = print_trace(alloc, &drawn, program)?;
-            text_of(alloc, printed.as_slice())
+            let printed = print_trace(alloc, &drawn, program);
+            drop(drawn);
+            text_of(alloc, printed?.as_slice())
         }
         Err(_) => Ok(String::new(alloc)),
     }
@@ -371,7 +372,11 @@ fn drawn_from(alloc: Global, program: &Program, seed: u32) -> Result<String, All
 /// The text of the trace that a seed draws.
 fn drawn_text(alloc: Global, seed: u32) -> Result<String, AllocError> {
     match program_of(alloc, [HEAD, KEEPER].as_slice())? {
-        Some(program) => drawn_from(alloc, &program, seed),
+        Some(program) => {
+            let text = drawn_from(alloc, &program, seed);
+            drop(program);
+            text
+        }
         None => Ok(String::new(alloc)),
     }
 }
@@ -441,7 +446,11 @@ fn stopped(
 /// The actors of the steps of a trace of this program.
 fn actors_in(alloc: Global, program: &Program, trace: &str) -> Result<Vec<Actor>, AllocError> {
     match read_trace(alloc, trace.as_bytes(), program) {
-        Ok(trace) => actors_of(alloc, &trace),
+        Ok(trace) => {
+            let actors = actors_of(alloc, &trace);
+            drop(trace);
+            actors
+        }
         Err(_) => Ok(Vec::new(alloc)),
     }
 }
@@ -449,7 +458,11 @@ fn actors_in(alloc: Global, program: &Program, trace: &str) -> Result<Vec<Actor>
 /// The actors of the steps of a trace.
 fn actors_at(alloc: Global, module: &[&str], trace: &str) -> Result<Vec<Actor>, AllocError> {
     match program_of(alloc, module)? {
-        Some(program) => actors_in(alloc, &program, trace),
+        Some(program) => {
+            let actors = actors_in(alloc, &program, trace);
+            drop(program);
+            actors
+        }
         None => Ok(Vec::new(alloc)),
     }
 }
@@ -489,33 +502,41 @@ fn lets_actors_stop_for_good(rt: HostRuntime) -> Result<(), Fail> {
     Ok(())
 }
 
-/// Whether two traces are shown alike.
-fn are_shown_alike(alloc: Global, one: &Trace, other: &Trace) -> Result<bool, AllocError> {
-    let shown = format!(in alloc; "{one:?}")?;
-    Ok(shown.as_str() == format!(in alloc; "{other:?}")?.as_str())
-}
-
-/// Whether what is printed of a trace of this program is read as that trace again.
-fn is_read_again_by(alloc: Global, program: &Program, trace: &Trace) -> Result<bool, AllocError> {
-    let printed = print_trace(alloc, trace, program)?;
-    match read_trace(alloc, printed.as_slice(), program) {
-        Ok(again) => are_shown_alike(alloc, trace, &again),
-        Err(_) => Ok(false),
+/// What is printed of the trace of a text, if it is one of this program.
+fn printed_again(
+    alloc: Global,
+    program: &Program,
+    trace: &[u8],
+) -> Result<Option<Vec<u8>>, AllocError> {
+    match read_trace(alloc, trace, program) {
+        Ok(trace) => {
+            let printed = print_trace(alloc, &trace, program);
+            drop(trace);
+            Ok(Some(printed?))
+        }
+        Err(_) => Ok(None),
     }
 }
 
-/// Whether the trace of this text is one of the program, and what is printed of it is read as that trace again.
+/// Whether the trace of this text is one of the program, and what is printed of it is read and printed so again.
 fn is_traced_again(alloc: Global, program: &Program, trace: &str) -> Result<bool, AllocError> {
-    match read_trace(alloc, trace.as_bytes(), program) {
-        Ok(trace) => is_read_again_by(alloc, program, &trace),
-        Err(_) => Ok(false),
+    let Some(printed) = printed_again(alloc, program, trace.as_bytes())? else {
+        return Ok(false);
+    };
+    match printed_again(alloc, program, printed.as_slice())? {
+        Some(again) => Ok(again.as_slice() == printed.as_slice()),
+        None => Ok(false),
     }
 }
 
 /// So of a trace of a module's program.
 fn is_read_again(alloc: Global, module: &[&str], trace: &str) -> Result<bool, AllocError> {
     match program_of(alloc, module)? {
-        Some(program) => is_traced_again(alloc, &program, trace),
+        Some(program) => {
+            let again = is_traced_again(alloc, &program, trace);
+            drop(program);
+            again
+        }
         None => Ok(false),
     }
 }

@@ -31,7 +31,7 @@ pub(crate) fn joined(alloc: Global, texts: &[&str]) -> Result<Vec<u8>, AllocErro
 }
 
 /// The status with which a command ends, and what it prints as its answer and as its fault.
-#[derive(Clone, Copy, Debug)]
+#[derive(Clone, Copy)]
 pub(crate) struct Printed<'a> {
     pub(crate) status: u8,
     pub(crate) out: &'a str,

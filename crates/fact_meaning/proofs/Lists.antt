@@ -94,12 +94,6 @@ pub longer : {X : Type 0} (xs : List X) (y : X) → length (xs ++ y ∷ []) ≡ 
 longer [] y = refl
 longer (x ∷ xs) y = ap suc (longer xs y)
 
--- a place of a list that has an element is within it
-pub has_place : {X : Type 0} (xs : List X) (i : ℕ) (x : X) → slice_get xs i ≡ Some x → i < length xs
-has_place [] i x e = absurd cc
-has_place (y ∷ ys) zero x e = omega arith
-has_place (y ∷ ys) (suc i) x e = let r = has_place ys i x e in omega arith
-
 -- a place is this one, or another
 pub by_equal : {A : Type 0} (x y : ℕ) → (x ≡ y → A) → (x ≢ y → A) → A
 by_equal {A} x y same other = pick (x == y) refl where

@@ -7,7 +7,7 @@ use colours::{Ask, Place, is_async, mark_at};
 use std::marker::Model;
 
 /// A thread's safepoint, one operation at a time. Its roots are lent, the oldest frame's first.
-#[derive(Debug, Drop)]
+#[derive(Drop)]
 pub struct Safepoint<'a> {
     thread: usize,
     stage: u64,
@@ -16,7 +16,7 @@ pub struct Safepoint<'a> {
 }
 
 /// The next operation.
-#[derive(Clone, Copy, Debug)]
+#[derive(Clone, Copy)]
 enum Next<'a> {
     ReadPosted,
     /// The posted stage, a root that isn't null, and the roots behind it.

@@ -1,5 +1,5 @@
 -- Names and their numbers.
-use Rattle.std.specs.Prelude.{ℕ, List, ◌++◌, [], ◌∷◌, Option, Some, None, position, length, unwrap_or, is_some, if◌then◌else◌}
+use Rattle.std.specs.Prelude.{ℕ, List, ◌++◌, [], ◌∷◌, Option, Some, None, position, length, slice_get, unwrap_or, is_some, if◌then◌else◌}
 use Rattle.std.specs.Str.{bytes_eq}
 
 -- the number of a name: its place, if it is there
@@ -13,3 +13,7 @@ number_of text names = unwrap_or (place_of text names) (length names)
 -- the names with this one, which is added at the end where it is new
 abbrev pub numbered : List ℕ → List (List ℕ) → List (List ℕ)
 numbered text names = if is_some (place_of text names) then names else names ++ text ∷ []
+
+-- the name with this number, empty where there is none
+abbrev pub name_at : List (List ℕ) → (number : ℕ) → List ℕ
+name_at names number = unwrap_or (slice_get names number) []

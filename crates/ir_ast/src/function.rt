@@ -7,7 +7,7 @@ use crate::value_id::ValueId;
 use items::Items;
 
 /// What a local name stands for.
-#[derive(Clone, Copy, Debug, PartialEq, Eq)]
+#[derive(Clone, Copy, PartialEq, Eq)]
 pub enum LocalSort {
     /// It was used, and not defined so far.
     Unknown,
@@ -19,7 +19,7 @@ pub enum LocalSort {
 }
 
 /// A parameter of a defined function.
-#[derive(Clone, Copy, Debug, PartialEq, Eq)]
+#[derive(Clone, Copy, PartialEq, Eq)]
 pub struct Parameter {
     pub written: TypeId,
     pub value: ValueId,

@@ -2,7 +2,7 @@ use crate::struct_name_id::StructNameId;
 use crate::type_id::TypeId;
 
 /// A type, whose parts are types of the same table. Equal types have one place there.
-#[derive(Clone, Copy, Debug, PartialEq, Eq, Hash)]
+#[derive(Clone, Copy, PartialEq, Eq, Hash)]
 pub enum IrType {
     Void,
     /// An integer of so many bits, from 1 to 64.

@@ -9,7 +9,7 @@ use crate::type_id::TypeId;
 use items::Items;
 
 /// A named struct type.
-#[derive(Debug, Drop)]
+#[derive(Drop)]
 pub struct StructType {
     pub name: StructNameId,
     /// The struct type that the name stands for.
@@ -26,7 +26,7 @@ pub struct Global {
 }
 
 /// A declared function.
-#[derive(Debug, Drop)]
+#[derive(Drop)]
 pub struct Declare {
     pub symbol: SymbolId,
     /// Which function of the runtime its name is.
@@ -36,7 +36,7 @@ pub struct Declare {
 }
 
 /// What a global name stands for.
-#[derive(Clone, Copy, Debug, PartialEq, Eq)]
+#[derive(Clone, Copy, PartialEq, Eq)]
 pub enum SymbolSort {
     /// It was used, and not defined so far.
     Unknown,

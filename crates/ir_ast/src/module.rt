@@ -1,3 +1,6 @@
+ghost use Rattle.std.specs.Prelude.{◌≡◌, slice_get};
+ghost use Rattle.ir_ast.specs.StructNames.{struct_name};
+
 use crate::function::Function;
 use crate::items_of_module::{Declare, Global, StructType, SymbolSort};
 use crate::names::Names;
@@ -23,4 +26,16 @@ pub struct Module {
     pub globals: Items<Global>,
     pub declares: Items<Declare>,
     pub functions: Items<Function>,
+}
+
+impl Module {
+    /// The name of the struct of a layout, empty where there is none.
+    pub fn struct_name(&self, layout: LayoutId) -> &[u8]
+        ensures { result.now ≡ struct_name self.now (slice_get self.now.structs layout) }
+    {
+        match self.structs.get(layout.number() as usize) {
+            Some(named) => self.struct_names.name_at(named.name.number() as usize),
+            None => &[],
+        }
+    }
 }

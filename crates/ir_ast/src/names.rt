@@ -1,6 +1,6 @@
 ghost use Rattle.std.specs.Prelude.{◌≡◌, ◌<◌, ◌≤◌, ◌^◌, [], length, slice_get, None, OnOk, OnErr, IfOk, IfSome};
 ghost use Rattle.std.specs.Option.{option_copied};
-ghost use Rattle.ir_ast.specs.Names.{place_of, number_of, numbered};
+ghost use Rattle.ir_ast.specs.Names.{name_at, place_of, number_of, numbered};
 
 use indexmap::IndexSet;
 use std::alloc::{AllocError, Global};
@@ -56,6 +56,13 @@ impl Names {
     {
         let text = self.texts.get_index(number)?;
         Some(text.as_slice())
+    }
+
+    /// The name with this number, empty where there is none.
+    pub fn name_at(&self, number: usize) -> &[u8]
+        ensures { result.now ≡ name_at self.now number }
+    {
+        self.get(number).unwrap_or(&[])
     }
 
     /// The number of a name; a new name is added at the end. For a name that is there no memory is taken, and the table

@@ -5,14 +5,14 @@ use crate::value_id::ValueId;
 use items::Items;
 
 /// An operand with its written type: an argument of a call, an index, the value of a return.
-#[derive(Clone, Copy, Debug, PartialEq, Eq)]
+#[derive(Clone, Copy, PartialEq, Eq)]
 pub struct Argument {
     pub written: TypeId,
     pub operand: Operand,
 }
 
 /// Integer instructions of two operands, which are taken modulo 2 to the bits.
-#[derive(Clone, Copy, Debug, PartialEq, Eq)]
+#[derive(Clone, Copy, PartialEq, Eq)]
 pub enum Arithmetic {
     Add,
     Sub,
@@ -23,7 +23,7 @@ pub enum Arithmetic {
 }
 
 /// Changes of an integer's width.
-#[derive(Clone, Copy, Debug, PartialEq, Eq)]
+#[derive(Clone, Copy, PartialEq, Eq)]
 pub enum Resize {
     ZeroExtend,
     SignExtend,
@@ -31,7 +31,7 @@ pub enum Resize {
 }
 
 /// What icmp asks of its operands.
-#[derive(Clone, Copy, Debug, PartialEq, Eq)]
+#[derive(Clone, Copy, PartialEq, Eq)]
 pub enum Comparison {
     Equal,
     NotEqual,
@@ -46,21 +46,21 @@ pub enum Comparison {
 }
 
 /// What a phi gives where its block is entered from the block with this label.
-#[derive(Clone, Copy, Debug, PartialEq, Eq)]
+#[derive(Clone, Copy, PartialEq, Eq)]
 pub struct Incoming {
     pub operand: Operand,
     pub from: ValueId,
 }
 
 /// Where a switch goes on if its value is this constant.
-#[derive(Clone, Copy, Debug, PartialEq, Eq)]
+#[derive(Clone, Copy, PartialEq, Eq)]
 pub struct Case {
     pub constant: Constant,
     pub target: ValueId,
 }
 
 /// What an instruction does, with the types that it writes. Blocks are named by their labels.
-#[derive(Debug, Drop)]
+#[derive(Drop)]
 pub enum Op {
     /// A slot that holds a value of this type.
     Alloca(TypeId),

@@ -13,7 +13,7 @@ pub enum Constant {
 }
 
 /// What an instruction reads.
-#[derive(Clone, Copy, Debug, PartialEq, Eq)]
+#[derive(Clone, Copy, PartialEq, Eq)]
 pub enum Operand {
     Constant(Constant),
     Local(ValueId),

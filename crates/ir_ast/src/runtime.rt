@@ -1,5 +1,5 @@
 /// A function of the runtime or an intrinsic, known by its name.
-#[derive(Clone, Copy, Debug, PartialEq, Eq)]
+#[derive(Clone, Copy, PartialEq, Eq)]
 pub enum Runtime {
     /// `dg_alloc`
     Alloc,

@@ -1,18 +1,6 @@
 -- Numbers as they are written.
-use Rattle.std.specs.Prelude.{ℕ, ◌+◌, ◌-◌, ◌*◌, ◌^◌, ◌==◌, nat_lt, nat_le, if◌then◌else◌, List, [], ◌∷◌, Option, Some, None, min, option_and_then}
-
--- the number that digits spell behind those that spell n
-abbrev pub decimal_behind : ℕ → List ℕ → ℕ
-decimal_behind n [] = n
-decimal_behind n (digit ∷ digits) = decimal_behind (10 * n + (digit - 48)) digits
-
--- the number that decimal digits spell
-unfoldable pub decimal : List ℕ → ℕ
-decimal digits = decimal_behind 0 digits
-
--- a number below 2 to the 64
-abbrev pub small : ℕ → Option ℕ
-small n = if nat_lt n 18446744073709551616 then Some n else None
+use Rattle.std.specs.Prelude.{ℕ, ◌-◌, ◌*◌, ◌^◌, ◌==◌, nat_lt, nat_le, if◌then◌else◌, List, [], ◌∷◌, Option, Some, None, min, option_and_then}
+pub use Rattle.name_text.specs.Numbers.{decimal, decimal_behind, small}
 
 -- the opposite of a number, which lies not below 0
 abbrev pub not_below_zero : ℕ → Option ℕ

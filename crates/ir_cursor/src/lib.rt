@@ -10,7 +10,8 @@ mod uses;
 
 pub use cursor::Cursor;
 pub use fault::Fault;
-pub use number::{constant, decimal, natural};
+pub use name_text::decimal;
+pub use number::{constant, natural};
 pub use runtime_names::{is_intrinsic, is_left_out, runtime_of};
 pub use table::Table;
 pub use uses::{LocalUse, StructUse, SymbolUse, Wanted};

@@ -2,20 +2,7 @@
 ghost use Rattle.std.specs.Prelude.{◌≡◌, ◌≤◌};
 ghost use Rattle.ir_cursor.specs.Number as spec;
 
-/// The number that decimal digits spell, if it is below 2 to the 64.
-pub fn decimal(digits: &[u8]) -> Option<u64>
-    ensures { result ≡ spec.small (spec.decimal digits.now) }
-{
-    let mut number: u64 = 0;
-    for digit in digits {
-        let value = digit.saturating_sub(b'0') as u64;
-        if number > (u64::MAX - value) / 10 {
-            return None;
-        }
-        number = 10 * number + value;
-    }
-    Some(number)
-}
+use name_text::decimal;
 
 /// The number that a length spells, if it lies from 0 to below 2 to the 64.
 #[tactic(auto, unfolding(crate::specs::Number::natural))]

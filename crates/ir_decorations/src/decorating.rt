@@ -27,7 +27,7 @@ pub fn any_token(input: &mut Input<'_>) -> Result<Kind, Fault>
 // ---- what stands behind a word
 
 /// How many round brackets are open.
-#[derive(Clone, Copy, Debug, PartialEq, Eq)]
+#[derive(Clone, Copy, PartialEq, Eq)]
 pub struct Brackets {
     pub depth: u32,
 }
@@ -71,7 +71,7 @@ fn past_brackets(alloc: Global, input: &mut Input<'_>) -> Result<(), Fault>
 }
 
 /// Which part of a form the decorations stand beside.
-#[derive(Clone, Copy, Debug, PartialEq, Eq)]
+#[derive(Clone, Copy, PartialEq, Eq)]
 pub enum Spot {
     /// A global, behind its `=`.
     Global,
@@ -287,7 +287,7 @@ pub fn flags(alloc: Global, input: &mut Input<'_>, may_wrap: bool) -> Result<(),
 // ---- behind an instruction or a global
 
 /// Which decorations may stand behind an instruction or a global.
-#[derive(Clone, Copy, Debug, PartialEq, Eq)]
+#[derive(Clone, Copy, PartialEq, Eq)]
 pub enum Trail {
     /// Those of an alloca, whose count is left out.
     Slot,

@@ -12,7 +12,7 @@ use ir_tokens::Kind;
 use std::alloc::Global;
 
 /// Two operands of one type.
-#[derive(Clone, Copy, Debug, PartialEq, Eq)]
+#[derive(Clone, Copy, PartialEq, Eq)]
 pub struct TwoOperands {
     pub written: TypeId,
     pub first: Operand,

@@ -92,7 +92,7 @@ fn index(alloc: Global, input: &mut Input<'_>) -> Result<Argument, Fault>
 }
 
 /// The indices of a getelementptr so far.
-#[derive(Clone, Copy, Debug, PartialEq, Eq)]
+#[derive(Clone, Copy, PartialEq, Eq)]
 pub struct IndexList {
     /// Whether there is one.
     pub is_further: bool,

@@ -4,7 +4,7 @@ ghost use Rattle.ir_instructions.specs.Sites as spec;
 use ir_ast::{BlockId, Op};
 
 /// Where an instruction stands.
-#[derive(Clone, Copy, Debug, PartialEq, Eq)]
+#[derive(Clone, Copy, PartialEq, Eq)]
 pub struct Site {
     pub block: BlockId,
     /// How many instructions of its block stand before it.

@@ -11,7 +11,7 @@ use ir_tokens::Kind;
 use std::alloc::Global;
 
 /// What a type is before its stars.
-#[derive(Clone, Copy, Debug, PartialEq, Eq)]
+#[derive(Clone, Copy, PartialEq, Eq)]
 pub enum Base {
     /// An integer of so many bits.
     Integer(u32),
@@ -22,7 +22,7 @@ pub enum Base {
 }
 
 /// A type as it is written: a base with stars behind it.
-#[derive(Clone, Copy, Debug, PartialEq, Eq)]
+#[derive(Clone, Copy, PartialEq, Eq)]
 pub struct WrittenType {
     pub base: Base,
     pub stars: u32,

@@ -5,7 +5,7 @@ use Rattle.std.specs.List.{list_all}
 use Rattle.std.specs.Fmt as text
 use Rattle.std.proofs.lemmas.Bool.{eqb-true}
 use Rattle.std.proofs.lemmas.Bool.Decides.{nat_tests}
-use Rattle.std.proofs.lemmas.Fmt.{digits_decimal, digits_value-decimal, decimal_nonempty}
+use Rattle.std.proofs.lemmas.Fmt.{digits_decimal, decimal_nonempty}
 use Rattle.std.proofs.Math.Nat.{pow-succ'}
 use Rattle.std.proofs.Math.Pow.{pow_mono}
 use Rattle.std.proofs.lemmas.Str.Parse.{IsNumeralModel, numerals_by_fold}
@@ -31,6 +31,7 @@ use Rattle.ir_cursor.specs.Cursor.{name}
 use Rattle.ir_parts.specs.Written.{integer, bits_at}
 use Rattle.ir_print.specs.Readings.{ConstantsAreRead, IntegerTypesAreRead}
 use Rattle.name_text.proofs.Seams.{both}
+use Rattle.name_text.proofs.Spelled.{number_is}
 use Rattle.ir_print.proofs.Words.{second_of, word_comes, number_comes}
 
 -- ---- numbers
@@ -40,10 +41,6 @@ model = numerals_by_fold _ (search rules) numbers.decimal_behind (search rules)
 
 pub are_digits : (n : ℕ) → n < 2 ^ 64 → AreDigits (text.decimal n)
 are_digits n less = (decimal_nonempty n less, digits_decimal model n less)
-
-pub decimal_value : (n : ℕ) → n < 2 ^ 64 → numbers.decimal (text.decimal n) ≡ n
-unfolding numbers.decimal
-decimal_value n less = digits_value-decimal model n less
 
 no_minus : (b : ℕ) → is_digit b ≡ true → b == 45 ≡ false
 no_minus b e = let low : nat_le 48 b ≡ true = (both (nat_le 48 b) (nat_le b 57) e).0 in grind (arith, nat_tests)
@@ -94,7 +91,7 @@ unfolding number number_at
 number_read bits n i gap rest less fits blanks seam at =
     let own = are_digits n less in
     let w = number_comes i.cursor gap (text.decimal n) rest blanks own seam at in
-    let e : number_at bits i ≡ Some n = ap (λ (x : Text). numbers.constant x (unwrap_or bits 64)) w.1 ∙ number_value (text.decimal n) n (unwrap_or bits 64) own (decimal_value n less) less fits in (
+    let e : number_at bits i ≡ Some n = ap (λ (x : Text). numbers.constant x (unwrap_or bits 64)) w.1 ∙ number_value (text.decimal n) n (unwrap_or bits 64) own (number_is n less) less fits in (
       by_kind bits (c.Number n) i (advanced i) k.Number w.0 (tt, i, (ap (λ (x : Option ℕ). is_some x) e, refl), (ap (λ (x : Option ℕ). c.Number (unwrap_or x 0)) e, refl)),
       w.3,
     )
@@ -152,7 +149,7 @@ integer_types_are_read bits i gap rest some most blanks seam at =
     let less : bits < 2 ^ 64 = omega (arith, most) in
     let own = are_digits bits less in
     let w = word_comes i.cursor gap (105 ∷ text.decimal bits) rest blanks (plain_digits (text.decimal bits) own.1) seam at in
-    let value : bits_at i ≡ bits = ap (λ (x : Text). numbers.decimal (drop 1 x)) w.1 ∙ decimal_value bits less in
+    let value : bits_at i ≡ bits = ap (λ (x : Text). numbers.decimal (drop 1 x)) w.1 ∙ number_is bits less in
     let low : nat_le 1 bits ≡ true = grind (arith, nat_tests) in
     let high : nat_le bits 64 ≡ true = grind (arith, nat_tests) in
     let in_range : (nat_le 1 (bits_at i) && nat_le (bits_at i) 64) ≡ true = ap (λ (n : ℕ). nat_le 1 n && nat_le n 64) value ∙ rw (low, high) refl in

@@ -1,4 +1,3 @@
-mod Turns
 pub mod Standing
 pub mod Seams
 pub mod Spelled

@@ -14,7 +14,8 @@ use Rattle.ir_cursor.specs.Table.{mentioned}
 use Rattle.ir_parts.specs.declared.input.Input.{Input}
 use Rattle.ir_parts.specs.Names.{local_number, is_known_local, is_local, is_at, is_written_next, next_number, take_number, new_value, numbered_value, with_number_taken}
 use Rattle.ir_print.specs.Readings.{NumberedValuesAreRead}
-use Rattle.ir_print.proofs.Constants.{are_digits, decimal_value}
+use Rattle.name_text.proofs.Spelled.{number_is}
+use Rattle.ir_print.proofs.Constants.{are_digits}
 use Rattle.name_text.proofs.Reading.{digits_spelled}
 use Rattle.ir_print.proofs.Words.{local_number_comes}
 
@@ -59,7 +60,7 @@ number_next i e less =
     let small : nat_lt i.unnamed 18446744073709551616 ≡ true = grind (arith, nat_tests) in
     let itself : i.unnamed == i.unnamed ≡ true = grind (arith, nat_tests) in
     let further : nat_lt i.unnamed 4294967295 ≡ true = grind (arith, nat_tests) in
-    let value : numbers.decimal (spelled i.cursor) ≡ i.unnamed = ap numbers.decimal e ∙ decimal_value i.unnamed wide in
+    let value : numbers.decimal (spelled i.cursor) ≡ i.unnamed = ap numbers.decimal e ∙ number_is i.unnamed wide in
     let written : is_written_next i ≡ true =
     ap (λ (n : ℕ). is_at i.unnamed (numbers.small n)) value ∙ ap (λ (t : Bool). is_at i.unnamed (if t then Some i.unnamed else None)) small ∙ itself in
     (tt, i, (written, refl), (tt, i, (further, refl), (refl, refl)))

@@ -5,13 +5,13 @@ ghost use Rattle.ir_ast.specs.declared.op.Op.TheVariants as op;
 ghost use Rattle.ir_print.specs.Instructions as spec;
 
 use crate::lists::{put_arguments, put_cases, put_entries, put_indices, put_target};
-use crate::names::{put_global, put_local};
 use crate::operands::{put_argument, put_operand, put_typed};
 use crate::types::put_type;
 use ir_ast::{
     Argument, Arithmetic, Case, Comparison, Incoming, Instr, Module, Names, Op, Operand, Resize,
     SymbolId, TypeId, ValueId,
 };
+use name_text::{Blank, put_global, put_local};
 use std::alloc::{AllocError, Global};
 
 /// The word of an integer instruction of two operands.
@@ -194,7 +194,7 @@ fn put_call(
     out.extend_from_slice(b"call ")?;
     put_type(alloc, out, module, returned)?;
     out.push(b' ')?;
-    put_global(out, module, callee)?;
+    put_global(out, module, callee, Blank::Kept)?;
     out.push(b'(')?;
     put_arguments(alloc, out, module, locals, arguments)?;
     out.push(b')')?;
@@ -467,7 +467,7 @@ fn put_result(out: &mut Vec<u8>, locals: &Names, value: Option<ValueId>) -> Resu
     match value {
         None => Ok(()),
         Some(value) => {
-            put_local(out, locals, value)?;
+            put_local(out, locals, value, Blank::Kept)?;
             out.extend_from_slice(b" = ")
         }
     }

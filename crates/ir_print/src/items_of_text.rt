@@ -6,12 +6,12 @@ ghost use Rattle.ir_print.specs.Items as spec;
 
 use crate::instructions::put_instructions;
 use crate::lists::{put_parameters, put_types};
-use crate::names::{put_global, put_label, put_struct_name};
+use crate::names::{put_label, put_struct_name};
 use crate::operands::put_constant;
 use crate::types::put_type;
 use ir_ast::{Block, Declare, Function, Global as Word, Module, Names, StructType};
 use items::Items;
-use name_text::{Blank, put_quoted};
+use name_text::{Blank, put_global, put_quoted};
 use std::alloc::{AllocError, Global};
 
 fn put_struct(
@@ -63,7 +63,7 @@ fn put_word(
 ) -> Result<(), AllocError>
     ensures { OnOk result (out.new.items ≡ out.old.items ++ spec.global_line «module».now global.now) }
 {
-    put_global(out, module, global.symbol)?;
+    put_global(out, module, global.symbol, Blank::Kept)?;
     out.extend_from_slice(global_word(global.is_constant))?;
     put_type(alloc, out, module, global.held)?;
     out.push(b' ')?;
@@ -98,7 +98,7 @@ fn put_declare(
     out.extend_from_slice(b"declare ")?;
     put_type(alloc, out, module, declared.returned)?;
     out.push(b' ')?;
-    put_global(out, module, declared.symbol)?;
+    put_global(out, module, declared.symbol, Blank::Kept)?;
     out.push(b'(')?;
     put_types(alloc, out, module, declared.parameters.as_slice())?;
     out.extend_from_slice(b")\n")
@@ -173,7 +173,7 @@ fn put_head(
     out.extend_from_slice(b"define ")?;
     put_type(alloc, out, module, function.returned)?;
     out.push(b' ')?;
-    put_global(out, module, function.symbol)?;
+    put_global(out, module, function.symbol, Blank::Kept)?;
     out.push(b'(')?;
     put_parameters(
         alloc,

@@ -6,10 +6,10 @@ ghost use Rattle.ir_print.specs.Instructions as form;
 ghost use Rattle.ir_print.specs.Items as item;
 ghost use Rattle.ir_print.specs.Types.{type_text};
 
-use crate::names::put_local;
 use crate::operands::{put_argument, put_constant, put_operand};
 use crate::types::put_type;
 use ir_ast::{Argument, Case, Incoming, Module, Names, Parameter, TypeId, ValueId};
+use name_text::{Blank, put_local};
 use std::alloc::{AllocError, Global};
 
 /// `, T V`.
@@ -91,7 +91,7 @@ fn put_incoming(
     out.extend_from_slice(b"[ ")?;
     put_operand(alloc, out, module, locals, written, incoming.operand)?;
     out.extend_from_slice(b", ")?;
-    put_local(out, locals, incoming.from)?;
+    put_local(out, locals, incoming.from, Blank::Kept)?;
     out.extend_from_slice(b" ]")
 }
 
@@ -137,7 +137,7 @@ pub fn put_target(out: &mut Vec<u8>, locals: &Names, label: ValueId) -> Result<(
     ensures { OnOk result (out.new.items ≡ out.old.items ++ form.target_text locals.now label) }
 {
     out.extend_from_slice(b"label ")?;
-    put_local(out, locals, label)
+    put_local(out, locals, label, Blank::Kept)
 }
 
 /// `T c, label %b`, behind a blank.
@@ -188,7 +188,7 @@ fn put_parameter(
 {
     put_type(alloc, out, module, parameter.written)?;
     out.push(b' ')?;
-    put_local(out, locals, parameter.value)
+    put_local(out, locals, parameter.value, Blank::Kept)
 }
 
 fn put_further_parameters(

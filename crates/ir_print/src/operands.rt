@@ -2,9 +2,9 @@
 ghost use Rattle.std.specs.Prelude.{◌≡◌, ◌++◌, ◌∷◌, [], OnOk, slice_get};
 ghost use Rattle.ir_print.specs.Operands as spec;
 
-use crate::names::{put_global, put_local, put_number};
 use crate::types::put_type;
 use ir_ast::{Argument, Constant, IrType, Module, Names, Operand, SymbolId, TypeId};
+use name_text::{Blank, put_global, put_local, put_number};
 use std::alloc::{AllocError, Global};
 
 /// Whether this is the type i1.
@@ -64,7 +64,7 @@ fn put_cast(
     out.extend_from_slice(b"bitcast (")?;
     put_type(alloc, out, module, from)?;
     out.push(b' ')?;
-    put_global(out, module, global)?;
+    put_global(out, module, global, Blank::Kept)?;
     out.extend_from_slice(b" to ")?;
     put_type(alloc, out, module, to)?;
     out.push(b')')?;
@@ -84,8 +84,8 @@ pub fn put_operand(
 {
     match &operand {
         Operand::Constant(constant) => put_constant(alloc, out, module, written, *constant),
-        Operand::Local(value) => put_local(out, locals, *value),
-        Operand::Global(symbol) => put_global(out, module, *symbol),
+        Operand::Local(value) => put_local(out, locals, *value, Blank::Kept),
+        Operand::Global(symbol) => put_global(out, module, *symbol, Blank::Kept),
         Operand::CastGlobal { from, global, to } => {
             put_cast(alloc, out, module, *from, *global, *to)
         }

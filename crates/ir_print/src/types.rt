@@ -2,8 +2,9 @@
 ghost use Rattle.std.specs.Prelude.{◌≡◌, ◌++◌, ◌∷◌, [], Some, OnOk, length, slice_get};
 ghost use Rattle.ir_print.specs.Types as spec;
 
-use crate::names::{put_number, put_struct_name};
+use crate::names::put_struct_name;
 use ir_ast::{IrType, Module, TypeId};
+use name_text::put_number;
 use std::alloc::{AllocError, Global};
 
 /// How many levels a type has at most.

@@ -46,7 +46,7 @@ fn block(alloc: Global, input: &mut Input<'_>, number: BlockId) -> Result<Block,
 }
 
 /// The blocks of a function so far.
-#[derive(Clone, Copy, Debug, PartialEq, Eq)]
+#[derive(Clone, Copy, PartialEq, Eq)]
 pub struct Blocks {
     pub count: u32,
 }

@@ -90,13 +90,17 @@ fn read_lexed(alloc: Global, bytes: &[u8], lexed: &Lexed) -> Result<Module, Read
 {
     let cursor = Cursor::new(bytes, lexed.tokens.as_slice(), lexed.bad);
     let mut input = Input::new(alloc, cursor);
-    if let Err(fault) = whole(alloc, &mut input) {
-        return Err(located(alloc, bytes, fault));
+    let fault = match whole(alloc, &mut input) {
+        Ok(()) => late_fault(&input),
+        Err(fault) => Some(fault),
+    };
+    match fault {
+        None => Ok(module_of(input)),
+        Some(fault) => {
+            drop(input);
+            Err(located(alloc, bytes, fault))
+        }
     }
-    if let Some(fault) = late_fault(&input) {
-        return Err(located(alloc, bytes, fault));
-    }
-    Ok(module_of(input))
 }
 
 /// The module that a text stands for.

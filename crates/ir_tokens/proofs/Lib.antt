@@ -1,4 +1,3 @@
 pub mod Laws
-mod Turns
 mod Words
 mod Worked

@@ -28,7 +28,8 @@ get_either [] x (suc i) p e = absurd cc
 get_either (y ∷ s) x zero p e = inl e
 get_either (y ∷ s) x (suc i) p e = elim (get_either s x i p e) [ inl h ↦ inl h | inr h ↦ inr (ap suc h.0, h.1) ]
 
-pub get_inside : (s : List ℕ) (i p : ℕ) → slice_get s i ≡ Some p → i < length s
+-- a place that has an element is within the list
+pub get_inside : {X : Type 0} (s : List X) (i : ℕ) (p : X) → slice_get s i ≡ Some p → i < length s
 get_inside [] i p e = absurd cc
 get_inside (y ∷ s) zero p e = omega arith
 get_inside (y ∷ s) (suc i) p e = let h = get_inside s i p e in omega arith

@@ -12,7 +12,7 @@ use std::alloc::{AllocError, Global};
 use types::body_named;
 
 /// A search through the types that a type holds.
-#[derive(Debug, Drop)]
+#[derive(Drop)]
 pub struct Search {
     pub met: Items<bool>,
     pub stack: Vec<TypeId>,

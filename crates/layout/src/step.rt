@@ -1,7 +1,7 @@
 use ir_ast::TypeId;
 
 /// How an index of a getelementptr leads from a type to a part of it.
-#[derive(Clone, Copy, Debug, PartialEq, Eq)]
+#[derive(Clone, Copy, PartialEq, Eq)]
 pub enum Step {
     /// To a field, behind so many words.
     Field {

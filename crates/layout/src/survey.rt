@@ -50,7 +50,7 @@ pub enum Turn {
 }
 
 /// The scalar fields of the types of a table.
-#[derive(Debug, Drop)]
+#[derive(Drop)]
 pub struct Survey {
     pub marks: Items<Mark>,
     pub fields: Vec<TypeId>,

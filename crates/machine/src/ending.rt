@@ -6,7 +6,7 @@ use ir_ast::{Module, Op};
 use machine_values::Value;
 
 /// How a thread ended.
-#[derive(Clone, Copy, Debug, PartialEq, Eq)]
+#[derive(Clone, Copy, PartialEq, Eq)]
 pub enum Ending {
     /// Its first function returned, with this result if it has one.
     Returned(Option<Value>),

@@ -21,7 +21,7 @@ use shadow_stack::{SlotId, Slots};
 use types::runtime_called;
 
 /// A running function: its place in it, and what its registers and slots hold.
-#[derive(Debug, Drop)]
+#[derive(Drop)]
 pub struct Frame {
     pub function: FuncId,
     /// The name of the caller's that takes the result.

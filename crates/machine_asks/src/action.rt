@@ -5,7 +5,7 @@ use machine_values::{Reference, Value};
 use pools::LayoutId;
 
 /// What the instruction at which a thread stands asks for.
-#[derive(Clone, Copy, Debug, PartialEq, Eq)]
+#[derive(Clone, Copy, PartialEq, Eq)]
 pub enum Action {
     /// One step that touches no shared word.
     Local,

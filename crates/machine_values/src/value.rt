@@ -24,7 +24,7 @@ pub enum Place {
 }
 
 /// What a register or a slot holds.
-#[derive(Clone, Copy, Debug, PartialEq, Eq)]
+#[derive(Clone, Copy, PartialEq, Eq)]
 pub enum Value {
     /// Nothing was put there.
     Unset,

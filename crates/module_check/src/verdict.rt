@@ -13,7 +13,7 @@ use program_safety::{discipline_law, program_law};
 use std::alloc::Global;
 
 /// Why a module is not accepted.
-#[derive(Clone, Copy, Debug, PartialEq, Eq)]
+#[derive(Clone, Copy, PartialEq, Eq)]
 pub enum Verdict {
     /// An instruction is refused, the first one in text order.
     Refused(Refusal),

@@ -1,6 +1,10 @@
 -- How names are printed.
-use Rattle.std.specs.Prelude.{ℕ, ◌+◌, ◌/◌, ◌%◌, ◌==◌, nat_le, nat_lt, Bool, false, not, ◌&&◌, ◌||◌, if◌then◌else◌, [], ◌∷◌, ◌++◌}
+use Rattle.std.specs.Prelude.{ℕ, ◌+◌, ◌/◌, ◌%◌, ◌==◌, nat_le, nat_lt, Bool, false, not, ◌&&◌, ◌||◌, if◌then◌else◌, List, [], ◌∷◌, ◌++◌, slice_get}
 use Rattle.std.specs.List.{list_all, flat_map}
+use Rattle.ir_ast.specs.KeyNames.{is_number_key, name_of_key}
+use Rattle.ir_ast.specs.Names.{name_at}
+use Rattle.ir_ast.specs.StructNames.{struct_name}
+use Rattle.ir_ast.specs.declared.module.Module.{Module}
 use Rattle.ir_tokens.specs.Bytes.{Text, is_letter, is_digit}
 use Rattle.name_text.specs.declared.blank.Blank.{Blank}
 use Rattle.name_text.specs.declared.blank.Blank.TheVariants as blank
@@ -45,3 +49,19 @@ quoted_text blank name = 34 ∷ (flat_map (quoted_byte blank) name ++ 34 ∷ [])
 -- a name, in quotes where it is not plain
 abbrev pub name_text : Blank → Text → Text
 name_text blank name = if is_plain name then name else quoted_text blank name
+
+-- what has this key: the number of a value or a block without a name as it is, and otherwise the name
+abbrev pub key_text : Blank → Text → Text
+key_text blank key = if is_number_key key then key else name_text blank (name_of_key key)
+
+-- a local name with its sign
+abbrev pub local_text : Blank → (locals : List Text) → (value : ℕ) → Text
+local_text blank locals value = 37 ∷ key_text blank (name_at locals value)
+
+-- a global name with its sign
+abbrev pub global_text : Blank → Module → (symbol : ℕ) → Text
+global_text blank m symbol = 64 ∷ name_text blank (name_at m.symbols symbol)
+
+-- the name of a layout's type, without its sign
+abbrev pub layout_text : Blank → Module → (layout : ℕ) → Text
+layout_text blank m layout = name_text blank (struct_name m (slice_get m.structs layout))

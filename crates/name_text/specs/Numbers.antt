@@ -1,6 +1,7 @@
 -- Decimal numbers as words.
-use Rattle.std.specs.Prelude.{ℕ, ◌+◌, ◌-◌, ◌*◌, Bool, true, false, not, ◌&&◌, nat_lt, if◌then◌else◌, [], ◌∷◌, Option, Some, None}
+use Rattle.std.specs.Prelude.{ℕ, ◌+◌, ◌-◌, ◌*◌, Bool, true, false, not, ◌&&◌, if◌then◌else◌, [], ◌∷◌, Option, None}
 use Rattle.std.specs.List.{list_all}
+pub use Rattle.ir_ast.specs.Numbers.{small}
 use Rattle.ir_tokens.specs.Bytes.{Text, is_digit}
 
 -- whether a text has no byte
@@ -20,10 +21,6 @@ decimal_behind n (digit ∷ digits) = decimal_behind (10 * n + (digit - 48)) dig
 -- the number that decimal digits spell
 unfoldable pub decimal : Text → ℕ
 decimal digits = decimal_behind 0 digits
-
--- a number below 2 to the 64
-abbrev pub small : ℕ → Option ℕ
-small n = if nat_lt n 18446744073709551616 then Some n else None
 
 -- the number below 2 to the 64 that a word is
 abbrev pub number_of_word : Text → Option ℕ

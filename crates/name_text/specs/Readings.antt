@@ -1,5 +1,5 @@
 -- What printed names are read as.
-use Rattle.std.specs.Prelude.{◌≡◌, ◌<◌, true, [], ◌∷◌, length, None}
+use Rattle.std.specs.Prelude.{◌≡◌, ◌<◌, ◌^◌, true, [], ◌∷◌, length, None}
 use Rattle.std.specs.List.{AllByRecursion, list_all}
 use Rattle.ir_tokens.specs.Bytes.{Text, is_digit}
 use Rattle.ir_tokens.specs.Names.{name_of}
@@ -14,6 +14,10 @@ use Rattle.name_text.specs.declared.blank.Blank.{Blank}
 -- a name is bytes
 abbrev pub AreBytes : Text → Type 0
 AreBytes = AllByRecursion (λ byte. byte < 256)
+
+-- a name of bytes that is shorter than a text may be when it is printed
+abbrev pub IsShort : Blank → Text → Type 0
+IsShort blank name = AreBytes name × (length (name_text blank name) < 2 ^ 24)
 
 -- a text as one token
 abbrev pub whole : Kind → Text → Token

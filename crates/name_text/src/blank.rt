@@ -1,5 +1,5 @@
 /// How a blank stands between quotes.
-#[derive(Clone, Copy, Debug, PartialEq, Eq)]
+#[derive(Clone, Copy, PartialEq, Eq)]
 pub enum Blank {
     /// As it is.
     Kept,

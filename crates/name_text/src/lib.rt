@@ -1,5 +1,5 @@
-//! The words of a text, where they stand, and what they are: decimal numbers, and names with a sign before them; how names are
-//! printed, plain or in quotes, and that they are read again.
+//! The words of a text, where they stand, and what they are: decimal numbers, and names with a sign before them; how names
+//! and numbers are printed, plain or in quotes, and that names are read again.
 #![tactic(auto)]
 
 mod blank;
@@ -8,6 +8,7 @@ mod names;
 mod naming;
 mod numbers;
 mod places;
+mod printed;
 mod quoted;
 mod words;
 
@@ -17,5 +18,6 @@ pub use names::{is_plain, put_name, put_quoted, quoted_byte};
 pub use naming::{Sigil, name_in};
 pub use numbers::{decimal, is_digit, is_number, number_of_word};
 pub use places::place;
+pub use printed::{put_global, put_key, put_layout, put_local, put_number};
 pub use quoted::QuotedByte;
 pub use words::{ends_line, past_blanks, past_lines, past_word, word};

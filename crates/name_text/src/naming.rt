@@ -10,7 +10,7 @@ use items::Items;
 use std::alloc::{AllocError, Global};
 
 /// The sign before a name.
-#[derive(Clone, Copy, Debug, PartialEq, Eq)]
+#[derive(Clone, Copy, PartialEq, Eq)]
 pub enum Sigil {
     /// `@`.
     Global,

@@ -3,7 +3,7 @@ ghost use Rattle.std.specs.Prelude.{◌≡◌};
 ghost use Rattle.name_text.specs.Names as spec;
 
 /// The bytes that stand for one byte between quotes.
-#[derive(Clone, Copy, Debug, PartialEq, Eq)]
+#[derive(Clone, Copy, PartialEq, Eq)]
 pub enum QuotedByte {
     /// The byte itself.
     Shown([u8; 1]),

@@ -8,7 +8,7 @@ use std::alloc::{AllocError, Global};
 use std::marker::Model;
 
 /// The words of each layout, by its number.
-#[derive(Debug, Drop)]
+#[derive(Drop)]
 pub struct Layouts {
     each: Items<Items<WordKind>>,
 }

@@ -15,7 +15,7 @@ use std::marker::Model;
 pub const CELL_LIMIT: u32 = 1 << 20;
 
 /// How many cells each layout has. Cells are numbered from 1, the first layout's pool first.
-#[derive(Debug, Drop)]
+#[derive(Drop)]
 pub struct Pools {
     counts: Items<u32>,
     /// For each pool the number behind that of its last cell.

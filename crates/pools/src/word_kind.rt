@@ -1,7 +1,7 @@
 use crate::layout_id::LayoutId;
 
 /// What a word of a cell holds.
-#[derive(Clone, Copy, Debug, PartialEq, Eq)]
+#[derive(Clone, Copy, PartialEq, Eq)]
 pub enum WordKind {
     /// An integer of so many bits, from 1 to 64.
     Integer(u32),

@@ -28,7 +28,8 @@ use Rattle.name_text.specs.Readings.{AreBytes}
 use Rattle.name_text.specs.declared.blank.Blank.TheVariants as blank
 use Rattle.ir_print.specs.Standing.{Stands, IsSeam, AreBlanks, AreDigits}
 use Rattle.ir_print.specs.Stars.{stars}
-use Rattle.ir_print.proofs.Constants.{integer_types_are_read, are_digits, decimal_value}
+use Rattle.name_text.proofs.Spelled.{number_is}
+use Rattle.ir_print.proofs.Constants.{integer_types_are_read, are_digits}
 use Rattle.ir_print.proofs.NamesRead.{struct_names_are_read}
 use Rattle.name_text.proofs.Seams.{both}
 use Rattle.ir_print.proofs.Words.{local_comes, seen}
@@ -78,7 +79,7 @@ natural_of (b ∷ digits) n own is less =
 
 -- a printed length spells that length
 natural_is : (n : ℕ) → n < 2 ^ 64 → numbers.natural (text.decimal n) ≡ Some n
-natural_is n less = natural_of (text.decimal n) n (are_digits n less) (decimal_value n less) less
+natural_is n less = natural_of (text.decimal n) n (are_digits n less) (number_is n less) less
 
 module _ {m : Module} {f : Function} (v : Invariant m f) where
   -- ---- stars

@@ -19,7 +19,8 @@ use Rattle.ir_parts.specs.declared.input.Input.{Input}
 use Rattle.ir_parts.specs.Names as names
 use Rattle.ir_print.specs.Readings.{IsKey}
 use Rattle.ir_print.specs.Standing.{Stands, AreDigits}
-use Rattle.ir_print.proofs.Constants.{are_digits, decimal_value}
+use Rattle.name_text.proofs.Spelled.{number_is}
+use Rattle.ir_print.proofs.Constants.{are_digits}
 use Rattle.name_text.proofs.Seams.{both}
 use Rattle.ir_print.proofs.Spelled.{label_number_read, label_number_spelled}
 use Rattle.ir_print.proofs.Standing.{Comes, comes}
@@ -88,7 +89,7 @@ number_next u i same e less =
     let small : nat_lt u 18446744073709551616 ≡ true = grind (arith, nat_tests) in
     let equal : u == u ≡ true = grind (arith, nat_tests) in
     let further : nat_lt u 4294967295 ≡ true = grind (arith, nat_tests) in
-    let value : numbers.decimal (spelled i.cursor) ≡ u = ap numbers.decimal e ∙ decimal_value u wide in
+    let value : numbers.decimal (spelled i.cursor) ≡ u = ap numbers.decimal e ∙ number_is u wide in
     let written : names.is_written_next i ≡ true =
     ap (λ (n : ℕ). names.is_at i.unnamed (numbers.small n)) value ∙ ap (λ (t : Bool). names.is_at i.unnamed (if t then Some u else None)) small ∙ ap (λ (n : ℕ). u == n) same ∙ equal in
     (tt, i, (written, refl), (tt, i, (ap (λ (n : ℕ). nat_lt n 4294967295) same ∙ further, refl), (refl, refl)))

@@ -9,7 +9,8 @@ use Rattle.ir_cursor.specs.Number as numbers
 use Rattle.ir_tokens.specs.Bytes.{Text, is_digit}
 use Rattle.name_text.specs.Readings.{AreBytes}
 use Rattle.ir_print.specs.Standing.{AreDigits}
-use Rattle.ir_print.proofs.Constants.{are_digits, decimal_value}
+use Rattle.name_text.proofs.Spelled.{number_is}
+use Rattle.ir_print.proofs.Constants.{are_digits}
 use Rattle.printable.specs.Definitions.{AreDefined}
 use Rattle.printable.specs.Shapes.{IsIn}
 
@@ -89,7 +90,7 @@ no_name key name n less is same =
     cc
 
 number_same : (k n : ℕ) → k < 2 ^ 64 → n < 2 ^ 64 → decimal k ≡ decimal n → k ≡ n
-number_same k n low less e = sym (decimal_value k low) ∙ ap numbers.decimal e ∙ decimal_value n less
+number_same k n low less e = sym (number_is k low) ∙ ap numbers.decimal e ∙ number_is n less
 
 -- the last number lies not below the first
 pub counts_on : (seen : List Text) (unnamed : ℕ) (keys : List Text) (next : ℕ) → Defines seen unnamed keys next → unnamed ≤ next

@@ -9,6 +9,7 @@ use Rattle.std.proofs.lemmas.Str.Parse.{IsNumeralModel, numerals_by_fold}
 use Rattle.ir_ast.specs.LocalKeys.{key_of_digits}
 use Rattle.ir_tokens.specs.Bytes.{Text, is_digit}
 use Rattle.ir_cursor.specs.Number as numbers
+use Rattle.name_text.specs.Numbers as written
 use Rattle.ir_parts.specs.Names.{is_at}
 use Rattle.ir_print.specs.Standing.{AreDigits}
 
@@ -41,7 +42,7 @@ key_is (digit ∷ next ∷ digits) own less = by (digit == 48) refl (λ own less
 
 -- digits that spell this number below 2 to the 64 have its key
 pub number_key : (digits : Text) (wanted : ℕ) → AreDigits digits → is_at wanted (numbers.small (numbers.decimal digits)) ≡ true → key_of_digits digits ≡ text.decimal wanted
-unfolding numbers.decimal
+unfolding written.decimal
 number_key digits wanted own is = by (nat_lt (numbers.decimal_behind 0 digits) 18446744073709551616) refl is where
   by : (t : Bool) → nat_lt (numbers.decimal_behind 0 digits) 18446744073709551616 ≡ t → is_at wanted (if t then Some (numbers.decimal_behind 0 digits) else None) ≡ true → key_of_digits digits ≡ text.decimal wanted
   by true less e =

@@ -12,7 +12,7 @@ use schedules::Machine;
 use std::alloc::{AllocError, Global};
 
 /// A reference is gone that can be reached.
-#[derive(Clone, Copy, Debug, PartialEq, Eq)]
+#[derive(Clone, Copy, PartialEq, Eq)]
 pub enum Gone {
     /// This cell can be reached, and is free.
     Blue(u64),
@@ -21,7 +21,7 @@ pub enum Gone {
 }
 
 /// What is known of a heap's cells that stays as it is.
-#[derive(Clone, Copy, Debug)]
+#[derive(Clone, Copy)]
 pub struct Plan<'a> {
     pub pools: &'a Pools,
     pub layouts: &'a Layouts,

@@ -8,7 +8,7 @@ use trace_text::Actor;
 use world::ThreadEnd;
 
 /// Why a run is broken behind a step.
-#[derive(Clone, Copy, Debug, PartialEq, Eq)]
+#[derive(Clone, Copy, PartialEq, Eq)]
 pub enum Cause {
     /// The step itself went wrong or used a cell that was gone.
     OfStep(actors::Cause),
@@ -31,7 +31,7 @@ impl Display for Cause {
 }
 
 /// The first step behind which a run is broken.
-#[derive(Clone, Copy, Debug, PartialEq, Eq)]
+#[derive(Clone, Copy, PartialEq, Eq)]
 pub struct Break {
     /// The step's number, from 1.
     pub step: u64,
@@ -40,7 +40,7 @@ pub struct Break {
 }
 
 /// Where the actors stand behind a run that no step breaks.
-#[derive(Debug, Drop)]
+#[derive(Drop)]
 pub struct Report {
     pub threads: Items<ThreadEnd>,
     /// How many steps were made.
@@ -53,21 +53,21 @@ pub struct Report {
 }
 
 /// What comes of a trace.
-#[derive(Debug, Drop)]
+#[derive(Drop)]
 pub enum Outcome {
     Broken(Break),
     Sound(Report),
 }
 
 /// A seed whose schedule breaks its run.
-#[derive(Clone, Copy, Debug, PartialEq, Eq)]
+#[derive(Clone, Copy, PartialEq, Eq)]
 pub struct SeedBreak {
     pub seed: u32,
     pub broken: Break,
 }
 
 /// What comes of many seeds: the least one whose schedule breaks its run, or that there is none.
-#[derive(Clone, Copy, Debug, PartialEq, Eq)]
+#[derive(Clone, Copy, PartialEq, Eq)]
 pub enum SoakOutcome {
     Sound,
     Broken(SeedBreak),

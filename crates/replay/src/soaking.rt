@@ -19,7 +19,7 @@ use world::{SetupFault, setup_law};
 const CHUNK: u32 = 256;
 
 /// What comes of one seed: where its schedule first breaks its run, if it does.
-#[derive(Clone, Copy, Debug)]
+#[derive(Clone, Copy)]
 struct SeedEnd {
     seed: u32,
     told: Result<Option<Break>, SetupFault>,

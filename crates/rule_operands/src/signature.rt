@@ -8,7 +8,7 @@ use crate::type_kind::TypeKind;
 use ir_ast::{Argument, Declare, FuncId, Module, Runtime, SymbolId, SymbolSort, TypeId};
 
 /// The types of the runtime's functions.
-#[derive(Clone, Copy, Debug, PartialEq, Eq)]
+#[derive(Clone, Copy, PartialEq, Eq)]
 pub enum RuntimeType {
     Void,
     /// `i32`

@@ -1,7 +1,7 @@
 use certificate::{Mark, Promise};
 
 /// Where an instruction stands.
-#[derive(Clone, Copy, Debug, PartialEq, Eq)]
+#[derive(Clone, Copy, PartialEq, Eq)]
 pub struct Standing {
     pub in_entry: bool,
     /// In the head of the entry block, where gcroot stands.

@@ -7,7 +7,7 @@ use pools::LayoutId;
 use types::pointee;
 
 /// What a written type is to the rules.
-#[derive(Clone, Copy, Debug, PartialEq, Eq)]
+#[derive(Clone, Copy, PartialEq, Eq)]
 pub enum TypeKind {
     /// `void`: no value.
     NoValue,

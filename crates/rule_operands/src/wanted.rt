@@ -1,7 +1,7 @@
 use pools::LayoutId;
 
 /// What a word has to hold.
-#[derive(Clone, Copy, Debug, PartialEq, Eq)]
+#[derive(Clone, Copy, PartialEq, Eq)]
 pub enum Wanted {
     /// Integers of so many bits.
     Integer(u32),

@@ -8,7 +8,7 @@ use items::Items;
 use std::alloc::{AllocError, Global};
 
 /// What a local name was defined as.
-#[derive(Clone, Copy, Debug, PartialEq, Eq)]
+#[derive(Clone, Copy, PartialEq, Eq)]
 pub enum Origin {
     /// Nothing that can be a slot.
     Nowhere,
@@ -19,7 +19,7 @@ pub enum Origin {
 }
 
 /// What each local name was defined as, and the types of the allocas.
-#[derive(Debug, Drop)]
+#[derive(Drop)]
 pub struct Draft {
     pub origins: Items<Origin>,
     pub held: Items<TypeId>,

@@ -11,7 +11,7 @@ use std::marker::Model;
 use types::{is_reference, runtime_called};
 
 /// The slots of a function.
-#[derive(Debug, Drop)]
+#[derive(Drop)]
 pub struct Slots {
     names: Items<Option<SlotId>>,
     held: Items<TypeId>,

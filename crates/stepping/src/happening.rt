@@ -2,14 +2,14 @@ use actors::{Cause, Move};
 use colours::Turn;
 
 /// What an actor did: a move of the thread with this number, or a step of the collector.
-#[derive(Clone, Copy, Debug, PartialEq, Eq)]
+#[derive(Clone, Copy, PartialEq, Eq)]
 pub enum Happening {
     Thread(u32, Move),
     Collector(Turn),
 }
 
 /// A step that an actor made.
-#[derive(Clone, Copy, Debug, PartialEq, Eq)]
+#[derive(Clone, Copy, PartialEq, Eq)]
 pub struct Step {
     pub happening: Happening,
     /// The cause by which the step itself breaks the run: it is wrong, or uses a cell that was gone before it.

@@ -24,7 +24,7 @@ use std::marker::Model;
 const CYCLE_LIMIT: u64 = 1 << 60;
 
 /// The collector of a heap, between two of its steps. It borrows the pools, and no call takes memory.
-#[derive(Debug, Drop)]
+#[derive(Drop)]
 pub struct Collector<'a> {
     pools: &'a Pools,
     layouts: &'a Layouts,

@@ -1,10 +1,11 @@
 -- What the words of a trace name.
-use Rattle.std.specs.Prelude.{ℕ, nat_lt, if◌then◌else◌, ◌∷◌, Option, Some, None, length, slice_get}
+use Rattle.std.specs.Prelude.{ℕ, nat_lt, if◌then◌else◌, ◌∷◌, Option, Some, None, length}
 use Rattle.ir_ast.specs.Names.{place_of}
 use Rattle.ir_ast.specs.declared.module.Module.{Module}
 use Rattle.ir_ast.specs.declared.items_of_module.SymbolSort.{SymbolSort}
 use Rattle.ir_ast.specs.declared.items_of_module.SymbolSort.TheVariants as sort
-use Rattle.types.specs.References.{struct_named}
+pub use Rattle.types.specs.Globals.{sort_at}
+pub use Rattle.types.specs.References.{struct_at}
 use Rattle.ir_tokens.specs.Bytes.{Text}
 use Rattle.name_text.specs.Naming.{name_in}
 use Rattle.name_text.specs.declared.naming.Sigil.TheVariants as sigil
@@ -16,11 +17,6 @@ abbrev pub function_by : Module → Option SymbolSort → Option ℕ
 function_by m (Some (sort.Defined function)) = if nat_lt function (length m.functions) then Some function else None
 function_by m _ = None
 
--- the sort of a symbol, if there is one
-abbrev pub sort_at : Module → Option ℕ → Option SymbolSort
-sort_at m None = None
-sort_at m (Some symbol) = slice_get m.sorts symbol
-
 -- the defined function of this name
 abbrev pub function_named : Module → Option Text → Option ℕ
 function_named m None = None
@@ -31,11 +27,6 @@ abbrev pub function_of_word : Module → (word : Text) → Option ℕ
 function_of_word m word = function_named m (name_in sigil.Global word)
 
 -- ---- layouts
-
--- the layout of a struct name, if it is defined
-abbrev pub struct_at : Module → Option ℕ → Option ℕ
-struct_at m None = None
-struct_at m (Some name) = struct_named m name
 
 -- the layout of this name
 abbrev pub layout_named : Module → Option Text → Option ℕ

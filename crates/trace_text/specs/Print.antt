@@ -2,8 +2,9 @@
 use Rattle.std.specs.Prelude.{ℕ, ◌==◌, if◌then◌else◌, List, [], ◌∷◌, ◌++◌, length, codes, Option, Some, None, unwrap_or, slice_get}
 use Rattle.std.specs.List.{flat_map, range_with_len}
 use Rattle.std.specs.Fmt.{decimal}
+pub use Rattle.ir_ast.specs.Names.{name_at}
+pub use Rattle.ir_ast.specs.StructNames.{struct_name}
 use Rattle.ir_ast.specs.declared.function.Function.{Function}
-use Rattle.ir_ast.specs.declared.items_of_module.StructType.{StructType}
 use Rattle.ir_ast.specs.declared.module.Module.{Module}
 use Rattle.ir_tokens.specs.Bytes.{Text}
 use Rattle.layout.specs.Layouts.{LaidOut}
@@ -21,23 +22,14 @@ use Rattle.trace_text.specs.declared.trace.Trace.{Trace}
 abbrev pub name_text : Text → Text
 name_text = names.name_text blank.Kept
 
--- the name with this number
-abbrev pub name_at : List Text → (number : ℕ) → Text
-name_at names number = unwrap_or (slice_get names number) []
-
--- the name of a struct, if there is one
-abbrev pub struct_name : Module → Option StructType → Text
-struct_name m None = []
-struct_name m (Some struct) = name_at m.struct_names struct.name
-
 -- the name of a layout's type, without its sign
 abbrev pub layout_text : Module → (layout : ℕ) → Text
-layout_text m layout = name_text (struct_name m (slice_get m.structs layout))
+layout_text = names.layout_text blank.Kept
 
 -- the name of a function with its sign, if there is one
 abbrev pub name_of_function : Module → Option Function → Text
 name_of_function m None = []
-name_of_function m (Some f) = 64 ∷ name_text (name_at m.symbols f.symbol)
+name_of_function m (Some f) = names.global_text blank.Kept m f.symbol
 
 -- the name of a defined function with its sign
 abbrev pub function_text : Module → (function : ℕ) → Text

@@ -1,23 +1,21 @@
 -- Traces of a program, and the programs whose names are read as they are printed.
 use Rattle.std.specs.Prelude.{◌≡◌, ℕ, ◌<◌, ◌≤◌, ◌^◌, List, length, map, sum, Option, Some, None, [], slice_get}
 use Rattle.std.specs.List.{AllByRecursion}
+use Rattle.ir_ast.specs.Names.{name_at}
+use Rattle.ir_ast.specs.StructNames.{struct_name}
 use Rattle.ir_ast.specs.declared.function.Function.{Function}
 use Rattle.ir_ast.specs.declared.module.Module.{Module}
 use Rattle.layout.specs.Layouts.{LaidOut}
 use Rattle.ir_tokens.specs.Bytes.{Text}
-use Rattle.name_text.specs.Readings.{AreBytes}
+use Rattle.name_text.specs.Readings.{IsShort}
+use Rattle.name_text.specs.declared.blank.Blank.TheVariants as blank
 use Rattle.pools.specs.Heap.{cells_in}
 use Rattle.trace_text.specs.Names.{function_named, layout_named}
-use Rattle.trace_text.specs.Print.{name_at, name_text, struct_name}
 use Rattle.trace_text.specs.declared.trace.Actor.{Actor}
 use Rattle.trace_text.specs.declared.trace.Actor.TheVariants as actor
 use Rattle.trace_text.specs.declared.trace.Start.{Start}
 use Rattle.trace_text.specs.declared.trace.Steps.{Steps}
 use Rattle.trace_text.specs.declared.trace.Trace.{Trace}
-
--- a name of bytes that stays within a text's limit when it is printed
-abbrev pub IsShort : Text → Type 0
-IsShort name = AreBytes name × (length (name_text name) < 2 ^ 24)
 
 -- the name of a function, if there is one
 abbrev pub symbol_name : Module → Option Function → Text
@@ -26,9 +24,9 @@ symbol_name m (Some f) = name_at m.symbols f.symbol
 
 -- each function and each layout has a short name, and is the one that has it
 pub record AreNamed (p : LaidOut) : Type 0 where
-  pub short_function : (function : ℕ) → function < length p.of_module.functions → IsShort (symbol_name p.of_module (slice_get p.of_module.functions function))
+  pub short_function : (function : ℕ) → function < length p.of_module.functions → IsShort blank.Kept (symbol_name p.of_module (slice_get p.of_module.functions function))
   pub function : (function : ℕ) → function < length p.of_module.functions → function_named p.of_module (Some (symbol_name p.of_module (slice_get p.of_module.functions function))) ≡ Some function
-  pub short_layout : (layout : ℕ) → layout < length p.layouts → IsShort (struct_name p.of_module (slice_get p.of_module.structs layout))
+  pub short_layout : (layout : ℕ) → layout < length p.layouts → IsShort blank.Kept (struct_name p.of_module (slice_get p.of_module.structs layout))
   pub layout : (layout : ℕ) → layout < length p.layouts → layout_named p.of_module (Some (struct_name p.of_module (slice_get p.of_module.structs layout))) ≡ Some layout
 
 -- a thread begins at a function of the program, with arguments of 64 bits

@@ -23,7 +23,7 @@ pub enum TraceFault {
 }
 
 /// A fault, with how much of the text is left where it is found.
-#[derive(Clone, Copy, Debug, PartialEq, Eq)]
+#[derive(Clone, Copy, PartialEq, Eq)]
 pub enum Found {
     Syntax(usize),
     NoThread(usize),

@@ -1,53 +1,16 @@
 //! The text of traces.
-ghost use Rattle.std.specs.Prelude.{◌≡◌, ◌++◌, OnOk, IfOk, slice_get};
+ghost use Rattle.std.specs.Prelude.{◌≡◌, ◌++◌, OnOk, IfOk};
 ghost use Rattle.std.specs.List.{flat_map};
-ghost use Rattle.std.specs.Fmt.{decimal};
 ghost use Rattle.trace_text.specs.Print as spec;
 ghost use Rattle.trace_text.specs.Text.{IsTrace};
 ghost use Rattle.trace_text.specs.Traces.{AreNamed, IsTraceOf};
 
 use crate::trace::{Actor, Start, Steps, Trace};
-use ir_ast::{FuncId, Module, Names};
+use ir_ast::{FuncId, Module};
 use layout::Program;
-use name_text::Blank;
+use name_text::{Blank, put_global, put_layout, put_number};
 use pools::{LayoutId, Pools};
 use std::alloc::{AllocError, Global};
-
-/// A name, in quotes where it is not plain.
-fn put_name(out: &mut Vec<u8>, name: &[u8]) -> Result<(), AllocError>
-    ensures { OnOk result (out.new.items ≡ out.old.items ++ spec.name_text name.now) }
-{
-    name_text::put_name(out, name, Blank::Kept)
-}
-
-fn name_at(names: &Names, number: usize) -> &[u8]
-    ensures { result.now ≡ spec.name_at names.now number }
-{
-    names.get(number).unwrap_or(&[])
-}
-
-fn struct_name(module: &Module, layout: LayoutId) -> &[u8]
-    ensures { result.now ≡ spec.struct_name «module».now (slice_get «module».now.structs layout) }
-{
-    match module.structs.get(layout.number() as usize) {
-        Some(named) => name_at(&module.struct_names, named.name.number() as usize),
-        None => &[],
-    }
-}
-
-/// The name of a layout's type.
-fn put_layout(out: &mut Vec<u8>, module: &Module, layout: LayoutId) -> Result<(), AllocError>
-    ensures { OnOk result (out.new.items ≡ out.old.items ++ spec.layout_text «module».now layout) }
-{
-    put_name(out, struct_name(module, layout))
-}
-
-fn put_number(alloc: Global, out: &mut Vec<u8>, number: u64) -> Result<(), AllocError>
-    ensures { OnOk result (out.new.items ≡ out.old.items ++ decimal number) }
-{
-    let digits = number.to_string(alloc)?;
-    out.extend_from_slice(digits.as_bytes())
-}
 
 /// The name of a defined function with its sign; nothing where there is no such function.
 fn put_function(out: &mut Vec<u8>, module: &Module, function: FuncId) -> Result<(), AllocError>
@@ -55,13 +18,7 @@ fn put_function(out: &mut Vec<u8>, module: &Module, function: FuncId) -> Result<
 {
     match module.functions.get(function.number() as usize) {
         None => Ok(()),
-        Some(function) => {
-            out.push(b'@')?;
-            put_name(
-                out,
-                name_at(&module.symbols, function.symbol.number() as usize),
-            )
-        }
+        Some(function) => put_global(out, module, function.symbol, Blank::Kept),
     }
 }
 
@@ -79,7 +36,7 @@ fn put_pool(
         return Ok(());
     }
     out.extend_from_slice(b"pool ")?;
-    put_layout(out, module, layout)?;
+    put_layout(out, module, layout, Blank::Kept)?;
     out.push(b' ')?;
     put_number(alloc, out, count as u64)?;
     out.extend_from_slice(b"\n")

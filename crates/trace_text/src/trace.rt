@@ -9,7 +9,7 @@ pub const THREAD_LIMIT: usize = 64;
 pub const STEP_LIMIT: u64 = 10_000_000;
 
 /// Who makes a step.
-#[derive(Clone, Copy, Debug, PartialEq, Eq)]
+#[derive(Clone, Copy, PartialEq, Eq)]
 pub enum Actor {
     /// The thread with this number; threads are numbered from 0 in the order of their starts.
     Thread(u32),
@@ -17,28 +17,28 @@ pub enum Actor {
 }
 
 /// Steps of one actor, one behind the other.
-#[derive(Clone, Copy, Debug, PartialEq, Eq)]
+#[derive(Clone, Copy, PartialEq, Eq)]
 pub struct Steps {
     pub actor: Actor,
     pub count: u32,
 }
 
 /// How a thread begins.
-#[derive(Debug, Drop)]
+#[derive(Drop)]
 pub struct Start {
     pub function: FuncId,
     pub arguments: Items<u64>,
 }
 
 /// The pools of a program's layouts, and one start for each thread.
-#[derive(Debug, Drop)]
+#[derive(Drop)]
 pub struct Setup {
     pub pools: Pools,
     pub starts: Items<Start>,
 }
 
 /// A setup, and the steps that are made from it.
-#[derive(Debug, Drop)]
+#[derive(Drop)]
 pub struct Trace {
     pub setup: Setup,
     pub steps: Items<Steps>,

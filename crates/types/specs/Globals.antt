@@ -7,6 +7,11 @@ use Rattle.ir_ast.specs.declared.module.Module.{Module}
 use Rattle.types.specs.References.{pointee}
 use Rattle.types.specs.ValueTypes.{is_same}
 
+-- what a global name with this number stands for, if it is there
+abbrev pub sort_at : Module → Option ℕ → Option SymbolSort
+sort_at m None = None
+sort_at m (Some symbol) = slice_get m.sorts symbol
+
 -- the number of the global that a name of this sort is
 abbrev pub global_of_sort : Option SymbolSort → Option ℕ
 global_of_sort (Some (Global g)) = Some g

@@ -28,6 +28,11 @@ struct_in (Some layout) = layout
 abbrev pub struct_named : Module → (name : ℕ) → Option ℕ
 struct_named m name = struct_in (slice_get m.struct_of name)
 
+-- the struct of a name, if the name is there
+abbrev pub struct_at : Module → Option ℕ → Option ℕ
+struct_at m None = None
+struct_at m (Some name) = struct_named m name
+
 -- the layout of the named struct that a type is
 abbrev pub layout_of_struct : Module → Option IrType → Option ℕ
 layout_of_struct m None = None

@@ -1,7 +1,7 @@
 use machine_values::Value;
 
 /// Where a thread stands behind a run.
-#[derive(Clone, Copy, Debug, PartialEq, Eq)]
+#[derive(Clone, Copy, PartialEq, Eq)]
 pub enum ThreadEnd {
     /// Its first function returned, with this result if it has one.
     Returned(Option<Value>),

@@ -1,7 +1,7 @@
 use Rattle.std.proofs.Common.{◌∙◌, sym}
 use Rattle.certificate.specs.Roots.{allocated_within}
 use Rattle.certificate.proofs.SlotRoots.{allocated_on}
-use Rattle.certificate.proofs.Turns.{one_more}
+use Rattle.grammar.proofs.Turns.{one_more}
 use Rattle.certificate.proofs.roots.allocated.Goals as goal
 
 pub loop-turn-preserved : goal.loop-turn-preserved

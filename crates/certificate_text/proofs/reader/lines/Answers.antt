@@ -3,8 +3,7 @@ use Rattle.std.proofs.lemmas.Grind.{common_steps}
 use Rattle.certificate_text.specs.Text.{lines, past_lines}
 use Rattle.certificate_text.specs.Lines.{line}
 use Rattle.certificate_words.specs.declared.found.Found.{Found}
-use Rattle.certificate.proofs.Turns.{one_more}
-use Rattle.grammar.proofs.Turns.{turns, no_more, turn_ends, turn_goes, turn_breaks, no_turns}
+use Rattle.grammar.proofs.Turns.{turns, one_more, no_more, turn_ends, turn_goes, turn_breaks, no_turns}
 use Rattle.certificate_text.proofs.reader.lines.Goals as goal
 
 pub returns-then-past_lines : goal.returns-then-past_lines

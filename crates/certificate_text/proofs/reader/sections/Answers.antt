@@ -3,8 +3,7 @@ use Rattle.std.proofs.lemmas.Grind.{common_steps}
 use Rattle.certificate_words.specs.Input.{ended}
 use Rattle.certificate_text.specs.Text.{section, sections}
 use Rattle.certificate_words.specs.declared.found.Found.{Found}
-use Rattle.certificate.proofs.Turns.{one_more}
-use Rattle.grammar.proofs.Turns.{turns, no_more, turn_ends, turn_goes, turn_breaks, no_turns}
+use Rattle.grammar.proofs.Turns.{turns, one_more, no_more, turn_ends, turn_goes, turn_breaks, no_turns}
 use Rattle.certificate_text.proofs.reader.sections.Goals as goal
 
 pub returns-then-ended : goal.returns-then-ended

@@ -12,8 +12,8 @@ returns-in_err-matches-clause-refused c =
     refuses words error c.from_residual-in_err-matches.result (subst (λ a. HasKind (fault_of a words) error) app kind)
     c.from_residual-in_err-matches.ensures.1
 
-pub returns-in-Some-command_line-clause-taken : goal.returns-in-Some-command_line-clause-taken
-returns-in-Some-command_line-clause-taken c ok =
+pub returns-in-Some-line-clause-taken : goal.returns-in-Some-line-clause-taken
+returns-in-Some-line-clause-taken c ok =
     let words = map (λ word. word.now) c.args.words.now in
     let app = c.in_ok-dgc_command.ensures.app in
     let none = c.in_ok-matches.ensures.kinds (ap is_simple_and_free app ∙ is_simple_and_free_dgc) in

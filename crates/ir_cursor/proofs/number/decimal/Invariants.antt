@@ -1,6 +1,0 @@
-use Rattle.std.proofs.Common.{◌≡◌, drop}
-use Rattle.ir_cursor.specs.Number.{decimal_behind}
-use Rattle.ir_cursor.proofs.number.decimal.Given as goal
-
-abbrev pub invariant-loop-digit : goal.invariant-loop-digit
-invariant-loop-digit l = decimal_behind 0 l.digits ≡ decimal_behind l.number (drop l.digit-index l.digits)
