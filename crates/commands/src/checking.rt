@@ -1,4 +1,10 @@
 //! The command `check`.
+ghost use Rattle.std.specs.Prelude.{IfOk};
+ghost use Rattle.std.specs.Option.{option_copied};
+ghost use Rattle.commands.specs.Commands.{OfCertFile, OfCerts, OfCheck, Says};
+ghost use Rattle.commands.specs.Files as spec;
+ghost use Rattle.module_check.specs.Accepted.{IsFirstRefusal, IsVerdictOf};
+
 use crate::files::file_at;
 use certificate::Certs;
 use certificate_text::read_cert;
@@ -16,7 +22,10 @@ fn report_refusal<O: Write, E: Write>(
     refusal: &Refusal,
     out: &mut O,
     err: &mut E,
-) -> io::Result<u8> {
+) -> io::Result<u8>
+    requires { IsFirstRefusal answer.now.of_module answer.now.certs refusal.now }
+    ensures { IfOk result (Says (OfCerts answer.now.of_module answer.now.certs) (O.contents out.old) (O.contents out.new) (E.contents err.old) (E.contents err.new)) }
+{
     match report::line_of_refusal(alloc, &answer.of_module, &answer.certs, refusal) {
         Ok(line) => report::refused(out, &answer.of_module, refusal, line.as_slice()),
         Err(_) => report::memory(err),
@@ -29,7 +38,10 @@ fn report_verdict<O: Write, E: Write>(
     answer: &NotAccepted,
     out: &mut O,
     err: &mut E,
-) -> io::Result<u8> {
+) -> io::Result<u8>
+    requires { IsVerdictOf answer.now.of_module answer.now.certs answer.now.verdict }
+    ensures { IfOk result (Says (OfCerts answer.now.of_module answer.now.certs) (O.contents out.old) (O.contents out.new) (E.contents err.old) (E.contents err.new)) }
+{
     match answer.verdict {
         Verdict::Refused(refusal) => report_refusal(alloc, answer, &refusal, out, err),
         Verdict::Layout(fault) => report::no_layouts(err, &answer.of_module, fault),
@@ -44,10 +56,20 @@ fn check_certs<O: Write, E: Write>(
     certs: Certs,
     out: &mut O,
     err: &mut E,
-) -> io::Result<u8> {
+) -> io::Result<u8>
+    ensures { IfOk result (Says (OfCerts of_module certs) (O.contents out.old) (O.contents out.new) (E.contents err.old) (E.contents err.new)) }
+{
     match check(alloc, of_module, certs) {
-        Ok(accepted) => report::accepted(out, accepted.program().module().functions.len()),
-        Err(answer) => report_verdict(alloc, &answer, out, err),
+        Ok(accepted) => {
+            let count = accepted.program().module().functions.len();
+            drop(accepted);
+            report::accepted(out, count)
+        }
+        Err(answer) => {
+            let status = report_verdict(alloc, &answer, out, err);
+            drop(answer);
+            status
+        }
     }
 }
 
@@ -59,13 +81,20 @@ fn check_module<O: Write, E: Write>(
     file: Option<&[u8]>,
     out: &mut O,
     err: &mut E,
-) -> io::Result<u8> {
+) -> io::Result<u8>
+    ensures { IfOk result (Says (OfCertFile of_module path.now (option_copied file.entry)) (O.contents out.old) (O.contents out.new) (E.contents err.old) (E.contents err.new)) }
+{
     let Some(certificate) = file else {
+        drop(of_module);
         return report::no_file(err, path);
     };
     match read_cert(alloc, certificate, &of_module) {
         Ok(certs) => check_certs(alloc, of_module, certs, out, err),
-        Err(fault) => report::no_certificate(err, &of_module, fault),
+        Err(fault) => {
+            let status = report::no_certificate(err, &of_module, fault);
+            drop(of_module);
+            status
+        }
     }
 }
 
@@ -77,7 +106,9 @@ pub fn check_files<O: Write, E: Write>(
     files: &[Option<Vec<u8>>],
     out: &mut O,
     err: &mut E,
-) -> io::Result<u8> {
+) -> io::Result<u8>
+    ensures { IfOk result (Says (OfCheck paths.entry.0.now paths.entry.1.now (spec.file_at files.now 0) (spec.file_at files.now 1)) (O.contents out.old) (O.contents out.new) (E.contents err.old) (E.contents err.new)) }
+{
     let Some(text) = file_at(files, 0) else {
         return report::no_file(err, paths.0);
     };

@@ -1,4 +1,9 @@
 //! The commands, from the bytes of their files to the printed lines and the status.
+ghost use Rattle.std.specs.Prelude.{IfOk};
+ghost use Rattle.command_line.specs.Asked.{asked_by};
+ghost use Rattle.commands.specs.Commands.{OfCommand, Says};
+ghost use Rattle.commands.specs.Files as spec;
+
 use crate::checking::check_files;
 use crate::replaying::replay_files;
 use crate::soaking::soak_files;
@@ -17,7 +22,9 @@ pub fn work<O: Write, E: Write>(
     files: &[Option<Vec<u8>>],
     out: &mut O,
     err: &mut E,
-) -> io::Result<u8> {
+) -> io::Result<u8>
+    ensures { IfOk result (Says (OfCommand (asked_by line.now) (spec.file_at files.now 0) (spec.file_at files.now 1)) (O.contents out.old) (O.contents out.new) (E.contents err.old) (E.contents err.new)) }
+{
     match *line {
         Line::Check {
             module_path,

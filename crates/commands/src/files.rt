@@ -90,6 +90,11 @@ pub fn read_traced<'a>(
     ensures err { IfErr result (IsUntraced paths.entry.0.now paths.entry.1.now (file_at files.now 0) (file_at files.now 1)) }
 {
     let program = program_in(alloc, paths.0, files)?;
-    let trace = trace_in(alloc, paths.1, files, &program)?;
-    Ok(Traced { program, trace })
+    match trace_in(alloc, paths.1, files, &program) {
+        Ok(trace) => Ok(Traced { program, trace }),
+        Err(unread) => {
+            drop(program);
+            Err(unread)
+        }
+    }
 }

@@ -1,4 +1,7 @@
 //! The command `replay`.
+ghost use Rattle.std.specs.Prelude.{IfOk};
+ghost use Rattle.commands.specs.Commands.{OfRun, OfTrace, Says};
+ghost use Rattle.commands.specs.Files as spec;
 ghost use Rattle.trace_text.specs.Traces.{IsTraceOf};
 
 use crate::files::{Traced, read_traced};
@@ -16,6 +19,7 @@ fn replay_traced<O: Write, E: Write>(
     err: &mut E,
 ) -> io::Result<u8>
     requires { IsTraceOf traced.now.program traced.now.trace }
+    ensures { IfOk result (Says (OfTrace traced.now.program traced.now.trace) (O.contents out.old) (O.contents out.new) (E.contents err.old) (E.contents err.new)) }
 {
     match replay(alloc, &traced.program, &traced.trace) {
         Ok(outcome) => replayed(out, &outcome),
@@ -31,9 +35,19 @@ pub fn replay_files<O: Write, E: Write>(
     files: &[Option<Vec<u8>>],
     out: &mut O,
     err: &mut E,
-) -> io::Result<u8> {
+) -> io::Result<u8>
+    ensures { IfOk result (Says (OfRun OfTrace paths.entry.0.now paths.entry.1.now (spec.file_at files.now 0) (spec.file_at files.now 1)) (O.contents out.old) (O.contents out.new) (E.contents err.old) (E.contents err.new)) }
+{
     match read_traced(alloc, paths, files) {
-        Ok(traced) => replay_traced(alloc, &traced, out, err),
-        Err(unread) => untraced(err, &unread),
+        Ok(traced) => {
+            let status = replay_traced(alloc, &traced, out, err);
+            drop(traced);
+            status
+        }
+        Err(unread) => {
+            let status = untraced(err, &unread);
+            drop(unread);
+            status
+        }
     }
 }

@@ -1,4 +1,7 @@
 //! The command `soak`.
+ghost use Rattle.std.specs.Prelude.{IfOk};
+ghost use Rattle.commands.specs.Commands.{OfRun, OfSeeds, Says};
+ghost use Rattle.commands.specs.Files as spec;
 ghost use Rattle.trace_text.specs.Traces.{IsTraceOf};
 
 use crate::files::{Traced, read_traced};
@@ -20,6 +23,7 @@ fn soak_traced<O: Write, E: Write>(
     err: &mut E,
 ) -> io::Result<u8>
     requires { IsTraceOf traced.now.program traced.now.trace }
+    ensures { IfOk result (Says (OfSeeds seeds steps traced.now.program traced.now.trace) (O.contents out.old) (O.contents out.new) (E.contents err.old) (E.contents err.new)) }
 {
     match soak(
         rt,
@@ -45,9 +49,19 @@ pub fn soak_files<O: Write, E: Write>(
     files: &[Option<Vec<u8>>],
     out: &mut O,
     err: &mut E,
-) -> io::Result<u8> {
+) -> io::Result<u8>
+    ensures { IfOk result (Says (OfRun (OfSeeds seeds steps) paths.entry.0.now paths.entry.1.now (spec.file_at files.now 0) (spec.file_at files.now 1)) (O.contents out.old) (O.contents out.new) (E.contents err.old) (E.contents err.new)) }
+{
     match read_traced(alloc, paths, files) {
-        Ok(traced) => soak_traced(rt, alloc, &traced, seeds, steps, out, err),
-        Err(unread) => untraced(err, &unread),
+        Ok(traced) => {
+            let status = soak_traced(rt, alloc, &traced, seeds, steps, out, err);
+            drop(traced);
+            status
+        }
+        Err(unread) => {
+            let status = untraced(err, &unread);
+            drop(unread);
+            status
+        }
     }
 }

@@ -1,0 +1,10 @@
+use Rattle.commands.proofs.command.work.Goals as goal
+
+pub returns-in-Check : goal.returns-in-Check
+returns-in-Check g c = rw c.in-Check.is c.check_files.ensures
+
+pub returns-in-Replay : goal.returns-in-Replay
+returns-in-Replay g c = rw c.in-Replay.is c.replay_files.ensures
+
+pub returns-in-Soak : goal.returns-in-Soak
+returns-in-Soak g c = rw c.in-Soak.is c.soak_files.ensures

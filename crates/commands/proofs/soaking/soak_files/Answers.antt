@@ -1,0 +1,16 @@
+use Rattle.std.proofs.Common.{refl}
+use Rattle.std.proofs.lemmas.Result.{IfOk-weaker}
+use Rattle.commands.specs.Commands.{OnError, not_traced, of_traced}
+use Rattle.commands.proofs.soaking.soak_files.Goals as goal
+
+pub returns-in-Ok : goal.returns-in-Ok
+returns-in-Ok g c =
+    IfOk-weaker c.soak_traced-status.result _ _
+    (λ status told. (told.0, of_traced c.in-Ok.traced.program c.in-Ok.traced.trace told.0 c.in-Ok.ensures.program c.in-Ok.ensures.trace told.1, told.2))
+    c.soak_traced-status.ensures
+
+pub returns-in-Err : goal.returns-in-Err
+returns-in-Err g c =
+    IfOk-weaker c.untraced-status.result _ _
+    (λ status told. (OnError _, not_traced c.in-Err.unread c.in-Err.ensures.err, (refl, told)))
+    c.untraced-status.ensures

@@ -1,0 +1,91 @@
+-- What each command says of the files of its line.
+use Rattle.std.specs.Prelude.{◌≡◌, ◌≢◌, ℕ, List, Option, Some, None, length}
+use Rattle.ir_ast.specs.declared.module.Module.{Module}
+use Rattle.ir_text.specs.Read as text
+use Rattle.ir_text.specs.declared.read_fault.ReadFault.{ReadFault}
+use Rattle.ir_text.specs.declared.read_fault.ReadFault.TheVariants as read
+use Rattle.layout.specs.Layouts.{IsLayoutFault, LaidOut}
+use Rattle.layout.specs.declared.fault.LayoutFault.{LayoutFault}
+use Rattle.certificate.specs.declared.section.Section.{Section}
+use Rattle.certificate_text.specs.Text as certificate
+use Rattle.certificate_text.specs.declared.fault.CertFault.{CertFault}
+use Rattle.certificate_text.specs.declared.fault.CertFault.TheVariants as cert
+use Rattle.certified.specs.declared.block_fault.Refusal.{Refusal}
+use Rattle.module_check.specs.Accepted.{IsAccepted, IsFirstRefusal}
+use Rattle.trace_text.specs.declared.trace.Trace.{Trace}
+use Rattle.replay.specs.Faults as setup
+use Rattle.replay.specs.Faults.{HasNoFault, IsSetupFault, SetupFault}
+use Rattle.replay.specs.Outcomes.{IsOutcome}
+use Rattle.replay.specs.Soaks.{IsSoakOutcome}
+use Rattle.replay.specs.declared.outcome.Outcome.{Outcome}
+use Rattle.replay.specs.declared.outcome.SoakOutcome.{SoakOutcome}
+use Rattle.command_line.specs.Asked.{Asked, check, replay, soak}
+use Rattle.report.specs.Report.{Answer, IsTold, line_of, no, no_file, no_memory, of_cert_fault, of_layout_fault, of_read_fault, yes}
+use Rattle.commands.specs.Runs.{of_outcome, of_setup_fault, of_soak}
+use Rattle.commands.specs.Files.{HasProgram, HasTrace, IsUntraced, of_untraced}
+use Rattle.commands.specs.declared.files.Untraced.{Untraced}
+
+-- ---- what is said, and where
+
+-- an answer on the standard output, or a fault on the standard error
+pub data Said : Type 0 where
+  OnOutput : Answer → Said
+  OnError : Answer → Said
+
+-- one writer was given the text, the other one nothing, and the status is the answer's
+abbrev pub Tells : (old_output output old_error error : Option (List ℕ)) → (status : ℕ) → Said → Type 0
+Tells old_output output old_error error status (OnOutput answer) = IsTold old_output output status answer × (error ≡ old_error)
+Tells old_output output old_error error status (OnError answer) = (output ≡ old_output) × IsTold old_error error status answer
+
+-- something was said that is one of these
+abbrev pub Says : (Said → Type 0) → (old_output output old_error error : Option (List ℕ)) → (status : ℕ) → Type 0
+Says Meant old_output output old_error error status = (said : Said) × Meant said × Tells old_output output old_error error status said
+
+-- ---- check
+
+-- what is said of a module and its certificates: that it is accepted, its first refusal, the fault of its layouts, or that memory
+-- was refused
+pub data OfCerts (m : Module) (certs : List Section) : Said → Type 0 where
+  accepted : IsAccepted m certs → OfCerts m certs (OnOutput (yes (length m.functions)))
+  refused : (refusal : Refusal) → IsFirstRefusal m certs refusal → OfCerts m certs (OnOutput (no m (line_of certs m refusal.func refusal.detail) refusal))
+  not_laid_out : (fault : LayoutFault) → IsLayoutFault m fault → OfCerts m certs (OnError (of_layout_fault m fault))
+  not_checked : OfCerts m certs (OnError no_memory)
+
+-- what is said of a module and the file of its certificates, which has this path
+pub data OfCertFile (m : Module) (path : List ℕ) (file : Option (List ℕ)) : Said → Type 0 where
+  no_cert_file : file ≡ None → OfCertFile m path file (OnError (no_file path))
+  no_certs : (bytes : List ℕ) (fault : CertFault) → file ≡ Some bytes → (fault ≢ cert.Memory → certificate.IsFault bytes m fault) → OfCertFile m path file (OnError (of_cert_fault m fault))
+  of_certs : (bytes : List ℕ) (certs : List Section) (said : Said) → file ≡ Some bytes → certificate.IsCert bytes m certs → OfCerts m certs said
+      → OfCertFile m path file said
+
+-- what `check` says of the files of a module and its certificates, which have these paths
+pub data OfCheck (module_path cert_path : List ℕ) (first second : Option (List ℕ)) : Said → Type 0 where
+  no_module_file : first ≡ None → OfCheck module_path cert_path first second (OnError (no_file module_path))
+  no_module : (bytes : List ℕ) (fault : ReadFault) → first ≡ Some bytes → (fault ≢ read.Memory → text.IsFault bytes fault) → OfCheck module_path cert_path first second (OnError (of_read_fault fault))
+  of_module : (bytes : List ℕ) (m : Module) (said : Said) → first ≡ Some bytes → text.IsText bytes m → OfCertFile m cert_path second said
+      → OfCheck module_path cert_path first second said
+
+-- ---- replay and soak
+
+-- what `replay` says of a program and its trace: what came of the trace, the first thread that may not begin, or want of memory
+pub data OfTrace (p : LaidOut) (t : Trace) : Said → Type 0 where
+  came : (outcome : Outcome) → HasNoFault p t.setup → IsOutcome p t outcome → OfTrace p t (OnOutput (of_outcome outcome))
+  not_begun : (fault : SetupFault) → (fault ≢ setup.Memory → IsSetupFault p t.setup fault) → OfTrace p t (OnError (of_setup_fault fault))
+
+-- what `soak` says of them: what came of so many seeds with so many steps each
+pub data OfSeeds (seeds steps : ℕ) (p : LaidOut) (t : Trace) : Said → Type 0 where
+  soaked : (outcome : SoakOutcome) → HasNoFault p t.setup → IsSoakOutcome p t.setup seeds steps outcome → OfSeeds seeds steps p t (OnOutput (of_soak seeds outcome))
+  not_started : (fault : SetupFault) → (fault ≢ setup.Memory → IsSetupFault p t.setup fault) → OfSeeds seeds steps p t (OnError (of_setup_fault fault))
+
+-- what is said of the files of a program and its trace, which have these paths, where this is said of them once they are read
+pub data OfRun (Run : LaidOut → Trace → Said → Type 0) (module_path trace_path : List ℕ) (first second : Option (List ℕ)) : Said → Type 0 where
+  not_traced : (untraced : Untraced) → IsUntraced module_path trace_path first second untraced → OfRun Run module_path trace_path first second (OnError (of_untraced untraced))
+  of_traced : (p : LaidOut) (t : Trace) (said : Said) → HasProgram first p → HasTrace second p t → Run p t said → OfRun Run module_path trace_path first second said
+
+-- ---- the commands
+
+-- what a command says of its files, in the line's order
+abbrev pub OfCommand : Asked → (first second : Option (List ℕ)) → Said → Type 0
+OfCommand (check module_path cert_path) first second = OfCheck module_path cert_path first second
+OfCommand (replay module_path trace_path) first second = OfRun OfTrace module_path trace_path first second
+OfCommand (soak module_path trace_path seeds steps) first second = OfRun (OfSeeds seeds steps) module_path trace_path first second
