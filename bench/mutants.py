@@ -6,8 +6,9 @@
 Takes modules with certificates that are accepted (those of generate.py and of examples/swap), takes out, doubles,
 exchanges or replaces one or two tokens of the module, and hands it to `dgc check` and to `llvm-as`. Prints what
 changed in each text that dgc accepts and LLVM refuses, how often the two agree, and what dgc answers to texts that
-LLVM alone takes, with counts. Two kinds of the first are meant: what docs/TEXT.md reads without effect, and a runtime function that
-is declared with other types and never called. For use by hand.
+LLVM alone takes, with counts. Three kinds of the first are meant: what docs/TEXT.md reads without effect, a runtime
+function that is declared with other types and never called, and a phi with one entry for a block from which a switch
+leads to it twice. For use by hand.
 """
 import argparse
 import collections
@@ -34,12 +35,21 @@ def sources(folder):
     return [(open(module).read(), cert) for module, cert in found]
 
 
+def kind(token):
+    """Which tokens may often stand in a token's place."""
+    return "0" if token[-1].isdigit() and token[0] in "-0123456789" else "a" if token[0].isalpha() else token[0]
+
+
 def changed(draw, text):
-    """The text with one or two of its tokens changed."""
+    """The text with one or two of its tokens changed; mostly by another token of the same kind."""
     tokens = TOKEN.findall(text)
     places = [n for n, token in enumerate(tokens) if not token.isspace()]
     for _ in range(draw.randrange(1, 3)):
-        here, there = draw.choice(places), draw.choice(places)
+        here = draw.choice(places)
+        if draw.random() < 0.8 and tokens[here]:
+            tokens[here] = draw.choice([tokens[n] for n in places if tokens[n] and kind(tokens[n]) == kind(tokens[here])])
+            continue
+        there = draw.choice(places)
         tokens[here], tokens[there] = draw.choice([
             ("", tokens[there]),
             (f"{tokens[here]} {tokens[here]}", tokens[there]),
