@@ -47,7 +47,8 @@ def changed(draw, text):
     for _ in range(draw.randrange(1, 3)):
         here = draw.choice(places)
         if draw.random() < 0.8 and tokens[here]:
-            tokens[here] = draw.choice([tokens[n] for n in places if tokens[n] and kind(tokens[n]) == kind(tokens[here])])
+            alike = [tokens[n] for n in places if tokens[n] and kind(tokens[n]) == kind(tokens[here])]
+            tokens[here] = draw.choice(alike)
             continue
         there = draw.choice(places)
         tokens[here], tokens[there] = draw.choice([
