@@ -3,13 +3,13 @@
 
     agree.py DGC [--modules N] [--seed S] [--keep FOLDER]
 
-Draws N modules of sixty functions each: integers of all widths, branches, loops with phis that exchange values,
+Draws N modules of sixty functions each: integers of many widths, branches, loops with phis that exchange values,
 switches, calls, slots, nested structs and arrays with counted indices, references in cells and globals, with the
 barriers and without. Each function is run by `dgc replay`, one thread behind another and without the collector, and
 by LLVM: `clang -O0` builds the same text with a runtime whose cells are never freed (from -O1 on LLVM 14 may fail
-where it lowers gcroot). Half of all values are mixed into what a function returns. The meaning of an instruction is a
-definition (the specs of machine_values, machine_asks and machine), so nothing proves it to be LLVM's; this looks for
-a difference. Prints the first one and leaves its files in FOLDER. For use by hand.
+where it lowers gcroot). Half of what is computed and loaded is mixed into what a function returns. The meaning of an
+instruction is a definition (the specs of machine_values, machine_asks and machine), so nothing proves it to be
+LLVM's; this looks for a difference, and prints the first one. FOLDER keeps the files. For use by hand.
 """
 import argparse
 import os
@@ -383,7 +383,6 @@ def write(base, module):
         out.write("int main(void) {\n" + "".join(
             f'  printf("t {n} returned %" PRIu64 "\\n", run{n}());\n' for n in range(len(starts))))
         out.write("  return 0;\n}\n")
-    return len(starts)
 
 
 def compare(dgc, base):
