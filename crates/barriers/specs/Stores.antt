@@ -1,8 +1,8 @@
 -- Stores of references into cells: which may go without a barrier, and what is known behind one.
 use Rattle.std.specs.Prelude.{◌↔◌, ℕ, Bool, false, not, ◌&&◌}
-use Rattle.fact_rows.specs.declared.known.Known.{Known}
-use Rattle.fact_rows.specs.declared.known.Known.TheVariants.{Cell}
-use Rattle.fact_rows.specs.Facts.{FactSet, known_at, class_at, drop_fresh_of}
+use Rattle.facts.specs.declared.known.Known.{Known}
+use Rattle.facts.specs.declared.known.Known.TheVariants.{Cell}
+use Rattle.facts.specs.Facts.{FactSet, known_at, class_at, drop_fresh_of}
 use Rattle.facts.specs.Statements.{Statement, IsCurrent, IsFresh, Says, FreshOf}
 
 -- what is known of a value is that it is a reference that is not stale, of a class that is fresh

@@ -1,8 +1,7 @@
 ghost use Rattle.std.specs.Prelude.{◌≡◌, ◌↔◌, true};
 ghost use Rattle.barriers.specs.Stores.{may_store_plain, IsOwnCell, publish, EndsFresh};
 
-use fact_rows::Known;
-use facts::{Facts, publish_law};
+use facts::{Facts, Known, publish_law};
 use ir_ast::ValueId;
 
 /// Whether a reference may be stored without a barrier in the cell to which a value refers.

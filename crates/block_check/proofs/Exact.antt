@@ -2,16 +2,16 @@
 use Rattle.std.proofs.Common.{◌≡◌, ◌⊎◌, ◌<◌, ℕ, subst, refl, sym, ap, ◌∙◌, arith, Option, Some, None, List, Result, Ok, Err, MatchResult, IsOkUnless, inl, inr, slice_get}
 use Rattle.std.proofs.lemmas.Bool.{cases_order}
 use Rattle.ir_ast.specs.declared.function.Function.{Function}
-use Rattle.certificate.specs.declared.section.Section.{Section}
+use Rattle.certs.specs.declared.section.Section.{Section}
 use Rattle.layout.specs.Layouts.{LaidOut}
-use Rattle.rule_operands.specs.Standing.{instructions_of}
-use Rattle.certified.specs.declared.block_fault.BlockFault.{BlockFault}
-use Rattle.certified.specs.declared.block_fault.BlockFault.TheVariants.{Refused, Memory}
-use Rattle.certified.specs.declared.block_fault.Breach.{Breach}
-use Rattle.certified.specs.declared.block_fault.Refusal.{Refusal}
-use Rattle.certified.specs.Ways.{Scene, given_at}
-use Rattle.certified.specs.Certified.{scene_of, IsCertifiedIn, BreaksIn, BlockCertified, FirstRefusal, IfRefused}
-use Rattle.certified.specs.Functions.{AreBlocksCertified, IsFirstInFunction, IsFunctionFault}
+use Rattle.block_rules.specs.Standing.{instructions_of}
+use Rattle.block_rules.specs.declared.block_fault.BlockFault.{BlockFault}
+use Rattle.block_rules.specs.declared.block_fault.BlockFault.TheVariants.{Refused, Memory}
+use Rattle.block_rules.specs.declared.block_fault.Breach.{Breach}
+use Rattle.block_rules.specs.declared.block_fault.Refusal.{Refusal}
+use Rattle.block_rules.specs.Ways.{Scene, given_at}
+use Rattle.block_rules.specs.Certified.{scene_of, IsCertifiedIn, BreaksIn, BlockCertified, FirstRefusal, IfRefused}
+use Rattle.block_rules.specs.Functions.{AreBlocksCertified, IsFirstInFunction, IsFunctionFault}
 use Rattle.block_check.proofs.Follows.{never_both, one_break}
 
 not_both : (program : LaidOut) (certs : List Section) (section : Option Section) (f : Option Function) (b place : ℕ) (broken : Breach) → IsCertifiedIn program certs section f b → BreaksIn program certs section f b place broken → ⊥

@@ -3,16 +3,16 @@ use Rattle.std.proofs.Common.{◌≡◌, ℕ, zero, suc, ◌+◌, ◌<◌, List,
 use Rattle.std.proofs.lemmas.List.{take_more, length-take-le}
 use Rattle.std.specs.Prelude.{Option}
 use Rattle.ir_ast.specs.declared.instr.Instr.{Instr}
-use Rattle.certificate.specs.declared.section.Mark.{Mark}
-use Rattle.certificate.specs.declared.section.Promise.{Promise}
-use Rattle.fact_rows.specs.Facts.{FactSet}
-use Rattle.rule_operands.specs.declared.standing.Standing.{Standing}
-use Rattle.rule_operands.specs.Standing.{head_in, begins_collected}
+use Rattle.certs.specs.declared.section.Mark.{Mark}
+use Rattle.certs.specs.declared.section.Promise.{Promise}
+use Rattle.facts.specs.Facts.{FactSet}
+use Rattle.block_rules.specs.declared.standing.Standing.{Standing}
+use Rattle.block_rules.specs.Standing.{head_in, begins_collected}
 use Rattle.block_rules.specs.Rules.{after}
-use Rattle.certified.specs.declared.block_fault.Breach.{Breach}
-use Rattle.rule_forms.specs.Promises.{promised_in, own_mark}
-use Rattle.certified.specs.Ways.{Scene}
-use Rattle.certified.specs.Certified.{stands, breach, Passes, Follows, BreaksRule}
+use Rattle.block_rules.specs.declared.block_fault.Breach.{Breach}
+use Rattle.block_rules.specs.Promises.{promised_in, own_mark}
+use Rattle.block_rules.specs.Ways.{Scene}
+use Rattle.block_rules.specs.Certified.{stands, breach, Passes, Follows, BreaksRule}
 
 module _ (s : Scene) (b : ℕ) where
   -- one instruction more

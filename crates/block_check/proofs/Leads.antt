@@ -5,8 +5,8 @@ use Rattle.std.proofs.lemmas.List.Folds.{list_any_more}
 use Rattle.std.specs.Prelude.{◌==◌, ◌&&◌, ◌||◌, nat_lt}
 use Rattle.std.specs.List.{list_any}
 use Rattle.ir_ast.specs.declared.function.Function.{Function}
-use Rattle.rule_operands.specs.Standing.{block_instructions, instructions_of}
-use Rattle.certified.specs.Ways.{instruction_leads, is_predecessor}
+use Rattle.block_rules.specs.Standing.{block_instructions, instructions_of}
+use Rattle.block_rules.specs.Ways.{instruction_leads, is_predecessor}
 use Rattle.block_check.specs.Predecessors.{is_listed, Adds, ArePredecessors}
 
 -- ---- truth values

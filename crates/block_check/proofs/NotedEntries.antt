@@ -7,8 +7,8 @@ use Rattle.ir_ast.specs.declared.block.Block.{Block}
 use Rattle.ir_ast.specs.declared.function.Function.{Function}
 use Rattle.ir_ast.specs.declared.op.Incoming.{Incoming}
 use Rattle.types.specs.ValueTypes.{target_of}
-use Rattle.rule_operands.specs.Standing.{block_instructions, instructions_of}
-use Rattle.certified.specs.Ways.{operand_from, is_operand, is_predecessor, precedes, agrees_from, is_entry_of, is_there, has_each, are_entries}
+use Rattle.block_rules.specs.Standing.{block_instructions, instructions_of}
+use Rattle.block_rules.specs.Ways.{operand_from, is_operand, is_predecessor, precedes, agrees_from, is_entry_of, is_there, has_each, are_entries}
 use Rattle.block_check.specs.Entries.{noted_from, is_target_listed, is_noted, is_entry_noted, has_each_noted}
 use Rattle.block_check.specs.PhiOperands.{OperandTable, AreOperands, AreOperandTables, entries_at}
 use Rattle.block_check.specs.Predecessors.{is_in}

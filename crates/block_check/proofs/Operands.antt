@@ -10,7 +10,7 @@ use Rattle.ir_ast.specs.declared.instr.Instr.{Instr}
 use Rattle.ir_ast.specs.declared.op.Incoming.{Incoming}
 use Rattle.ir_ast.specs.declared.operand.Operand.{Operand}
 use Rattle.types.specs.ValueTypes.{target_of}
-use Rattle.certified.specs.Ways.{is_number, operand_from}
+use Rattle.block_rules.specs.Ways.{is_number, operand_from}
 use Rattle.block_check.specs.PhiOperands.{OperandTable, operand_at, AddsAt, AreOperands, AreOperandTables, entries_of, entries_at}
 use Rattle.block_check.proofs.Leads.{same_truth}
 

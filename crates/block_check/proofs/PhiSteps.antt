@@ -5,9 +5,9 @@ use Rattle.ir_ast.specs.declared.instr.Instr.{Instr}
 use Rattle.ir_ast.specs.declared.module.Module.{Module}
 use Rattle.ir_ast.specs.declared.op.Incoming.{Incoming}
 use Rattle.ir_ast.specs.declared.op.Op.TheVariants.{Phi}
-use Rattle.fact_rows.specs.Facts.{FactSet}
-use Rattle.fact_rows.specs.declared.known.Entry.{Entry}
-use Rattle.certified.specs.Ways.{is_phi, named_comes_in, comes_in}
+use Rattle.facts.specs.Facts.{FactSet}
+use Rattle.facts.specs.declared.known.Entry.{Entry}
+use Rattle.block_rules.specs.Ways.{is_phi, named_comes_in, comes_in}
 use Rattle.block_check.specs.PhiOperands.{entries_of, entries_in, entries_at}
 
 there : (instrs : List Instr) (place : ℕ) (instr : Instr) → place < length instrs → instr ≡ get_or instrs place instr → slice_get instrs place ≡ Some instr

@@ -4,7 +4,7 @@ use Rattle.std.specs.List.{list_all}
 use Rattle.ir_ast.specs.declared.op.Incoming.{Incoming}
 use Rattle.ir_ast.specs.declared.operand.Operand.{Operand}
 use Rattle.types.specs.ValueTypes.{target_of}
-use Rattle.certified.specs.Ways.{is_operand, is_there}
+use Rattle.block_rules.specs.Ways.{is_operand, is_there}
 use Rattle.block_check.specs.Predecessors.{is_listed}
 use Rattle.block_check.specs.PhiOperands.{operand_at}
 use Rattle.block_check.specs.declared.subject.Subject.{Subject}

@@ -10,7 +10,7 @@ use Rattle.ir_ast.specs.declared.op.Incoming.{Incoming}
 use Rattle.ir_ast.specs.declared.op.Op.{Op}
 use Rattle.ir_ast.specs.declared.op.Op.TheVariants.{Phi}
 use Rattle.ir_ast.specs.declared.operand.Operand.{Operand}
-use Rattle.certified.specs.Ways.{operand_from}
+use Rattle.block_rules.specs.Ways.{operand_from}
 
 -- a table: an operand for each place and block
 abbrev pub OperandTable : Type 0

@@ -1,8 +1,8 @@
 -- The function that is checked, as the definitions see it.
 use Rattle.std.specs.Prelude.{◌≡◌, length, slice_get, Some}
 use Rattle.shadow_stack.specs.Slots.{slots_of}
-use Rattle.fact_rows.specs.Facts.{nothing_known}
-use Rattle.certified.specs.Ways.{Scene}
+use Rattle.facts.specs.Facts.{nothing_known}
+use Rattle.block_rules.specs.Ways.{Scene}
 use Rattle.block_check.specs.Predecessors.{ArePredecessors}
 use Rattle.block_check.specs.PhiOperands.{AreOperandTables}
 use Rattle.block_check.specs.declared.subject.Subject.{Subject}

@@ -3,7 +3,7 @@ use Rattle.std.specs.Prelude.{◌≡◌, length}
 use Rattle.ir_ast.specs.declared.function.Function.{Function}
 use Rattle.ir_ast.specs.declared.module.Module.{Module}
 use Rattle.shadow_stack.specs.Slots.{slots_of}
-use Rattle.fact_rows.specs.Facts.{nothing_known}
+use Rattle.facts.specs.Facts.{nothing_known}
 use Rattle.block_check.specs.Predecessors.{ArePredecessors}
 use Rattle.block_check.specs.PhiOperands.{AreOperandTables}
 use Rattle.block_check.specs.declared.tables.Tables.{Tables}

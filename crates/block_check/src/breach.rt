@@ -1,19 +1,17 @@
 //! What an instruction breaks.
 ghost use Rattle.std.specs.Prelude.{◌≡◌, ◌<◌, Some, length, slice_get, IfOk};
-ghost use Rattle.rule_operands.specs.FirstFailing.{first_failing};
-ghost use Rattle.rule_operands.specs.Standing.{instructions_of};
-ghost use Rattle.certified.specs.Certified.{entry_conditions, failing, breach};
+ghost use Rattle.block_rules.specs.FirstFailing.{first_failing};
+ghost use Rattle.block_rules.specs.Standing.{instructions_of};
+ghost use Rattle.block_rules.specs.Certified.{entry_conditions, failing, breach};
 ghost use Rattle.block_check.specs.PhiOperands.{entries_at, entries_of};
 ghost use Rattle.block_check.specs.Subject.{seen, IsReady};
 
 use crate::entries::are_entries;
 use crate::subject::Subject;
 use crate::ways::{Exit, Rooms};
-use block_rules::refusal;
-use certified::Breach;
+use block_rules::{Breach, Rule, Standing, refusal};
 use facts::Facts;
 use ir_ast::{BlockId, Instr, Op};
-use rule_operands::{Rule, Standing};
 use std::alloc::{AllocError, Global};
 
 /// What an instruction of a block breaks, if it breaks a rule.

@@ -1,22 +1,22 @@
 ghost use Rattle.std.specs.Prelude.{◌≡◌, ◌==◌, ◌||◌, ◌<◌, ◌⊎◌, not, nat_lt, length, slice_get, Err, Some, IfOk, IsOkUnless, MatchOption, MatchResult};
-ghost use Rattle.rule_operands.specs.Standing.{head_in, begins_collected};
-ghost use Rattle.certified.specs.Certified.{IsCertified, BreaksAt, BlockCertified, FirstRefusal, IfRefused};
-ghost use Rattle.certified.specs.declared.block_fault.BlockFault.TheVariants.{Refused, Memory};
+ghost use Rattle.block_rules.specs.Standing.{head_in, begins_collected};
+ghost use Rattle.block_rules.specs.Certified.{IsCertified, BreaksAt, BlockCertified, FirstRefusal, IfRefused};
+ghost use Rattle.block_rules.specs.declared.block_fault.BlockFault.TheVariants.{Refused, Memory};
 ghost use Rattle.block_check.specs.Subject.{seen, IsReady};
-ghost use Rattle.certified.specs.Functions.{blocks_in, AreBlocksCertified, IsFunctionCertified, IsFirstInFunction, IsFunctionFault};
+ghost use Rattle.block_rules.specs.Functions.{blocks_in, AreBlocksCertified, IsFunctionCertified, IsFirstInFunction, IsFunctionFault};
 
 use crate::breach::breach;
 use crate::given::begin_block;
 use crate::subject::{Subject, instructions_of};
 use crate::tables::Tables;
 use crate::ways::{Exit, Rooms};
-use block_rules::{advance, head_of, keeps_shadow_stack};
-use certificate::{Certs, Mark, Promise};
-use certified::{BlockFault, Breach, Refusal};
+use block_rules::{
+    BlockFault, Breach, Refusal, Scene, Standing, advance, head_of, keeps_shadow_stack,
+};
+use certs::{Certs, Mark, Promise};
 use facts::Facts;
 use ir_ast::{BlockId, FuncId, Function, Module};
 use layout::Program;
-use rule_operands::{Scene, Standing};
 use std::alloc::{AllocError, Global};
 
 /// Whether a block keeps the rules. What is found of its function is found anew, in time linear in the function.

@@ -1,8 +1,8 @@
 //! K16: whether the entries of a phi are those of its block's predecessors.
 ghost use Rattle.std.specs.Prelude.{◌≡◌, ◌<◌, ◌&&◌, length};
 ghost use Rattle.std.specs.List.{list_all};
-ghost use Rattle.rule_operands.specs.Standing.{instructions_of};
-ghost use Rattle.certified.specs.Ways.{is_same_constant, is_same_operand, is_operand, are_entries};
+ghost use Rattle.block_rules.specs.Standing.{instructions_of};
+ghost use Rattle.block_rules.specs.Ways.{is_same_constant, is_same_operand, is_operand, are_entries};
 ghost use Rattle.block_check.specs.Entries.{noted_from, is_entry_noted, has_each_noted};
 ghost use Rattle.block_check.specs.PhiOperands.{entries_at};
 ghost use Rattle.block_check.specs.Subject.{IsReady};

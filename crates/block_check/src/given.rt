@@ -1,15 +1,14 @@
 //! What a block begins with.
 ghost use Rattle.std.specs.Prelude.{◌≡◌, OnOk};
-ghost use Rattle.fact_rows.specs.Lines.{receive_all};
-ghost use Rattle.certified.specs.Ways.{parameters_given, line_facts, given_at};
+ghost use Rattle.facts.specs.Lines.{receive_all};
+ghost use Rattle.block_rules.specs.Ways.{parameters_given, line_facts, given_at};
 ghost use Rattle.block_check.specs.Subject.{seen, IsReady};
 
 use crate::subject::Subject;
-use certificate::Promise;
+use block_rules::{TypeKind, given_by};
+use certs::Promise;
 use facts::Facts;
 use ir_ast::{BlockId, Module, Parameter};
-use rule_forms::given_by;
-use rule_operands::TypeKind;
 use std::alloc::{AllocError, Global};
 
 /// What a block begins with, in place of what is known.

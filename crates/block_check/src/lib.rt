@@ -13,5 +13,5 @@ mod subject;
 mod tables;
 mod ways;
 
-pub use certified::{BlockFault, Breach, Detail, Refusal, Rule};
+pub use block_rules::{BlockFault, Breach, Detail, Refusal, Rule};
 pub use check::{check_block, check_function};

@@ -1,6 +1,6 @@
 //! The operands that come in to the phis of each block, looked up by their hashes.
 ghost use Rattle.std.specs.Prelude.{◌≡◌, ◌==◌, if◌then◌else◌, ◌∷◌, [], Some, None, OnOk, IfOk};
-ghost use Rattle.certified.specs.Ways.{operand_from};
+ghost use Rattle.block_rules.specs.Ways.{operand_from};
 ghost use Rattle.block_check.specs.PhiOperands.{operand_at, entries_of, AddsAt, AreOperands, AreOperandTables};
 
 use indexmap::IndexMap;

@@ -1,17 +1,15 @@
 //! What the phis of a block take where it is entered from another.
 ghost use Rattle.std.specs.Prelude.{◌≡◌, OnOk};
-ghost use Rattle.rule_operands.specs.Standing.{instructions_of};
-ghost use Rattle.certified.specs.Ways.{operand_from, number_comes_in, constant_comes_in, known_comes_in, comes_in};
+ghost use Rattle.block_rules.specs.Standing.{instructions_of};
+ghost use Rattle.block_rules.specs.Ways.{operand_from, number_comes_in, constant_comes_in, known_comes_in, comes_in};
 ghost use Rattle.block_check.specs.PhiOperands.{entries_at};
 ghost use Rattle.block_check.specs.Subject.{IsReady};
 
 use crate::subject::{Subject, instructions_of};
-use fact_rows::{Entry, Known};
-use facts::Facts;
+use block_rules::{TypeKind, below_next, known_of};
+use facts::{Entry, Facts, Known};
 use ir_ast::{BlockId, Constant, Op, Operand};
 use items::Items;
-use rule_forms::below_next;
-use rule_operands::{TypeKind, known_of};
 use std::alloc::AllocError;
 
 fn number_comes_in(n: u64, kind: TypeKind) -> Known

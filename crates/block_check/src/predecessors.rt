@@ -2,7 +2,7 @@
 ghost use Rattle.std.specs.Prelude.{◌≡◌, [], Some, map, length, slice_index_or, OnOk, IfOk};
 ghost use Rattle.std.specs.List.{list_any};
 ghost use Rattle.types.specs.ValueTypes.{target_of};
-ghost use Rattle.certified.specs.Ways.{is_number, ways, open_way, instruction_leads};
+ghost use Rattle.block_rules.specs.Ways.{is_number, ways, open_way, instruction_leads};
 ghost use Rattle.block_check.specs.Predecessors.{is_listed, Adds, ArePredecessors};
 
 use crate::block_set::BlockSet;

@@ -1,15 +1,15 @@
 ghost use Rattle.std.specs.Prelude.{◌≡◌, slice_get};
-ghost use Rattle.rule_operands.specs.Standing.{instructions_of};
-ghost use Rattle.rule_forms.specs.Promises.{promises_in, promised_in, own_mark};
-ghost use Rattle.certified.specs.Ways.{lines_in};
+ghost use Rattle.block_rules.specs.Standing.{instructions_of};
+ghost use Rattle.block_rules.specs.Promises.{promises_in, promised_in, own_mark};
+ghost use Rattle.block_rules.specs.Ways.{lines_in};
 ghost use Rattle.block_check.specs.Entries.{noted_from};
 
 use crate::phi_operands::PhiOperands;
 use crate::predecessors::Predecessors;
-use certificate::{Line, Mark, Promise};
+use block_rules::Scene;
+use certs::{Line, Mark, Promise};
 use facts::Facts;
 use ir_ast::{BlockId, FuncId, Function, Instr, Operand};
-use rule_operands::Scene;
 
 /// The function that is checked, with what is found of it once.
 #[derive(Clone, Copy)]

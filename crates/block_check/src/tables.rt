@@ -5,9 +5,9 @@ ghost use Rattle.block_check.specs.Subject.{IsReady};
 use crate::phi_operands::{PhiOperands, operands_of};
 use crate::predecessors::Predecessors;
 use crate::subject::Subject;
+use block_rules::Scene;
 use facts::Facts;
 use ir_ast::{FuncId, Function, Module};
-use rule_operands::Scene;
 use shadow_stack::Slots;
 use std::alloc::{AllocError, Global};
 

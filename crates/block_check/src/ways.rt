@@ -1,19 +1,18 @@
 //! The ways out of a block, and the first line of a target that is not shown.
 ghost use Rattle.std.specs.Prelude.{◌≡◌, [], map, position, not, Some, OnOk, IfOk};
-ghost use Rattle.fact_rows.specs.Facts.{nothing_known};
-ghost use Rattle.fact_rows.specs.Lines.{shows_line};
+ghost use Rattle.facts.specs.Facts.{nothing_known};
+ghost use Rattle.facts.specs.Lines.{shows_line};
 ghost use Rattle.types.specs.ValueTypes.{target_of};
-ghost use Rattle.certified.specs.Ways.{open_way, branch_ways, ways, decided_facts, entered, line_facts, unshown_line, unshown_at, unshown_on};
+ghost use Rattle.block_rules.specs.Ways.{open_way, branch_ways, ways, decided_facts, entered, line_facts, unshown_line, unshown_at, unshown_on};
 ghost use Rattle.block_check.specs.Subject.{seen, IsReady};
 ghost use Rattle.block_check.specs.Decided.{decided_by};
 
 use crate::given::begin_lines;
 use crate::phis::note_entries;
 use crate::subject::Subject;
-use certificate::Line;
-use certified::Detail;
-use fact_rows::Entry;
-use facts::Facts;
+use block_rules::Detail;
+use certs::Line;
+use facts::{Entry, Facts};
 use ir_ast::{BlockId, Case, Op, Operand, ValueId};
 use items::Items;
 use shadow_stack::Slots;

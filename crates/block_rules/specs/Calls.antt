@@ -12,22 +12,22 @@ use Rattle.ir_ast.specs.declared.operand.Operand.TheVariants.{Constant as Writte
 use Rattle.ir_ast.specs.declared.runtime.Runtime.TheVariants.{Alloc, Safepoint, GcRoot, GcRead, GcWrite}
 use Rattle.layout.specs.Layouts.{LaidOut}
 use Rattle.shadow_stack.specs.Slots.{SlotTable, held_type}
-use Rattle.certificate.specs.declared.section.Promise.{Promise}
-use Rattle.certificate.specs.declared.section.Section.{Section}
-use Rattle.fact_rows.specs.declared.known.Known.TheVariants.{Nothing}
-use Rattle.fact_rows.specs.Facts.{FactSet, slot_at, define, define_new, root_slot, drop_fresh_of, make_stale}
-use Rattle.fact_rows.specs.Lines.{receive}
+use Rattle.certs.specs.declared.section.Promise.{Promise}
+use Rattle.certs.specs.declared.section.Section.{Section}
+use Rattle.facts.specs.declared.known.Known.TheVariants.{Nothing}
+use Rattle.facts.specs.Facts.{FactSet, slot_at, define, define_new, root_slot, drop_fresh_of, make_stale}
+use Rattle.facts.specs.Lines.{receive}
 use Rattle.safepoints.specs.Marks.{is_may, marks_agree, after_mark}
-use Rattle.rule_operands.specs.declared.callee.Callee.{Callee}
-use Rattle.rule_operands.specs.declared.callee.Callee.TheVariants.{OfRuntime, OfModule, NoFunction}
-use Rattle.rule_operands.specs.declared.rule.Rule.{Rule}
-use Rattle.rule_operands.specs.declared.rule.Rule.TheVariants.{K1, K2, K3, K9, K10, K12, K13, K17, K18}
-use Rattle.rule_operands.specs.declared.standing.Standing.{Standing}
-use Rattle.rule_operands.specs.Operands.{slot_named, known_of, is_available, is_value, is_current, is_null, is_no_slot}
-use Rattle.rule_operands.specs.Signature.{is_written_as}
-use Rattle.rule_operands.specs.TypeKinds.{kind_of, is_reference}
-use Rattle.rule_forms.specs.Barriers.{read_conditions, write_conditions, after_read_call, after_write}
-use Rattle.rule_forms.specs.Promises.{promises_in, promised_in, callee_mark, given_by, show_promises}
+use Rattle.block_rules.specs.declared.callee.Callee.{Callee}
+use Rattle.block_rules.specs.declared.callee.Callee.TheVariants.{OfRuntime, OfModule, NoFunction}
+use Rattle.block_rules.specs.declared.rule.Rule.{Rule}
+use Rattle.block_rules.specs.declared.rule.Rule.TheVariants.{K1, K2, K3, K9, K10, K12, K13, K17, K18}
+use Rattle.block_rules.specs.declared.standing.Standing.{Standing}
+use Rattle.block_rules.specs.Operands.{slot_named, known_of, is_available, is_value, is_current, is_null, is_no_slot}
+use Rattle.block_rules.specs.Signature.{is_written_as}
+use Rattle.block_rules.specs.TypeKinds.{kind_of, is_reference}
+use Rattle.block_rules.specs.Barriers.{read_conditions, write_conditions, after_read_call, after_write}
+use Rattle.block_rules.specs.Promises.{promises_in, promised_in, callee_mark, given_by, show_promises}
 
 -- each argument of a call is available
 abbrev pub all_available : SlotTable → FactSet → List Argument → Bool

@@ -15,21 +15,21 @@ use Rattle.ir_ast.specs.declared.operand.Operand.TheVariants.{Constant as Writte
 use Rattle.layout.specs.Layouts.{LaidOut}
 use Rattle.types.specs.ValueTypes.{target_of}
 use Rattle.shadow_stack.specs.Slots.{SlotTable, slot_of, is_among}
-use Rattle.certificate.specs.declared.section.Section.{Section}
-use Rattle.fact_rows.specs.Facts.{FactSet, end_slot}
-use Rattle.rule_operands.specs.declared.rule.Rule.{Rule}
-use Rattle.rule_operands.specs.declared.rule.Rule.TheVariants.{K1, K2, K3, K4, K5, K6, K8, K10, K11, K12, K14, K19}
-use Rattle.rule_operands.specs.declared.standing.Standing.{Standing}
-use Rattle.rule_operands.specs.FirstFailing.{first_failing}
-use Rattle.rule_operands.specs.Operands.{slot_named, known_of, is_available, constant_fits, is_typed, is_value, is_current, is_based, is_no_slot}
-use Rattle.rule_operands.specs.Places.{may_load, may_store, after_load, after_store}
-use Rattle.rule_operands.specs.Signature.{callee_of}
-use Rattle.rule_operands.specs.TypeKinds.{kind_of, is_integer, is_pointer, is_void, is_bits}
-use Rattle.rule_forms.specs.Barriers.{needs_no_barrier}
-use Rattle.rule_forms.specs.Casts.{casts_operand, may_cast, after_cast}
-use Rattle.rule_forms.specs.Elements.{may_be_base, are_indices, may_lead, after_element}
-use Rattle.rule_forms.specs.Integers.{below_of, arithmetic_below, define_number, may_resize, resized_below, may_compare, after_compare, known_layout, one_layout, may_choose, after_select}
-use Rattle.rule_forms.specs.Promises.{keeps_promise}
+use Rattle.certs.specs.declared.section.Section.{Section}
+use Rattle.facts.specs.Facts.{FactSet, end_slot}
+use Rattle.block_rules.specs.declared.rule.Rule.{Rule}
+use Rattle.block_rules.specs.declared.rule.Rule.TheVariants.{K1, K2, K3, K4, K5, K6, K8, K10, K11, K12, K14, K19}
+use Rattle.block_rules.specs.declared.standing.Standing.{Standing}
+use Rattle.block_rules.specs.FirstFailing.{first_failing}
+use Rattle.block_rules.specs.Operands.{slot_named, known_of, is_available, constant_fits, is_typed, is_value, is_current, is_based, is_no_slot}
+use Rattle.block_rules.specs.Places.{may_load, may_store, after_load, after_store}
+use Rattle.block_rules.specs.Signature.{callee_of}
+use Rattle.block_rules.specs.TypeKinds.{kind_of, is_integer, is_pointer, is_void, is_bits}
+use Rattle.block_rules.specs.Barriers.{needs_no_barrier}
+use Rattle.block_rules.specs.Casts.{casts_operand, may_cast, after_cast}
+use Rattle.block_rules.specs.Elements.{may_be_base, are_indices, may_lead, after_element}
+use Rattle.block_rules.specs.Integers.{below_of, arithmetic_below, define_number, may_resize, resized_below, may_compare, after_compare, known_layout, one_layout, may_choose, after_select}
+use Rattle.block_rules.specs.Promises.{keeps_promise}
 use Rattle.block_rules.specs.Calls.{no_slots, call_conditions, after_call}
 
 -- K8: an alloca is of an integer, or of a reference, and some gcroot of the function names its slot

@@ -1,25 +1,28 @@
 ghost use Rattle.std.specs.Prelude.{◌≡◌, OnOk, length, slice_get};
 ghost use Rattle.std.specs.List.{list_all, zip};
 ghost use Rattle.std.specs.Option.{option_copied};
-ghost use Rattle.rule_operands.specs.FirstFailing.{first_failing};
-ghost use Rattle.rule_operands.specs.Signature.{callee_of};
+ghost use Rattle.block_rules.specs.FirstFailing.{first_failing};
+ghost use Rattle.block_rules.specs.Signature.{callee_of};
 ghost use Rattle.block_rules.specs.Calls.{all_available, all_values, all_current, no_slots, holds_reference, is_unrooted, may_root, numbers_one_of, numbers_layout, number_layouts, root_conditions, alloc_conditions, safepoint_conditions, is_written_for, is_written_with, defined_conditions, unknown_conditions, read_call_conditions, write_call_conditions, call_conditions, after_root, after_root_call, alloc_numbered, alloc_layout, after_alloc, after_alloc_call, drop_arguments, receive_result, after_defined, after_call};
 
-use certificate::{Mark, Promise, Section};
-use fact_rows::{Class, Known};
-use facts::Facts;
+use crate::barrier::{after_read_call, after_write, read_refusal, write_refusal};
+use crate::callee::Callee;
+use crate::conditions::first_failing;
+use crate::operands::{
+    is_available, is_no_slot, is_null, is_operand_current, is_value, known_of, slot_named,
+};
+use crate::promises::{callee_mark, given_by, promised_in, promises_in, show_promises};
+use crate::rule::Rule;
+use crate::scene::Scene;
+use crate::signature::{callee_of, is_written_as};
+use crate::standing::Standing;
+use crate::type_kind::TypeKind;
+use certs::{Mark, Promise, Section};
+use facts::{Class, Facts, Known};
 use ir_ast::{
     Argument, Constant, FuncId, Module, Operand, Parameter, Runtime, SymbolId, TypeId, ValueId,
 };
 use pools::LayoutId;
-use rule_forms::{
-    after_read_call, after_write, callee_mark, given_by, promised_in, promises_in, read_refusal,
-    show_promises, write_refusal,
-};
-use rule_operands::{
-    Callee, Rule, Scene, Standing, TypeKind, callee_of, first_failing, is_available, is_no_slot,
-    is_null, is_operand_current, is_value, is_written_as, known_of, slot_named,
-};
 use safepoints::{is_may, marks_agree};
 use shadow_stack::{SlotId, Slots};
 use std::alloc::AllocError;

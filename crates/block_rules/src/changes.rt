@@ -3,13 +3,18 @@ ghost use Rattle.block_rules.specs.Groups.{makes_value};
 ghost use Rattle.block_rules.specs.Rules.{after_alloca, after_named, after_op, after};
 
 use crate::calls::after_call;
+use crate::casts::after_cast;
+use crate::elements::after_element;
+use crate::integers::{
+    after_compare, after_select, arithmetic_below, below_of, define_number, resized_below,
+};
+use crate::operands::slot_named;
+use crate::places::{after_load, after_store};
+use crate::scene::Scene;
+use crate::signature::callee_of;
+use crate::type_kind::TypeKind;
 use facts::Facts;
 use ir_ast::{Instr, Op, ValueId};
-use rule_forms::{
-    after_cast, after_compare, after_element, after_select, arithmetic_below, below_of,
-    define_number, resized_below,
-};
-use rule_operands::{Scene, TypeKind, after_load, after_store, callee_of, slot_named};
 use std::alloc::AllocError;
 
 /// Goes on to what is known behind an instruction. Where memory is refused the facts are of no more use.

@@ -1,10 +1,10 @@
 ghost use Rattle.std.specs.Prelude.{◌≡◌};
 ghost use Rattle.std.specs.List.{list_any};
-ghost use Rattle.rule_operands.specs.Standing.{is_collected_type, moves_reference, instruction_moves, block_moves, function_moves, is_shadow_stack, keeps_shadow_stack};
+ghost use Rattle.block_rules.specs.Standing.{is_collected_type, moves_reference, instruction_moves, block_moves, function_moves, is_shadow_stack, keeps_shadow_stack};
 
+use crate::type_kind::TypeKind;
 use ir_ast::{Argument, Block, Function, Instr, Module, Op, Parameter, TypeId};
 use items::Items;
-use rule_operands::TypeKind;
 
 /// Whether a function that moves references has a shadow stack.
 pub fn keeps_shadow_stack(module: &Module, function: &Function) -> bool

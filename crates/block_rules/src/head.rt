@@ -1,8 +1,9 @@
 ghost use Rattle.std.specs.Prelude.{◌≡◌, true};
-ghost use Rattle.rule_operands.specs.Standing.{is_parameter, is_given, is_gcroot, is_of_head, head_of};
+ghost use Rattle.block_rules.specs.Standing.{is_parameter, is_given, is_gcroot, is_of_head, head_of};
 
+use crate::operands::slot_named;
+use crate::scene::Scene;
 use ir_ast::{Function, Instr, Op, Operand, Runtime, ValueId};
-use rule_operands::{Scene, slot_named};
 use types::runtime_called;
 
 /// How many instructions the head of these has.

@@ -1,24 +1,30 @@
 ghost use Rattle.std.specs.Prelude.{◌≡◌, ◌||◌, None, true};
 ghost use Rattle.std.specs.List.{list_all};
-ghost use Rattle.fact_rows.specs.Facts.{FactSet};
+ghost use Rattle.facts.specs.Facts.{FactSet};
 ghost use Rattle.ir_ast.specs.declared.op.Arithmetic.{Arithmetic};
-ghost use Rattle.rule_operands.specs.Operands.{is_available};
-ghost use Rattle.rule_operands.specs.FirstFailing.{first_failing};
+ghost use Rattle.block_rules.specs.Operands.{is_available};
+ghost use Rattle.block_rules.specs.FirstFailing.{first_failing};
 ghost use Rattle.block_rules.specs.Groups.{makes_value, ends_block};
 ghost use Rattle.block_rules.specs.Rules.{is_condition, op_conditions, conditions};
 
+use crate::barrier::needs_no_barrier;
 use crate::calls::{call_refusal, no_slots};
+use crate::casts::{casts_operand, may_cast};
+use crate::conditions::first_failing;
+use crate::elements::{are_indices, may_be_base, may_lead};
+use crate::integers::{known_layout, may_choose, may_compare, may_resize, one_layout};
+use crate::operands::{
+    is_available, is_based, is_no_slot, is_operand_current, is_typed, is_value, known_of,
+};
+use crate::places::{may_load, may_store};
+use crate::promises::keeps_promise;
+use crate::rule::Rule;
+use crate::scene::Scene;
+use crate::standing::Standing;
 use crate::tests::{all_come_in, are_cases, may_hold, names_target};
+use crate::type_kind::TypeKind;
 use facts::Facts;
 use ir_ast::{Argument, Case, Comparison, Incoming, Instr, Op, Operand, Resize, TypeId, ValueId};
-use rule_forms::{
-    are_indices, casts_operand, keeps_promise, known_layout, may_be_base, may_cast, may_choose,
-    may_compare, may_lead, may_resize, needs_no_barrier, one_layout,
-};
-use rule_operands::{
-    Rule, Scene, Standing, TypeKind, first_failing, is_available, is_based, is_no_slot,
-    is_operand_current, is_typed, is_value, known_of, may_load, may_store,
-};
 use shadow_stack::Slots;
 
 /// The rule that an instruction breaks, if it breaks one; the ways in and out of a block are looked at elsewhere.

@@ -1,8 +1,10 @@
 ghost use Rattle.std.specs.Prelude.{◌≡◌, slice_get};
 ghost use Rattle.block_rules.specs.Rules.{names_root, gives_root, may_hold, is_entry, may_come_in, all_come_in, is_target, names_target, is_case, are_cases};
 
+use crate::operands::constant_fits;
+use crate::scene::Scene;
+use crate::type_kind::TypeKind;
 use ir_ast::{BlockId, Case, Function, Incoming, LocalSort, Operand, TypeId, ValueId};
-use rule_operands::{Scene, TypeKind, constant_fits};
 use shadow_stack::{SlotId, Slots};
 use types::target_of;
 

@@ -1,2 +1,14 @@
-pub mod SlotRoots
-pub mod WordSets
+pub mod Laws
+pub mod Between
+pub mod ReadSets
+pub mod ReadWords
+pub mod ReadFits
+pub mod ListedWords
+pub mod Zipped
+pub mod PrintedWords
+pub mod PrintedSets
+pub mod PrintedNames
+pub mod PrintedLines
+pub mod PrintedPromises
+pub mod PrintedBlocks
+pub mod PrintedCerts

@@ -1,5 +1,12 @@
-pub mod Certs
-pub mod Roots
-pub mod RootNames
-pub mod Fits
-pub mod Families
+pub mod Numbers
+pub mod Names
+pub mod Drafts
+pub mod Input
+pub mod View
+pub mod Falls
+pub mod Forms
+pub mod Lines
+pub mod Ends
+pub mod Text
+pub mod Print
+pub mod Named

@@ -1,12 +1,21 @@
-//! Certificates: what each function promises, and which certificates fit a module.
+//! Certificates as text: the reader, the printer, and why what is printed is read as them again.
 #![tactic(auto)]
 
-mod certs;
-mod family;
-mod fits;
-mod roots;
-mod section;
+mod draft;
+mod facts;
+mod fault;
+mod forms;
+mod found;
+mod input;
+mod naming;
+mod numbers;
+mod print;
+mod print_sections;
+mod promises;
+mod reader;
 
-pub use certs::Certs;
-pub use family::{Family, family_of_type, family_of_value};
-pub use section::{Age, Fact, Line, Mark, Promise, Section};
+pub use certs::{Age, Certs, Fact, Family, Line, Mark, Promise, Section};
+pub use fault::CertFault;
+pub use print::print_line;
+pub use print_sections::print_cert;
+pub use reader::read_cert;

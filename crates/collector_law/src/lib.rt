@@ -1,2 +1,2 @@
-//! The invariant of heap runs over one state, and that each kind of step keeps it. No run stands here.
+//! Law of the collector: its invariant over one state, that each kind of step keeps it, and what that says of runs.
 #![tactic(auto)]

@@ -6,11 +6,11 @@ use Rattle.ir_text.specs.declared.read_fault.ReadFault.{ReadFault}
 use Rattle.ir_text.specs.declared.read_fault.ReadFault.TheVariants as read
 use Rattle.layout.specs.Layouts.{IsLayoutFault, LaidOut}
 use Rattle.layout.specs.declared.fault.LayoutFault.{LayoutFault}
-use Rattle.certificate.specs.declared.section.Section.{Section}
-use Rattle.certificate_text.specs.Text as certificate
-use Rattle.certificate_text.specs.declared.fault.CertFault.{CertFault}
-use Rattle.certificate_text.specs.declared.fault.CertFault.TheVariants as cert
-use Rattle.certified.specs.declared.block_fault.Refusal.{Refusal}
+use Rattle.certs.specs.declared.section.Section.{Section}
+use Rattle.certificate.specs.Text as certificate
+use Rattle.certificate.specs.declared.fault.CertFault.{CertFault}
+use Rattle.certificate.specs.declared.fault.CertFault.TheVariants as cert
+use Rattle.block_rules.specs.declared.block_fault.Refusal.{Refusal}
 use Rattle.module_check.specs.Accepted.{IsAccepted, IsFirstRefusal}
 use Rattle.trace_text.specs.declared.trace.Trace.{Trace}
 use Rattle.replay.specs.Faults as setup
@@ -19,8 +19,8 @@ use Rattle.replay.specs.Outcomes.{IsOutcome}
 use Rattle.replay.specs.Soaks.{IsSoakOutcome}
 use Rattle.replay.specs.declared.outcome.Outcome.{Outcome}
 use Rattle.replay.specs.declared.outcome.SoakOutcome.{SoakOutcome}
-use Rattle.command_line.specs.Asked.{Asked, check, replay, soak}
-use Rattle.report.specs.Report.{Answer, IsTold, line_of, no, no_file, no_memory, of_cert_fault, of_layout_fault, of_read_fault, yes}
+use Rattle.commands.specs.Asked.{Asked, check, replay, soak}
+use Rattle.commands.specs.Report.{Answer, IsTold, line_of, no, no_file, no_memory, of_cert_fault, of_layout_fault, of_read_fault, yes}
 use Rattle.commands.specs.Runs.{of_outcome, of_setup_fault, of_soak}
 use Rattle.commands.specs.Files.{HasProgram, HasTrace, IsUntraced, of_untraced}
 use Rattle.commands.specs.declared.files.Untraced.{Untraced}

@@ -11,7 +11,7 @@ use Rattle.trace_text.specs.declared.fault.TraceFault.TheVariants as trace
 use Rattle.trace_text.specs.declared.trace.Trace.{Trace}
 use Rattle.commands.specs.declared.files.Untraced.{Untraced}
 use Rattle.commands.specs.declared.files.Untraced.TheVariants as untraced
-use Rattle.report.specs.Report.{Answer, no_file, of_layout_fault, of_read_fault}
+use Rattle.commands.specs.Report.{Answer, no_file, of_layout_fault, of_read_fault}
 use Rattle.commands.specs.Runs.{of_trace_fault}
 
 -- ---- files

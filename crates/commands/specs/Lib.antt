@@ -1,3 +1,6 @@
+pub mod Report
+pub mod Asked
+pub mod Grammar
 pub mod Runs
 pub mod Files
 pub mod Commands

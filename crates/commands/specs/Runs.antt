@@ -6,8 +6,8 @@ use Rattle.trace_text.specs.declared.fault.TraceFault.{TraceFault}
 use Rattle.trace_text.specs.declared.fault.TraceFault.TheVariants as trace
 use Rattle.trace_text.specs.declared.trace.Actor.{Actor}
 use Rattle.trace_text.specs.declared.trace.Actor.TheVariants as actor
-use Rattle.machine_values.specs.declared.value.Value.{Value}
-use Rattle.machine_values.specs.declared.value.Value.TheVariants as value
+use Rattle.machine.specs.declared.value.Value.{Value}
+use Rattle.machine.specs.declared.value.Value.TheVariants as value
 use Rattle.replay.specs.Faults.{SetupFault}
 use Rattle.replay.specs.Faults as setup
 use Rattle.replay.specs.Ends.{ThreadEnd}
@@ -20,7 +20,7 @@ use Rattle.replay.specs.declared.outcome.SeedBreak.{SeedBreak}
 use Rattle.replay.specs.declared.outcome.SoakOutcome.{SoakOutcome}
 use Rattle.replay.specs.declared.outcome.SoakOutcome.TheVariants as soak
 use Rattle.replay.specs.CauseNames.{cause_name}
-use Rattle.report.specs.Report.{Answer, fault_at, no_memory, unread}
+use Rattle.commands.specs.Report.{Answer, fault_at, no_memory, unread}
 
 -- ---- faults
 

@@ -6,8 +6,8 @@ ghost use Rattle.commands.specs.Files as spec;
 ghost use Rattle.module_check.specs.Accepted.{IsFirstRefusal, IsVerdictOf};
 
 use crate::files::file_at;
-use certificate::Certs;
-use certificate_text::read_cert;
+use certificate::read_cert;
+use certs::Certs;
 use ir_ast::Module;
 use ir_text::read;
 use module_check::{NotAccepted, Refusal, Verdict, check};
@@ -26,9 +26,9 @@ fn report_refusal<O: Write, E: Write>(
     requires { IsFirstRefusal answer.now.of_module answer.now.certs refusal.now }
     ensures { IfOk result (Says (OfCerts answer.now.of_module answer.now.certs) (O.contents out.old) (O.contents out.new) (E.contents err.old) (E.contents err.new)) }
 {
-    match report::line_of_refusal(alloc, &answer.of_module, &answer.certs, refusal) {
-        Ok(line) => report::refused(out, &answer.of_module, refusal, line.as_slice()),
-        Err(_) => report::memory(err),
+    match crate::verdicts::line_of_refusal(alloc, &answer.of_module, &answer.certs, refusal) {
+        Ok(line) => crate::verdicts::refused(out, &answer.of_module, refusal, line.as_slice()),
+        Err(_) => crate::faults::memory(err),
     }
 }
 
@@ -44,8 +44,8 @@ fn report_verdict<O: Write, E: Write>(
 {
     match answer.verdict {
         Verdict::Refused(refusal) => report_refusal(alloc, answer, &refusal, out, err),
-        Verdict::Layout(fault) => report::no_layouts(err, &answer.of_module, fault),
-        Verdict::Memory => report::memory(err),
+        Verdict::Layout(fault) => crate::faults::no_layouts(err, &answer.of_module, fault),
+        Verdict::Memory => crate::faults::memory(err),
     }
 }
 
@@ -63,7 +63,7 @@ fn check_certs<O: Write, E: Write>(
         Ok(accepted) => {
             let count = accepted.program().module().functions.len();
             drop(accepted);
-            report::accepted(out, count)
+            crate::verdicts::accepted(out, count)
         }
         Err(answer) => {
             let status = report_verdict(alloc, &answer, out, err);
@@ -86,12 +86,12 @@ fn check_module<O: Write, E: Write>(
 {
     let Some(certificate) = file else {
         drop(of_module);
-        return report::no_file(err, path);
+        return crate::faults::no_file(err, path);
     };
     match read_cert(alloc, certificate, &of_module) {
         Ok(certs) => check_certs(alloc, of_module, certs, out, err),
         Err(fault) => {
-            let status = report::no_certificate(err, &of_module, fault);
+            let status = crate::faults::no_certificate(err, &of_module, fault);
             drop(of_module);
             status
         }
@@ -110,10 +110,10 @@ pub fn check_files<O: Write, E: Write>(
     ensures { IfOk result (Says (OfCheck paths.entry.0.now paths.entry.1.now (spec.file_at files.now 0) (spec.file_at files.now 1)) (O.contents out.old) (O.contents out.new) (E.contents err.old) (E.contents err.new)) }
 {
     let Some(text) = file_at(files, 0) else {
-        return report::no_file(err, paths.0);
+        return crate::faults::no_file(err, paths.0);
     };
     match read(alloc, text) {
         Ok(of_module) => check_module(alloc, of_module, paths.1, file_at(files, 1), out, err),
-        Err(fault) => report::no_module(err, &fault),
+        Err(fault) => crate::faults::no_module(err, &fault),
     }
 }

@@ -1,16 +1,25 @@
-//! The commands, from the bytes of their files to the lines that are printed and the status.
+//! The command line, the commands from the bytes of their files, and the lines and the status that they end with.
 #![tactic(auto)]
 
+mod asked;
 mod checking;
 mod command;
+mod faults;
 mod files;
+mod found;
+mod name;
+mod outcomes;
+mod reader;
 mod replaying;
-mod runs;
 mod soaking;
+mod status;
+mod verdicts;
 
-pub use checking::check_files;
+pub use asked::{Line, LineFault};
 pub use command::work;
-pub use files::{Traced, Untraced, read_traced};
-pub use replaying::replay_files;
-pub use runs::{no_threads, replayed, soaked, untraced};
-pub use soaking::soak_files;
+pub use faults::{memory, no_layouts};
+pub use outcomes::{replayed, soaked};
+pub use reader::line;
+pub use status::{
+    STATUS_MEMORY, STATUS_NO, STATUS_UNREADABLE, STATUS_USAGE, STATUS_YES, status_of,
+};

@@ -5,7 +5,7 @@ ghost use Rattle.commands.specs.Files as spec;
 ghost use Rattle.trace_text.specs.Traces.{IsTraceOf};
 
 use crate::files::{Traced, read_traced};
-use crate::runs::{no_threads, replayed, untraced};
+use crate::outcomes::{no_threads, replayed, untraced};
 use replay::replay;
 use std::alloc::Global;
 use std::io;

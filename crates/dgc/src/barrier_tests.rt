@@ -1,7 +1,7 @@
 //! Whole checks of functions that store references, with and without the barrier, and use globals.
 use crate::reading_tests::CLAIM;
 use crate::tests::{HEAD, prints};
-use report::{STATUS_NO, STATUS_YES};
+use commands::{STATUS_NO, STATUS_YES};
 use std::alloc::{AllocError, Global};
 use std::test::Fail;
 

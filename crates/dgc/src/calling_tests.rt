@@ -1,7 +1,7 @@
 //! Whole checks of functions with calls and safepoints.
 use crate::reading_tests::CLAIM;
 use crate::tests::{HEAD, prints};
-use report::{STATUS_NO, STATUS_YES};
+use commands::{STATUS_NO, STATUS_YES};
 use std::test::Fail;
 
 /// Keeps a register over safepoints.

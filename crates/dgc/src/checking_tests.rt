@@ -1,7 +1,7 @@
 //! Whole checks of functions with several blocks, with true certificates and with lying ones.
 use crate::reading_tests::{CLAIM, NINE, TWO, TWO_CERTIFIED, TWO_ENDED};
 use crate::tests::{HEAD, prints};
-use report::{STATUS_NO, STATUS_UNREADABLE, STATUS_YES};
+use commands::{STATUS_NO, STATUS_UNREADABLE, STATUS_YES};
 use std::test::Fail;
 
 const NINE_CERTIFIED: &str =

@@ -2,9 +2,7 @@
 use ir_ast::FuncId;
 use ir_text::read;
 use layout::Program;
-use machine::{StartFault, Thread};
-use machine_asks::Action;
-use machine_values::Answer;
+use machine::{Action, Answer, StartFault, Thread};
 use pools::LayoutId;
 use std::alloc::{AllocError, Global};
 use std::test::Fail;

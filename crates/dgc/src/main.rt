@@ -23,10 +23,8 @@ mod replaying_tests;
 #[cfg(test)]
 mod tests;
 
-use command_line::{Line, LineFault, line};
-use commands::work;
+use commands::{Line, LineFault, STATUS_USAGE, STATUS_YES, line, memory, status_of, work};
 use failure::Failure;
-use report::{STATUS_USAGE, STATUS_YES, memory, status_of};
 use std::io::Write;
 use std::process::ExitCode;
 use std::rt::Runtime;

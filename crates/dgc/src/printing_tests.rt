@@ -1,9 +1,9 @@
 //! Modules as they are printed.
 use crate::reading_tests::{CLAIM, TWO, TWO_ENDED};
 use crate::tests::{HEAD, joined, prints};
+use commands::{STATUS_UNREADABLE, STATUS_YES};
 use ir_print::print;
 use ir_text::read;
-use report::{STATUS_UNREADABLE, STATUS_YES};
 use std::alloc::{AllocError, Global};
 use std::test::Fail;
 

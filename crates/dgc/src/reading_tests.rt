@@ -1,8 +1,8 @@
 //! Whole commands on texts with functions of several blocks.
 use crate::tests::{HEAD, joined, prints};
+use commands::{STATUS_UNREADABLE, STATUS_YES};
 use ir_ast::{Function, Module};
 use ir_text::{ReadFault, read};
-use report::{STATUS_UNREADABLE, STATUS_YES};
 use std::alloc::{AllocError, Global};
 use std::test::Fail;
 

@@ -1,7 +1,5 @@
 //! Whole commands, from the bytes of the files to the printed lines and the status.
-use command_line::Line;
-use commands::work;
-use report::{STATUS_NO, STATUS_UNREADABLE, STATUS_USAGE, STATUS_YES, status_of};
+use commands::{Line, STATUS_NO, STATUS_UNREADABLE, STATUS_USAGE, STATUS_YES, status_of, work};
 use std::alloc::{AllocError, Global};
 use std::io;
 use std::io::Write;

@@ -1,13 +1,13 @@
 -- What is known of a class changes: what is said of the values of the class changes, and nothing else.
 use Rattle.std.proofs.Common.{◌≡◌, ◌<◌, ◌⊎◌, inl, inr, ℕ, List, length, refl, sym, ap, ◌∙◌, subst, true, false, Bool, Option, Some, None, slice_set}
 use Rattle.std.specs.Prelude.{◌==◌, ◌||◌, ◌↔◌}
-use Rattle.fact_rows.specs.declared.known.Class.{Class}
-use Rattle.fact_rows.specs.declared.known.Known.{Known}
-use Rattle.fact_rows.specs.declared.known.Known.TheVariants.{Nothing, Number, Cell, Null, Address, GlobalAddress}
-use Rattle.fact_rows.specs.declared.known.SlotFact.{SlotFact}
-use Rattle.fact_rows.specs.Facts.{FactSet, known_at, slot_at, class_at, lost_class, holds_class, held_nonnull, slot_nonnull, drop_fresh, drop_fresh_of, learn_nonnull, learn_known_nonnull}
+use Rattle.facts.specs.declared.known.Class.{Class}
+use Rattle.facts.specs.declared.known.Known.{Known}
+use Rattle.facts.specs.declared.known.Known.TheVariants.{Nothing, Number, Cell, Null, Address, GlobalAddress}
+use Rattle.facts.specs.declared.known.SlotFact.{SlotFact}
+use Rattle.facts.specs.Facts.{FactSet, known_at, slot_at, class_at, lost_class, holds_class, held_nonnull, slot_nonnull, drop_fresh, drop_fresh_of, learn_nonnull, learn_known_nonnull}
 use Rattle.facts.specs.Statements.{Statement, IsNumber, IsBelow, RefersTo, IsCurrent, IsNonnull, IsFresh, IsSame, IsAddress, IsGlobal, SlotNonnull, SlotHolds, NumberOf, BelowOf, RefersOf, CurrentOf, OfClass, AddressOf, GlobalOf, Says, FreshOf, PublishEndsFresh, IsWithin, NonnullOf, LearnAddsNonnull}
-use Rattle.fact_rows.proofs.Sets.{equal, equal_test, set_other, set_part, set_is, set_within, or_true}
+use Rattle.facts.proofs.Sets.{equal, equal_test, set_other, set_part, set_is, set_within, or_true}
 use Rattle.facts.proofs.Forgets.{class_map, class_any}
 
 -- what does not follow for the class of a value is not so of it

@@ -2,13 +2,13 @@
 use Rattle.std.proofs.Common.{◌≡◌, ◌⊎◌, inl, inr, ℕ, List, map, refl, sym, ap, ◌∙◌, subst, true, false, Bool, Option, Some, None}
 use Rattle.std.specs.Prelude.{◌==◌, ◌||◌, if◌then◌else◌, ◌↔◌}
 use Rattle.std.specs.List.{list_any}
-use Rattle.fact_rows.specs.declared.known.Class.{Class}
-use Rattle.fact_rows.specs.declared.known.Known.{Known}
-use Rattle.fact_rows.specs.declared.known.Known.TheVariants.{Nothing, Number, Cell, Null, Address, GlobalAddress}
-use Rattle.fact_rows.specs.declared.known.SlotFact.{SlotFact}
-use Rattle.fact_rows.specs.Facts.{FactSet, known_at, slot_at, class_at, open_slot, is_of, holds_class, held_nonnull, slot_nonnull, let_go, slots_without, is_on, off_base, values_without, forget}
+use Rattle.facts.specs.declared.known.Class.{Class}
+use Rattle.facts.specs.declared.known.Known.{Known}
+use Rattle.facts.specs.declared.known.Known.TheVariants.{Nothing, Number, Cell, Null, Address, GlobalAddress}
+use Rattle.facts.specs.declared.known.SlotFact.{SlotFact}
+use Rattle.facts.specs.Facts.{FactSet, known_at, slot_at, class_at, open_slot, is_of, holds_class, held_nonnull, slot_nonnull, let_go, slots_without, is_on, off_base, values_without, forget}
 use Rattle.facts.specs.Statements.{IsNumber, IsBelow, RefersTo, IsCurrent, IsNonnull, IsFresh, IsSame, IsAddress, IsGlobal, SlotNonnull, SlotHolds, NumberOf, BelowOf, RefersOf, CurrentOf, OfClass, AddressOf, GlobalOf, ForgetEndsNames}
-use Rattle.fact_rows.proofs.Sets.{equal, equal_test, set_other, set_empty, at_map, found}
+use Rattle.facts.proofs.Sets.{equal, equal_test, set_other, set_empty, at_map, found}
 
 module _ (v : ℕ) (values : List Known) where
   gone : known_at (values_without v values) v ≡ Nothing

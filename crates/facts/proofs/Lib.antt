@@ -1,3 +1,9 @@
+pub mod Loops
+pub mod Sets
+mod Sheets
+mod Marked
+mod Named
+mod Changes
 mod Forgets
 mod Classes
 mod Stale

@@ -5,17 +5,17 @@ use Rattle.std.specs.Prelude.{◌==◌, ◌&&◌, not, ◌↔◌}
 use Rattle.std.specs.List.{list_all, zip}
 use Rattle.pools.specs.WordSets.{has_all}
 use Rattle.shadow_stack.specs.Slots.{slot_of}
-use Rattle.certificate.specs.declared.section.Age.{Age}
-use Rattle.certificate.specs.declared.section.Fact.{Fact}
-use Rattle.certificate.specs.declared.section.Fact.TheVariants as fact
-use Rattle.certificate.specs.declared.section.Line.TheVariants as line
-use Rattle.fact_rows.specs.declared.known.Known.{Known}
-use Rattle.fact_rows.specs.declared.known.Known.TheVariants.{Nothing, Number, Cell, Null, Address, GlobalAddress}
-use Rattle.fact_rows.specs.Facts.{FactSet, known_at, slot_at, class_at, open_slot, is_of, holds_class, slot_nonnull}
-use Rattle.fact_rows.specs.Lines.{is_stale, is_fresh, implied, is_below, covers_value, covers_slot, covers, covers_known, is_fresh_in, is_same, is_alone, shows_reference, shows_number, shows_address, shows_global, shows_fact, holds_known, holds_value, shows_slot}
+use Rattle.certs.specs.declared.section.Age.{Age}
+use Rattle.certs.specs.declared.section.Fact.{Fact}
+use Rattle.certs.specs.declared.section.Fact.TheVariants as fact
+use Rattle.certs.specs.declared.section.Line.TheVariants as line
+use Rattle.facts.specs.declared.known.Known.{Known}
+use Rattle.facts.specs.declared.known.Known.TheVariants.{Nothing, Number, Cell, Null, Address, GlobalAddress}
+use Rattle.facts.specs.Facts.{FactSet, known_at, slot_at, class_at, open_slot, is_of, holds_class, slot_nonnull}
+use Rattle.facts.specs.Lines.{is_stale, is_fresh, implied, is_below, covers_value, covers_slot, covers, covers_known, is_fresh_in, is_same, is_alone, shows_reference, shows_number, shows_address, shows_global, shows_fact, holds_known, holds_value, shows_slot}
 use Rattle.facts.specs.Statements.{NumberOf, UpTo, BelowOf, RefersOf, CurrentOf, OfClass, AddressOf, GlobalOf}
 use Rattle.facts.specs.Shown.{IfAsked, IfNamed, Named, FactShown, ShowsWhatIsSaid}
-use Rattle.fact_rows.proofs.Sets.{equal, equal_test}
+use Rattle.facts.proofs.Sets.{equal, equal_test}
 
 -- ---- tests
 

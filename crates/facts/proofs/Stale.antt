@@ -2,12 +2,12 @@
 use Rattle.std.proofs.Common.{◌≡◌, ◌<◌, ◌≤◌, ◌+◌, ℕ, zero, suc, List, [], ◌∷◌, length, map, refl, sym, ap, ◌∙◌, subst, arith, true, false, Bool}
 use Rattle.std.specs.Prelude.{◌||◌, ◌↔◌}
 use Rattle.std.specs.List.{enumerate_from, zip}
-use Rattle.fact_rows.specs.declared.known.Class.{Class}
-use Rattle.fact_rows.specs.declared.known.Known.{Known}
-use Rattle.fact_rows.specs.declared.known.Known.TheVariants.{Nothing, Number, Cell, Null, Address, GlobalAddress}
-use Rattle.fact_rows.specs.Facts.{FactSet, known_at, slot_at, class_at, open_slot, holds_class, slot_nonnull, stale_of, stale_class, end_hold, make_stale}
+use Rattle.facts.specs.declared.known.Class.{Class}
+use Rattle.facts.specs.declared.known.Known.{Known}
+use Rattle.facts.specs.declared.known.Known.TheVariants.{Nothing, Number, Cell, Null, Address, GlobalAddress}
+use Rattle.facts.specs.Facts.{FactSet, known_at, slot_at, class_at, open_slot, holds_class, slot_nonnull, stale_of, stale_class, end_hold, make_stale}
 use Rattle.facts.specs.Statements.{IsNumber, IsBelow, RefersTo, IsCurrent, IsNonnull, IsFresh, IsSame, IsAddress, IsGlobal, SlotNonnull, SlotHolds, NumberOf, BelowOf, RefersOf, CurrentOf, OfClass, AddressOf, GlobalOf, SafepointEndsCurrent}
-use Rattle.fact_rows.proofs.Sets.{at_map}
+use Rattle.facts.proofs.Sets.{at_map}
 use Rattle.facts.proofs.Forgets.{class_any}
 
 -- what is known of a value, from the value with number n on

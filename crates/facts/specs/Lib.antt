@@ -1,2 +1,6 @@
+pub mod Facts
+pub mod Lines
+pub mod Sheets
+pub mod Values
 pub mod Statements
 pub mod Shown

@@ -1,13 +1,13 @@
 -- When a line of a target is shown, in statements.
 use Rattle.std.specs.Prelude.{◌≡◌, ◌↔◌, ℕ, Bool, true, false, not, length, Option, Some, None}
 use Rattle.shadow_stack.specs.Slots.{SlotTable, slot_of}
-use Rattle.certificate.specs.declared.section.Age.{Age}
-use Rattle.certificate.specs.declared.section.Fact.{Fact}
-use Rattle.certificate.specs.declared.section.Fact.TheVariants as fact
-use Rattle.certificate.specs.declared.section.Line.{Line}
-use Rattle.certificate.specs.declared.section.Line.TheVariants as line
-use Rattle.fact_rows.specs.Facts.{FactSet, known_at}
-use Rattle.fact_rows.specs.Lines.{is_stale, is_fresh, shows_line}
+use Rattle.certs.specs.declared.section.Age.{Age}
+use Rattle.certs.specs.declared.section.Fact.{Fact}
+use Rattle.certs.specs.declared.section.Fact.TheVariants as fact
+use Rattle.certs.specs.declared.section.Line.{Line}
+use Rattle.certs.specs.declared.section.Line.TheVariants as line
+use Rattle.facts.specs.Facts.{FactSet, known_at}
+use Rattle.facts.specs.Lines.{is_stale, is_fresh, shows_line}
 use Rattle.facts.specs.Statements.{IsNumber, IsBelow, RefersTo, IsCurrent, IsNonnull, IsFresh, IsSame, IsAddress, IsGlobal, SlotNonnull, SlotHolds, OfClass, Says}
 
 -- where this is asked it is so

@@ -1,9 +1,9 @@
 -- What is known, as a set of statements.
 use Rattle.std.specs.Prelude.{◌≡◌, ◌<◌, ◌≤◌, ◌↔◌, ◌⊎◌, ℕ, true, false, List, length, Bool, Option, Some, None}
 use Rattle.pools.specs.WordSets.{has_all}
-use Rattle.fact_rows.specs.declared.known.Known.{Known}
-use Rattle.fact_rows.specs.declared.known.Known.TheVariants.{Number, Cell, Null, Address, GlobalAddress}
-use Rattle.fact_rows.specs.Facts.{FactSet, known_at, slot_at, class_at, holds_class, slot_nonnull, forget, drop_fresh_of, learn_known_nonnull, make_stale}
+use Rattle.facts.specs.declared.known.Known.{Known}
+use Rattle.facts.specs.declared.known.Known.TheVariants.{Number, Cell, Null, Address, GlobalAddress}
+use Rattle.facts.specs.Facts.{FactSet, known_at, slot_at, class_at, holds_class, slot_nonnull, forget, drop_fresh_of, learn_known_nonnull, make_stale}
 
 -- a statement of values and slots
 pub data Statement : Type 0 where

@@ -1,9 +1,9 @@
 //! What an edge adds: what the comparison that decides it says, and what the phis take.
 ghost use Rattle.std.specs.Prelude.{◌≡◌, IfOk, OnOk};
-ghost use Rattle.fact_rows.specs.Facts.{below_both, known_below, learn_below, learn_known_nonnull, learn_up_to, learn_null_test, learn_number_test, learn_constant_test, learn_test, drop_fresh_all, enter_phi, enter_phis, after_phis};
+ghost use Rattle.facts.specs.Facts.{below_both, known_below, learn_below, learn_known_nonnull, learn_up_to, learn_null_test, learn_number_test, learn_constant_test, learn_test, drop_fresh_all, enter_phi, enter_phis, after_phis};
 
 use crate::facts::Facts;
-use fact_rows::{Class, Entry, Known, Test};
+use crate::known::{Class, Entry, Known, Test};
 use ir_ast::{Comparison, Constant, ValueId};
 use std::alloc::AllocError;
 

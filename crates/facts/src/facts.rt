@@ -1,8 +1,11 @@
 ghost use Rattle.std.specs.Prelude.{◌≡◌, length, IfOk, OnOk, OnErr};
-ghost use Rattle.fact_rows.specs.Facts.{FactSet, known_at, slot_at, class_at, test_at, nothing_known, forget, define, define_new, define_test, set_known, add_class, set_class, drop_fresh, drop_fresh_of, learn_nonnull, set_slot, clear_slot, end_slot, root_slot, hold, store_slot, load_held, load_slot, make_stale, slots_of_class, slot_nonnull};
-ghost use Rattle.fact_rows.specs.Lines.{join, covers};
+ghost use Rattle.facts.specs.Facts.{FactSet, known_at, slot_at, class_at, test_at, nothing_known, forget, define, define_new, define_test, set_known, add_class, set_class, drop_fresh, drop_fresh_of, learn_nonnull, set_slot, clear_slot, end_slot, root_slot, hold, store_slot, load_held, load_slot, make_stale, slots_of_class, slot_nonnull};
+ghost use Rattle.facts.specs.Lines.{join, covers};
 
-use fact_rows::{Class, ClassId, Known, SlotFact, Test, Values, rows};
+use crate::class_id::ClassId;
+use crate::known::{Class, Known, SlotFact, Test};
+use crate::rows;
+use crate::values::Values;
 use ir_ast::ValueId;
 use pools::LayoutId;
 use shadow_stack::SlotId;
@@ -17,7 +20,7 @@ pub struct Facts {
 }
 
 impl Model for Facts {
-    ghost use Rattle.fact_rows.specs.Facts.{FactSet};
+    ghost use Rattle.facts.specs.Facts.{FactSet};
 
     ghost Value = { FactSet };
 

@@ -1,11 +1,21 @@
 //! What is known at a place of a function, how it changes, and what it shows of a certificate's lines.
 #![tactic(auto)]
 
+mod class_id;
 mod edges;
 mod facts;
+mod known;
 mod laws;
 mod lines;
+mod row;
+pub mod rows;
+mod sheet;
 mod shown;
+mod sweeps;
+mod values;
 
+pub use class_id::ClassId;
 pub use facts::Facts;
+pub use known::{Class, Entry, Given, Known, SlotFact, Test};
 pub use laws::{forget_law, learn_law, publish_law, safepoint_law, show_law};
+pub use values::Values;

@@ -1,11 +1,12 @@
 //! What the lines of a block give where it begins.
 ghost use Rattle.std.specs.Prelude.{◌≡◌, length, map, OnOk};
-ghost use Rattle.fact_rows.specs.Facts.{nothing_known, set_known};
-ghost use Rattle.fact_rows.specs.Lines.{is_stale, is_fresh, list_value, list_slot, list_line, list_lines, move, join, join_known, join_values, tie_value, tie_fact, tie_line, tie_lines, hold_known, hold_value, hold_line, hold_lines, facts_of_lines, promised_below, promised_nonnull, promised_layout, receive_reference, receive};
+ghost use Rattle.facts.specs.Facts.{nothing_known, set_known};
+ghost use Rattle.facts.specs.Lines.{is_stale, is_fresh, list_value, list_slot, list_line, list_lines, move, join, join_known, join_values, tie_value, tie_fact, tie_line, tie_lines, hold_known, hold_value, hold_line, hold_lines, facts_of_lines, promised_below, promised_nonnull, promised_layout, receive_reference, receive};
 
+use crate::class_id::ClassId;
 use crate::facts::Facts;
-use certificate::{Age, Fact, Line, Promise};
-use fact_rows::{Class, ClassId, Given, Known, SlotFact};
+use crate::known::{Class, Given, Known, SlotFact};
+use certs::{Age, Fact, Line, Promise};
 use ir_ast::ValueId;
 use pools::LayoutId;
 use shadow_stack::{SlotId, Slots};

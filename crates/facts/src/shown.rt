@@ -1,12 +1,14 @@
 //! Whether what is known shows the lines of a target.
 ghost use Rattle.std.specs.Prelude.{◌≡◌};
 ghost use Rattle.std.specs.List.{list_all, zip};
-ghost use Rattle.fact_rows.specs.Lines.{implied, is_below, covers_value, covers_slot, covers, covers_known, is_fresh_in, is_same, is_alone, shows_reference, shows_number, shows_address, shows_global, shows_fact, holds_known, holds_value, shows_slot, shows_line};
+ghost use Rattle.facts.specs.Lines.{implied, is_below, covers_value, covers_slot, covers, covers_known, is_fresh_in, is_same, is_alone, shows_reference, shows_number, shows_address, shows_global, shows_fact, holds_known, holds_value, shows_slot, shows_line};
 
+use crate::class_id::ClassId;
 use crate::facts::Facts;
+use crate::known::{Known, SlotFact};
 use crate::lines::{is_fresh, is_stale};
-use certificate::{Age, Fact, Line};
-use fact_rows::{ClassId, Known, SlotFact, rows};
+use crate::rows;
+use certs::{Age, Fact, Line};
 use ir_ast::{SymbolId, ValueId};
 use pools::{LayoutId, WordSet};
 use shadow_stack::{SlotId, Slots};

@@ -15,11 +15,11 @@ use Rattle.ir_tokens.specs.Bytes.{Text, is_digit}
 use Rattle.ir_tokens.specs.Keywords.{word_kind, keywords}
 use Rattle.ir_ast.specs.declared.operand.Constant.{Constant}
 use Rattle.ir_ast.specs.declared.operand.Constant.TheVariants as c
-use Rattle.ir_cursor.specs.Cursor.{kind, next}
-use Rattle.ir_cursor.specs.Number as numbers
-use Rattle.ir_parts.specs.declared.input.Input.{Input}
-use Rattle.ir_parts.specs.Input.{advanced}
-use Rattle.ir_parts.specs.Operand.{constant, constant_by, number, number_at, truth_of}
+use Rattle.ir_forms.specs.Cursor.{kind, next}
+use Rattle.ir_forms.specs.Number as numbers
+use Rattle.ir_forms.specs.declared.input.Input.{Input}
+use Rattle.ir_forms.specs.Input.{advanced}
+use Rattle.ir_forms.specs.Operand.{constant, constant_by, number, number_at, truth_of}
 use Rattle.ir_print.specs.Operands.{truth_text, bit_of, number_text}
 use Rattle.ir_print.specs.Fits.{FitsType, constant_shown}
 use Rattle.ir_print.specs.Standing.{Stands, IsSeam, AreBlanks, AreDigits}
@@ -27,8 +27,8 @@ use Rattle.std.specs.Prelude.{◌&&◌, ◌||◌}
 use Rattle.std.proofs.Common.{drop}
 use Rattle.ir_tokens.specs.Bytes.{is_letter}
 use Rattle.ir_tokens.specs.Keywords.{kind_in, other_word}
-use Rattle.ir_cursor.specs.Cursor.{name}
-use Rattle.ir_parts.specs.Written.{integer, bits_at}
+use Rattle.ir_forms.specs.Cursor.{name}
+use Rattle.ir_forms.specs.Written.{integer, bits_at}
 use Rattle.ir_print.specs.Readings.{ConstantsAreRead, IntegerTypesAreRead}
 use Rattle.name_text.proofs.Seams.{both}
 use Rattle.name_text.proofs.Spelled.{number_is}

@@ -7,13 +7,13 @@ use Rattle.ir_tokens.specs.Bytes.{Text, class_of}
 use Rattle.ir_tokens.specs.Keywords.{word_kind, keywords}
 use Rattle.ir_ast.specs.declared.op.Op.{Op}
 use Rattle.ir_ast.specs.declared.op.Op.TheVariants.{Jump, Unreachable, ReturnVoid}
-use Rattle.ir_cursor.specs.Cursor.{kind}
-use Rattle.ir_parts.specs.declared.input.Input.{Input}
-use Rattle.ir_parts.specs.Input.{advanced, skip}
-use Rattle.ir_parts.specs.Names.{target}
+use Rattle.ir_forms.specs.Cursor.{kind}
+use Rattle.ir_forms.specs.declared.input.Input.{Input}
+use Rattle.ir_forms.specs.Input.{advanced, skip}
+use Rattle.ir_forms.specs.Names.{target}
 use Rattle.grammar.specs.Grammar.{pure, ◌>>◌}
-use Rattle.ir_instructions.specs.Branches.{terminator, terminator_by, br, br_behind, jump, branch, ret, ret_behind, returned_value}
-use Rattle.ir_decorations.specs.Decorations.{either}
+use Rattle.ir_forms.specs.Branches.{terminator, terminator_by, br, br_behind, jump, branch, ret, ret_behind, returned_value}
+use Rattle.ir_forms.specs.Decorations.{either}
 use Rattle.ir_print.specs.Ends.{JumpsAreRead, EmptyReturnsAreRead, UnreachablesAreRead}
 use Rattle.ir_print.specs.Names.{local_text}
 use Rattle.ir_print.specs.Standing.{Stands}

@@ -10,21 +10,21 @@ use Rattle.ir_ast.specs.LocalKeys.{key_of_name}
 use Rattle.ir_ast.specs.Names.{place_of, number_of}
 use Rattle.ir_ast.specs.declared.operand.Operand.TheVariants.{Local, Global}
 use Rattle.ir_ast.proofs.Keys.{name_again, no_number}
-use Rattle.ir_cursor.specs.Cursor.{kind, next, spelled, local_key}
-use Rattle.ir_cursor.specs.Place.{Place}
-use Rattle.ir_cursor.specs.RuntimeNames.{is_intrinsic, is_left_out}
-use Rattle.ir_cursor.specs.declared.uses.Wanted.{Wanted}
-use Rattle.ir_cursor.specs.declared.uses.Wanted.TheVariants as wants
-use Rattle.ir_parts.specs.declared.input.Input.{Input}
-use Rattle.ir_parts.specs.Names.{struct_name, struct_number, used_symbol, symbol_number, callee, used_global, used_local, local_number, used_label, used_label_by, sort_of_symbol, is_function, with_struct_use, with_symbol_use, with_local_use, target, new_value, is_known_local, is_local, new_label, quoted}
-use Rattle.ir_parts.specs.Operand.{operand, operand_by}
+use Rattle.ir_forms.specs.Cursor.{kind, next, spelled, local_key}
+use Rattle.ir_forms.specs.Place.{Place}
+use Rattle.ir_forms.specs.RuntimeNames.{is_intrinsic, is_left_out}
+use Rattle.ir_forms.specs.declared.uses.Wanted.{Wanted}
+use Rattle.ir_forms.specs.declared.uses.Wanted.TheVariants as wants
+use Rattle.ir_forms.specs.declared.input.Input.{Input}
+use Rattle.ir_forms.specs.Names.{struct_name, struct_number, used_symbol, symbol_number, callee, used_global, used_local, local_number, used_label, used_label_by, sort_of_symbol, is_function, with_struct_use, with_symbol_use, with_local_use, target, new_value, is_known_local, is_local, new_label, quoted}
+use Rattle.ir_forms.specs.Operand.{operand, operand_by}
 use Rattle.name_text.specs.Names.{name_text}
 use Rattle.name_text.specs.declared.blank.Blank.TheVariants as blank
 use Rattle.ir_print.specs.Names.{key_text}
 use Rattle.std.specs.Prelude.{codes}
 use Rattle.ir_ast.specs.declared.function.LocalSort.TheVariants.{Unknown}
-use Rattle.ir_cursor.specs.Table.{mentioned}
-use Rattle.ir_parts.specs.Input.{advanced}
+use Rattle.ir_forms.specs.Table.{mentioned}
+use Rattle.ir_forms.specs.Input.{advanced}
 use Rattle.ir_tokens.specs.Bytes.{class_of}
 use Rattle.ir_tokens.specs.Keywords.{word_kind, keywords}
 use Rattle.ir_print.specs.Names.{local_text}

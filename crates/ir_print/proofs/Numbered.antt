@@ -8,11 +8,11 @@ use Rattle.ir_tokens.specs.Bytes.{Text}
 use Rattle.ir_ast.specs.LocalKeys.{key_of_digits}
 use Rattle.ir_ast.specs.Names.{number_of}
 use Rattle.ir_ast.specs.declared.function.LocalSort.TheVariants.{Unknown}
-use Rattle.ir_cursor.specs.Cursor.{spelled, local_key}
-use Rattle.ir_cursor.specs.Number as numbers
-use Rattle.ir_cursor.specs.Table.{mentioned}
-use Rattle.ir_parts.specs.declared.input.Input.{Input}
-use Rattle.ir_parts.specs.Names.{local_number, is_known_local, is_local, is_at, is_written_next, next_number, take_number, new_value, numbered_value, with_number_taken}
+use Rattle.ir_forms.specs.Cursor.{spelled, local_key}
+use Rattle.ir_forms.specs.Number as numbers
+use Rattle.ir_forms.specs.Table.{mentioned}
+use Rattle.ir_forms.specs.declared.input.Input.{Input}
+use Rattle.ir_forms.specs.Names.{local_number, is_known_local, is_local, is_at, is_written_next, next_number, take_number, new_value, numbered_value, with_number_taken}
 use Rattle.ir_print.specs.Readings.{NumberedValuesAreRead}
 use Rattle.name_text.proofs.Spelled.{number_is}
 use Rattle.ir_print.proofs.Constants.{are_digits}

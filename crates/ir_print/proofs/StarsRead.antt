@@ -8,10 +8,10 @@ use Rattle.ir_tokens.specs.Bytes.{Text, class_of}
 use Rattle.ir_ast.specs.Types.{is_same_type, place_of_type, number_of_type}
 use Rattle.ir_ast.specs.declared.ir_type.IrType.{IrType}
 use Rattle.ir_ast.specs.declared.ir_type.IrType.TheVariants.{Pointer}
-use Rattle.ir_cursor.specs.Cursor.{sees}
-use Rattle.ir_parts.specs.declared.input.Input.{Input}
-use Rattle.ir_parts.specs.Input.{limit, advanced, skip}
-use Rattle.ir_parts.specs.Written.{pointers, star_or, intern, place_in_table, with_type_interned}
+use Rattle.ir_forms.specs.Cursor.{sees}
+use Rattle.ir_forms.specs.declared.input.Input.{Input}
+use Rattle.ir_forms.specs.Input.{limit, advanced, skip}
+use Rattle.ir_forms.specs.Written.{pointers, star_or, intern, place_in_table, with_type_interned}
 use Rattle.grammar.specs.Grammar.{pure, refuse, ◌>>=◌, ◌>>◌}
 use Rattle.ir_print.specs.Stars.{stars, starred_number, StarsAreRead}
 use Rattle.ir_print.specs.Standing.{Stands}

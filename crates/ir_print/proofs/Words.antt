@@ -9,10 +9,10 @@ use Rattle.ir_tokens.specs.contracts.token.Kind.{the_type}
 use Rattle.ir_tokens.specs.Bytes.{Text, is_letter, is_digit, class_of}
 use Rattle.ir_tokens.specs.Keywords.{word_kind}
 use Rattle.ir_tokens.specs.Tokens.{token, is_blank, begins_gap, past_gap}
-use Rattle.ir_cursor.specs.Place.{Place}
-use Rattle.ir_cursor.specs.Cursor.{kind, sees, same_kind}
-use Rattle.ir_parts.specs.declared.input.Input.{Input}
-use Rattle.ir_parts.specs.Input.{expect, advanced}
+use Rattle.ir_forms.specs.Place.{Place}
+use Rattle.ir_forms.specs.Cursor.{kind, sees, same_kind}
+use Rattle.ir_forms.specs.declared.input.Input.{Input}
+use Rattle.ir_forms.specs.Input.{expect, advanced}
 use Rattle.name_text.specs.Names.{is_plain, quoted_byte, quoted_text, name_text}
 use Rattle.name_text.specs.Readings.{AreBytes}
 use Rattle.name_text.specs.declared.blank.Blank.TheVariants as blank

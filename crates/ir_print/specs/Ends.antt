@@ -3,11 +3,11 @@ use Rattle.std.specs.Prelude.{ℕ, ◌<◌, ◌^◌, List, ◌++◌}
 use Rattle.ir_ast.specs.Names.{number_of}
 use Rattle.ir_ast.specs.declared.op.Op.TheVariants.{Jump, Unreachable, ReturnVoid}
 use Rattle.ir_tokens.specs.Bytes.{Text}
-use Rattle.ir_cursor.specs.declared.uses.Wanted.TheVariants as wants
-use Rattle.ir_parts.specs.declared.input.Input.{Input}
-use Rattle.ir_parts.specs.Input.{advanced}
-use Rattle.ir_parts.specs.Names.{with_local_use}
-use Rattle.ir_instructions.specs.Branches.{terminator}
+use Rattle.ir_forms.specs.declared.uses.Wanted.TheVariants as wants
+use Rattle.ir_forms.specs.declared.input.Input.{Input}
+use Rattle.ir_forms.specs.Input.{advanced}
+use Rattle.ir_forms.specs.Names.{with_local_use}
+use Rattle.ir_forms.specs.Branches.{terminator}
 use Rattle.ir_print.specs.Names.{name_at}
 use Rattle.ir_print.specs.Instructions.{op_text}
 use Rattle.ir_print.specs.Readings.{IsKey}

@@ -7,17 +7,17 @@ use Rattle.ir_ast.specs.declared.operand.Operand.TheVariants.{Local, Global}
 use Rattle.ir_tokens.specs.Bytes.{Text}
 use Rattle.ir_tokens.specs.declared.token.Kind.TheVariants as k
 use Rattle.std.specs.Fmt.{decimal}
-use Rattle.ir_cursor.specs.Cursor.{kind, next, local_key, spelled}
-use Rattle.ir_parts.specs.Written.{integer}
-use Rattle.ir_cursor.specs.RuntimeNames.{is_intrinsic, is_left_out}
-use Rattle.ir_cursor.specs.declared.uses.Wanted.{Wanted}
-use Rattle.ir_cursor.specs.declared.uses.Wanted.TheVariants as wants
-use Rattle.ir_parts.specs.declared.input.Input.{Input}
-use Rattle.ir_parts.specs.Input.{Form, advanced}
-use Rattle.ir_parts.specs.Names.{struct_name, callee, used_label, target, new_value, new_label, numbered_value, quoted, is_function, is_local, with_struct_use, with_symbol_use, with_local_use, with_value, with_label, with_number_taken}
-use Rattle.ir_parts.specs.Operand.{constant, operand}
+use Rattle.ir_forms.specs.Cursor.{kind, next, local_key, spelled}
+use Rattle.ir_forms.specs.Written.{integer}
+use Rattle.ir_forms.specs.RuntimeNames.{is_intrinsic, is_left_out}
+use Rattle.ir_forms.specs.declared.uses.Wanted.{Wanted}
+use Rattle.ir_forms.specs.declared.uses.Wanted.TheVariants as wants
+use Rattle.ir_forms.specs.declared.input.Input.{Input}
+use Rattle.ir_forms.specs.Input.{Form, advanced}
+use Rattle.ir_forms.specs.Names.{struct_name, callee, used_label, target, new_value, new_label, numbered_value, quoted, is_function, is_local, with_struct_use, with_symbol_use, with_local_use, with_value, with_label, with_number_taken}
+use Rattle.ir_forms.specs.Operand.{constant, operand}
 use Rattle.ir_ast.specs.declared.function.LocalSort.TheVariants.{Unknown}
-use Rattle.ir_cursor.specs.Table.{mentioned}
+use Rattle.ir_forms.specs.Table.{mentioned}
 use Rattle.ir_print.specs.Instructions.{target_text}
 use Rattle.name_text.specs.Names.{name_text, quoted_text}
 use Rattle.name_text.specs.Readings.{AreBytes}

@@ -5,7 +5,7 @@ use Rattle.ir_tokens.specs.declared.class.Class.{Class}
 use Rattle.ir_tokens.specs.declared.class.Class.TheVariants as class
 use Rattle.ir_tokens.specs.Bytes.{Text, is_digit, first_class}
 use Rattle.ir_tokens.specs.Tokens.{is_blank, lex_from}
-use Rattle.ir_cursor.specs.Place.{Place}
+use Rattle.ir_forms.specs.Place.{Place}
 
 -- The place stands before these bytes: they are what is left of its text, and the tokens that it has left are those that these bytes are
 -- read as.

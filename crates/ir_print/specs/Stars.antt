@@ -5,9 +5,9 @@ use Rattle.ir_ast.specs.declared.ir_type.IrType.{IrType}
 use Rattle.ir_ast.specs.declared.ir_type.IrType.TheVariants.{Pointer}
 use Rattle.ir_tokens.specs.declared.token.Kind.TheVariants as k
 use Rattle.ir_tokens.specs.Bytes.{Text}
-use Rattle.ir_cursor.specs.Cursor.{sees}
-use Rattle.ir_parts.specs.declared.input.Input.{Input}
-use Rattle.ir_parts.specs.Written.{pointers}
+use Rattle.ir_forms.specs.Cursor.{sees}
+use Rattle.ir_forms.specs.declared.input.Input.{Input}
+use Rattle.ir_forms.specs.Written.{pointers}
 use Rattle.ir_print.specs.Standing.{Stands}
 
 -- so many stars

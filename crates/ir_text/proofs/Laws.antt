@@ -5,9 +5,9 @@ use Rattle.ir_tokens.specs.declared.lexed.Lexed.{Lexed}
 use Rattle.ir_tokens.specs.Tokens.{IsLexed}
 use Rattle.ir_tokens.specs.Position.{position_of}
 use Rattle.ir_ast.specs.declared.module.Module.{Module}
-use Rattle.ir_cursor.specs.declared.fault.Fault.{Fault}
-use Rattle.ir_parts.specs.declared.input.Input.{Input}
-use Rattle.ir_parts.specs.Input.{Outcome}
+use Rattle.ir_forms.specs.declared.fault.Fault.{Fault}
+use Rattle.ir_forms.specs.declared.input.Input.{Input}
+use Rattle.ir_forms.specs.Input.{Outcome}
 use Rattle.ir_text.specs.declared.read_fault.ReadFault.{ReadFault}
 use Rattle.ir_text.specs.declared.read_fault.ReadFault.TheVariants.{Memory, Limit}
 use Rattle.ir_text.specs.ItemsOfText.{whole}

@@ -6,12 +6,12 @@ use Rattle.ir_tokens.specs.declared.token.Kind.{Kind}
 use Rattle.ir_tokens.specs.declared.token.Kind.TheVariants as k
 use Rattle.ir_ast.specs.declared.block.Block.{Block}
 use Rattle.ir_ast.specs.declared.instr.Instr.{Instr}
-use Rattle.ir_parts.specs.declared.input.Input.{Input}
-use Rattle.ir_cursor.specs.Cursor.{kind, sees}
-use Rattle.ir_parts.specs.Input.{Form, limit}
-use Rattle.ir_parts.specs.Names.{new_label, numbered_label, unnamed_label}
-use Rattle.ir_instructions.specs.Instructions.{instructions, instructions_takes}
-use Rattle.ir_decorations.specs.ManyWith.{many_with}
+use Rattle.ir_forms.specs.declared.input.Input.{Input}
+use Rattle.ir_forms.specs.Cursor.{kind, sees}
+use Rattle.ir_forms.specs.Input.{Form, limit}
+use Rattle.ir_forms.specs.Names.{new_label, numbered_label, unnamed_label}
+use Rattle.ir_forms.specs.Instructions.{instructions, instructions_takes}
+use Rattle.ir_forms.specs.ManyWith.{many_with}
 use Rattle.ir_text.specs.declared.blocks.Blocks.{Blocks}
 
 -- a function has at most 65,535 blocks

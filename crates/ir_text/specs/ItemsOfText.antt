@@ -17,19 +17,19 @@ use Rattle.ir_ast.specs.declared.items_of_module.SymbolSort.TheVariants as symbo
 use Rattle.ir_ast.specs.declared.items_of_module.StructType.{StructType}
 use Rattle.ir_ast.specs.declared.items_of_module.Global.{Global}
 use Rattle.ir_ast.specs.declared.items_of_module.Declare.{Declare}
-use Rattle.ir_parts.specs.declared.input.Input.{Input}
-use Rattle.ir_cursor.specs.Cursor.{kind, sees, spelled, left_out, at_end}
-use Rattle.ir_parts.specs.Input.{Form, left, limit, unexpected, unread, skip, expect, IsKind, skip_takes}
-use Rattle.ir_cursor.specs.RuntimeNames.{runtime_of}
-use Rattle.ir_parts.specs.Names.{new_struct, new_struct_takes, new_symbol, new_symbol_takes, quoted, first_missing}
-use Rattle.ir_cursor.specs.Table.{empty}
-use Rattle.ir_parts.specs.Written.{any_type, held_type, passed_type, intern, no_parameters, struct_body, bits_of}
-use Rattle.ir_parts.specs.Operand.{constant, begins_unread_operand}
+use Rattle.ir_forms.specs.declared.input.Input.{Input}
+use Rattle.ir_forms.specs.Cursor.{kind, sees, spelled, left_out, at_end}
+use Rattle.ir_forms.specs.Input.{Form, left, limit, unexpected, unread, skip, expect, IsKind, skip_takes}
+use Rattle.ir_forms.specs.RuntimeNames.{runtime_of}
+use Rattle.ir_forms.specs.Names.{new_struct, new_struct_takes, new_symbol, new_symbol_takes, quoted, first_missing}
+use Rattle.ir_forms.specs.Table.{empty}
+use Rattle.ir_forms.specs.Written.{any_type, held_type, passed_type, intern, no_parameters, struct_body, bits_of}
+use Rattle.ir_forms.specs.Operand.{constant, begins_unread_operand}
 use Rattle.ir_text.specs.Starts.{begins_unread_item, is_external}
-use Rattle.ir_decorations.specs.Decorations.{either, decorations, trailing}
-use Rattle.ir_decorations.specs.declared.decorating.Spot.{Spot}
-use Rattle.ir_decorations.specs.declared.decorating.Spot.TheVariants as spot
-use Rattle.ir_decorations.specs.declared.decorating.Trail.TheVariants as trail
+use Rattle.ir_forms.specs.Decorations.{either, decorations, trailing}
+use Rattle.ir_forms.specs.declared.decorating.Spot.{Spot}
+use Rattle.ir_forms.specs.declared.decorating.Spot.TheVariants as spot
+use Rattle.ir_forms.specs.declared.decorating.Trail.TheVariants as trail
 use Rattle.ir_text.specs.Parameters.{declared_parameters, parameters}
 use Rattle.ir_text.specs.Blocks.{blocks}
 use Rattle.ir_text.specs.Lines.{source_name, source_name_takes, target_line, target_line_takes, group, group_takes, comdat, comdat_takes, metadata_line, metadata_line_takes}

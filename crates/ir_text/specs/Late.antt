@@ -2,11 +2,11 @@
 use Rattle.std.specs.Prelude.{ℕ, Bool, true, false, not, ◌&&◌, Option, Some, None, slice_get, find, option_map, min}
 use Rattle.ir_ast.specs.declared.items_of_module.SymbolSort.{SymbolSort}
 use Rattle.ir_ast.specs.declared.items_of_module.SymbolSort.TheVariants as symbol
-use Rattle.ir_cursor.specs.declared.fault.Fault.{Fault}
-use Rattle.ir_cursor.specs.declared.fault.Fault.TheVariants.{LeftOut, NotDefined}
-use Rattle.ir_parts.specs.declared.input.Input.{Input}
-use Rattle.ir_cursor.specs.declared.uses.SymbolUse.{SymbolUse}
-use Rattle.ir_cursor.specs.declared.uses.StructUse.{StructUse}
+use Rattle.ir_forms.specs.declared.fault.Fault.{Fault}
+use Rattle.ir_forms.specs.declared.fault.Fault.TheVariants.{LeftOut, NotDefined}
+use Rattle.ir_forms.specs.declared.input.Input.{Input}
+use Rattle.ir_forms.specs.declared.uses.SymbolUse.{SymbolUse}
+use Rattle.ir_forms.specs.declared.uses.StructUse.{StructUse}
 
 -- functions are called, and globals are operands
 abbrev pub is_right : Bool → Option SymbolSort → Bool

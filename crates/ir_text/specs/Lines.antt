@@ -5,10 +5,10 @@ use Rattle.grammar.specs.Takes.{TakesWhere, first_takes_where, stays_takes}
 use Rattle.grammar.specs.Many.{many}
 use Rattle.ir_tokens.specs.declared.token.Kind.{Kind}
 use Rattle.ir_tokens.specs.declared.token.Kind.TheVariants as k
-use Rattle.ir_cursor.specs.Cursor.{kind, sees, spelling, begins_line}
-use Rattle.ir_parts.specs.declared.input.Input.{Input}
-use Rattle.ir_parts.specs.Input.{Form, unexpected, skip, skip_takes, expect, IsKind}
-use Rattle.ir_decorations.specs.Decorations.{either, any_token, any_token_takes}
+use Rattle.ir_forms.specs.Cursor.{kind, sees, spelling, begins_line}
+use Rattle.ir_forms.specs.declared.input.Input.{Input}
+use Rattle.ir_forms.specs.Input.{Form, unexpected, skip, skip_takes, expect, IsKind}
+use Rattle.ir_forms.specs.Decorations.{either, any_token, any_token_takes}
 
 -- ---- what the text was made from
 

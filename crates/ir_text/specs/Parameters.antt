@@ -6,14 +6,14 @@ use Rattle.grammar.specs.Many.{many}
 use Rattle.ir_tokens.specs.declared.token.Kind.{Kind}
 use Rattle.ir_tokens.specs.declared.token.Kind.TheVariants as k
 use Rattle.ir_ast.specs.declared.function.Parameter.{Parameter}
-use Rattle.ir_parts.specs.declared.written.WrittenType.{WrittenType}
-use Rattle.ir_cursor.specs.Cursor.{kind, left_out}
-use Rattle.ir_parts.specs.Input.{Form, unexpected, skip, IsKind}
-use Rattle.ir_parts.specs.Names.{new_value, numbered_value, unnamed_value, next_number, take_number, set_type}
-use Rattle.ir_parts.specs.Written.{any_type, any_type_takes, passed_type, passed_type_takes}
-use Rattle.ir_decorations.specs.Decorations.{decorations}
-use Rattle.ir_decorations.specs.declared.decorating.Spot.TheVariants as spot
-use Rattle.ir_instructions.specs.Lists.{separator, at_round}
+use Rattle.ir_forms.specs.declared.written.WrittenType.{WrittenType}
+use Rattle.ir_forms.specs.Cursor.{kind, left_out}
+use Rattle.ir_forms.specs.Input.{Form, unexpected, skip, IsKind}
+use Rattle.ir_forms.specs.Names.{new_value, numbered_value, unnamed_value, next_number, take_number, set_type}
+use Rattle.ir_forms.specs.Written.{any_type, any_type_takes, passed_type, passed_type_takes}
+use Rattle.ir_forms.specs.Decorations.{decorations}
+use Rattle.ir_forms.specs.declared.decorating.Spot.TheVariants as spot
+use Rattle.ir_forms.specs.Lists.{separator, at_round}
 
 -- ---- declared functions
 

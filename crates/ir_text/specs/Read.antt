@@ -5,10 +5,10 @@ use Rattle.ir_tokens.specs.declared.lexed.Lexed.{Lexed}
 use Rattle.ir_tokens.specs.Tokens.{IsLexed}
 use Rattle.ir_tokens.specs.Position.{position_of}
 use Rattle.ir_ast.specs.declared.module.Module.{Module}
-use Rattle.ir_cursor.specs.declared.fault.Fault.{Fault}
-use Rattle.ir_cursor.specs.declared.fault.Fault.TheVariants as fault
-use Rattle.ir_parts.specs.declared.input.Input.{Input}
-use Rattle.ir_parts.specs.Input.{Outcome, start_of}
+use Rattle.ir_forms.specs.declared.fault.Fault.{Fault}
+use Rattle.ir_forms.specs.declared.fault.Fault.TheVariants as fault
+use Rattle.ir_forms.specs.declared.input.Input.{Input}
+use Rattle.ir_forms.specs.Input.{Outcome, start_of}
 use Rattle.ir_text.specs.declared.read_fault.ReadFault.{ReadFault}
 use Rattle.ir_text.specs.declared.read_fault.ReadFault.TheVariants as shown
 use Rattle.ir_text.specs.ItemsOfText.{whole}

@@ -1,13 +1,10 @@
 //! The blocks of a function.
 ghost use Rattle.std.specs.Prelude.{◌≡◌, ◌<◌, IfOk};
-ghost use Rattle.ir_parts.specs.Input.{Reads};
+ghost use Rattle.ir_forms.specs.Input.{Reads};
 ghost use Rattle.ir_text.specs.Blocks as form;
 
 use ir_ast::{Block, BlockId, ValueId};
-use ir_cursor::Fault;
-use ir_decorations::{Following, many_with};
-use ir_instructions::instructions;
-use ir_parts::Input;
+use ir_forms::{Fault, Following, Input, instructions, many_with};
 use ir_tokens::Kind;
 use items::Items;
 use std::alloc::Global;

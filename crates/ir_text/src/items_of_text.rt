@@ -1,6 +1,6 @@
 //! Items: struct types, globals, declared and defined functions.
 ghost use Rattle.std.specs.Prelude.{◌≡◌, Ok};
-ghost use Rattle.ir_parts.specs.Input.{Reads};
+ghost use Rattle.ir_forms.specs.Input.{Reads};
 ghost use Rattle.ir_text.specs.ItemsOfText as form;
 
 use crate::blocks::all_blocks;
@@ -12,9 +12,10 @@ use ir_ast::{
     Block, Constant, Declare, DeclareId, FuncId, Function, GlobalId, IrType, Parameter, StructType,
     SymbolId, SymbolSort, TypeId,
 };
-use ir_cursor::{Fault, Table, runtime_of};
-use ir_decorations::{Spot, Trail, decorations, trailing};
-use ir_parts::{Input, Listed, begins_unread_operand, bits_of, first_missing, many};
+use ir_forms::{
+    Fault, Input, Listed, Spot, Table, Trail, begins_unread_operand, bits_of, decorations,
+    first_missing, many, runtime_of, trailing,
+};
 use ir_tokens::Kind;
 use items::Items;
 use std::alloc::Global;

@@ -3,8 +3,7 @@ ghost use Rattle.std.specs.Prelude.{◌≡◌};
 ghost use Rattle.ir_text.specs.Late as spec;
 
 use ir_ast::SymbolSort;
-use ir_cursor::{Fault, StructUse, SymbolUse};
-use ir_parts::Input;
+use ir_forms::{Fault, Input, StructUse, SymbolUse};
 use pools::LayoutId;
 
 /// Whether a name of this sort may be called, or else be an operand.

@@ -10,5 +10,6 @@ mod read_fault;
 mod reader;
 mod starts;
 
+pub use ir_print::print;
 pub use read_fault::ReadFault;
 pub use reader::read;

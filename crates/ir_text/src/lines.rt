@@ -1,11 +1,9 @@
 //! Items that have no effect on the module.
 ghost use Rattle.std.specs.Prelude.{◌≡◌};
-ghost use Rattle.ir_parts.specs.Input.{Reads};
+ghost use Rattle.ir_forms.specs.Input.{Reads};
 ghost use Rattle.ir_text.specs.Lines as form;
 
-use ir_cursor::Fault;
-use ir_decorations::any_token;
-use ir_parts::{Input, Listed, many};
+use ir_forms::{Fault, Input, Listed, any_token, many};
 use ir_tokens::Kind;
 use std::alloc::Global;
 
@@ -54,7 +52,7 @@ pub fn target_line(input: &mut Input<'_>) -> Result<(), Fault>
 pub struct Braced;
 
 impl Listed for Braced {
-    ghost use Rattle.ir_decorations.specs.Decorations.{any_token};
+    ghost use Rattle.ir_forms.specs.Decorations.{any_token};
     ghost use Rattle.ir_text.specs.Lines.{at_brace};
 
     type Item = Kind;
@@ -128,7 +126,7 @@ pub fn comdat(input: &mut Input<'_>) -> Result<(), Fault>
 pub struct LineTokens;
 
 impl Listed for LineTokens {
-    ghost use Rattle.ir_decorations.specs.Decorations.{any_token};
+    ghost use Rattle.ir_forms.specs.Decorations.{any_token};
     ghost use Rattle.ir_text.specs.Lines.{at_line_end};
 
     type Item = Kind;

@@ -1,13 +1,10 @@
 //! Parameters of declared and of defined functions.
 ghost use Rattle.std.specs.Prelude.{◌≡◌};
-ghost use Rattle.ir_parts.specs.Input.{Reads};
+ghost use Rattle.ir_forms.specs.Input.{Reads};
 ghost use Rattle.ir_text.specs.Parameters as form;
 
 use ir_ast::{Parameter, TypeId, ValueId};
-use ir_cursor::Fault;
-use ir_decorations::{Spot, decorations};
-use ir_instructions::separator;
-use ir_parts::{Input, Listed, WrittenType};
+use ir_forms::{Fault, Input, Listed, Spot, WrittenType, decorations, separator};
 use ir_tokens::Kind;
 use std::alloc::Global;
 
@@ -46,7 +43,7 @@ fn declared_parameter(alloc: Global, input: &mut Input<'_>) -> Result<TypeId, Fa
 pub struct DeclaredParameters;
 
 impl Listed for DeclaredParameters {
-    ghost use Rattle.ir_instructions.specs.Lists.{at_round};
+    ghost use Rattle.ir_forms.specs.Lists.{at_round};
     ghost use Rattle.ir_text.specs.Parameters.{declared_parameter};
 
     type Item = TypeId;
@@ -105,7 +102,7 @@ fn parameter(alloc: Global, input: &mut Input<'_>) -> Result<Parameter, Fault>
 pub struct DefinedParameters;
 
 impl Listed for DefinedParameters {
-    ghost use Rattle.ir_instructions.specs.Lists.{at_round};
+    ghost use Rattle.ir_forms.specs.Lists.{at_round};
     ghost use Rattle.ir_text.specs.Parameters.{parameter};
 
     type Item = Parameter;

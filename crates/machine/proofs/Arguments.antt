@@ -3,7 +3,7 @@ use Rattle.std.proofs.Common.{◌≡◌, ◌≢◌, ◌&&◌, false, ℕ, suc, L
 use Rattle.std.proofs.Math.Bool.{and-false}
 use Rattle.ir_ast.specs.declared.function.Parameter.{Parameter}
 use Rattle.ir_ast.specs.declared.module.Module.{Module}
-use Rattle.machine_values.specs.declared.value.Value.{Value}
+use Rattle.machine.specs.declared.value.Value.{Value}
 use Rattle.machine.specs.Machine.{with_arguments}
 use Rattle.machine.specs.Start.{argument_fits, arguments_fit}
 

@@ -6,8 +6,8 @@ use Rattle.ir_ast.specs.declared.function.Function.{Function}
 use Rattle.ir_ast.specs.declared.module.Module.{Module}
 use Rattle.shadow_stack.specs.Slots.{SlotTable, slots_of}
 use Rattle.machine.specs.declared.frame.Frame.{Frame}
-use Rattle.machine_values.specs.declared.value.Value.{Value}
-use Rattle.machine_asks.specs.Jumps.{HasRoom}
+use Rattle.machine.specs.declared.value.Value.{Value}
+use Rattle.machine.specs.Jumps.{HasRoom}
 use Rattle.machine.specs.Entered.{WasEntered, WereEntered, AreKept}
 
 -- ---- frames

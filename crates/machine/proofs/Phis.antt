@@ -5,8 +5,8 @@ use Rattle.std.proofs.lemmas.List.{take_more, take_more_set, map-append}
 use Rattle.ir_ast.specs.declared.function.Function.{Function}
 use Rattle.ir_ast.specs.declared.instr.Instr.{Instr}
 use Rattle.ir_ast.specs.declared.module.Module.{Module}
-use Rattle.machine_values.specs.declared.value.Value.{Value}
-use Rattle.machine_asks.specs.Jumps.{put_register, put_each, put_phis, phi_value}
+use Rattle.machine.specs.declared.value.Value.{Value}
+use Rattle.machine.specs.Jumps.{put_register, put_each, put_phis, phi_value}
 
 -- values that were taken beforehand are those that the phis take
 pub all_put : (m : Module) (f : Function) (before : List Value) (from : ℕ) (phis : List Instr) (values registers : List Value)

@@ -9,7 +9,7 @@ use Rattle.layout.specs.Layouts.{LaidOut}
 use Rattle.machine.specs.declared.ending.Ending.{Ending}
 use Rattle.machine.specs.declared.ending.Ending.TheVariants.{Returned, Over}
 use Rattle.machine.specs.declared.frame.Frame.{Frame}
-use Rattle.machine_values.specs.declared.value.Value.{Value}
+use Rattle.machine.specs.declared.value.Value.{Value}
 use Rattle.machine.specs.Machine.{State, result_of, instr_at}
 
 -- by what the instruction of the last frame is: a return, with its result if it has one, or another end

@@ -5,8 +5,8 @@ use Rattle.ir_ast.specs.declared.module.Module.{Module}
 use Rattle.layout.specs.Layouts.{LaidOut}
 use Rattle.shadow_stack.specs.Slots.{SlotTable, slots_of}
 use Rattle.machine.specs.declared.frame.Frame.{Frame}
-use Rattle.machine_values.specs.declared.value.Value.{Value}
-use Rattle.machine_asks.specs.Jumps.{HasRoom}
+use Rattle.machine.specs.declared.value.Value.{Value}
+use Rattle.machine.specs.Jumps.{HasRoom}
 
 -- a program, and of each of its functions the slots, if it was entered
 pub record Known : Type 0 where

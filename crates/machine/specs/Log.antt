@@ -5,14 +5,14 @@ use Rattle.pools.specs.declared.word_kind.WordKind.{WordKind}
 use Rattle.pools.specs.declared.word_kind.WordKind.TheVariants.{Integer, Reference as Referring}
 use Rattle.pools.specs.Heap.{Setup, IsOfLayout, kind_of}
 use Rattle.layout.specs.Layouts.{LaidOut}
-use Rattle.machine_asks.specs.declared.action.Action.{Action}
-use Rattle.machine_asks.specs.declared.action.Action.TheVariants.{Local, Read, Write, StorePlain, Alloc, Safepoint, End, Wrong}
-use Rattle.machine_values.specs.declared.answer.Answer.{Answer}
-use Rattle.machine_values.specs.declared.answer.Answer.TheVariants as answer
-use Rattle.machine_values.specs.declared.value.Reference.{Reference}
-use Rattle.machine_values.specs.declared.value.Value.{Value}
-use Rattle.machine_values.specs.declared.value.Value.TheVariants as value
-use Rattle.machine_values.specs.Elements.{globals_cell}
+use Rattle.machine.specs.declared.action.Action.{Action}
+use Rattle.machine.specs.declared.action.Action.TheVariants.{Local, Read, Write, StorePlain, Alloc, Safepoint, End, Wrong}
+use Rattle.machine.specs.declared.answer.Answer.{Answer}
+use Rattle.machine.specs.declared.answer.Answer.TheVariants as answer
+use Rattle.machine.specs.declared.value.Reference.{Reference}
+use Rattle.machine.specs.declared.value.Value.{Value}
+use Rattle.machine.specs.declared.value.Value.TheVariants as value
+use Rattle.machine.specs.Elements.{globals_cell}
 use Rattle.machine.specs.Machine.{State, action, after_answer, roots}
 
 -- a step: what was asked for, what was answered, and the thread's roots when it asked

@@ -15,20 +15,20 @@ use Rattle.pools.specs.Layouts.{kind_of_word}
 use Rattle.layout.specs.Layouts.{LaidOut}
 use Rattle.types.specs.RuntimeCall.{runtime_called}
 use Rattle.shadow_stack.specs.Slots.{SlotTable, slots_of, operand_slot}
-use Rattle.machine_values.specs.declared.value.Place.{Place}
-use Rattle.machine_values.specs.declared.value.Place.TheVariants as place
-use Rattle.machine_values.specs.declared.value.Value.{Value}
-use Rattle.machine_values.specs.declared.value.Value.TheVariants as value
-use Rattle.machine_asks.specs.declared.action.Action.{Action}
-use Rattle.machine_asks.specs.declared.action.Action.TheVariants.{Local, End}
-use Rattle.machine_values.specs.declared.answer.Answer.{Answer}
-use Rattle.machine_values.specs.declared.answer.Answer.TheVariants as answer
+use Rattle.machine.specs.declared.value.Place.{Place}
+use Rattle.machine.specs.declared.value.Place.TheVariants as place
+use Rattle.machine.specs.declared.value.Value.{Value}
+use Rattle.machine.specs.declared.value.Value.TheVariants as value
+use Rattle.machine.specs.declared.action.Action.{Action}
+use Rattle.machine.specs.declared.action.Action.TheVariants.{Local, End}
+use Rattle.machine.specs.declared.answer.Answer.{Answer}
+use Rattle.machine.specs.declared.answer.Answer.TheVariants as answer
 use Rattle.machine.specs.declared.frame.Frame.{Frame}
-use Rattle.machine_values.specs.Kinds.{is_integer, bits_at, number_in, value_of, slot_at_place, address_at_place}
-use Rattle.machine_values.specs.Integers.{computed, resized, compares, compares_equal, truth}
-use Rattle.machine_values.specs.Elements.{element_offset, element_place, address_of, global_kind, read_value}
-use Rattle.machine_asks.specs.Jumps.{put_register, phis_of, put_phis}
-use Rattle.machine_asks.specs.Asks.{layout_named, number_called, op_action, way_of, target_at}
+use Rattle.machine.specs.Kinds.{is_integer, bits_at, number_in, value_of, slot_at_place, address_at_place}
+use Rattle.machine.specs.Integers.{computed, resized, compares, compares_equal, truth}
+use Rattle.machine.specs.Elements.{element_offset, element_place, address_of, global_kind, read_value}
+use Rattle.machine.specs.Jumps.{put_register, phis_of, put_phis}
+use Rattle.machine.specs.Asks.{layout_named, number_called, op_action, way_of, target_at}
 
 -- the frames of a thread, the running one first; a thread without a frame has ended
 pub record State : Type 0 where

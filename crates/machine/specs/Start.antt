@@ -5,9 +5,9 @@ use Rattle.ir_ast.specs.declared.function.Function.{Function}
 use Rattle.ir_ast.specs.declared.function.Parameter.{Parameter}
 use Rattle.ir_ast.specs.declared.module.Module.{Module}
 use Rattle.layout.specs.Layouts.{LaidOut}
-use Rattle.machine_values.specs.declared.value.Value.{Value}
-use Rattle.machine_values.specs.declared.value.Value.TheVariants as value
-use Rattle.machine_values.specs.Kinds.{is_integer, bits_at, wrapped}
+use Rattle.machine.specs.declared.value.Value.{Value}
+use Rattle.machine.specs.declared.value.Value.TheVariants as value
+use Rattle.machine.specs.Kinds.{is_integer, bits_at, wrapped}
 
 -- a parameter is no integer
 abbrev pub is_reference_parameter : Module → Parameter → Bool

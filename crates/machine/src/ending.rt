@@ -2,8 +2,8 @@ ghost use Rattle.std.specs.Prelude.{◌≡◌};
 ghost use Rattle.machine.specs.Endings.{ending_by};
 
 use crate::results::result_of;
+use crate::value::Value;
 use ir_ast::{Module, Op};
-use machine_values::Value;
 
 /// How a thread ended.
 #[derive(Clone, Copy, PartialEq, Eq)]

@@ -2,17 +2,17 @@
 ghost use Rattle.std.specs.Prelude.{◌≡◌, ◌<◌, ◌≤◌, ◌++◌, ◌↔◌, ℕ, None, Some, length, replicate, slice_get, IfOk, IsTrue, OnOk};
 ghost use Rattle.ir_ast.specs.declared.function.Function.{Function as AFunction};
 ghost use Rattle.shadow_stack.specs.Slots.{slots_of};
-ghost use Rattle.machine_asks.specs.Jumps.{phis_of};
+ghost use Rattle.machine.specs.Jumps.{phis_of};
 ghost use Rattle.machine.specs.Machine.{frame_roots, enter};
 ghost use Rattle.machine.specs.Entered.{WasEntered};
 
 use crate::entry::{all_unset, most_phis};
 use crate::frame::Frame;
 use crate::results::slot_value;
+use crate::value::Value;
 use ir_ast::{BlockId, FuncId, Function, Module};
 use items::Items;
 use layout::Program;
-use machine_values::Value;
 use shadow_stack::Slots;
 use std::alloc::{AllocError, Global};
 use std::marker::Model;

@@ -1,15 +1,15 @@
 //! Frames at the beginning of a function.
 ghost use Rattle.std.specs.Prelude.{◌≡◌, ◌≤◌, ℕ, length, map, replicate, slice_get, IfOk};
 ghost use Rattle.shadow_stack.specs.Slots.{slots_of};
-ghost use Rattle.machine_asks.specs.Jumps.{phis_of};
+ghost use Rattle.machine.specs.Jumps.{phis_of};
 ghost use Rattle.machine.specs.Machine.{initial, with_arguments, entry_frame};
 
 use crate::frame::{Frame, initial, put};
+use crate::jumps::phis_in;
 use crate::results::address_of;
+use crate::value::{Place, Value};
 use ir_ast::{FuncId, Function, Module, TypeId, ValueId};
 use items::Items;
-use machine_asks::phis_in;
-use machine_values::{Place, Value};
 use shadow_stack::Slots;
 use std::alloc::{AllocError, Global};
 

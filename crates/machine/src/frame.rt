@@ -1,22 +1,24 @@
 ghost use Rattle.std.specs.Prelude.{◌≡◌, ◌≤◌, length, map, take, slice_get, slice_set};
 ghost use Rattle.types.specs.RuntimeCall.{runtime_called};
-ghost use Rattle.machine_values.specs.Kinds.{value_of};
-ghost use Rattle.machine_asks.specs.Jumps.{put_register, put_each, phi_value, phis_of};
+ghost use Rattle.machine.specs.Kinds.{value_of};
+ghost use Rattle.machine.specs.Jumps.{put_register, put_each, phi_value, phis_of};
 ghost use Rattle.machine.specs.Machine.{initial, set_register, set_slot, loaded_from, after_call, after_place, after_op, enter};
 
+use crate::answer::Answer;
+use crate::jumps::{phi_value, phis_of};
+use crate::kinds::is_integer;
+use crate::operands::{address_at_place, operand_slot, slot_at_place, value_of};
 use crate::results::{
     alloc_value, computed_value, element_address, layout_of_call, loaded_from, place_of_call,
     read_at, root_of_call,
 };
+use crate::scene::Scene;
+use crate::value::Value;
 use ir_ast::{
     Argument, BlockId, FuncId, Function, Instr, Module, Op, Runtime, SymbolId, TypeId, ValueId,
 };
 use items::Items;
 use layout::Program;
-use machine_asks::{phi_value, phis_of};
-use machine_values::{
-    Answer, Scene, Value, address_at_place, is_integer, operand_slot, slot_at_place, value_of,
-};
 use shadow_stack::{SlotId, Slots};
 use types::runtime_called;
 

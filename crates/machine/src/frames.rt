@@ -1,17 +1,20 @@
 //! The frames of a thread: how calls and returns change them.
 ghost use Rattle.std.specs.Prelude.{◌≡◌, ◌+◌, ◌<◌, ◌^◌, ◌∷◌, ◌++◌, [], List, Option, Some, not, is_ok, if◌then◌else◌, reverse, slice_get, IfOk, OnErr};
 ghost use Rattle.shadow_stack.specs.Slots.{SlotTable, slots_of};
-ghost use Rattle.machine_asks.specs.Asks.{way_of, target_at};
+ghost use Rattle.machine.specs.Asks.{way_of, target_at};
 ghost use Rattle.machine.specs.Machine.{above, onward_of, Into, Back, has_room, values_of, after_op, after_onward, enter_block, go_on, frames_called, frames_unless, frames_returned};
 ghost use Rattle.machine.specs.Entered.{WasEntered, WereEntered};
 
+use crate::action::Action;
+use crate::answer::Answer;
+use crate::asks::target_of_way;
+use crate::calls::number_called;
 use crate::entered::Entered;
 use crate::entry::entry_frame;
 use crate::frame::Frame;
 use crate::results::{result_of, values_of};
+use crate::value::Value;
 use ir_ast::{Argument, FuncId, Function, Instr, Module, Op, ValueId};
-use machine_asks::{Action, number_called, target_of_way};
-use machine_values::{Answer, Value};
 use std::alloc::{AllocError, Global};
 use std::mem;
 

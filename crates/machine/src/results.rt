@@ -1,20 +1,22 @@
 //! The values that instructions give, and what calls of the runtime name.
 ghost use Rattle.std.specs.Prelude.{◌≡◌, IfOk};
-ghost use Rattle.machine_values.specs.Kinds.{value_of, bits_at, number_in, slot_at_place, address_at_place};
-ghost use Rattle.machine_values.specs.Integers.{resized};
-ghost use Rattle.machine_values.specs.Elements.{address_of};
+ghost use Rattle.machine.specs.Kinds.{value_of, bits_at, number_in, slot_at_place, address_at_place};
+ghost use Rattle.machine.specs.Integers.{resized};
+ghost use Rattle.machine.specs.Elements.{address_of};
 ghost use Rattle.machine.specs.Machine.{slot_value, read_at, loaded_from, arithmetic_value, are_equal, compared, selected, alloc_value, computed_value, element_address, values_of, result_of, layout_of_call, root_of_call, place_of_call};
 ghost use Rattle.ir_ast.specs.declared.op.Op.TheVariants as op;
-ghost use Rattle.machine_values.specs.declared.value.Value.TheVariants as value;
+ghost use Rattle.machine.specs.declared.value.Value.TheVariants as value;
 
+use crate::answer::Answer;
+use crate::calls::layout_named;
+use crate::elements::{element_place_of, global_kind, kind_of_word, read_value};
+use crate::integers::{compares, compares_equal, computed, resized, truth};
+use crate::kinds::{bits_at, number_in};
+use crate::operands::{address_at_place, operand_value, slot_at_place, value_of};
+use crate::scene::Scene;
+use crate::value::{Place, Value};
 use ir_ast::{Argument, Arithmetic, Comparison, Module, Op, Operand, Resize, TypeId};
 use layout::Program;
-use machine_asks::layout_named;
-use machine_values::{
-    Answer, Place, Scene, Value, address_at_place, bits_at, compares, compares_equal, computed,
-    element_place_of, global_kind, kind_of_word, number_in, operand_value, read_value, resized,
-    slot_at_place, truth, value_of,
-};
 use pools::LayoutId;
 use shadow_stack::SlotId;
 use std::alloc::{AllocError, Global};

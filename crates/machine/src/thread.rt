@@ -5,15 +5,19 @@ ghost use Rattle.machine.specs.Machine.{action, after_answer, start, roots, inst
 ghost use Rattle.machine.specs.Start.{takes_reference, argument_fits, arguments_fit, argument_values, StartsByReference, StartsWrongly};
 ghost use Rattle.machine.specs.declared.thread.StartFault.TheVariants.{ReferenceParameter, WrongArguments};
 
+use crate::action::Action;
+use crate::answer::Answer;
+use crate::asks::op_action;
 use crate::ending::{Ending, ending_by};
 use crate::entered::{Entered, function_of};
 use crate::entry::entry_frame;
 use crate::frame::Frame;
 use crate::frames::{above, step};
+use crate::integers::wrapped;
+use crate::kinds::{bits_at, is_integer};
+use crate::value::Value;
 use ir_ast::{FuncId, Function, Instr, Module, Parameter};
 use layout::Program;
-use machine_asks::{Action, op_action};
-use machine_values::{Answer, Value, bits_at, is_integer, wrapped};
 use std::alloc::{AllocError, Global};
 use std::marker::Model;
 use thiserror::Error;

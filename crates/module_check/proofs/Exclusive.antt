@@ -1,10 +1,10 @@
 -- A module that is accepted is not refused.
 use Rattle.std.proofs.Common.{◌≡◌, Err, List, length, refl, sym, subst}
 use Rattle.ir_ast.specs.declared.module.Module.{Module}
-use Rattle.certificate.specs.declared.section.Section.{Section}
+use Rattle.certs.specs.declared.section.Section.{Section}
 use Rattle.layout.specs.Layouts.{LaidOut, AreLayouts, AreSizes}
-use Rattle.certified.specs.declared.block_fault.BlockFault.{BlockFault}
-use Rattle.certified.specs.declared.block_fault.BlockFault.TheVariants as block
+use Rattle.block_rules.specs.declared.block_fault.BlockFault.{BlockFault}
+use Rattle.block_rules.specs.declared.block_fault.BlockFault.TheVariants as block
 use Rattle.block_check.proofs.Exact.{certified_only}
 use Rattle.module_check.specs.declared.verdict.Verdict.TheVariants.{Memory}
 use Rattle.module_check.specs.Accepted.{IsAccepted, IsModuleCertified, IsModuleFault, verdict_of_block}

@@ -3,7 +3,7 @@ use Rattle.std.proofs.Common.{ℕ, ◌<◌, List, length, sym, subst}
 use Rattle.std.specs.Option.{option_map_or}
 use Rattle.layout.proofs.Steps.{get_inside}
 use Rattle.layout.specs.Layouts.{LaidOut}
-use Rattle.certificate.specs.declared.section.Section.{Section}
+use Rattle.certs.specs.declared.section.Section.{Section}
 use Rattle.program_safety.specs.Safety.{AreCertified, CertifiedIsNeverWrong, CertifiedIsSafe, IsSafeProgram}
 use Rattle.module_check.specs.Accepted.{IsModuleCertified}
 use Rattle.module_check.specs.Discipline.{AreDisciplined}

@@ -5,12 +5,12 @@ use Rattle.pools.specs.declared.word_kind.WordKind.{WordKind}
 use Rattle.layout.specs.Layouts.{AreLayouts, AreSizes, IsLayoutFault, LaidOut}
 use Rattle.layout.specs.declared.fault.LayoutFault.{LayoutFault}
 use Rattle.layout.specs.declared.fault.LayoutFault.TheVariants as layout
-use Rattle.certificate.specs.declared.section.Section.{Section}
-use Rattle.certified.specs.Certified.{IfRefused}
-use Rattle.certified.specs.Functions.{IsFirstInFunction, IsFunctionCertified, blocks_in}
-use Rattle.certified.specs.declared.block_fault.Refusal.{Refusal}
-use Rattle.certified.specs.declared.block_fault.BlockFault.{BlockFault}
-use Rattle.certified.specs.declared.block_fault.BlockFault.TheVariants as block
+use Rattle.certs.specs.declared.section.Section.{Section}
+use Rattle.block_rules.specs.Certified.{IfRefused}
+use Rattle.block_rules.specs.Functions.{IsFirstInFunction, IsFunctionCertified, blocks_in}
+use Rattle.block_rules.specs.declared.block_fault.Refusal.{Refusal}
+use Rattle.block_rules.specs.declared.block_fault.BlockFault.{BlockFault}
+use Rattle.block_rules.specs.declared.block_fault.BlockFault.TheVariants as block
 use Rattle.module_check.specs.declared.verdict.Verdict.{Verdict}
 use Rattle.module_check.specs.declared.verdict.Verdict.TheVariants.{Refused, Layout, Memory}
 

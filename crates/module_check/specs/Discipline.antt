@@ -4,8 +4,8 @@ use Rattle.ir_ast.specs.declared.function.Function.{Function}
 use Rattle.pools.specs.Heap.{Setup}
 use Rattle.layout.specs.Layouts.{LaidOut}
 use Rattle.layout.specs.Globals.{IsHeapFor}
-use Rattle.certificate.specs.declared.section.Section.{Section}
-use Rattle.machine_values.specs.declared.answer.Answer.{Answer}
+use Rattle.certs.specs.declared.section.Section.{Section}
+use Rattle.machine.specs.declared.answer.Answer.{Answer}
 use Rattle.machine.specs.Machine.{start}
 use Rattle.machine.specs.Start.{argument_values}
 use Rattle.machine.specs.Log.{Safe}

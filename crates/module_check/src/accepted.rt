@@ -3,7 +3,7 @@ ghost use Rattle.module_check.specs.Accepted.{IsModuleCertified};
 ghost use Rattle.module_check.specs.Discipline.{AreDisciplined};
 ghost use Rattle.program_safety.specs.Safety.{IsSafeProgram};
 
-use certificate::Certs;
+use certs::Certs;
 use layout::Program;
 use program_safety::{discipline_law, program_law};
 use std::marker::Model;

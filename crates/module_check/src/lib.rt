@@ -5,5 +5,6 @@ mod accepted;
 mod verdict;
 
 pub use accepted::Accepted;
-pub use certified::{Detail, Refusal, Rule};
+pub use block_check::check_function;
+pub use block_rules::{Detail, Refusal, Rule};
 pub use verdict::{NotAccepted, Verdict, check};

@@ -5,8 +5,8 @@ ghost use Rattle.program_safety.specs.Safety.{IsSafeProgram};
 
 use crate::accepted::Accepted;
 use block_check::check_function;
-use certificate::Certs;
-use certified::{BlockFault, Refusal};
+use block_rules::{BlockFault, Refusal};
+use certs::Certs;
 use ir_ast::{FuncId, Module};
 use layout::{LayoutFault, Program};
 use program_safety::{discipline_law, program_law};

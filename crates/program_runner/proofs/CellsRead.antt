@@ -1,11 +1,11 @@
 -- What a thread that fits its heap reads.
 use Rattle.std.proofs.Common.{◌≡◌, ◌<◌, ℕ, sym, subst}
 use Rattle.pools.specs.Heap.{Setup, cells}
-use Rattle.machine_asks.specs.declared.action.Action.{Action}
-use Rattle.machine_asks.specs.declared.action.Action.TheVariants.{Read}
-use Rattle.machine_values.specs.declared.value.Reference.{Reference}
+use Rattle.machine.specs.declared.action.Action.{Action}
+use Rattle.machine.specs.declared.action.Action.TheVariants.{Read}
+use Rattle.machine.specs.declared.value.Reference.{Reference}
 use Rattle.machine.specs.Machine.{action}
-use Rattle.actors.specs.Kinds.{AsksByKind}
+use Rattle.moves.specs.Kinds.{AsksByKind}
 use Rattle.program_safety.specs.Threads.{ProgramThread, asked_as}
 use Rattle.program_runner.specs.Kinds.{FitsThread}
 use Rattle.program_runner.specs.Keeps.{thread_keeps_kinds}

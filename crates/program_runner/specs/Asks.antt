@@ -22,19 +22,19 @@ use Rattle.layout.specs.Layouts.{LaidOut}
 use Rattle.types.specs.References.{part_of_pointer}
 use Rattle.types.specs.RuntimeCall.{runtime_called}
 use Rattle.shadow_stack.specs.Slots.{SlotTable, slots_of, operand_slot}
-use Rattle.machine_asks.specs.declared.action.Action.{Action}
-use Rattle.machine_asks.specs.declared.action.Action.TheVariants.{Local, Read, StorePlain, Write, Safepoint, End, Wrong}
+use Rattle.machine.specs.declared.action.Action.{Action}
+use Rattle.machine.specs.declared.action.Action.TheVariants.{Local, Read, StorePlain, Write, Safepoint, End, Wrong}
 use Rattle.machine.specs.declared.frame.Frame.{Frame}
-use Rattle.machine_values.specs.declared.value.Place.{Place}
-use Rattle.machine_values.specs.declared.value.Place.TheVariants as place
-use Rattle.machine_values.specs.declared.value.Value.{Value}
-use Rattle.machine_values.specs.declared.value.Value.TheVariants as value
-use Rattle.machine_asks.specs.Asks.{only_if, cast_action, read_action, load_action, plain_action, barrier_action, store_action, gcroot_action, gcread_action, gcwrite_action, are_gcwrite_types, layout_named, alloc_of, alloc_action, safepoint_action, defined_action, call_action, declare_of, function_numbered, number_called, enter_action, target_at, way_of, is_condition, op_action}
-use Rattle.machine_values.specs.Elements.{globals_cell, global_kind, is_read_as, takes_value}
-use Rattle.machine_asks.specs.Jumps.{cases_fit}
-use Rattle.machine_values.specs.Kinds.{is_integer_of, is_byte_pointer, is_number, fits_layout, refers_to, leads_to, register_at, value_of, is_typed, is_usable, is_usable_number, slot_at_place, address_at_place, address_in}
+use Rattle.machine.specs.declared.value.Place.{Place}
+use Rattle.machine.specs.declared.value.Place.TheVariants as place
+use Rattle.machine.specs.declared.value.Value.{Value}
+use Rattle.machine.specs.declared.value.Value.TheVariants as value
+use Rattle.machine.specs.Asks.{only_if, cast_action, read_action, load_action, plain_action, barrier_action, store_action, gcroot_action, gcread_action, gcwrite_action, are_gcwrite_types, layout_named, alloc_of, alloc_action, safepoint_action, defined_action, call_action, declare_of, function_numbered, number_called, enter_action, target_at, way_of, is_condition, op_action}
+use Rattle.machine.specs.Elements.{globals_cell, global_kind, is_read_as, takes_value}
+use Rattle.machine.specs.Jumps.{cases_fit}
+use Rattle.machine.specs.Kinds.{is_integer_of, is_byte_pointer, is_number, fits_layout, refers_to, leads_to, register_at, value_of, is_typed, is_usable, is_usable_number, slot_at_place, address_at_place, address_in}
 use Rattle.machine.specs.Machine.{State, Onward, Next, Way, Into, Back, Nowhere, has_room, onward_of, above, instr_at, instr_action, step_action, frame_action, action}
-use Rattle.actors.specs.Kinds.{MayHold, AsksByKind}
+use Rattle.moves.specs.Kinds.{MayHold, AsksByKind}
 use Rattle.program_safety.specs.Threads.{stored, asked_as}
 use Rattle.program_runner.specs.Kinds.{FitsHeap, FrameFits, FramesFit, IsHeapWith}
 use Rattle.program_runner.specs.Values.{both, PlaceFits, value_fits, address_fits}

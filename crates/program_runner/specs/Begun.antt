@@ -14,9 +14,9 @@ use Rattle.layout.specs.Layouts.{LaidOut}
 use Rattle.layout.specs.Words.{word_of}
 use Rattle.types.specs.Globals.{held_in}
 use Rattle.shadow_stack.specs.Slots.{slots_of}
-use Rattle.machine_values.specs.declared.value.Value.{Value}
-use Rattle.machine_values.specs.declared.value.Value.TheVariants as value
-use Rattle.machine_values.specs.Kinds.{is_integer, bits_at, wrapped, register_at}
+use Rattle.machine.specs.declared.value.Value.{Value}
+use Rattle.machine.specs.declared.value.Value.TheVariants as value
+use Rattle.machine.specs.Kinds.{is_integer, bits_at, wrapped, register_at}
 use Rattle.machine.specs.Machine.{slot_value, initial, with_arguments, entry_frame, start}
 use Rattle.machine.specs.Start.{takes_reference, argument_fits, arguments_fit, argument_values, StartsByReference, StartsWrongly}
 use Rattle.trace_text.specs.declared.trace.Setup.{Setup as Begin}

@@ -8,18 +8,18 @@ use Rattle.pools.specs.Layouts.{words_of, kind_of_word}
 use Rattle.pools.specs.declared.word_kind.WordKind.{WordKind}
 use Rattle.pools.specs.declared.word_kind.WordKind.TheVariants as kind
 use Rattle.layout.specs.Layouts.{LaidOut}
-use Rattle.machine_asks.specs.declared.action.Action.{Action}
-use Rattle.machine_asks.specs.declared.action.Action.TheVariants.{Local, Read, StorePlain, Write, Alloc, Safepoint, End, Wrong}
-use Rattle.machine_values.specs.declared.answer.Answer.{Answer}
-use Rattle.machine_values.specs.declared.answer.Answer.TheVariants as answer
-use Rattle.machine_values.specs.declared.value.Place.{Place}
-use Rattle.machine_values.specs.declared.value.Place.TheVariants as place
-use Rattle.machine_asks.specs.Asks.{only_if, read_action}
-use Rattle.machine_values.specs.Elements.{global_kind, is_read_as, read_value}
+use Rattle.machine.specs.declared.action.Action.{Action}
+use Rattle.machine.specs.declared.action.Action.TheVariants.{Local, Read, StorePlain, Write, Alloc, Safepoint, End, Wrong}
+use Rattle.machine.specs.declared.answer.Answer.{Answer}
+use Rattle.machine.specs.declared.answer.Answer.TheVariants as answer
+use Rattle.machine.specs.declared.value.Place.{Place}
+use Rattle.machine.specs.declared.value.Place.TheVariants as place
+use Rattle.machine.specs.Asks.{only_if, read_action}
+use Rattle.machine.specs.Elements.{global_kind, is_read_as, read_value}
 use Rattle.machine.specs.Machine.{alloc_value, read_at}
-use Rattle.schedules.specs.Machine as runs
-use Rattle.schedules.specs.Machine.{Reference}
-use Rattle.actors.specs.Kinds.{MayHold, AnswersByKind}
+use Rattle.runs.specs.Machine as runs
+use Rattle.runs.specs.Machine.{Reference}
+use Rattle.moves.specs.Kinds.{MayHold, AnswersByKind}
 use Rattle.program_safety.specs.Threads.{asked_as, word_read, given_as}
 use Rattle.program_runner.specs.Kinds.{FitsHeap, IsHeapWith}
 use Rattle.program_runner.specs.Values.{PlaceFits}

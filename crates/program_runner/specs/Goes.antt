@@ -15,15 +15,15 @@ use Rattle.pools.specs.Heap.{Setup}
 use Rattle.layout.specs.Layouts.{LaidOut}
 use Rattle.types.specs.RuntimeCall.{runtime_called}
 use Rattle.shadow_stack.specs.Slots.{SlotTable, slots_of, operand_slot}
-use Rattle.machine_values.specs.declared.answer.Answer.{Answer}
+use Rattle.machine.specs.declared.answer.Answer.{Answer}
 use Rattle.machine.specs.declared.frame.Frame.{Frame}
-use Rattle.machine_values.specs.declared.value.Place.{Place}
-use Rattle.machine_values.specs.declared.value.Value.{Value}
-use Rattle.machine_values.specs.declared.value.Value.TheVariants as value
-use Rattle.machine_asks.specs.Asks.{read_action, load_action, gcread_action, alloc_of, alloc_action, layout_named, call_action, declare_of, function_numbered, number_called, target_at, way_of, op_action}
-use Rattle.machine_values.specs.Elements.{element_offset}
-use Rattle.machine_asks.specs.Jumps.{entry_for, entry_value, phi_value, phis_of, put_register, put_phis}
-use Rattle.machine_values.specs.Kinds.{register_at, bits_at, value_of, slot_at_place, address_at_place}
+use Rattle.machine.specs.declared.value.Place.{Place}
+use Rattle.machine.specs.declared.value.Value.{Value}
+use Rattle.machine.specs.declared.value.Value.TheVariants as value
+use Rattle.machine.specs.Asks.{read_action, load_action, gcread_action, alloc_of, alloc_action, layout_named, call_action, declare_of, function_numbered, number_called, target_at, way_of, op_action}
+use Rattle.machine.specs.Elements.{element_offset}
+use Rattle.machine.specs.Jumps.{entry_for, entry_value, phi_value, phis_of, put_register, put_phis}
+use Rattle.machine.specs.Kinds.{register_at, bits_at, value_of, slot_at_place, address_at_place}
 use Rattle.machine.specs.Machine.{State, entry_frame, Onward, Next, Way, Into, Back, Nowhere, has_room, onward_of, above, instr_at, step_action, frame_action, action, slot_value, set_register, set_slot, after_cast, read_at, loaded_from, alloc_value, layout_of_call, place_of_call, after_call, computed_value, element_address, after_op, go_on, enter_block, values_of, called_with, frames_called, result_of, frames_returned, after_onward, after_instr, after_frame, after_answer}
 use Rattle.program_runner.specs.Kinds.{FitsHeap, FrameFits, FramesFit, IsHeapWith}
 use Rattle.program_runner.specs.Values.{PlaceFits, computed_below, resized_below, compared_fits, selected_fits, set_fits, value_fits, element_fits}

@@ -10,7 +10,7 @@ use Rattle.pools.specs.declared.word_kind.WordKind.TheVariants.{Integer}
 use Rattle.layout.specs.Globals.{globals_of}
 use Rattle.layout.specs.Layouts.{LaidOut}
 use Rattle.layout.specs.Words.{word_of}
-use Rattle.machine_values.specs.Kinds.{wrapped}
+use Rattle.machine.specs.Kinds.{wrapped}
 use Rattle.trace_text.specs.declared.trace.Setup.{Setup}
 
 -- a number as a word of this kind holds it at the start; a reference is null

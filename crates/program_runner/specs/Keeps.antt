@@ -2,7 +2,7 @@
 use Rattle.std.proofs.Common.{sym, subst}
 use Rattle.pools.specs.Heap.{Setup}
 use Rattle.machine.specs.Machine.{action, roots}
-use Rattle.actors.specs.Kinds.{KeepsKinds}
+use Rattle.moves.specs.Kinds.{KeepsKinds}
 use Rattle.program_safety.specs.Threads.{ProgramThread, asks, goes_on, names, given_as}
 use Rattle.program_runner.specs.Kinds.{FitsThread}
 use Rattle.program_runner.specs.Given.{FitsAsked, given_fits}

@@ -4,11 +4,11 @@ use Rattle.pools.specs.Heap.{Setup, IsOfLayout}
 use Rattle.pools.specs.declared.word_kind.WordKind.{WordKind}
 use Rattle.layout.specs.Layouts.{LaidOut}
 use Rattle.machine.specs.declared.frame.Frame.{Frame}
-use Rattle.machine_values.specs.declared.value.Value.{Value}
-use Rattle.machine_values.specs.declared.value.Value.TheVariants as value
-use Rattle.machine_values.specs.declared.value.Place.TheVariants as place
-use Rattle.machine_values.specs.Elements.{global_kind}
-use Rattle.machine_values.specs.Kinds.{register_at}
+use Rattle.machine.specs.declared.value.Value.{Value}
+use Rattle.machine.specs.declared.value.Value.TheVariants as value
+use Rattle.machine.specs.declared.value.Place.TheVariants as place
+use Rattle.machine.specs.Elements.{global_kind}
+use Rattle.machine.specs.Kinds.{register_at}
 use Rattle.machine.specs.Machine.{slot_value}
 use Rattle.program_safety.specs.Threads.{ProgramThread}
 

@@ -5,11 +5,11 @@ use Rattle.ir_ast.specs.declared.module.Module.{Module}
 use Rattle.pools.specs.Heap.{Setup, cells}
 use Rattle.shadow_stack.specs.Slots.{slots_of}
 use Rattle.machine.specs.declared.frame.Frame.{Frame}
-use Rattle.machine_values.specs.declared.value.Value.{Value}
-use Rattle.machine_values.specs.declared.value.Value.TheVariants as value
+use Rattle.machine.specs.declared.value.Value.{Value}
+use Rattle.machine.specs.declared.value.Value.TheVariants as value
 use Rattle.machine.specs.Machine.{slot_value, frame_roots, roots_of}
-use Rattle.schedules.specs.Machine.{Reference}
-use Rattle.schedules.specs.Moves.{IsIn}
+use Rattle.runs.specs.Machine.{Reference}
+use Rattle.runs.specs.Moves.{IsIn}
 use Rattle.program_safety.specs.Threads.{reference_in}
 use Rattle.program_runner.specs.Kinds.{FitsHeap, FrameFits, FramesFit}
 use Rattle.program_runner.specs.Begun.{AllFit}

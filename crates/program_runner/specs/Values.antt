@@ -17,14 +17,14 @@ use Rattle.pools.specs.Heap.{Setup, IsOfLayout}
 use Rattle.pools.specs.Layouts.{kind_of_word}
 use Rattle.layout.specs.Layouts.{LaidOut}
 use Rattle.types.specs.Globals.{global_named}
-use Rattle.machine_values.specs.declared.value.Place.{Place}
-use Rattle.machine_values.specs.declared.value.Place.TheVariants as place
-use Rattle.machine_values.specs.declared.value.Reference.{Reference}
-use Rattle.machine_values.specs.declared.value.Value.{Value}
-use Rattle.machine_values.specs.declared.value.Value.TheVariants as value
-use Rattle.machine_values.specs.Elements.{word_behind, global_behind, element_place, address_of}
-use Rattle.machine_values.specs.Integers.{computed, resized, compares, truth}
-use Rattle.machine_values.specs.Kinds.{wrapped, number_in, register_at, constant_value, global_address, value_of, address_in}
+use Rattle.machine.specs.declared.value.Place.{Place}
+use Rattle.machine.specs.declared.value.Place.TheVariants as place
+use Rattle.machine.specs.declared.value.Reference.{Reference}
+use Rattle.machine.specs.declared.value.Value.{Value}
+use Rattle.machine.specs.declared.value.Value.TheVariants as value
+use Rattle.machine.specs.Elements.{word_behind, global_behind, element_place, address_of}
+use Rattle.machine.specs.Integers.{computed, resized, compares, truth}
+use Rattle.machine.specs.Kinds.{wrapped, number_in, register_at, constant_value, global_address, value_of, address_in}
 use Rattle.machine.specs.Machine.{compared, selected}
 use Rattle.program_runner.specs.Kinds.{FitsHeap}
 

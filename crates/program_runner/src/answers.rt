@@ -1,11 +1,10 @@
 ghost use Rattle.std.specs.Prelude.{◌≡◌, ◌<◌, ◌^◌};
-ghost use Rattle.actors.specs.Calls.{action_of};
+ghost use Rattle.moves.specs.Calls.{action_of};
 ghost use Rattle.program_runner.specs.Given.{NamesCell};
 ghost use Rattle.program_safety.specs.Threads.{in_run, reference_in, stored, asked_as, null_or_cell, word_read};
 
-use actors::{Call, NULL, Reference};
-use machine_asks::Action;
-use machine_values::{Answer as ThreadAnswer, Reference as ThreadReference, Value};
+use machine::{Action, Answer as ThreadAnswer, Reference as ThreadReference, Value};
+use moves::{Call, NULL, Reference};
 use pools::WordKind;
 
 /// A reference of a thread, as one of a run.

@@ -8,20 +8,20 @@ use Rattle.pools.specs.Layouts.{is_reference_kind}
 use Rattle.colours.specs.Mutator.{MayFind}
 use Rattle.colours.specs.Mutator as mutator
 use Rattle.colours.proofs.Tests.{test_false, test_yes, test_no}
-use Rattle.machine_asks.specs.declared.action.Action.{Action}
-use Rattle.machine_asks.specs.declared.action.Action.TheVariants.{Local, Read, StorePlain, Write, Alloc, Safepoint, End, Wrong}
-use Rattle.machine_values.specs.declared.answer.Answer.{Answer}
-use Rattle.machine_values.specs.declared.answer.Answer.TheVariants as answer
-use Rattle.machine_values.specs.declared.value.Reference.{Reference as ThreadReference}
-use Rattle.machine_values.specs.declared.value.Value.{Value}
-use Rattle.machine_values.specs.declared.value.Value.TheVariants as value
+use Rattle.machine.specs.declared.action.Action.{Action}
+use Rattle.machine.specs.declared.action.Action.TheVariants.{Local, Read, StorePlain, Write, Alloc, Safepoint, End, Wrong}
+use Rattle.machine.specs.declared.answer.Answer.{Answer}
+use Rattle.machine.specs.declared.answer.Answer.TheVariants as answer
+use Rattle.machine.specs.declared.value.Reference.{Reference as ThreadReference}
+use Rattle.machine.specs.declared.value.Value.{Value}
+use Rattle.machine.specs.declared.value.Value.TheVariants as value
 use Rattle.machine.specs.Log.{Log, Held, HoldsCell, IsFresh, RefersTo, RefersToCell, IsNullOrHeld, IsNullOrHeldOf, MayBeRead, MayBeStored, MayBeWritten, MayTouch, Keeps, Possible}
-use Rattle.schedules.specs.Machine.{Reference}
-use Rattle.schedules.specs.Moves.{Move, Works, ReadsWord, StoresBehindBarrier, StoresPlain, Claims, ReadsPosted, StoresStage, IsIn, steps_of, answer_of}
-use Rattle.schedules.specs.Discipline as discipline
-use Rattle.schedules.specs.Discipline.{Holds, MayName, MayPut, MayCall, IsPossibleMove}
-use Rattle.schedules.specs.Soundness.{EndsCall}
-use Rattle.schedules.proofs.Shares.{holds_held}
+use Rattle.runs.specs.Machine.{Reference}
+use Rattle.runs.specs.Moves.{Move, Works, ReadsWord, StoresBehindBarrier, StoresPlain, Claims, ReadsPosted, StoresStage, IsIn, steps_of, answer_of}
+use Rattle.runs.specs.Discipline as discipline
+use Rattle.runs.specs.Discipline.{Holds, MayName, MayPut, MayCall, IsPossibleMove}
+use Rattle.runs.specs.Soundness.{EndsCall}
+use Rattle.runs.proofs.Shares.{holds_held}
 use Rattle.program_safety.specs.Threads.{in_run, at_thread, reference_in, stored, asked_as, null_or_cell, word_read, given_as}
 use Rattle.program_safety.specs.Sound.{BearsOut}
 use Rattle.program_safety.proofs.Roots.{from_values, among_values}

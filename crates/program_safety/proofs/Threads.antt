@@ -3,15 +3,15 @@ use Rattle.std.proofs.Common.{ℕ, List, [], ◌∷◌, map, refl, sym, subst}
 use Rattle.pools.specs.Heap.{Setup}
 use Rattle.layout.specs.Layouts.{LaidOut}
 use Rattle.layout.specs.Globals.{IsHeapFor}
-use Rattle.certificate.specs.declared.section.Section.{Section}
-use Rattle.machine_values.specs.declared.answer.Answer.{Answer}
+use Rattle.certs.specs.declared.section.Section.{Section}
+use Rattle.machine.specs.declared.answer.Answer.{Answer}
 use Rattle.machine.specs.Machine.{State, action, after_answer, roots}
 use Rattle.machine.specs.Log.{Log, IsSafe, Safe}
 use Rattle.soundness.specs.Discipline.{AreCertified, CertifiedIsNeverWrong}
-use Rattle.schedules.specs.Machine.{Reference}
-use Rattle.schedules.specs.Moves.{Move, IsIn, answer_of}
-use Rattle.schedules.specs.Discipline.{MayName, MayCall, IsPossibleMove}
-use Rattle.schedules.specs.Soundness.{EndsCall, Grows, IsSound, AreSound}
+use Rattle.runs.specs.Machine.{Reference}
+use Rattle.runs.specs.Moves.{Move, IsIn, answer_of}
+use Rattle.runs.specs.Discipline.{MayName, MayCall, IsPossibleMove}
+use Rattle.runs.specs.Soundness.{EndsCall, Grows, IsSound, AreSound}
 use Rattle.program_safety.specs.Threads.{ProgramThread, asked_as, given_as, reference_in, asks, goes_on, names, program_machine}
 use Rattle.program_safety.specs.Sound.{BearsOut, Sound}
 use Rattle.program_safety.specs.Safety.{IsBegun, AreBegun}

@@ -4,11 +4,11 @@ use Rattle.ir_ast.specs.declared.function.Function.{Function}
 use Rattle.pools.specs.Heap.{Setup, IsSetup}
 use Rattle.layout.specs.Layouts.{LaidOut}
 use Rattle.layout.specs.Globals.{IsHeapFor}
-use Rattle.certificate.specs.declared.section.Section.{Section}
+use Rattle.certs.specs.declared.section.Section.{Section}
 use Rattle.machine.specs.Machine.{start}
 use Rattle.machine.specs.Start.{argument_values}
 pub use Rattle.soundness.specs.Discipline.{AreCertified, CertifiedIsNeverWrong, IsStart, MeetPromises}
-use Rattle.schedules.specs.Promises.{AreCareful, IsSafe}
+use Rattle.runs.specs.Promises.{AreCareful, IsSafe}
 use Rattle.program_safety.specs.Threads.{ProgramThread, program_machine}
 
 -- a thread stands at the beginning of a function of the program, over this heap, with arguments that fit and meet what is promised of the parameters

@@ -2,11 +2,11 @@
 use Rattle.std.specs.Prelude.{ℕ, ◌<◌, ◌≡◌, List}
 use Rattle.pools.specs.Heap.{Setup}
 use Rattle.colours.specs.Mutator.{Fresh}
-use Rattle.machine_values.specs.declared.answer.Answer.{Answer}
-use Rattle.machine_values.specs.declared.value.Reference.{Reference as ThreadReference}
+use Rattle.machine.specs.declared.answer.Answer.{Answer}
+use Rattle.machine.specs.declared.value.Reference.{Reference as ThreadReference}
 use Rattle.machine.specs.Log.{Log, Held, IsFresh, Safe}
-use Rattle.schedules.specs.Moves.{Move, steps_of}
-use Rattle.schedules.specs.Discipline.{Holds}
+use Rattle.runs.specs.Moves.{Move, steps_of}
+use Rattle.runs.specs.Discipline.{Holds}
 use Rattle.program_safety.specs.Threads.{ProgramThread, in_run}
 
 -- what a log says is held is held by the share, and what it says is fresh is fresh in it, and no null

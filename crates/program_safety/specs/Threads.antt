@@ -4,17 +4,17 @@ use Rattle.pools.specs.Heap.{Setup, kind_of}
 use Rattle.pools.specs.declared.word_kind.WordKind.{WordKind}
 use Rattle.pools.specs.declared.word_kind.WordKind.TheVariants as kind
 use Rattle.layout.specs.Layouts.{LaidOut}
-use Rattle.machine_asks.specs.declared.action.Action.{Action}
-use Rattle.machine_asks.specs.declared.action.Action.TheVariants.{Local, Read, StorePlain, Write, Alloc, Safepoint, End, Wrong}
-use Rattle.machine_values.specs.declared.answer.Answer.{Answer}
-use Rattle.machine_values.specs.declared.answer.Answer.TheVariants as answer
-use Rattle.machine_values.specs.declared.value.Reference.{Reference as ThreadReference}
-use Rattle.machine_values.specs.declared.value.Value.{Value}
-use Rattle.machine_values.specs.declared.value.Value.TheVariants as value
+use Rattle.machine.specs.declared.action.Action.{Action}
+use Rattle.machine.specs.declared.action.Action.TheVariants.{Local, Read, StorePlain, Write, Alloc, Safepoint, End, Wrong}
+use Rattle.machine.specs.declared.answer.Answer.{Answer}
+use Rattle.machine.specs.declared.answer.Answer.TheVariants as answer
+use Rattle.machine.specs.declared.value.Reference.{Reference as ThreadReference}
+use Rattle.machine.specs.declared.value.Value.{Value}
+use Rattle.machine.specs.declared.value.Value.TheVariants as value
 use Rattle.machine.specs.Machine.{State, action, after_answer, roots}
-use Rattle.schedules.specs.Machine as runs
-use Rattle.schedules.specs.Machine.{Reference, Machine, machine_of}
-use Rattle.schedules.specs.Moves.{null}
+use Rattle.runs.specs.Machine as runs
+use Rattle.runs.specs.Machine.{Reference, Machine, machine_of}
+use Rattle.runs.specs.Moves.{null}
 
 -- ---- references
 

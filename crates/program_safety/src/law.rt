@@ -1,7 +1,7 @@
 ghost use Rattle.program_safety.specs.Safety.{CertifiedIsCareful, CertifiedIsSafe};
 
 use crate::program_machine::ProgramMachine;
-use schedules::soundness_law;
+use runs::soundness_law;
 use soundness::discipline_law;
 
 /// The safety theorem of certified programs. Where each function of a program is certified, then over every heap of it, for

@@ -1,5 +1,5 @@
 use layout::Program;
-use schedules::{Judged, Machine};
+use runs::{Judged, Machine};
 use std::marker::Model;
 
 /// The machine of the threads of programs, for the laws of runs. They speak of all threads; a value of this type stands for

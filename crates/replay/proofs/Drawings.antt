@@ -5,14 +5,14 @@ use Rattle.std.specs.List.{AllByRecursion}
 use Rattle.std.proofs.lemmas.List.{map-append, length-reverse}
 use Rattle.std.proofs.lemmas.List.Sums.{sum_by_push}
 use Rattle.rand_core.specs.Stream.{Stream}
-use Rattle.draws.specs.Draws.{one_draw, draws_from, seeded, drawn}
+use Rattle.replay.specs.Draws.{one_draw, draws_from, seeded, drawn}
 use Rattle.layout.specs.Layouts.{LaidOut}
 use Rattle.trace_text.specs.Traces.{IsActorOf, step_sum}
 use Rattle.trace_text.specs.declared.trace.Actor.{Actor as TracedActor}
 use Rattle.trace_text.specs.declared.trace.Setup.{Setup}
 use Rattle.trace_text.specs.declared.trace.Steps.{Steps}
-use Rattle.actors.specs.declared.actor.Actor.{Actor}
-use Rattle.world.specs.Worlds.{actor_in}
+use Rattle.moves.specs.declared.actor.Actor.{Actor}
+use Rattle.replay.specs.Worlds.{actor_in}
 use Rattle.replay.specs.declared.watch.Watch.{Watch}
 use Rattle.replay.specs.declared.outcome.Break.{Break}
 use Rattle.replay.specs.Lists.{actors_of, IsBrokenAt, IsSoundList, IsFirstBreak}

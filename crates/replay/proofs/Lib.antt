@@ -1,9 +1,16 @@
+mod DrawLemmas
+pub mod Setups
+pub mod Ends
+pub mod Endings
+pub mod Safe
+pub mod WorldSteps
+pub mod Told
 pub mod Lists
 pub mod Steps
-pub mod Starts
+pub mod StartsLemmas
 pub mod Watching
 pub mod Drawings
 pub mod Firsts
-pub mod Seeds
+pub mod SeedsLemmas
 pub mod Chunks
 pub mod TraceSteps

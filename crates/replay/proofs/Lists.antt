@@ -4,13 +4,13 @@ use Rattle.std.proofs.lemmas.List.{append-nil, reverse-append, reverse-reverse, 
 use Rattle.std.proofs.Math.Seq.{take-append_seam}
 use Rattle.std.proofs.lemmas.Bool.{cases_lt}
 use Rattle.layout.specs.Layouts.{LaidOut}
-use Rattle.schedules.specs.ModuleRuns.{IsModuleRun}
-use Rattle.schedules.specs.Broken.{IsBroken, IsCause}
-use Rattle.world.specs.Runs.{program_machine, heap_of}
+use Rattle.runs.specs.ModuleRuns.{IsModuleRun}
+use Rattle.runs.specs.Broken.{IsBroken, IsCause}
+use Rattle.replay.specs.Runs.{program_machine, heap_of}
 use Rattle.trace_text.specs.declared.trace.Setup.{Setup}
-use Rattle.actors.specs.declared.actor.Actor.{Actor}
-use Rattle.world.specs.Setups.{starts_of}
-use Rattle.world.specs.Worlds.{run_of, actor_in}
+use Rattle.moves.specs.declared.actor.Actor.{Actor}
+use Rattle.replay.specs.Setups.{starts_of}
+use Rattle.replay.specs.Worlds.{run_of, actor_in}
 use Rattle.replay.specs.declared.outcome.Break.{Break}
 use Rattle.replay.specs.Lists.{IsBrokenAt, IsSoundList, IsFirstBreak, cause_in}
 use Rattle.replay.specs.Watched.{IsUnbroken}

@@ -5,19 +5,19 @@ use Rattle.std.proofs.lemmas.List.Sums.{sum_by-cons, count_by-le-length}
 use Rattle.pools.specs.Heap.{Setup}
 use Rattle.colours.specs.declared.turn.Turn.{Turn}
 use Rattle.colours.specs.declared.turn.Turn.TheVariants as turn
-use Rattle.schedules.specs.Machine.{Machine, Reference}
-use Rattle.schedules.specs.ModuleRuns.{Happening, OfThread, OfCollector}
-use Rattle.schedules.specs.Broken as broken
-use Rattle.schedules.specs.Broken.{Touched, used_by, IsBlue, IsReborn, IsBroken, IsCause, Shows, GoesBefore, IsReachable, IsGone, WentWrong, TouchedGone}
-use Rattle.actors.specs.declared.actor.Actor.{Actor}
-use Rattle.actors.specs.declared.moves.Move.{Move}
-use Rattle.actors.specs.declared.moves.Move.TheVariants as move
-use Rattle.actors.specs.Calls.{move_in}
-use Rattle.actors.specs.Causes.{IsStepCause}
-use Rattle.actors.specs.Runs.{run_by, next_by, with_next}
-use Rattle.reach.specs.declared.gone.Gone.{Gone}
-use Rattle.reach.specs.declared.gone.Gone.TheVariants.{Blue, Reborn}
-use Rattle.reach.specs.Reach.{IsFirstGone}
+use Rattle.runs.specs.Machine.{Machine, Reference}
+use Rattle.runs.specs.ModuleRuns.{Happening, OfThread, OfCollector}
+use Rattle.runs.specs.Broken as broken
+use Rattle.runs.specs.Broken.{Touched, used_by, IsBlue, IsReborn, IsBroken, IsCause, Shows, GoesBefore, IsReachable, IsGone, WentWrong, TouchedGone}
+use Rattle.moves.specs.declared.actor.Actor.{Actor}
+use Rattle.moves.specs.declared.moves.Move.{Move}
+use Rattle.moves.specs.declared.moves.Move.TheVariants as move
+use Rattle.moves.specs.Calls.{move_in}
+use Rattle.moves.specs.Causes.{IsStepCause}
+use Rattle.moves.specs.Runs.{run_by, next_by, with_next}
+use Rattle.stepping.specs.declared.gone.Gone.{Gone}
+use Rattle.stepping.specs.declared.gone.Gone.TheVariants.{Blue, Reborn}
+use Rattle.stepping.specs.Reach.{IsFirstGone}
 use Rattle.stepping.specs.declared.happening.Happening.{Happening as Made}
 use Rattle.stepping.specs.declared.happening.Happening.TheVariants.{Thread, Collector}
 use Rattle.stepping.specs.declared.happening.Step.{Step}

@@ -4,15 +4,15 @@ use Rattle.std.specs.List.{AllByRecursion}
 use Rattle.std.proofs.lemmas.List.{append-nil, reverse-append, reverse-reverse, length-replicate, length-reverse}
 use Rattle.std.proofs.lemmas.List.Sums.{sum_by-cons}
 use Rattle.layout.specs.Layouts.{LaidOut}
-use Rattle.schedules.proofs.Causes.{shows_broken}
-use Rattle.world.specs.Runs.{program_machine, heap_of}
+use Rattle.runs.proofs.Causes.{shows_broken}
+use Rattle.replay.specs.Runs.{program_machine, heap_of}
 use Rattle.trace_text.specs.Traces.{IsActorOf, IsTraceOf, step_sum}
 use Rattle.trace_text.specs.declared.trace.Setup.{Setup}
 use Rattle.trace_text.specs.declared.trace.Steps.{Steps}
 use Rattle.trace_text.specs.declared.trace.Trace.{Trace}
-use Rattle.actors.specs.declared.actor.Actor.{Actor}
-use Rattle.world.specs.Setups.{starts_of, IsSetupOf, IsSafeSetup}
-use Rattle.world.specs.Worlds.{actor_in}
+use Rattle.moves.specs.declared.actor.Actor.{Actor}
+use Rattle.replay.specs.Setups.{starts_of, IsSetupOf, IsSafeSetup}
+use Rattle.replay.specs.Worlds.{actor_in}
 use Rattle.replay.specs.declared.outcome.Break.{Break}
 use Rattle.replay.specs.declared.watch.Watch.{Watch}
 use Rattle.replay.specs.Lists.{actors_of, IsFirstBreak, cause_in, run_at}

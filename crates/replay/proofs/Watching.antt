@@ -4,19 +4,19 @@ use Rattle.std.proofs.lemmas.List.{reverse-append, replicate-append-replicate, l
 use Rattle.layout.specs.Layouts.{LaidOut}
 use Rattle.colours.specs.declared.place.Place.TheVariants.{Posted}
 use Rattle.colours.specs.Runs.{word_after}
-use Rattle.schedules.specs.ModuleRuns.{IsModuleRun, heap_of as events_of}
-use Rattle.schedules.specs.Broken.{IsBroken}
-use Rattle.world.specs.Runs.{program_machine, heap_of}
+use Rattle.runs.specs.ModuleRuns.{IsModuleRun, heap_of as events_of}
+use Rattle.runs.specs.Broken.{IsBroken}
+use Rattle.replay.specs.Runs.{program_machine, heap_of}
 use Rattle.trace_text.specs.Traces.{IsActorOf}
 use Rattle.trace_text.specs.declared.trace.Actor.{Actor as TracedActor}
 use Rattle.trace_text.specs.declared.trace.Setup.{Setup}
-use Rattle.actors.specs.declared.actor.Actor.{Actor}
+use Rattle.moves.specs.declared.actor.Actor.{Actor}
 use Rattle.stepping.specs.declared.happening.Step.{Step}
 use Rattle.stepping.specs.Ends.{IsStepOrNone}
-use Rattle.world.specs.declared.thread_end.ThreadEnd.{ThreadEnd}
-use Rattle.world.specs.Setups.{starts_of}
-use Rattle.world.specs.ThreadEnds.{AreEndsOf, AreEndsBehind}
-use Rattle.world.specs.Worlds.{World, run_of, IsBehind, IsStepBehind, IsBrokenWorld, actor_in}
+use Rattle.replay.specs.declared.thread_end.ThreadEnd.{ThreadEnd}
+use Rattle.replay.specs.Setups.{starts_of}
+use Rattle.replay.specs.ThreadEnds.{AreEndsOf, AreEndsBehind}
+use Rattle.replay.specs.Worlds.{World, run_of, IsBehind, IsStepBehind, IsBrokenWorld, actor_in}
 use Rattle.replay.specs.declared.outcome.Cause.{Cause}
 use Rattle.replay.specs.declared.watch.Watch.{Watch}
 use Rattle.replay.specs.Outcomes.{Reports}

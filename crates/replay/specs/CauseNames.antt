@@ -1,8 +1,8 @@
 -- The words of a cause, as it is printed.
 use Rattle.std.specs.Prelude.{ℕ, List, ◌++◌, codes}
 use Rattle.std.specs.Fmt.{decimal}
-use Rattle.actors.specs.declared.cause.Cause.TheVariants as step
-use Rattle.reach.specs.declared.gone.Gone.TheVariants as gone
+use Rattle.moves.specs.declared.cause.Cause.TheVariants as step
+use Rattle.stepping.specs.declared.gone.Gone.TheVariants as gone
 use Rattle.replay.specs.declared.outcome.Cause.{Cause}
 use Rattle.replay.specs.declared.outcome.Cause.TheVariants as cause
 

@@ -1,3 +1,10 @@
+pub mod Draws
+pub mod Runs
+pub mod Setups
+pub mod Worlds
+pub mod ThreadEnds
+pub mod Keeping
+pub mod WorldView
 pub mod Lists
 pub mod Outcomes
 pub mod Watched

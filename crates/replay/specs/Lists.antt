@@ -1,18 +1,18 @@
 -- Lists of actors, the first one first, and the first step behind which the run that they make is broken.
 use Rattle.std.specs.Prelude.{ℕ, suc, ◌≡◌, ◌≤◌, List, [], ◌∷◌, ◌++◌, length, Some, replicate, reverse, take, slice_get}
 use Rattle.layout.specs.Layouts.{LaidOut}
-use Rattle.schedules.specs.ModuleRuns.{Happening, IsModuleRun}
-use Rattle.schedules.specs.Broken as broken
-use Rattle.schedules.specs.Broken.{IsBroken, IsCause}
-use Rattle.world.specs.Runs.{program_machine, heap_of}
+use Rattle.runs.specs.ModuleRuns.{Happening, IsModuleRun}
+use Rattle.runs.specs.Broken as broken
+use Rattle.runs.specs.Broken.{IsBroken, IsCause}
+use Rattle.replay.specs.Runs.{program_machine, heap_of}
 use Rattle.trace_text.specs.declared.trace.Setup.{Setup}
 use Rattle.trace_text.specs.declared.trace.Steps.{Steps}
-use Rattle.actors.specs.declared.actor.Actor.{Actor}
-use Rattle.actors.specs.Causes as step
-use Rattle.reach.specs.declared.gone.Gone.{Gone}
-use Rattle.reach.specs.declared.gone.Gone.TheVariants.{Blue, Reborn}
-use Rattle.world.specs.Setups.{starts_of}
-use Rattle.world.specs.Worlds.{run_of, actor_in}
+use Rattle.moves.specs.declared.actor.Actor.{Actor}
+use Rattle.moves.specs.Causes as step
+use Rattle.stepping.specs.declared.gone.Gone.{Gone}
+use Rattle.stepping.specs.declared.gone.Gone.TheVariants.{Blue, Reborn}
+use Rattle.replay.specs.Setups.{starts_of}
+use Rattle.replay.specs.Worlds.{run_of, actor_in}
 use Rattle.replay.specs.declared.outcome.Break.{Break}
 use Rattle.replay.specs.declared.outcome.Cause.{Cause}
 use Rattle.replay.specs.declared.outcome.Cause.TheVariants.{OfStep, OfReach}

@@ -3,15 +3,15 @@ use Rattle.std.specs.Prelude.{ℕ, ◌≡◌, ◌<◌, Bool, true, false, Some, 
 use Rattle.colours.specs.declared.place.Place.TheVariants.{Posted}
 use Rattle.colours.specs.declared.turn.Turn.TheVariants.{Free}
 use Rattle.colours.specs.Runs.{word_after}
-use Rattle.schedules.specs.Moves.{Claims}
-use Rattle.schedules.specs.ModuleRuns.{Happening, OfThread, OfCollector, heap_of as events_of}
+use Rattle.runs.specs.Moves.{Claims}
+use Rattle.runs.specs.ModuleRuns.{Happening, OfThread, OfCollector, heap_of as events_of}
 use Rattle.layout.specs.Layouts.{LaidOut}
-use Rattle.world.specs.Runs.{heap_of}
+use Rattle.replay.specs.Runs.{heap_of}
 use Rattle.trace_text.specs.declared.trace.Setup.{Setup}
 use Rattle.trace_text.specs.declared.trace.Trace.{Trace}
-use Rattle.actors.specs.declared.actor.Actor.{Actor}
-use Rattle.world.specs.Worlds.{run_of}
-use Rattle.world.specs.ThreadEnds.{end_of}
+use Rattle.moves.specs.declared.actor.Actor.{Actor}
+use Rattle.replay.specs.Worlds.{run_of}
+use Rattle.replay.specs.ThreadEnds.{end_of}
 use Rattle.replay.specs.declared.outcome.Outcome.{Outcome}
 use Rattle.replay.specs.declared.outcome.Outcome.TheVariants.{Broken, Sound}
 use Rattle.replay.specs.declared.outcome.Report.{Report}

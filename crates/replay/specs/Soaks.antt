@@ -1,14 +1,14 @@
 -- What comes of many seeded schedules of a setup.
 use Rattle.std.specs.Prelude.{ℕ, ◌≢◌, ◌<◌, ◌≤◌, ◌==◌, Bool, true, false, Option, Some, None, Result, Ok, Err, List, length, map, if◌then◌else◌}
-use Rattle.draws.specs.Draws.{drawn}
+use Rattle.replay.specs.Draws.{drawn}
 use Rattle.layout.specs.Layouts.{LaidOut}
 use Rattle.trace_text.specs.declared.trace.Setup.{Setup}
-use Rattle.actors.specs.declared.actor.Actor.{Actor}
-use Rattle.actors.specs.declared.actor.Actor.TheVariants.{Thread, Collector}
+use Rattle.moves.specs.declared.actor.Actor.{Actor}
+use Rattle.moves.specs.declared.actor.Actor.TheVariants.{Thread, Collector}
 use Rattle.replay.specs.declared.outcome.Break.{Break}
-use Rattle.world.specs.Setups.{IsSetupFault}
-use Rattle.world.specs.declared.setup_fault.SetupFault.{SetupFault}
-use Rattle.world.specs.declared.setup_fault.SetupFault.TheVariants.{Memory}
+use Rattle.replay.specs.Setups.{IsSetupFault}
+use Rattle.replay.specs.declared.setup_fault.SetupFault.{SetupFault}
+use Rattle.replay.specs.declared.setup_fault.SetupFault.TheVariants.{Memory}
 use Rattle.replay.specs.declared.outcome.SeedBreak.{SeedBreak}
 use Rattle.replay.specs.declared.outcome.SoakOutcome.{SoakOutcome}
 use Rattle.replay.specs.declared.outcome.SoakOutcome.TheVariants.{Broken, Sound}

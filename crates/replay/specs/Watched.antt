@@ -1,14 +1,14 @@
 -- A world behind some actors, whose run was never broken so far, with what was counted on the way.
 use Rattle.std.specs.Prelude.{ℕ, ◌≡◌, ◌<◌, ◌+◌, ◌^◌, Bool, true, false, Option, Some, None, List, [], ◌∷◌, ◌++◌, length, reverse, count_by}
 use Rattle.layout.specs.Layouts.{LaidOut}
-use Rattle.schedules.specs.Broken.{IsBroken, IsCause}
-use Rattle.world.specs.Runs.{program_machine, heap_of}
+use Rattle.runs.specs.Broken.{IsBroken, IsCause}
+use Rattle.replay.specs.Runs.{program_machine, heap_of}
 use Rattle.trace_text.specs.declared.trace.Setup.{Setup}
-use Rattle.actors.specs.declared.actor.Actor.{Actor}
-use Rattle.world.specs.Setups.{starts_of}
-use Rattle.world.specs.Worlds.{World, run_of, IsBehind}
+use Rattle.moves.specs.declared.actor.Actor.{Actor}
+use Rattle.replay.specs.Setups.{starts_of}
+use Rattle.replay.specs.Worlds.{World, run_of, IsBehind}
 use Rattle.replay.specs.declared.outcome.Break.{Break}
-use Rattle.actors.specs.declared.moves.Move.TheVariants.{Claims}
+use Rattle.moves.specs.declared.moves.Move.TheVariants.{Claims}
 use Rattle.colours.specs.declared.turn.Turn.TheVariants.{Free}
 use Rattle.stepping.specs.declared.happening.Happening.{Happening}
 use Rattle.stepping.specs.declared.happening.Happening.TheVariants.{Thread, Collector}

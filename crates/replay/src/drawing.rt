@@ -3,11 +3,11 @@ ghost use Rattle.std.specs.List.{AllByRecursion};
 ghost use Rattle.layout.specs.Layouts.{LaidOut};
 ghost use Rattle.trace_text.specs.Traces.{IsTraceOf, IsActorOf, step_sum};
 ghost use Rattle.trace_text.specs.declared.trace.Steps.{Steps as SomeSteps};
-ghost use Rattle.world.specs.Worlds.{actor_in};
+ghost use Rattle.replay.specs.Worlds.{actor_in};
 ghost use Rattle.replay.specs.Lists.{actors_of};
 ghost use Rattle.replay.specs.Soaks.{actor_drawn, actors_drawn};
 
-use draws::{draw, seeded};
+use crate::seeds::{draw, seeded};
 use items::Items;
 use std::alloc::{AllocError, Global};
 use trace_text::{Actor, Steps, Trace};

@@ -1,17 +1,17 @@
 ghost use Rattle.std.specs.Prelude.{Some};
 ghost use Rattle.replay.specs.CauseNames.{cause_name};
 
+use crate::thread_end::ThreadEnd;
 use items::Items;
-use reach::Gone;
 use std::fmt::{Display, Error, Formatter, Write};
+use stepping::Gone;
 use trace_text::Actor;
-use world::ThreadEnd;
 
 /// Why a run is broken behind a step.
 #[derive(Clone, Copy, PartialEq, Eq)]
 pub enum Cause {
     /// The step itself went wrong or used a cell that was gone.
-    OfStep(actors::Cause),
+    OfStep(moves::Cause),
     /// A cell is gone that can be reached.
     OfReach(Gone),
 }
@@ -21,9 +21,9 @@ impl Display for Cause {
 
     fn fmt<W: Write>(&self, f: &mut Formatter<W>) -> Result<(), Error> {
         match self {
-            Cause::OfStep(actors::Cause::Wrong) => write!(f, "wrong"),
-            Cause::OfStep(actors::Cause::TouchBlue(cell)) => write!(f, "touch-blue {cell}"),
-            Cause::OfStep(actors::Cause::TouchBirth(cell)) => write!(f, "touch-birth {cell}"),
+            Cause::OfStep(moves::Cause::Wrong) => write!(f, "wrong"),
+            Cause::OfStep(moves::Cause::TouchBlue(cell)) => write!(f, "touch-blue {cell}"),
+            Cause::OfStep(moves::Cause::TouchBirth(cell)) => write!(f, "touch-birth {cell}"),
             Cause::OfReach(Gone::Blue(cell)) => write!(f, "reach-blue {cell}"),
             Cause::OfReach(Gone::Reborn(cell)) => write!(f, "reach-birth {cell}"),
         }

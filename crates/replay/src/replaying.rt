@@ -1,16 +1,17 @@
 ghost use Rattle.std.specs.Prelude.{◌≢◌, List, IfOk, IfErr};
-ghost use Rattle.certificate.specs.declared.section.Section.{Section};
+ghost use Rattle.certs.specs.declared.section.Section.{Section};
 ghost use Rattle.trace_text.specs.Traces.{IsTraceOf};
-ghost use Rattle.world.specs.Setups.{IsSetupFault, HasNoFault, IsCertifiedSetup};
-ghost use Rattle.world.specs.declared.setup_fault.SetupFault.TheVariants as fault;
+ghost use Rattle.replay.specs.Setups.{IsSetupFault, HasNoFault, IsCertifiedSetup};
+ghost use Rattle.replay.specs.declared.setup_fault.SetupFault.TheVariants as fault;
 ghost use Rattle.replay.specs.Outcomes.{IsOutcome, IsSound};
 
+use crate::laws::setup_law;
 use crate::outcome::Outcome;
+use crate::setup_fault::SetupFault;
 use crate::watch::Watch;
 use layout::Program;
 use std::alloc::Global;
 use trace_text::Trace;
-use world::{SetupFault, setup_law};
 
 /// Makes the steps of a trace: the first step behind which the run is broken, with its cause, or where the actors stand at the
 /// end.

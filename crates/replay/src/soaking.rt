@@ -1,19 +1,20 @@
 ghost use Rattle.std.specs.Prelude.{◌≡◌, ◌≢◌, ◌≤◌, List, not, IfOk, IfErr};
-ghost use Rattle.certificate.specs.declared.section.Section.{Section};
-ghost use Rattle.world.specs.Setups.{IsSetupOf, IsSetupFault, HasNoFault, IsCertifiedSetup};
-ghost use Rattle.world.specs.declared.setup_fault.SetupFault.TheVariants as fault;
+ghost use Rattle.certs.specs.declared.section.Section.{Section};
+ghost use Rattle.replay.specs.Setups.{IsSetupOf, IsSetupFault, HasNoFault, IsCertifiedSetup};
+ghost use Rattle.replay.specs.declared.setup_fault.SetupFault.TheVariants as fault;
 ghost use Rattle.replay.specs.Soaks.{IsSoakOutcome, IsSoundSoak, IsEndOfSeed, IsTold, IsLeastFrom, is_sound, answer_in};
 
 use crate::drawing::actor_drawn;
+use crate::laws::setup_law;
 use crate::outcome::{Break, SeedBreak, SoakOutcome};
+use crate::seeds::{draw, seeded};
+use crate::setup_fault::SetupFault;
 use crate::watch::Watch;
-use draws::{draw, seeded};
 use layout::Program;
 use rayon::prelude::*;
 use std::alloc::Global;
 use std::thread::Threads;
 use trace_text::Setup;
-use world::{SetupFault, setup_law};
 
 /// So many seeds are tried before it is asked whether one of them was broken.
 const CHUNK: u32 = 256;

@@ -2,21 +2,22 @@ ghost use Rattle.std.specs.Prelude.{◌≡◌, ◌≢◌, ◌<◌, ◌+◌, ◌^
 ghost use Rattle.layout.specs.Layouts.{LaidOut};
 ghost use Rattle.trace_text.specs.Traces.{IsActorOf};
 ghost use Rattle.trace_text.specs.declared.trace.Setup.{Setup as ASetup};
-ghost use Rattle.actors.specs.declared.actor.Actor.{Actor as AnActor};
-ghost use Rattle.world.specs.Setups.{IsSetupOf, IsSetupFault, HasNoFault};
-ghost use Rattle.world.specs.Worlds.{IsBehind, IsBrokenWorld, actor_in};
-ghost use Rattle.world.specs.declared.setup_fault.SetupFault.TheVariants as fault;
+ghost use Rattle.moves.specs.declared.actor.Actor.{Actor as AnActor};
+ghost use Rattle.replay.specs.Setups.{IsSetupOf, IsSetupFault, HasNoFault};
+ghost use Rattle.replay.specs.Worlds.{IsBehind, IsBrokenWorld, actor_in};
+ghost use Rattle.replay.specs.declared.setup_fault.SetupFault.TheVariants as fault;
 ghost use Rattle.replay.specs.Outcomes.{Reports};
 ghost use Rattle.replay.specs.Watched.{IsWatched, IsWatchedOn, HasRoomFor, IsMadeBehind, IsStepped, IsCauseBehind, claims_cell, frees_cell};
 
 use crate::outcome::{Break, Cause, Report};
-use actors::Move;
+use crate::setup_fault::SetupFault;
+use crate::world::World;
 use colours::Turn;
 use layout::Program;
+use moves::Move;
 use std::alloc::{AllocError, Global};
 use stepping::{Happening, Step};
 use trace_text::{Actor, Setup};
-use world::{SetupFault, World};
 
 /// A world whose run was never broken so far, with what was counted on the way.
 #[derive(Drop)]

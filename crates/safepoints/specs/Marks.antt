@@ -1,8 +1,8 @@
 -- What a call may do by the mark of its callee: which functions may make it, and what is known behind it.
 use Rattle.std.specs.Prelude.{◌≤◌, ◌↔◌, Bool, true, false, not, ◌||◌, length}
-use Rattle.certificate.specs.declared.section.Mark.{Mark}
-use Rattle.certificate.specs.declared.section.Mark.TheVariants.{May, None}
-use Rattle.fact_rows.specs.Facts.{FactSet, make_stale}
+use Rattle.certs.specs.declared.section.Mark.{Mark}
+use Rattle.certs.specs.declared.section.Mark.TheVariants.{May, None}
+use Rattle.facts.specs.Facts.{FactSet, make_stale}
 use Rattle.facts.specs.Statements.{Statement, Says, Outlasts}
 
 -- a function may reach a safepoint

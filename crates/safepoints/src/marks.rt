@@ -1,7 +1,7 @@
 ghost use Rattle.std.specs.Prelude.{◌≡◌};
 ghost use Rattle.safepoints.specs.Marks.{is_may, marks_agree, after_mark, EndsOthers};
 
-use certificate::Mark;
+use certs::Mark;
 use facts::{Facts, safepoint_law};
 
 /// Whether a function may reach a safepoint.

@@ -10,32 +10,32 @@ use Rattle.ir_ast.specs.declared.operand.Operand.TheVariants as operand
 use Rattle.pools.specs.Heap.{Setup}
 use Rattle.layout.specs.Layouts.{LaidOut}
 use Rattle.shadow_stack.specs.Slots.{SlotTable}
-use Rattle.certificate.specs.declared.section.Mark.{Mark}
-use Rattle.certificate.specs.declared.section.Mark.TheVariants as mark
-use Rattle.certificate.specs.declared.section.Promise.{Promise}
-use Rattle.certificate.specs.declared.section.Section.{Section}
-use Rattle.fact_rows.specs.declared.known.Known.TheVariants.{Cell}
-use Rattle.fact_rows.specs.Facts.{FactSet, known_at, slot_at, class_at, drop_fresh_of}
+use Rattle.certs.specs.declared.section.Mark.{Mark}
+use Rattle.certs.specs.declared.section.Mark.TheVariants as mark
+use Rattle.certs.specs.declared.section.Promise.{Promise}
+use Rattle.certs.specs.declared.section.Section.{Section}
+use Rattle.facts.specs.declared.known.Known.TheVariants.{Cell}
+use Rattle.facts.specs.Facts.{FactSet, known_at, slot_at, class_at, drop_fresh_of}
 use Rattle.safepoints.specs.Marks.{is_may, after_mark}
-use Rattle.rule_operands.specs.Operands as o
-use Rattle.rule_operands.specs.TypeKinds.{kind_of}
-use Rattle.rule_forms.specs.Promises.{given_by, keeps_promise, shows_promise, show_promises}
+use Rattle.block_rules.specs.Operands as o
+use Rattle.block_rules.specs.TypeKinds.{kind_of}
+use Rattle.block_rules.specs.Promises.{given_by, keeps_promise, shows_promise, show_promises}
 use Rattle.block_rules.specs.Calls.{all_available, all_values, all_current, no_slots, is_written_for, drop_arguments}
 use Rattle.machine.specs.declared.frame.Frame.{Frame}
-use Rattle.machine_values.specs.declared.value.Value.{Value}
-use Rattle.machine_values.specs.declared.value.Value.TheVariants as value
-use Rattle.machine_asks.specs.Asks as a
-use Rattle.machine_values.specs.Kinds.{value_of}
+use Rattle.machine.specs.declared.value.Value.{Value}
+use Rattle.machine.specs.declared.value.Value.TheVariants as value
+use Rattle.machine.specs.Asks as a
+use Rattle.machine.specs.Kinds.{value_of}
 use Rattle.machine.specs.Machine.{values_of}
 use Rattle.machine.specs.Log.{Log, IsFresh, RefersToCell}
-use Rattle.fact_meaning.specs.Meaning.{Cells, Guarded, IsOwn, IsNullOrFresh, AreApart, Holds}
-use Rattle.fact_meaning.proofs.Lists.{both, equal}
-use Rattle.fact_meaning.proofs.Named.{IsNamed, named_cells, by_named, named_keeps}
-use Rattle.fact_meaning.proofs.Phis.{drop_one, drop_of_values, drop_of_keeps}
-use Rattle.fact_meaning.proofs.Stale.{IsStill, stale_cells, stale_keeps, stale_still, stale_unfresh}
-use Rattle.step_soundness.specs.Goes.{HaveMembers}
-use Rattle.step_soundness.proofs.Members.{arguments_members}
-use Rattle.step_soundness.proofs.Steps.{none_of, usable}
+use Rattle.soundness.specs.Meaning.{Cells, Guarded, IsOwn, IsNullOrFresh, AreApart, Holds}
+use Rattle.soundness.proofs.Lists.{both, equal}
+use Rattle.soundness.proofs.Named.{IsNamed, named_cells, by_named, named_keeps}
+use Rattle.soundness.proofs.PhiFacts.{drop_one, drop_of_values, drop_of_keeps}
+use Rattle.soundness.proofs.Stale.{IsStill, stale_cells, stale_keeps, stale_still, stale_unfresh}
+use Rattle.soundness.specs.Goes.{HaveMembers}
+use Rattle.soundness.proofs.Members.{arguments_members}
+use Rattle.soundness.proofs.Steps.{none_of, usable}
 use Rattle.soundness.proofs.Receive.{IsGiven, Passes, value_given}
 use Rattle.soundness.proofs.Stack.{FreshIn}
 use Rattle.soundness.proofs.Start.{AllGiven}

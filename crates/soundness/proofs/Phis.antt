@@ -15,25 +15,25 @@ use Rattle.ir_ast.specs.declared.operand.Operand.TheVariants as operand
 use Rattle.layout.specs.Layouts.{LaidOut}
 use Rattle.types.specs.ValueTypes.{is_value_of, target_of}
 use Rattle.shadow_stack.specs.Slots.{SlotTable, slot_of}
-use Rattle.certificate.specs.declared.section.Section.{Section}
-use Rattle.fact_rows.specs.Facts.{FactSet}
-use Rattle.rule_operands.specs.declared.rule.Rule.{Rule}
-use Rattle.rule_operands.specs.declared.standing.Standing.{Standing}
-use Rattle.rule_operands.specs.declared.type_kind.TypeKind.{TypeKind}
-use Rattle.rule_operands.specs.declared.type_kind.TypeKind.TheVariants.{NoValue, Bits, Reference, AnyReference, Address, Other}
-use Rattle.rule_operands.specs.FirstFailing.{first_failing}
-use Rattle.rule_operands.specs.TypeKinds.{kind_of, is_integer, may_be_reference}
-use Rattle.rule_forms.specs.Integers.{may_choose}
+use Rattle.certs.specs.declared.section.Section.{Section}
+use Rattle.facts.specs.Facts.{FactSet}
+use Rattle.block_rules.specs.declared.rule.Rule.{Rule}
+use Rattle.block_rules.specs.declared.standing.Standing.{Standing}
+use Rattle.block_rules.specs.declared.type_kind.TypeKind.{TypeKind}
+use Rattle.block_rules.specs.declared.type_kind.TypeKind.TheVariants.{NoValue, Bits, Reference, AnyReference, Address, Other}
+use Rattle.block_rules.specs.FirstFailing.{first_failing}
+use Rattle.block_rules.specs.TypeKinds.{kind_of, is_integer, may_be_reference}
+use Rattle.block_rules.specs.Integers.{may_choose}
 use Rattle.block_rules.specs.Rules.{op_conditions, conditions, after_op, is_entry, may_come_in, all_come_in}
-use Rattle.certified.specs.declared.block_fault.Detail.{Detail}
-use Rattle.certified.specs.Certified.{breach, breach_of, failing, entry_conditions, Follows, stands}
-use Rattle.certified.specs.Ways.{Scene, ways, unshown_on}
-use Rattle.machine_asks.specs.Jumps as j
-use Rattle.machine_asks.specs.Jumps.{is_phi, is_phi_op}
-use Rattle.machine_values.specs.Kinds as k
-use Rattle.fact_meaning.proofs.Lists.{both}
-use Rattle.fact_meaning.proofs.KindLemmas.{constant_passes, integer_same, refers_same}
-use Rattle.step_soundness.proofs.Steps.{all_hold, none_of}
+use Rattle.block_rules.specs.declared.block_fault.Detail.{Detail}
+use Rattle.block_rules.specs.Certified.{breach, breach_of, failing, entry_conditions, Follows, stands}
+use Rattle.block_rules.specs.Ways.{Scene, ways, unshown_on}
+use Rattle.machine.specs.Jumps as j
+use Rattle.machine.specs.Jumps.{is_phi, is_phi_op}
+use Rattle.machine.specs.Kinds as k
+use Rattle.soundness.proofs.Lists.{both}
+use Rattle.soundness.proofs.KindLemmas.{constant_passes, integer_same, refers_same}
+use Rattle.soundness.proofs.Steps.{all_hold, none_of}
 
 -- ---- what an instruction that keeps the rules shows
 

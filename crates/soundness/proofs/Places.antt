@@ -16,21 +16,21 @@ use Rattle.ir_ast.specs.declared.runtime.Runtime.TheVariants as runtime
 use Rattle.layout.specs.Layouts.{LaidOut}
 use Rattle.types.specs.RuntimeCall.{runtime_called}
 use Rattle.shadow_stack.specs.Slots.{SlotTable, held_type, is_among, is_reference_held, operand_slot}
-use Rattle.certificate.specs.declared.section.Section.{Section}
-use Rattle.fact_rows.specs.Facts.{FactSet}
-use Rattle.rule_operands.specs.declared.standing.Standing.{Standing}
-use Rattle.rule_operands.specs.FirstFailing.{first_failing}
-use Rattle.rule_operands.specs.Standing.{block_instructions}
+use Rattle.certs.specs.declared.section.Section.{Section}
+use Rattle.facts.specs.Facts.{FactSet}
+use Rattle.block_rules.specs.declared.standing.Standing.{Standing}
+use Rattle.block_rules.specs.FirstFailing.{first_failing}
+use Rattle.block_rules.specs.Standing.{block_instructions}
 use Rattle.block_rules.specs.Rules.{op_conditions, may_hold}
-use Rattle.certified.specs.Certified.{Follows, stands}
-use Rattle.certified.specs.Ways.{Scene}
-use Rattle.machine_values.specs.declared.answer.Answer.{Answer}
+use Rattle.block_rules.specs.Certified.{Follows, stands}
+use Rattle.block_rules.specs.Ways.{Scene}
+use Rattle.machine.specs.declared.answer.Answer.{Answer}
 use Rattle.machine.specs.declared.frame.Frame.{Frame}
-use Rattle.machine_values.specs.declared.value.Value.{Value}
-use Rattle.machine_asks.specs.Jumps as j
-use Rattle.machine_values.specs.Kinds as k
+use Rattle.machine.specs.declared.value.Value.{Value}
+use Rattle.machine.specs.Jumps as j
+use Rattle.machine.specs.Kinds as k
 use Rattle.machine.specs.Machine as mc
-use Rattle.step_soundness.proofs.Steps.{all_hold}
+use Rattle.soundness.proofs.Steps.{all_hold}
 use Rattle.soundness.proofs.Phis.{kept}
 use Rattle.soundness.proofs.Slots.{AllocaIs, AllNamed, BlocksNamed, NamesRoots, AreRooted, rooted_set}
 

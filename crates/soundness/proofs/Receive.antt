@@ -9,30 +9,30 @@ use Rattle.pools.specs.Heap.{Setup}
 use Rattle.layout.specs.Layouts.{LaidOut}
 use Rattle.types.specs.ValueTypes.{has_type}
 use Rattle.shadow_stack.specs.Slots.{SlotTable}
-use Rattle.certificate.specs.declared.section.Promise.{Promise}
-use Rattle.certificate.specs.declared.section.Section.{Section}
-use Rattle.fact_rows.specs.declared.known.Given.{Given}
-use Rattle.fact_rows.specs.declared.known.Given.TheVariants as given
-use Rattle.fact_rows.specs.declared.known.Known.{Known}
-use Rattle.fact_rows.specs.declared.known.Known.TheVariants.{Nothing, Number, Cell, Null, Address, GlobalAddress}
-use Rattle.fact_rows.specs.Facts.{FactSet, known_at, class_at}
-use Rattle.fact_rows.specs.Lines.{implied, is_below, promised_below, promised_nonnull, promised_layout, receive_reference, receive}
-use Rattle.rule_operands.specs.declared.type_kind.TypeKind.{TypeKind}
-use Rattle.rule_operands.specs.declared.type_kind.TypeKind.TheVariants.{NoValue, Bits, Reference, AnyReference, Address as AddressKind, Other}
-use Rattle.rule_operands.specs.Operands as o
-use Rattle.rule_operands.specs.TypeKinds.{kind_of, is_bits, may_be_reference}
-use Rattle.rule_forms.specs.Integers.{below_of, known_layout}
-use Rattle.rule_forms.specs.Promises.{given_by, is_promised, keeps_promise}
+use Rattle.certs.specs.declared.section.Promise.{Promise}
+use Rattle.certs.specs.declared.section.Section.{Section}
+use Rattle.facts.specs.declared.known.Given.{Given}
+use Rattle.facts.specs.declared.known.Given.TheVariants as given
+use Rattle.facts.specs.declared.known.Known.{Known}
+use Rattle.facts.specs.declared.known.Known.TheVariants.{Nothing, Number, Cell, Null, Address, GlobalAddress}
+use Rattle.facts.specs.Facts.{FactSet, known_at, class_at}
+use Rattle.facts.specs.Lines.{implied, is_below, promised_below, promised_nonnull, promised_layout, receive_reference, receive}
+use Rattle.block_rules.specs.declared.type_kind.TypeKind.{TypeKind}
+use Rattle.block_rules.specs.declared.type_kind.TypeKind.TheVariants.{NoValue, Bits, Reference, AnyReference, Address as AddressKind, Other}
+use Rattle.block_rules.specs.Operands as o
+use Rattle.block_rules.specs.TypeKinds.{kind_of, is_bits, may_be_reference}
+use Rattle.block_rules.specs.Integers.{below_of, known_layout}
+use Rattle.block_rules.specs.Promises.{given_by, is_promised, keeps_promise}
 use Rattle.machine.specs.declared.frame.Frame.{Frame}
-use Rattle.machine_values.specs.declared.value.Value.{Value}
-use Rattle.machine_values.specs.declared.value.Value.TheVariants as value
-use Rattle.machine_values.specs.Kinds.{register_at, value_of}
+use Rattle.machine.specs.declared.value.Value.{Value}
+use Rattle.machine.specs.declared.value.Value.TheVariants as value
+use Rattle.machine.specs.Kinds.{register_at, value_of}
 use Rattle.machine.specs.Log.{Log}
-use Rattle.fact_meaning.specs.Meaning.{Cells, Guarded, IsReferenceTo, IsOwn, AreApart, IsInteger, Means, Holds}
-use Rattle.fact_meaning.proofs.Change.{define_plain, new_keeps}
-use Rattle.fact_meaning.proofs.Listed.{below_shown}
-use Rattle.fact_meaning.proofs.Lists.{both, equal, as_implied}
-use Rattle.step_soundness.proofs.Steps.{available, integer_is, no_number}
+use Rattle.soundness.specs.Meaning.{Cells, Guarded, IsReferenceTo, IsOwn, AreApart, IsInteger, Means, Holds}
+use Rattle.soundness.proofs.Change.{define_plain, new_keeps}
+use Rattle.soundness.proofs.Listed.{below_shown}
+use Rattle.soundness.proofs.Lists.{both, equal, as_implied}
+use Rattle.soundness.proofs.Steps.{available, integer_is, no_number}
 
 -- ---- what is taken
 

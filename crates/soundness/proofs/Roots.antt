@@ -12,14 +12,14 @@ use Rattle.pools.specs.Heap.{Setup}
 use Rattle.layout.specs.Layouts.{LaidOut}
 use Rattle.types.specs.References.{part_of_pointer, layout_behind, referenced_layout}
 use Rattle.shadow_stack.specs.Slots.{SlotTable, slots_of, held_type, is_among, is_reference_held, slot_rooted_by, with_root, with_roots, with_roots_of}
-use Rattle.fact_rows.specs.Facts.{FactSet}
+use Rattle.facts.specs.Facts.{FactSet}
 use Rattle.machine.specs.declared.frame.Frame.{Frame}
-use Rattle.machine_values.specs.declared.value.Value.{Value}
-use Rattle.machine_values.specs.declared.value.Value.TheVariants as value
-use Rattle.machine_values.specs.Kinds.{is_integer}
+use Rattle.machine.specs.declared.value.Value.{Value}
+use Rattle.machine.specs.declared.value.Value.TheVariants as value
+use Rattle.machine.specs.Kinds.{is_integer}
 use Rattle.machine.specs.Machine.{slot_value, frame_roots}
 use Rattle.machine.specs.Log.{Log, IsNullOrHeld}
-use Rattle.fact_meaning.specs.Meaning.{Cells, Guarded, IsOwn, FitsReference, FitsSlot, Holds}
+use Rattle.soundness.specs.Meaning.{Cells, Guarded, IsOwn, FitsReference, FitsSlot, Holds}
 
 -- ---- each root is a slot of reference type
 

@@ -19,48 +19,48 @@ use Rattle.layout.specs.Globals.{IsHeapFor}
 use Rattle.layout.specs.Layouts.{LaidOut}
 use Rattle.types.specs.RuntimeCall.{runtime_of_sort}
 use Rattle.shadow_stack.specs.Slots.{SlotTable, slots_of, held_type, is_reference_held}
-use Rattle.certificate.specs.declared.section.Mark.{Mark}
-use Rattle.certificate.specs.declared.section.Mark.TheVariants as mark
-use Rattle.certificate.specs.declared.section.Promise.{Promise}
-use Rattle.certificate.specs.declared.section.Section.{Section}
-use Rattle.fact_rows.specs.declared.known.Given.TheVariants as given
-use Rattle.fact_rows.specs.Facts.{FactSet}
+use Rattle.certs.specs.declared.section.Mark.{Mark}
+use Rattle.certs.specs.declared.section.Mark.TheVariants as mark
+use Rattle.certs.specs.declared.section.Promise.{Promise}
+use Rattle.certs.specs.declared.section.Section.{Section}
+use Rattle.facts.specs.declared.known.Given.TheVariants as given
+use Rattle.facts.specs.Facts.{FactSet}
 use Rattle.safepoints.specs.Marks.{is_may, marks_agree, after_mark}
-use Rattle.rule_operands.specs.declared.callee.Callee.{Callee}
-use Rattle.rule_operands.specs.declared.callee.Callee.TheVariants.{OfRuntime, OfModule, NoFunction}
-use Rattle.rule_operands.specs.declared.standing.Standing.{Standing}
-use Rattle.rule_operands.specs.declared.type_kind.TypeKind.{TypeKind}
-use Rattle.rule_operands.specs.declared.type_kind.TypeKind.TheVariants.{NoValue, Bits, Reference, AnyReference, Address, Other}
-use Rattle.rule_operands.specs.Operands as o
-use Rattle.rule_operands.specs.FirstFailing.{first_failing}
-use Rattle.rule_operands.specs.Signature.{callee_of}
-use Rattle.rule_operands.specs.TypeKinds.{kind_of, is_void}
-use Rattle.rule_operands.specs.Standing.{block_instructions, instructions_of}
-use Rattle.rule_forms.specs.Promises.{given_by, promises_in, promised_in, own_mark, callee_mark}
+use Rattle.block_rules.specs.declared.callee.Callee.{Callee}
+use Rattle.block_rules.specs.declared.callee.Callee.TheVariants.{OfRuntime, OfModule, NoFunction}
+use Rattle.block_rules.specs.declared.standing.Standing.{Standing}
+use Rattle.block_rules.specs.declared.type_kind.TypeKind.{TypeKind}
+use Rattle.block_rules.specs.declared.type_kind.TypeKind.TheVariants.{NoValue, Bits, Reference, AnyReference, Address, Other}
+use Rattle.block_rules.specs.Operands as o
+use Rattle.block_rules.specs.FirstFailing.{first_failing}
+use Rattle.block_rules.specs.Signature.{callee_of}
+use Rattle.block_rules.specs.TypeKinds.{kind_of, is_void}
+use Rattle.block_rules.specs.Standing.{block_instructions, instructions_of}
+use Rattle.block_rules.specs.Promises.{given_by, promises_in, promised_in, own_mark, callee_mark}
 use Rattle.block_rules.specs.Calls.{all_values, is_written_with, is_written_for, defined_conditions, unknown_conditions, call_conditions, drop_arguments, receive_result, after_call}
 use Rattle.block_rules.specs.Rules.{op_conditions, after, after_op, may_hold}
-use Rattle.certified.specs.Certified.{Follows, IsCertified, IsCertifiedIn, scene_of, stands}
-use Rattle.certified.specs.Ways.{Scene, given_at, line_facts, lines_in, parameters_given, entry_facts}
+use Rattle.block_rules.specs.Certified.{Follows, IsCertified, IsCertifiedIn, scene_of, stands}
+use Rattle.block_rules.specs.Ways.{Scene, given_at, line_facts, lines_in, parameters_given, entry_facts}
 use Rattle.machine.specs.declared.frame.Frame.{Frame}
-use Rattle.machine_values.specs.declared.value.Value.{Value}
-use Rattle.machine_values.specs.declared.value.Value.TheVariants as value
-use Rattle.machine_asks.specs.declared.action.Action.{Action}
-use Rattle.machine_asks.specs.declared.action.Action.TheVariants.{Local, Read, StorePlain, Write, Alloc, Safepoint, End, Wrong}
-use Rattle.machine_values.specs.declared.answer.Answer.{Answer}
-use Rattle.machine_asks.specs.Asks as a
-use Rattle.machine_asks.specs.Jumps as j
+use Rattle.machine.specs.declared.value.Value.{Value}
+use Rattle.machine.specs.declared.value.Value.TheVariants as value
+use Rattle.machine.specs.declared.action.Action.{Action}
+use Rattle.machine.specs.declared.action.Action.TheVariants.{Local, Read, StorePlain, Write, Alloc, Safepoint, End, Wrong}
+use Rattle.machine.specs.declared.answer.Answer.{Answer}
+use Rattle.machine.specs.Asks as a
+use Rattle.machine.specs.Jumps as j
 use Rattle.machine.specs.Machine as mc
 use Rattle.machine.specs.Machine.{slot_value}
 use Rattle.machine.specs.Start.{argument_values}
 use Rattle.machine.specs.Log.{Log, IsFresh, RefersToCell, Possible, Keeps, IsSafe, Safe}
-use Rattle.fact_meaning.specs.Meaning.{Guarded, IsOwn, AreApart, Holds}
-use Rattle.fact_meaning.proofs.KindLemmas.{void_same}
-use Rattle.fact_meaning.proofs.Lists.{both, equal}
-use Rattle.step_soundness.specs.Goes.{HaveMembers, HasRoots}
-use Rattle.step_soundness.proofs.Callees.{IsDefined, callee_is, defined_is}
-use Rattle.step_soundness.proofs.Members.{members_stay, line_members, parameter_members, arguments_members, mark_members, result_members}
-use Rattle.step_soundness.proofs.Rows.{instructions_go}
-use Rattle.step_soundness.proofs.Steps.{AllHold, all_hold, none_of, usable}
+use Rattle.soundness.specs.Meaning.{Guarded, IsOwn, AreApart, Holds}
+use Rattle.soundness.proofs.KindLemmas.{void_same}
+use Rattle.soundness.proofs.Lists.{both, equal}
+use Rattle.soundness.specs.Goes.{HaveMembers, HasRoots}
+use Rattle.soundness.proofs.Callees.{IsDefined, callee_is, defined_is}
+use Rattle.soundness.proofs.Members.{members_stay, line_members, parameter_members, arguments_members, mark_members, result_members}
+use Rattle.soundness.proofs.Rows.{instructions_go}
+use Rattle.soundness.proofs.Steps.{AllHold, all_hold, none_of, usable}
 use Rattle.soundness.specs.Discipline.{AreCertified, CertifiedIsNeverWrong}
 use Rattle.soundness.proofs.Calls.{Waits, waits, waiting_fresh, Waiting, AllPass, all_pass, machine_pass, arguments_given}
 use Rattle.soundness.proofs.Phis.{Kept, kept, phis_stand}

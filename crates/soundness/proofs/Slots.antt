@@ -16,13 +16,13 @@ use Rattle.shadow_stack.specs.declared.draft.Origin.{Origin}
 use Rattle.shadow_stack.specs.declared.draft.Origin.TheVariants.{Nowhere, Slot, Same}
 use Rattle.shadow_stack.specs.Slots.{SlotTable, slots_of, slot_of, held_type, is_among, is_reference_held, origin_of, origin_at, hops, slot_at, noted_op, noted, noted_blocks, draft_of}
 use Rattle.block_rules.specs.Rules.{may_hold, names_root}
-use Rattle.rule_operands.specs.TypeKinds.{kind_of, is_integer}
-use Rattle.machine_values.specs.declared.value.Value.{Value}
-use Rattle.machine_values.specs.declared.value.Value.TheVariants as value
-use Rattle.machine_values.specs.Kinds as k
+use Rattle.block_rules.specs.TypeKinds.{kind_of, is_integer}
+use Rattle.machine.specs.declared.value.Value.{Value}
+use Rattle.machine.specs.declared.value.Value.TheVariants as value
+use Rattle.machine.specs.Kinds as k
 use Rattle.machine.specs.Machine.{slot_value, initial}
-use Rattle.fact_meaning.proofs.KindLemmas.{integer_same}
-use Rattle.fact_meaning.proofs.Lists.{at_set, at_set_got, equal, either, replicated}
+use Rattle.soundness.proofs.KindLemmas.{integer_same}
+use Rattle.soundness.proofs.Lists.{at_set, at_set_got, equal, either, replicated}
 use Rattle.soundness.proofs.Roots.{no_integer}
 
 -- ---- the allocas that have names

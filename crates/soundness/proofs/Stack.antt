@@ -7,28 +7,28 @@ use Rattle.ir_ast.specs.declared.function.Function.{Function}
 use Rattle.pools.specs.Heap.{Setup}
 use Rattle.layout.specs.Layouts.{LaidOut}
 use Rattle.shadow_stack.specs.Slots.{slots_of, held_type, is_reference_held}
-use Rattle.certificate.specs.declared.section.Section.{Section}
-use Rattle.fact_rows.specs.Facts.{FactSet, known_at, class_at}
-use Rattle.fact_rows.specs.declared.known.Known.TheVariants.{Cell}
+use Rattle.certs.specs.declared.section.Section.{Section}
+use Rattle.facts.specs.Facts.{FactSet, known_at, class_at}
+use Rattle.facts.specs.declared.known.Known.TheVariants.{Cell}
 use Rattle.safepoints.specs.Marks.{is_may}
-use Rattle.rule_operands.specs.Standing.{instructions_of}
-use Rattle.rule_forms.specs.Promises.{promised_in, own_mark}
+use Rattle.block_rules.specs.Standing.{instructions_of}
+use Rattle.block_rules.specs.Promises.{promised_in, own_mark}
 use Rattle.block_rules.specs.Calls.{receive_result}
-use Rattle.certified.specs.Certified.{Follows, scene_of}
-use Rattle.machine_asks.specs.declared.action.Action.{Action}
-use Rattle.machine_asks.specs.declared.action.Action.TheVariants.{Local, Read, StorePlain, Write, Alloc, Safepoint, End, Wrong}
-use Rattle.machine_values.specs.declared.answer.Answer.{Answer}
-use Rattle.machine_values.specs.declared.answer.Answer.TheVariants as answer
+use Rattle.block_rules.specs.Certified.{Follows, scene_of}
+use Rattle.machine.specs.declared.action.Action.{Action}
+use Rattle.machine.specs.declared.action.Action.TheVariants.{Local, Read, StorePlain, Write, Alloc, Safepoint, End, Wrong}
+use Rattle.machine.specs.declared.answer.Answer.{Answer}
+use Rattle.machine.specs.declared.answer.Answer.TheVariants as answer
 use Rattle.machine.specs.declared.frame.Frame.{Frame}
-use Rattle.machine_values.specs.declared.value.Reference.{Reference}
-use Rattle.machine_values.specs.declared.value.Value.{Value}
-use Rattle.machine_values.specs.declared.value.Value.TheVariants as value
+use Rattle.machine.specs.declared.value.Reference.{Reference}
+use Rattle.machine.specs.declared.value.Value.{Value}
+use Rattle.machine.specs.declared.value.Value.TheVariants as value
 use Rattle.machine.specs.Machine.{slot_value, frame_roots, roots_of}
 use Rattle.machine.specs.Log.{Log, Held, IsFresh, RefersToCell, IsReferredTo, IsNullOrHeld, Possible}
-use Rattle.fact_meaning.specs.Meaning.{Cells, Guarded, IsOwn, IsNullOrFresh, Holds}
-use Rattle.fact_meaning.proofs.Keep.{log_keeps, classes_log_keeps}
-use Rattle.fact_meaning.proofs.Stale.{IsStill, root_own, still_keeps}
-use Rattle.step_soundness.specs.Goes.{HaveMembers, IsSpare, Spares}
+use Rattle.soundness.specs.Meaning.{Cells, Guarded, IsOwn, IsNullOrFresh, Holds}
+use Rattle.soundness.proofs.Keep.{log_keeps, classes_log_keeps}
+use Rattle.soundness.proofs.Stale.{IsStill, root_own, still_keeps}
+use Rattle.soundness.specs.Goes.{HaveMembers, IsSpare, Spares}
 use Rattle.soundness.proofs.Roots.{rooted}
 use Rattle.soundness.proofs.Slots.{AreRooted, has_roots}
 

@@ -12,26 +12,26 @@ use Rattle.pools.specs.Heap.{Setup}
 use Rattle.layout.specs.Layouts.{LaidOut}
 use Rattle.types.specs.References.{referenced_layout}
 use Rattle.shadow_stack.specs.Slots.{SlotTable}
-use Rattle.certificate.specs.declared.section.Promise.{Promise}
-use Rattle.fact_rows.specs.declared.known.Class.{Class}
-use Rattle.fact_rows.specs.declared.known.Given.{Given}
-use Rattle.fact_rows.specs.declared.known.Given.TheVariants as given
-use Rattle.fact_rows.specs.declared.known.Known.TheVariants.{Nothing}
-use Rattle.fact_rows.specs.Facts.{FactSet, known_at, class_at, open_slot, lost_class, nothing_known}
-use Rattle.fact_rows.specs.Lines.{promised_below, promised_nonnull, promised_layout, receive_reference, receive, receive_all, facts_of_parameters}
-use Rattle.rule_operands.specs.TypeKinds.{kind_of, kind_in}
-use Rattle.rule_forms.specs.Promises.{given_by}
-use Rattle.certified.specs.Ways.{parameters_given}
-use Rattle.machine_values.specs.declared.value.Value.{Value}
-use Rattle.machine_values.specs.declared.value.Value.TheVariants as value
-use Rattle.machine_values.specs.Kinds.{is_integer, bits_of, bits_at, wrapped, register_at}
-use Rattle.machine_values.proofs.WrappedFits.{wrapped_fits}
+use Rattle.certs.specs.declared.section.Promise.{Promise}
+use Rattle.facts.specs.declared.known.Class.{Class}
+use Rattle.facts.specs.declared.known.Given.{Given}
+use Rattle.facts.specs.declared.known.Given.TheVariants as given
+use Rattle.facts.specs.declared.known.Known.TheVariants.{Nothing}
+use Rattle.facts.specs.Facts.{FactSet, known_at, class_at, open_slot, lost_class, nothing_known}
+use Rattle.facts.specs.Lines.{promised_below, promised_nonnull, promised_layout, receive_reference, receive, receive_all, facts_of_parameters}
+use Rattle.block_rules.specs.TypeKinds.{kind_of, kind_in}
+use Rattle.block_rules.specs.Promises.{given_by}
+use Rattle.block_rules.specs.Ways.{parameters_given}
+use Rattle.machine.specs.declared.value.Value.{Value}
+use Rattle.machine.specs.declared.value.Value.TheVariants as value
+use Rattle.machine.specs.Kinds.{is_integer, bits_of, bits_at, wrapped, register_at}
+use Rattle.machine.proofs.WrappedFits.{wrapped_fits}
 use Rattle.machine.specs.Machine.{slot_value, initial, with_arguments}
 use Rattle.machine.specs.Start.{is_reference_parameter, argument_fits, arguments_fit, argument_values}
 use Rattle.machine.specs.Log.{Log}
-use Rattle.fact_meaning.specs.Meaning.{Cells, Guarded, IsBelow, IsInteger, Means, ClassMeans, WasTested, FitsReference, FitsSlot, SlotMeans, Holds}
-use Rattle.fact_meaning.proofs.Change.{at_more}
-use Rattle.fact_meaning.proofs.Lists.{both, equal, got, replicated}
+use Rattle.soundness.specs.Meaning.{Cells, Guarded, IsBelow, IsInteger, Means, ClassMeans, WasTested, FitsReference, FitsSlot, SlotMeans, Holds}
+use Rattle.soundness.proofs.Change.{at_more}
+use Rattle.soundness.proofs.Lists.{both, equal, got, replicated}
 use Rattle.soundness.specs.Discipline.{MeetPromises}
 use Rattle.soundness.proofs.Receive.{IsGiven, given_fewer, received}
 

@@ -12,32 +12,32 @@ use Rattle.pools.specs.Heap.{Setup}
 use Rattle.layout.specs.Layouts.{LaidOut}
 use Rattle.types.specs.ValueTypes.{target_of}
 use Rattle.shadow_stack.specs.Slots.{SlotTable, slots_of}
-use Rattle.certificate.specs.declared.section.Section.{Section}
-use Rattle.fact_rows.specs.Facts.{FactSet, test_at}
-use Rattle.rule_operands.specs.declared.standing.Standing.{Standing}
-use Rattle.rule_operands.specs.declared.type_kind.TypeKind.{TypeKind}
-use Rattle.rule_operands.specs.declared.type_kind.TypeKind.TheVariants.{NoValue, Bits, Reference, AnyReference, Address, Other}
-use Rattle.rule_operands.specs.Operands as o
-use Rattle.rule_operands.specs.FirstFailing.{first_failing}
-use Rattle.rule_operands.specs.TypeKinds.{kind_of, is_bits, is_integer}
-use Rattle.rule_operands.specs.Standing.{instructions_of}
+use Rattle.certs.specs.declared.section.Section.{Section}
+use Rattle.facts.specs.Facts.{FactSet, test_at}
+use Rattle.block_rules.specs.declared.standing.Standing.{Standing}
+use Rattle.block_rules.specs.declared.type_kind.TypeKind.{TypeKind}
+use Rattle.block_rules.specs.declared.type_kind.TypeKind.TheVariants.{NoValue, Bits, Reference, AnyReference, Address, Other}
+use Rattle.block_rules.specs.Operands as o
+use Rattle.block_rules.specs.FirstFailing.{first_failing}
+use Rattle.block_rules.specs.TypeKinds.{kind_of, is_bits, is_integer}
+use Rattle.block_rules.specs.Standing.{instructions_of}
 use Rattle.block_rules.specs.Rules as r
 use Rattle.block_rules.specs.Rules.{op_conditions, names_target, is_target, is_case, are_cases}
-use Rattle.certified.specs.declared.block_fault.Detail.{Detail}
-use Rattle.certified.specs.Certified.{scene_of}
-use Rattle.certified.specs.Ways as w
+use Rattle.block_rules.specs.declared.block_fault.Detail.{Detail}
+use Rattle.block_rules.specs.Certified.{scene_of}
+use Rattle.block_rules.specs.Ways as w
 use Rattle.machine.specs.declared.frame.Frame.{Frame}
-use Rattle.machine_asks.specs.Asks as a
-use Rattle.machine_asks.specs.Jumps as j
-use Rattle.machine_values.specs.Kinds.{register_at, number_in, value_of, constant_value}
+use Rattle.machine.specs.Asks as a
+use Rattle.machine.specs.Jumps as j
+use Rattle.machine.specs.Kinds.{register_at, number_in, value_of, constant_value}
 use Rattle.machine.specs.Log.{Log}
 use Rattle.machine.specs.Machine as mc
-use Rattle.fact_meaning.specs.Meaning.{Cells, Guarded, Holds}
-use Rattle.fact_meaning.proofs.Edges.{edge_holds}
-use Rattle.fact_meaning.proofs.KindLemmas.{bits_same, constant_passes}
-use Rattle.fact_meaning.proofs.Lists.{both, equal, equal_test, negated}
-use Rattle.fact_meaning.proofs.Tests.{Decides, test_learned}
-use Rattle.step_soundness.proofs.Steps.{all_hold, none_of, kind_bits, number_usable}
+use Rattle.soundness.specs.Meaning.{Cells, Guarded, Holds}
+use Rattle.soundness.proofs.Edges.{edge_holds}
+use Rattle.soundness.proofs.KindLemmas.{bits_same, constant_passes}
+use Rattle.soundness.proofs.Lists.{both, equal, equal_test, negated}
+use Rattle.soundness.proofs.Tests.{Decides, test_learned}
+use Rattle.soundness.proofs.Steps.{all_hold, none_of, kind_bits, number_usable}
 
 -- what is an integer of so many bits is an integer
 bits_integer : (n : ℕ) (x : TypeKind) → is_bits n x ≡ true → is_integer x ≡ true

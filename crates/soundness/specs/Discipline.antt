@@ -4,16 +4,16 @@ use Rattle.ir_ast.specs.declared.function.Function.{Function}
 use Rattle.pools.specs.Heap.{Setup}
 use Rattle.layout.specs.Globals.{IsHeapFor}
 use Rattle.layout.specs.Layouts.{LaidOut}
-use Rattle.certificate.specs.declared.section.Promise.{Promise}
-use Rattle.certificate.specs.declared.section.Section.{Section}
-use Rattle.fact_rows.specs.Lines.{promised_below}
-use Rattle.rule_forms.specs.Promises.{promises_in}
-use Rattle.certified.specs.Certified.{BlockCertified}
-use Rattle.machine_values.specs.declared.answer.Answer.{Answer}
+use Rattle.certs.specs.declared.section.Promise.{Promise}
+use Rattle.certs.specs.declared.section.Section.{Section}
+use Rattle.facts.specs.Lines.{promised_below}
+use Rattle.block_rules.specs.Promises.{promises_in}
+use Rattle.block_rules.specs.Certified.{BlockCertified}
+use Rattle.machine.specs.declared.answer.Answer.{Answer}
 use Rattle.machine.specs.Machine.{start}
 use Rattle.machine.specs.Start.{takes_reference, arguments_fit, argument_values}
 use Rattle.machine.specs.Log.{Safe}
-use Rattle.fact_meaning.specs.Meaning.{IsBelow}
+use Rattle.soundness.specs.Meaning.{IsBelow}
 
 -- each argument is below what is promised of its parameter
 abbrev pub MeetPromises : List (Option Promise) → List ℕ → Type 0

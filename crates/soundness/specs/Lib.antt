@@ -1,1 +1,4 @@
+pub mod Meaning
+pub mod Edges
+pub mod Goes
 pub mod Discipline

@@ -12,19 +12,19 @@ use Rattle.colours.specs.declared.place.Place.TheVariants.{Posted, Stage, Colour
 use Rattle.colours.specs.Mutator.{Absent, Ready}
 use Rattle.colours.specs.Runs.{word_at_start, word_after, births_after}
 use Rattle.trace_sweep.specs.Collecting.{Collecting, plan, plan_of, begun}
-use Rattle.schedules.specs.Machine.{Reference, Machine}
-use Rattle.schedules.specs.Moves.{null}
-use Rattle.schedules.specs.Ends.{StandsBehind}
-use Rattle.schedules.proofs.Standings.{begins}
-use Rattle.actors.specs.declared.shared.Shared.{Shared}
-use Rattle.actors.specs.declared.stand.Stand.{Stand}
-use Rattle.actors.specs.Kinds.{MayHold}
-use Rattle.actors.specs.Rows.{word_at}
-use Rattle.actors.specs.Runs.{collector_behind, run_by}
-use Rattle.actors.specs.Shared.{held_at, StandBehind}
-use Rattle.actors.specs.Stands.{standing}
-use Rattle.reach.specs.Reach.{IsPlanOf}
-use Rattle.run_growth.specs.Growth.{IsInHeap}
+use Rattle.runs.specs.Machine.{Reference, Machine}
+use Rattle.runs.specs.Moves.{null}
+use Rattle.runs.specs.Ends.{StandsBehind}
+use Rattle.runs.proofs.Standings.{begins}
+use Rattle.moves.specs.declared.shared.Shared.{Shared}
+use Rattle.moves.specs.declared.stand.Stand.{Stand}
+use Rattle.moves.specs.Kinds.{MayHold}
+use Rattle.moves.specs.Rows.{word_at}
+use Rattle.moves.specs.Runs.{collector_behind, run_by}
+use Rattle.moves.specs.Shared.{held_at, StandBehind}
+use Rattle.moves.specs.Stands.{standing}
+use Rattle.stepping.specs.Reach.{IsPlanOf}
+use Rattle.run_law.specs.Growth.{IsInHeap}
 use Rattle.stepping.specs.declared.acting.Actors.{Actors}
 use Rattle.stepping.specs.Starts.{value_at_start, IsRowAtStart, AreRowsAtStart, stand_at_start}
 use Rattle.stepping.specs.Ends.{AreBehindSteps}

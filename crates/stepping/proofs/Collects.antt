@@ -14,18 +14,18 @@ use Rattle.trace_sweep.specs.Turns.{is_at_limit}
 use Rattle.trace_sweep.specs.Collecting.{Collecting, ask_of, turn_of, moved}
 use Rattle.trace_sweep.specs.Stands.{StandsBehind, IsStepOn}
 use Rattle.trace_sweep.proofs.Order.{turn_of-turn_in}
-use Rattle.schedules.specs.Machine.{Machine}
-use Rattle.schedules.specs.ModuleRuns.{Happening, OfCollector, heap_of}
-use Rattle.schedules.proofs.Standings.{goes_on}
-use Rattle.actors.specs.declared.actor.Actor.{Actor}
-use Rattle.actors.specs.declared.actor.Actor.TheVariants.{Collector}
-use Rattle.actors.specs.declared.shared.Shared.{Shared}
-use Rattle.actors.specs.Runs.{found_in, collector_behind, turn_for, by_collector, next_by, run_by}
-use Rattle.actors.specs.Shared.{held_at}
-use Rattle.actors.specs.Stands.{standing}
-use Rattle.actors.proofs.Drawn.{drawn, moved-found}
-use Rattle.reach.specs.Reach.{LosesNothing}
-use Rattle.run_growth.specs.Growth.{CollectorIsBehind, MotionGrows, with_stored}
+use Rattle.runs.specs.Machine.{Machine}
+use Rattle.runs.specs.ModuleRuns.{Happening, OfCollector, heap_of}
+use Rattle.runs.proofs.Standings.{goes_on}
+use Rattle.moves.specs.declared.actor.Actor.{Actor}
+use Rattle.moves.specs.declared.actor.Actor.TheVariants.{Collector}
+use Rattle.moves.specs.declared.shared.Shared.{Shared}
+use Rattle.moves.specs.Runs.{found_in, collector_behind, turn_for, by_collector, next_by, run_by}
+use Rattle.moves.specs.Shared.{held_at}
+use Rattle.moves.specs.Stands.{standing}
+use Rattle.moves.proofs.Drawn.{drawn, moved-found}
+use Rattle.stepping.specs.Reach.{LosesNothing}
+use Rattle.run_law.specs.Growth.{CollectorIsBehind, MotionGrows, with_stored}
 use Rattle.stepping.specs.declared.acting.Actors.{Actors}
 use Rattle.stepping.specs.declared.happening.Happening.TheVariants as made
 use Rattle.stepping.specs.declared.happening.Step.{Step}

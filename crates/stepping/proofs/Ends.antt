@@ -1,12 +1,12 @@
 -- The run of one actor more, and what a loss is behind it.
 use Rattle.std.proofs.Common.{◌≡◌, ℕ, Option, Some, None, List, ◌∷◌, ap, subst}
 use Rattle.pools.specs.Heap.{Setup}
-use Rattle.schedules.specs.Machine.{Machine}
-use Rattle.schedules.specs.ModuleRuns.{Happening, IsModuleRun}
-use Rattle.actors.specs.declared.actor.Actor.{Actor}
-use Rattle.actors.specs.Runs.{next_by, with_next, run_by, AreActors}
-use Rattle.actors.proofs.Drawn.{drawn}
-use Rattle.reach.specs.Reach.{IsFirstGone, LosesNothing}
+use Rattle.runs.specs.Machine.{Machine}
+use Rattle.runs.specs.ModuleRuns.{Happening, IsModuleRun}
+use Rattle.moves.specs.declared.actor.Actor.{Actor}
+use Rattle.moves.specs.Runs.{next_by, with_next, run_by, AreActors}
+use Rattle.moves.proofs.Drawn.{drawn}
+use Rattle.stepping.specs.Reach.{IsFirstGone, LosesNothing}
 
 -- the run behind one step more
 pub run_more : (s : Setup) (m : Machine) (starts : ℕ → m.State) (before : List Actor) (actor : Actor) (happening : Happening) → next_by s m starts (run_by s m starts before) actor ≡ Some happening

@@ -1,3 +1,8 @@
+pub mod Plans
+pub mod Meetings
+pub mod Wholes
+pub mod Exact
+pub mod Losses
 pub mod Lists
 pub mod Ends
 pub mod Collects

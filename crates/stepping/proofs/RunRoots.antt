@@ -4,17 +4,17 @@ use Rattle.std.proofs.lemmas.List.{take_more}
 use Rattle.std.proofs.lemmas.Option.{slice_get_within}
 use Rattle.pools.specs.Heap.{Setup}
 use Rattle.colours.specs.Mutator.{Phase}
-use Rattle.schedules.specs.Machine.{Reference, Machine}
-use Rattle.schedules.specs.Moves.{IsIn}
-use Rattle.schedules.specs.Broken.{IsUnderWay}
-use Rattle.actors.specs.declared.actor.Actor.{Actor}
-use Rattle.actors.specs.declared.stand.Stance.{Stance}
-use Rattle.actors.specs.declared.stand.Stance.TheVariants as stance
-use Rattle.actors.specs.declared.stand.Stand.{Stand}
-use Rattle.actors.specs.Kinds.{KeepsKinds}
-use Rattle.actors.specs.Runs.{run_by}
-use Rattle.actors.specs.Stands.{phase_at}
-use Rattle.reach.specs.Reach.{AreRoots}
+use Rattle.runs.specs.Machine.{Reference, Machine}
+use Rattle.runs.specs.Moves.{IsIn}
+use Rattle.runs.specs.Broken.{IsUnderWay}
+use Rattle.moves.specs.declared.actor.Actor.{Actor}
+use Rattle.moves.specs.declared.stand.Stance.{Stance}
+use Rattle.moves.specs.declared.stand.Stance.TheVariants as stance
+use Rattle.moves.specs.declared.stand.Stand.{Stand}
+use Rattle.moves.specs.Kinds.{KeepsKinds}
+use Rattle.moves.specs.Runs.{run_by}
+use Rattle.moves.specs.Stands.{phase_at}
+use Rattle.stepping.specs.Reach.{AreRoots}
 use Rattle.stepping.specs.declared.acting.Actors.{Actors}
 use Rattle.stepping.specs.Ends.{AreBehindSteps, IsEnd}
 use Rattle.stepping.specs.Roots.{unless_ended, own_roots, roots_of}

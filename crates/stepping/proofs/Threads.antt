@@ -3,30 +3,30 @@ use Rattle.std.proofs.Common.{◌≡◌, ◌<◌, inl, inr, ℕ, Bool, false, Op
 use Rattle.std.specs.Vec.{with_item}
 use Rattle.pools.specs.Heap.{Setup, cells}
 use Rattle.colours.proofs.Tests.{test_yes}
-use Rattle.schedules.specs.Machine as machine
-use Rattle.schedules.specs.Machine.{Reference, Action, Machine}
-use Rattle.schedules.specs.Moves as moves
-use Rattle.schedules.specs.Moves.{step_of, state_after}
-use Rattle.schedules.specs.ModuleRuns.{Happening, OfThread, share_of, heap_of}
-use Rattle.schedules.specs.Ends.{Standing, StandsBehind, moved, next_move_of}
-use Rattle.schedules.proofs.Standings.{goes_on}
-use Rattle.actors.specs.declared.actor.Actor.{Actor}
-use Rattle.actors.specs.declared.actor.Actor.TheVariants.{Thread}
-use Rattle.actors.specs.declared.call.Call.{Call}
-use Rattle.actors.specs.declared.call.Call.TheVariants as call
-use Rattle.actors.specs.declared.cause.Cause.{Cause}
-use Rattle.actors.specs.declared.moves.Move.{Move}
-use Rattle.actors.specs.declared.stand.Stand.{Stand}
-use Rattle.actors.specs.Calls.{action_of, move_in}
-use Rattle.actors.specs.Causes.{Breaks}
-use Rattle.actors.specs.Runs.{collector_behind, by_thread, next_by, run_by}
-use Rattle.actors.specs.Shared.{with_move}
-use Rattle.actors.specs.Stands.{standing, sight_in}
-use Rattle.actors.proofs.Drawn.{drawn, turns-with}
-use Rattle.actors.proofs.Sights.{next_in_words}
-use Rattle.actors.proofs.Breaks.{first_cause}
-use Rattle.reach.specs.Reach.{AddsNothing, LosesNothing}
-use Rattle.run_growth.specs.Growth.{ThreadIsBehind, MoveGrows}
+use Rattle.runs.specs.Machine as machine
+use Rattle.runs.specs.Machine.{Reference, Action, Machine}
+use Rattle.runs.specs.Moves as moves
+use Rattle.runs.specs.Moves.{step_of, state_after}
+use Rattle.runs.specs.ModuleRuns.{Happening, OfThread, share_of, heap_of}
+use Rattle.runs.specs.Ends.{Standing, StandsBehind, moved, next_move_of}
+use Rattle.runs.proofs.Standings.{goes_on}
+use Rattle.moves.specs.declared.actor.Actor.{Actor}
+use Rattle.moves.specs.declared.actor.Actor.TheVariants.{Thread}
+use Rattle.moves.specs.declared.call.Call.{Call}
+use Rattle.moves.specs.declared.call.Call.TheVariants as call
+use Rattle.moves.specs.declared.cause.Cause.{Cause}
+use Rattle.moves.specs.declared.moves.Move.{Move}
+use Rattle.moves.specs.declared.stand.Stand.{Stand}
+use Rattle.moves.specs.Calls.{action_of, move_in}
+use Rattle.moves.specs.Causes.{Breaks}
+use Rattle.moves.specs.Runs.{collector_behind, by_thread, next_by, run_by}
+use Rattle.moves.specs.Shared.{with_move}
+use Rattle.moves.specs.Stands.{standing, sight_in}
+use Rattle.moves.proofs.Drawn.{drawn, turns-with}
+use Rattle.moves.proofs.Sights.{next_in_words}
+use Rattle.moves.proofs.Breaks.{first_cause}
+use Rattle.stepping.specs.Reach.{AddsNothing, LosesNothing}
+use Rattle.run_law.specs.Growth.{ThreadIsBehind, MoveGrows}
 use Rattle.stepping.specs.declared.acting.Actors.{Actors}
 use Rattle.stepping.specs.declared.happening.Happening.TheVariants as happening
 use Rattle.stepping.specs.Ends.{AreBehindSteps, IsEnd, IsOneStep}

@@ -3,21 +3,21 @@ use Rattle.std.specs.Prelude.{ℕ, ◌≡◌, ◌<◌, ◌≤◌, ◌^◌, false
 use Rattle.pools.specs.Heap.{Setup, IsSetup, cells}
 use Rattle.colours.specs.Runs.{turns_of}
 use Rattle.trace_sweep.specs.Collecting.{Collecting}
-use Rattle.schedules.specs.Machine.{Reference, Machine}
-use Rattle.schedules.specs.Moves as moves
-use Rattle.schedules.specs.ModuleRuns.{OfThread, OfCollector, share_of, heap_of}
-use Rattle.schedules.specs.ModuleRuns as runs
-use Rattle.schedules.specs.Ends.{StandsBehind}
-use Rattle.actors.specs.declared.actor.Actor.{Actor}
-use Rattle.actors.specs.declared.shared.Shared.{Shared}
-use Rattle.actors.specs.declared.stand.Stand.{Stand}
-use Rattle.actors.specs.Calls.{move_in}
-use Rattle.actors.specs.Causes.{IsStepCause}
-use Rattle.actors.specs.Runs.{collector_behind, next_by, run_by, AreActors}
-use Rattle.actors.specs.Shared.{StandBehind}
-use Rattle.actors.specs.Stands.{standing}
-use Rattle.reach.specs.Reach.{IsPlanOf, IsFirstGone}
-use Rattle.run_growth.specs.Growth.{IsInHeap}
+use Rattle.runs.specs.Machine.{Reference, Machine}
+use Rattle.runs.specs.Moves as moves
+use Rattle.runs.specs.ModuleRuns.{OfThread, OfCollector, share_of, heap_of}
+use Rattle.runs.specs.ModuleRuns as runs
+use Rattle.runs.specs.Ends.{StandsBehind}
+use Rattle.moves.specs.declared.actor.Actor.{Actor}
+use Rattle.moves.specs.declared.shared.Shared.{Shared}
+use Rattle.moves.specs.declared.stand.Stand.{Stand}
+use Rattle.moves.specs.Calls.{move_in}
+use Rattle.moves.specs.Causes.{IsStepCause}
+use Rattle.moves.specs.Runs.{collector_behind, next_by, run_by, AreActors}
+use Rattle.moves.specs.Shared.{StandBehind}
+use Rattle.moves.specs.Stands.{standing}
+use Rattle.stepping.specs.Reach.{IsPlanOf, IsFirstGone}
+use Rattle.run_law.specs.Growth.{IsInHeap}
 use Rattle.stepping.specs.declared.acting.Actors.{Actors}
 use Rattle.stepping.specs.declared.happening.Happening.{Happening}
 use Rattle.stepping.specs.declared.happening.Happening.TheVariants.{Thread, Collector}

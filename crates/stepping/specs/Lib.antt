@@ -1,3 +1,5 @@
+pub mod Reach
+pub mod Walks
 pub mod Starts
 pub mod Roots
 pub mod Ends

@@ -1,9 +1,9 @@
 -- The roots of the threads under way.
 use Rattle.std.specs.Prelude.{List, [], ◌∷◌, ◌++◌}
-use Rattle.schedules.specs.Machine.{Reference}
-use Rattle.actors.specs.declared.stand.Stance.{Stance}
-use Rattle.actors.specs.declared.stand.Stance.TheVariants.{Ended}
-use Rattle.actors.specs.declared.stand.Stand.{Stand}
+use Rattle.runs.specs.Machine.{Reference}
+use Rattle.moves.specs.declared.stand.Stance.{Stance}
+use Rattle.moves.specs.declared.stand.Stance.TheVariants.{Ended}
+use Rattle.moves.specs.declared.stand.Stand.{Stand}
 
 -- a thread that has ended has none
 abbrev pub unless_ended : Stance → List Reference → List Reference

@@ -4,11 +4,11 @@ use Rattle.pools.specs.declared.word_kind.WordKind.{WordKind}
 use Rattle.pools.specs.Heap.{Setup, kind_of, words_of_cell}
 use Rattle.colours.specs.declared.place.Place.TheVariants.{Word}
 use Rattle.colours.specs.Runs.{word_at_start}
-use Rattle.schedules.specs.Machine.{Reference}
-use Rattle.schedules.specs.Moves.{null}
-use Rattle.actors.specs.declared.stand.Stance.TheVariants.{Ready}
-use Rattle.actors.specs.declared.stand.Stand.{Stand}
-use Rattle.actors.specs.Kinds.{MayHold}
+use Rattle.runs.specs.Machine.{Reference}
+use Rattle.runs.specs.Moves.{null}
+use Rattle.moves.specs.declared.stand.Stance.TheVariants.{Ready}
+use Rattle.moves.specs.declared.stand.Stand.{Stand}
+use Rattle.moves.specs.Kinds.{MayHold}
 
 -- what a word of a cell holds, where these are the values of the globals
 abbrev pub value_at_start : (values : List ℕ) → (cell word : ℕ) → ℕ

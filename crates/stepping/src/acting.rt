@@ -1,21 +1,22 @@
 ghost use Rattle.std.specs.Prelude.{ℕ, ◌≡◌, ◌<◌, ◌^◌, Some, List, [], ◌∷◌, length, slice_get, true, false, All, IfOk, OnErr};
 ghost use Rattle.std.specs.Option.{option_copied};
 ghost use Rattle.pools.specs.Heap.{Setup, IsSetup};
-ghost use Rattle.schedules.specs.Machine.{Reference as AReference, machine_of};
-ghost use Rattle.actors.specs.Calls.{move_in};
-ghost use Rattle.actors.specs.declared.actor.Actor.{Actor as AnActor};
-ghost use Rattle.actors.specs.declared.actor.Actor.TheVariants as actor;
-ghost use Rattle.actors.specs.Runs.{run_by, IsActor};
-ghost use Rattle.reach.specs.Reach.{IsPlanOf, IsFirstGone, AddsNothing};
+ghost use Rattle.runs.specs.Machine.{Reference as AReference, machine_of};
+ghost use Rattle.moves.specs.Calls.{move_in};
+ghost use Rattle.moves.specs.declared.actor.Actor.{Actor as AnActor};
+ghost use Rattle.moves.specs.declared.actor.Actor.TheVariants as actor;
+ghost use Rattle.moves.specs.Runs.{run_by, IsActor};
+ghost use Rattle.stepping.specs.Reach.{IsPlanOf, IsFirstGone, AddsNothing};
 ghost use Rattle.stepping.specs.Ends.{AreBehindSteps, IsOneStep};
 
 use crate::beginning::{shared_at_start, stands_at_start};
+use crate::gone::{Gone, Plan, first_gone};
 use crate::happening::{Happening, Step};
+use crate::laws::loss_law;
 use crate::roots::roots_under_way;
-use actors::{Actor, Move, Runner, Shared, Stand, broken_by, go_on, next_move};
 use colours::Turn;
-use reach::{Gone, Plan, first_gone, loss_law};
-use run_growth::growth_law;
+use moves::{Actor, Move, Runner, Shared, Stand, broken_by, go_on, next_move};
+use run_law::growth_law;
 use std::alloc::{AllocError, Global};
 use trace_sweep::Collector;
 

@@ -1,13 +1,13 @@
 ghost use Rattle.std.specs.Prelude.{ℕ, ◌≡◌, ◌<◌, ◌≤◌, ◌^◌, [], length, map, slice_index, IfOk};
 ghost use Rattle.pools.specs.Heap.{Setup, IsSetup, cells_in, cells};
-ghost use Rattle.reach.specs.Reach.{IsPlanOf};
-ghost use Rattle.actors.specs.Shared.{StandBehind};
+ghost use Rattle.stepping.specs.Reach.{IsPlanOf};
+ghost use Rattle.moves.specs.Shared.{StandBehind};
 ghost use Rattle.stepping.specs.Starts as starts;
 ghost use Rattle.stepping.specs.Starts.{IsRowAtStart, AreRowsAtStart};
 
-use actors::{NULL, Reference, Rows, Shared, Stance, Stand};
+use crate::gone::Plan;
 use items::Items;
-use reach::Plan;
+use moves::{NULL, Reference, Rows, Shared, Stance, Stand};
 use std::alloc::{AllocError, Global};
 
 /// The shared words before the first step: all cells are free but that of the globals, and hold null or 0.

@@ -1,5 +1,5 @@
-use actors::{Cause, Move};
 use colours::Turn;
+use moves::{Cause, Move};
 
 /// What an actor did: a move of the thread with this number, or a step of the collector.
 #[derive(Clone, Copy, PartialEq, Eq)]

@@ -1,10 +1,15 @@
-//! Threads of a machine and the collector over one heap, one atomic step at a time.
+//! Threads of a machine and the collector over one heap, one atomic step at a time, and what can then be reached and is gone.
 #![tactic(auto)]
 
 mod acting;
 mod beginning;
+mod gone;
 mod happening;
+mod laws;
 mod roots;
+mod walk;
 
 pub use acting::Actors;
+pub use gone::{Gone, Plan, first_gone};
 pub use happening::{Happening, Step};
+pub use laws::loss_law;

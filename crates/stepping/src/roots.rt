@@ -1,7 +1,7 @@
 ghost use Rattle.std.specs.Prelude.{◌≡◌, IfOk};
 ghost use Rattle.stepping.specs.Roots as roots;
 
-use actors::{Reference, Runner, Stance, Stand};
+use moves::{Reference, Runner, Stance, Stand};
 use std::alloc::{AllocError, Global};
 
 /// The roots of the threads under way, one thread behind the other.

@@ -5,7 +5,7 @@ ghost use Rattle.colours.specs.Mutator.{IsPossible};
 ghost use Rattle.colours.specs.Collector.{Collection};
 ghost use Rattle.colours.specs.Runs.{Event, ByThread, log_of, IsRun, TouchesAlive, IsHeapRun};
 ghost use Rattle.colours.specs.Safety.{KeptIsAlive, EachStageIsInStep, IsFree, LowersNoColour};
-ghost use Rattle.trace_runs.specs.Laws.{KeptIsBlack, IsPastTrace, ReferencesAreAlive, EachWordFits};
+ghost use Rattle.collector_law.specs.Laws.{KeptIsBlack, IsPastTrace, ReferencesAreAlive, EachWordFits};
 ghost use Rattle.trace_sweep.specs.Laws.{IsOfOrder, IsOnlyOfOrder};
 
 /// The collector's machine makes the steps of the order without looks out of turn, and no others.

@@ -1,4 +1,4 @@
-use Rattle.certified.specs.Functions.{blocks_in}
+use Rattle.block_rules.specs.Functions.{blocks_in}
 use Rattle.block_check.proofs.Exact.{function_certified_only, function_refused_only}
 use Rattle.block_check.proofs.check.check_function.Goals as goal
 

@@ -1,4 +1,4 @@
-use Rattle.certified.specs.Functions.{AreBlocksCertified}
+use Rattle.block_rules.specs.Functions.{AreBlocksCertified}
 use Rattle.block_check.proofs.check.first_fault.Given as goal
 
 abbrev pub invariant-loop-number : goal.invariant-loop-number

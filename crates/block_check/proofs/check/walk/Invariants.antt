@@ -1,6 +1,6 @@
 use Rattle.std.proofs.Common.{take}
-use Rattle.certified.specs.Ways.{given_at}
-use Rattle.certified.specs.Certified.{Follows}
+use Rattle.block_rules.specs.Ways.{given_at}
+use Rattle.block_rules.specs.Certified.{Follows}
 use Rattle.block_check.specs.Subject.{seen}
 use Rattle.block_check.proofs.check.walk.Given as goal
 

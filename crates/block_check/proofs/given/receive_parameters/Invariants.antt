@@ -1,6 +1,6 @@
 use Rattle.std.proofs.Common.{◌≡◌, drop}
-use Rattle.fact_rows.specs.Lines.{receive_all}
-use Rattle.certified.specs.Ways.{parameters_given}
+use Rattle.facts.specs.Lines.{receive_all}
+use Rattle.block_rules.specs.Ways.{parameters_given}
 use Rattle.block_check.proofs.given.receive_parameters.Given as goal
 
 abbrev pub invariant-loop-parameter : goal.invariant-loop-parameter

@@ -1,8 +1,8 @@
 use Rattle.std.proofs.Common.{◌∷◌, [], ◌++◌, ◌∙◌, ap, sym, arith, append-nil}
 use Rattle.ir_ast.specs.declared.op.Op.TheVariants.{Phi}
-use Rattle.rule_operands.specs.TypeKinds.{kind_of}
-use Rattle.rule_operands.specs.Standing.{instructions_of}
-use Rattle.certified.specs.Ways.{operand_from, known_comes_in, named_comes_in, comes_in}
+use Rattle.block_rules.specs.TypeKinds.{kind_of}
+use Rattle.block_rules.specs.Standing.{instructions_of}
+use Rattle.block_rules.specs.Ways.{operand_from, known_comes_in, named_comes_in, comes_in}
 use Rattle.block_check.specs.PhiOperands.{entries_at}
 use Rattle.block_check.proofs.PhiSteps.{phi_at, phi_more}
 use Rattle.block_check.proofs.phis.note_entries.Goals.{in-Some+in_ok-push-in-Phi, in_default-result}

@@ -1,6 +1,6 @@
 use Rattle.std.proofs.Common.{◌≡◌, ◌++◌, drop}
-use Rattle.rule_operands.specs.Standing.{instructions_of}
-use Rattle.certified.specs.Ways.{comes_in}
+use Rattle.block_rules.specs.Standing.{instructions_of}
+use Rattle.block_rules.specs.Ways.{comes_in}
 use Rattle.block_check.proofs.phis.note_entries.Given as goal
 
 abbrev pub invariant-loop-place : goal.invariant-loop-place

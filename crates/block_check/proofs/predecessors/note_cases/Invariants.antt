@@ -1,7 +1,7 @@
 use Rattle.std.proofs.Common.{take, map}
 use Rattle.std.specs.List.{list_any}
 use Rattle.types.specs.ValueTypes.{target_of}
-use Rattle.certified.specs.Ways.{is_number, open_way}
+use Rattle.block_rules.specs.Ways.{is_number, open_way}
 use Rattle.block_check.specs.Predecessors.{Adds}
 use Rattle.block_check.proofs.predecessors.note_cases.Given as goal
 

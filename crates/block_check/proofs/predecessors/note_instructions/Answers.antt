@@ -1,5 +1,5 @@
 use Rattle.std.proofs.Common.{arith}
-use Rattle.certified.specs.Ways.{instruction_leads}
+use Rattle.block_rules.specs.Ways.{instruction_leads}
 use Rattle.block_check.proofs.Leads.{adds_more}
 use Rattle.block_check.proofs.predecessors.note_instructions.Goals as goal
 

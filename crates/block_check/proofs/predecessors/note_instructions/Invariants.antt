@@ -1,6 +1,6 @@
 use Rattle.std.proofs.Common.{take}
 use Rattle.std.specs.List.{list_any}
-use Rattle.certified.specs.Ways.{instruction_leads}
+use Rattle.block_rules.specs.Ways.{instruction_leads}
 use Rattle.block_check.specs.Predecessors.{Adds}
 use Rattle.block_check.proofs.predecessors.note_instructions.Given as goal
 

@@ -1,5 +1,5 @@
 use Rattle.std.proofs.Common.{sym, ap, ◌∙◌}
-use Rattle.rule_operands.specs.FirstFailing.{first_failing}
+use Rattle.block_rules.specs.FirstFailing.{first_failing}
 use Rattle.block_rules.specs.Rules.{op_conditions}
 use Rattle.block_rules.proofs.refusals.end_refusal.Goals as goal
 

@@ -1,6 +1,6 @@
 use Rattle.std.proofs.Common.{sym, ap, ◌∙◌}
 use Rattle.ir_ast.specs.declared.op.Op.TheVariants.{Phi}
-use Rattle.rule_operands.specs.FirstFailing.{first_failing}
+use Rattle.block_rules.specs.FirstFailing.{first_failing}
 use Rattle.block_rules.specs.Rules.{op_conditions}
 use Rattle.block_rules.proofs.refusals.value_refusal.Goals as goal
 

@@ -1,8 +1,8 @@
 use Rattle.std.proofs.Common.{◌≡◌, List, length, refl, subst, rules}
 use Rattle.std.proofs.lemmas.Result.{IfOk-weaker}
 use Rattle.ir_ast.specs.declared.module.Module.{Module}
-use Rattle.certificate.specs.declared.section.Section.{Section}
-use Rattle.report.specs.Report.{IsTold, yes}
+use Rattle.certs.specs.declared.section.Section.{Section}
+use Rattle.commands.specs.Report.{IsTold, yes}
 use Rattle.commands.specs.Commands.{OfCerts, OnOutput, accepted}
 use Rattle.commands.proofs.checking.check_certs.Goals as goal
 

@@ -1,6 +1,6 @@
 use Rattle.std.proofs.Common.{refl, subst, ◌∙◌}
 use Rattle.std.proofs.lemmas.Result.{IfOk-weaker}
-use Rattle.report.specs.Report.{IsTold, no}
+use Rattle.commands.specs.Report.{IsTold, no}
 use Rattle.commands.specs.Commands.{OnOutput, OnError, refused, not_checked}
 use Rattle.commands.proofs.checking.report_refusal.Goals as goal
 

@@ -1,6 +1,6 @@
 use Rattle.std.proofs.Common.{ℕ, ◌<◌, ◌≤◌, length}
 use Rattle.std.specs.Prelude.{slice_get}
-use Rattle.machine_asks.specs.Jumps.{phis_of}
+use Rattle.machine.specs.Jumps.{phis_of}
 use Rattle.machine.proofs.entry.most_phis.Given as goal
 
 abbrev pub invariant-loop-block : goal.invariant-loop-block

@@ -1,6 +1,6 @@
 use Rattle.std.proofs.Common.{◌≡◌, length}
 use Rattle.std.specs.Prelude.{replicate}
-use Rattle.machine_values.specs.declared.value.Value.TheVariants as value
+use Rattle.machine.specs.declared.value.Value.TheVariants as value
 use Rattle.machine.specs.Machine.{with_arguments}
 use Rattle.machine.proofs.entry.registers_of.Given as goal
 

@@ -1,5 +1,5 @@
 use Rattle.std.proofs.Common.{◌≡◌}
-use Rattle.machine_asks.specs.Jumps.{put_each}
+use Rattle.machine.specs.Jumps.{put_each}
 use Rattle.machine.proofs.frame.put_values.Given as goal
 
 abbrev pub invariant-loop-phi : goal.invariant-loop-phi

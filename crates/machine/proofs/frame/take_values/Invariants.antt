@@ -1,5 +1,5 @@
 use Rattle.std.proofs.Common.{◌≡◌, length, map, take}
-use Rattle.machine_asks.specs.Jumps.{phi_value}
+use Rattle.machine.specs.Jumps.{phi_value}
 use Rattle.machine.proofs.frame.take_values.Given as goal
 
 abbrev pub invariant-loop-place : goal.invariant-loop-place

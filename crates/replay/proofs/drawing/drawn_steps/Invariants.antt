@@ -2,7 +2,7 @@ use Rattle.std.proofs.Common.{◌≡◌, ◌-◌, ◌++◌, map}
 use Rattle.std.specs.List.{AllByRecursion}
 use Rattle.rand_core.specs.Steps.{stream_of, steps_u32}
 use Rattle.rand_pcg.specs.Pcg.{pcg32}
-use Rattle.draws.specs.Draws.{draws_from}
+use Rattle.replay.specs.Draws.{draws_from}
 use Rattle.trace_text.specs.Traces.{IsActorOf, step_sum}
 use Rattle.trace_text.specs.declared.trace.Steps.{Steps as SomeSteps}
 use Rattle.replay.specs.Lists.{actors_of}

@@ -5,7 +5,7 @@ use Rattle.trace_text.specs.declared.trace.Actor.TheVariants as actor
 use Rattle.trace_text.specs.declared.trace.Steps.{Steps}
 use Rattle.replay.specs.Lists.{actors_of}
 use Rattle.replay.specs.Watched.{IsWatched, IsWatchedOn}
-use Rattle.world.specs.Worlds.{actor_in}
+use Rattle.replay.specs.Worlds.{actor_in}
 use Rattle.std.proofs.Common.{replicate}
 use Rattle.replay.proofs.Lists.{sound_list}
 use Rattle.replay.proofs.TraceSteps.{same_item, steps-room, steps-made, steps-break, setup_of_trace, safe_breaks_none}

@@ -2,8 +2,8 @@
 use Rattle.std.proofs.Common.{length, [], ◌∷◌, refl, ap, subst, ◌∙◌}
 use Rattle.rand_core.specs.Steps.{stream_of, steps_u32}
 use Rattle.rand_pcg.specs.Pcg.{pcg32}
-use Rattle.draws.specs.Draws.{seeded}
-use Rattle.world.specs.Worlds.{actor_in}
+use Rattle.replay.specs.Draws.{seeded}
+use Rattle.replay.specs.Worlds.{actor_in}
 use Rattle.replay.specs.Soaks.{actors_drawn}
 use Rattle.replay.specs.Watched.{IsWatchedOn}
 use Rattle.replay.proofs.Drawings.{drawn-none, seed-goes-on, seed-breaks, seed-sound}

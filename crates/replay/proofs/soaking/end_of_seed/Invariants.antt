@@ -1,7 +1,7 @@
 use Rattle.std.proofs.Common.{◌-◌, length, map}
 use Rattle.rand_core.specs.Steps.{stream_of, steps_u32}
 use Rattle.rand_pcg.specs.Pcg.{pcg32}
-use Rattle.draws.specs.Draws.{draws_from}
+use Rattle.replay.specs.Draws.{draws_from}
 use Rattle.replay.specs.Soaks.{actor_drawn, actors_drawn}
 use Rattle.replay.proofs.Drawings.{IsDrawing}
 use Rattle.replay.proofs.soaking.end_of_seed.Given as goal

@@ -3,12 +3,12 @@ use Rattle.std.proofs.Common.{◌≡◌, ◌∙◌, ℕ, sym, ap, subst}
 use Rattle.std.specs.Prelude.{IfOk, IfErr, ◌≢◌}
 use Rattle.std.specs.List.{AllZip}
 use Rattle.rayon.specs.Numbers.{nat_range}
-use Rattle.world.specs.Setups.{IsSetupFault}
-use Rattle.world.specs.declared.setup_fault.SetupFault.TheVariants.{Memory}
+use Rattle.replay.specs.Setups.{IsSetupFault}
+use Rattle.replay.specs.declared.setup_fault.SetupFault.TheVariants.{Memory}
 use Rattle.replay.specs.declared.soaking.SeedEnd.{SeedEnd}
 use Rattle.replay.specs.Soaks.{IsTold, IsLeastFrom}
 use Rattle.replay.proofs.Firsts.{Found}
-use Rattle.replay.proofs.Seeds.{Ends, stops, found, all_passed, stopped}
+use Rattle.replay.proofs.SeedsLemmas.{Ends, stops, found, all_passed, stopped}
 use Rattle.replay.proofs.soaking.least_broken.Goals as goal
 
 pub returns-in-None-clause-least : goal.returns-in-None-clause-least

@@ -1,9 +1,9 @@
 use Rattle.std.proofs.Common.{◌∷◌, subst}
-use Rattle.world.specs.Runs.{program_machine, heap_of}
-use Rattle.actors.specs.Causes.{IsStepCause}
-use Rattle.actors.specs.Runs.{run_by}
-use Rattle.reach.specs.Reach.{IsFirstGone}
-use Rattle.world.specs.Setups.{starts_of}
+use Rattle.replay.specs.Runs.{program_machine, heap_of}
+use Rattle.moves.specs.Causes.{IsStepCause}
+use Rattle.moves.specs.Runs.{run_by}
+use Rattle.stepping.specs.Reach.{IsFirstGone}
+use Rattle.replay.specs.Setups.{starts_of}
 use Rattle.replay.specs.Watched.{IsMadeBehind}
 use Rattle.replay.proofs.Steps.{cause_told, nothing_lost, none_made, unbroken_by, gone_is_cause}
 use Rattle.replay.proofs.watch.cause_behind.Goals as goal

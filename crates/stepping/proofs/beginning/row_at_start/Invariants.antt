@@ -1,6 +1,6 @@
 -- So many words so far.
 use Rattle.std.proofs.Common.{ℕ, ◌≡◌, ◌<◌, ◌^◌, length, slice_index_or}
-use Rattle.schedules.specs.Moves.{null}
+use Rattle.runs.specs.Moves.{null}
 use Rattle.stepping.specs.Starts.{value_at_start}
 use Rattle.stepping.proofs.beginning.row_at_start.Given as goal
 

@@ -1,7 +1,7 @@
 -- One cell more, up to the last one.
 use Rattle.std.proofs.Common.{◌≡◌, ◌+◌, List, sym, ap, ◌∙◌, subst, arith}
 use Rattle.pools.specs.Heap.{cells, cells_in}
-use Rattle.schedules.specs.Machine.{Reference}
+use Rattle.runs.specs.Machine.{Reference}
 use Rattle.stepping.specs.Starts.{AreRowsAtStart}
 use Rattle.stepping.proofs.Beginnings.{no-rows, rows-more}
 use Rattle.stepping.proofs.beginning.rows_at_start.Goals as goal

@@ -1,7 +1,7 @@
 -- The words of so many cells so far.
 use Rattle.std.proofs.Common.{◌≡◌}
 use Rattle.pools.specs.Heap.{Setup, IsSetup}
-use Rattle.reach.specs.Reach.{IsPlanOf}
+use Rattle.stepping.specs.Reach.{IsPlanOf}
 use Rattle.stepping.specs.Starts.{AreRowsAtStart}
 use Rattle.stepping.proofs.beginning.rows_at_start.Given as goal
 

@@ -1,7 +1,7 @@
 -- The words and births are those before the first step.
 use Rattle.std.proofs.Common.{◌≡◌, ℕ, List, [], sym, ap, ◌∙◌, subst}
 use Rattle.pools.specs.Heap.{cells, cells_in}
-use Rattle.actors.specs.Shared.{StandBehind}
+use Rattle.moves.specs.Shared.{StandBehind}
 use Rattle.stepping.proofs.Beginnings.{stand-behind-none}
 use Rattle.stepping.proofs.beginning.shared_at_start.Goals as goal
 

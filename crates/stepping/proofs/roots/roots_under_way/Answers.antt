@@ -1,6 +1,6 @@
 -- Behind one thread more its roots stand at the end.
 use Rattle.std.proofs.Common.{◌<◌, List, length, take, ◌++◌, arith, ap, sym, ◌∙◌}
-use Rattle.schedules.specs.Machine.{Reference}
+use Rattle.runs.specs.Machine.{Reference}
 use Rattle.stepping.specs.Roots.{roots_of}
 use Rattle.stepping.proofs.RunRoots.{roots-of-more}
 use Rattle.stepping.proofs.roots.roots_under_way.Goals as goal

@@ -1,5 +1,5 @@
 use Rattle.std.proofs.Common.{take}
-use Rattle.certified.specs.Ways.{operand_from}
+use Rattle.block_rules.specs.Ways.{operand_from}
 use Rattle.block_check.specs.PhiOperands.{AddsAt}
 use Rattle.block_check.proofs.phi_operands.PhiOperands.note_entries.Given as goal
 

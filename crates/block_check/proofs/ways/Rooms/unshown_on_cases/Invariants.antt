@@ -1,5 +1,5 @@
 use Rattle.std.proofs.Common.{◌≡◌, drop, map}
-use Rattle.certified.specs.Ways.{open_way, unshown_on}
+use Rattle.block_rules.specs.Ways.{open_way, unshown_on}
 use Rattle.block_check.specs.Subject.{seen}
 use Rattle.block_check.proofs.ways.Rooms.unshown_on_cases.Given as goal
 

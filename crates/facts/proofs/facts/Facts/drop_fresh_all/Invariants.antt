@@ -1,5 +1,5 @@
 use Rattle.std.proofs.Common.{◌≡◌, drop}
-use Rattle.fact_rows.specs.Facts.{drop_fresh_all}
+use Rattle.facts.specs.Facts.{drop_fresh_all}
 use Rattle.facts.proofs.facts.Facts.drop_fresh_all.Given as goal
 
 abbrev pub invariant-loop-entry : goal.invariant-loop-entry

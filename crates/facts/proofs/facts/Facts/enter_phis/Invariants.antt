@@ -1,5 +1,5 @@
 use Rattle.std.proofs.Common.{◌≡◌, drop}
-use Rattle.fact_rows.specs.Facts.{enter_phis}
+use Rattle.facts.specs.Facts.{enter_phis}
 use Rattle.facts.proofs.facts.Facts.enter_phis.Given as goal
 
 abbrev pub invariant-loop-entry : goal.invariant-loop-entry

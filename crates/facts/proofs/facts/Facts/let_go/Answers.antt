@@ -1,7 +1,7 @@
 use Rattle.std.proofs.Common.{◌≡◌, ◌∙◌, ap, sym, subst, false, List}
 use Rattle.std.specs.List.{list_any}
-use Rattle.fact_rows.specs.declared.known.SlotFact.{SlotFact}
-use Rattle.fact_rows.specs.Facts.{FactSet, holds}
+use Rattle.facts.specs.declared.known.SlotFact.{SlotFact}
+use Rattle.facts.specs.Facts.{FactSet, holds}
 use Rattle.facts.proofs.Slots.{free_slots}
 use Rattle.facts.proofs.facts.Facts.let_go.Goals as goal
 

@@ -1,5 +1,5 @@
 use Rattle.std.proofs.Common.{◌≡◌, drop}
-use Rattle.fact_rows.specs.Lines.{tie_lines}
+use Rattle.facts.specs.Lines.{tie_lines}
 use Rattle.facts.proofs.facts.Facts.tie_lines.Given as goal
 
 abbrev pub invariant-loop-line : goal.invariant-loop-line

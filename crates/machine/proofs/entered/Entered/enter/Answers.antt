@@ -2,7 +2,7 @@ use Rattle.std.proofs.Common.{◌≡◌, ◌<◌, Some, length, slice_get, slice
 use Rattle.std.proofs.lemmas.List.{length-set}
 use Rattle.shadow_stack.specs.Slots.{slots_of}
 use Rattle.machine.specs.Entered.{WasEntered, AreKept}
-use Rattle.machine_asks.specs.Jumps.{HasRoom}
+use Rattle.machine.specs.Jumps.{HasRoom}
 use Rattle.machine.proofs.Kept.{kept_with, kept_with_room, was_set, was_before}
 use Rattle.machine.proofs.entered.Entered.enter.Goals as goal
 

@@ -1,5 +1,5 @@
 use Rattle.std.proofs.Common.{◌≡◌, ◌≤◌, Some, length, slice_get, sym, ap, ◌∙◌, subst, arith}
-use Rattle.machine_asks.specs.Jumps.{phis_of}
+use Rattle.machine.specs.Jumps.{phis_of}
 use Rattle.machine.proofs.Kept.{kept_with_room}
 use Rattle.machine.proofs.entered.Entered.enter_block.Goals as goal
 

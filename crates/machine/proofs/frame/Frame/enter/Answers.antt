@@ -1,6 +1,6 @@
 use Rattle.std.proofs.Common.{◌≡◌, length, take, ap, ◌∙◌}
 use Rattle.std.specs.Prelude.{map}
-use Rattle.machine_asks.specs.Jumps.{phi_value, put_each, put_phis}
+use Rattle.machine.specs.Jumps.{phi_value, put_each, put_phis}
 use Rattle.machine.specs.Machine.{enter}
 use Rattle.machine.proofs.Phis.{all_put}
 use Rattle.machine.proofs.frame.Frame.enter.Goals as goal

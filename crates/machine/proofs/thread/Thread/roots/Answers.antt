@@ -1,6 +1,6 @@
 use Rattle.std.proofs.Common.{◌++◌, List, get_or, sym, ap, ◌∙◌, subst, slice_get}
 use Rattle.machine.specs.declared.frame.Frame.{Frame}
-use Rattle.machine_values.specs.declared.value.Value.{Value}
+use Rattle.machine.specs.declared.value.Value.{Value}
 use Rattle.machine.specs.Machine.{frame_roots}
 use Rattle.machine.specs.Entered.{WasEntered, WereEntered}
 use Rattle.machine.proofs.Kept.{were_at}

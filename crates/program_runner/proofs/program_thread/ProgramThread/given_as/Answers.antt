@@ -1,7 +1,7 @@
 -- A word that is read is one of a cell of the heap.
 use Rattle.std.proofs.Common.{◌≡◌, sym, ap, ◌∙◌}
 use Rattle.layout.specs.Layouts.{LaidOut}
-use Rattle.machine_asks.specs.declared.action.Action.TheVariants.{Read}
+use Rattle.machine.specs.declared.action.Action.TheVariants.{Read}
 use Rattle.machine.specs.Machine.{action}
 use Rattle.program_runner.proofs.CellsRead.{read_cell}
 use Rattle.program_runner.proofs.program_thread.ProgramThread.given_as.Goals as goal

@@ -1,7 +1,7 @@
 -- Nothing is counted before the first step, and the run is not broken there.
 use Rattle.std.proofs.Common.{refl}
-use Rattle.actors.specs.Runs.{run_by}
-use Rattle.replay.proofs.Starts.{unbroken_start}
+use Rattle.moves.specs.Runs.{run_by}
+use Rattle.replay.proofs.StartsLemmas.{unbroken_start}
 use Rattle.replay.proofs.watch.Watch.new.Goals as goal
 
 pub returns-clause-ok : goal.returns-clause-ok

@@ -1,7 +1,7 @@
 -- The world made one step more, and tells it.
 use Rattle.std.proofs.Common.{◌∷◌, subst}
 use Rattle.std.specs.Prelude.{IfOk}
-use Rattle.world.specs.Worlds.{IsBehind, IsStepBehind, actor_in}
+use Rattle.replay.specs.Worlds.{IsBehind, IsStepBehind, actor_in}
 use Rattle.replay.proofs.Watching.{counts_are_small, stepped}
 use Rattle.replay.proofs.watch.Watch.step.Goals as goal
 

@@ -1,6 +1,6 @@
 -- So many steps of one actor, one behind the other.
 use Rattle.std.proofs.Common.{◌≡◌, ◌+◌, ◌-◌, suc, [], ◌∷◌, ◌++◌, replicate, sym, subst, arith, add-one}
-use Rattle.world.specs.Worlds.{actor_in}
+use Rattle.replay.specs.Worlds.{actor_in}
 use Rattle.replay.specs.Lists.{IsFirstBreak}
 use Rattle.replay.specs.Watched.{IsWatched, IsWatchedOn}
 use Rattle.replay.proofs.Watching.{replicated, all_replicated, actor_of_both, room_for_more}

@@ -1,8 +1,8 @@
 use Rattle.std.proofs.Common.{List, ◌++◌, replicate}
 use Rattle.layout.specs.Layouts.{LaidOut}
 use Rattle.trace_text.specs.declared.trace.Setup.{Setup as ASetup}
-use Rattle.actors.specs.declared.actor.Actor.{Actor as AnActor}
-use Rattle.world.specs.Worlds.{actor_in}
+use Rattle.moves.specs.declared.actor.Actor.{Actor as AnActor}
+use Rattle.replay.specs.Worlds.{actor_in}
 use Rattle.replay.specs.Watched.{IsWatched}
 use Rattle.replay.proofs.watch.Watch.steps.Given as goal
 

@@ -1,6 +1,6 @@
 -- The world stands behind one actor more, which broke the run or did not.
 use Rattle.std.proofs.Common.{◌≡◌, suc, ◌∷◌, length, sym, ap, subst, ◌∙◌, arith}
-use Rattle.world.specs.Worlds.{World, IsBehind, actor_in}
+use Rattle.replay.specs.Worlds.{World, IsBehind, actor_in}
 use Rattle.replay.specs.Watched.{IsCauseBehind}
 use Rattle.replay.proofs.Lists.{first_break}
 use Rattle.replay.proofs.Watching.{cause_is, run_is, goes_on}

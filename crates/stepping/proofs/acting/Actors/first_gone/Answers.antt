@@ -1,8 +1,8 @@
 -- The search is over the roots of the run.
 use Rattle.std.proofs.Common.{◌≡◌, List, sym, ap, ◌∙◌, subst}
-use Rattle.schedules.specs.Machine.{Reference, machine_of}
-use Rattle.actors.specs.Runs.{run_by}
-use Rattle.reach.specs.Reach.{AreRoots}
+use Rattle.runs.specs.Machine.{Reference, machine_of}
+use Rattle.moves.specs.Runs.{run_by}
+use Rattle.stepping.specs.Reach.{AreRoots}
 use Rattle.stepping.specs.Roots.{roots_of}
 use Rattle.stepping.proofs.RunRoots.{are-roots}
 use Rattle.stepping.proofs.acting.Actors.first_gone.Goals as goal

@@ -1,7 +1,7 @@
 -- The actors before their first step.
 use Rattle.std.proofs.Common.{◌≤◌, ◌^◌, sym, ◌∙◌, subst, arith}
 use Rattle.pools.specs.Heap.{cells_in}
-use Rattle.schedules.specs.Machine.{machine_of}
+use Rattle.runs.specs.Machine.{machine_of}
 use Rattle.stepping.proofs.Beginnings.{begun-of, actors-first}
 use Rattle.stepping.proofs.acting.Actors.new.Goals as goal
 

@@ -1,7 +1,7 @@
 -- The thread that makes the step is one of the threads.
 use Rattle.std.proofs.Common.{subst}
-use Rattle.actors.specs.declared.actor.Actor.{Actor}
-use Rattle.actors.specs.Runs.{IsActor}
+use Rattle.moves.specs.declared.actor.Actor.{Actor}
+use Rattle.moves.specs.Runs.{IsActor}
 use Rattle.stepping.proofs.acting.Actors.step.Goals as goal
 
 pub step_of_thread-requires : goal.step_of_thread-requires

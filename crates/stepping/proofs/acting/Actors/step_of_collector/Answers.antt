@@ -1,10 +1,10 @@
 -- The collector's step on the words as they stand is the run's next one.
 use Rattle.std.proofs.Common.{◌≡◌, true, false, refl, sym, ap, ◌∙◌}
-use Rattle.schedules.specs.Machine.{machine_of}
-use Rattle.schedules.specs.ModuleRuns.{OfCollector}
-use Rattle.actors.specs.Runs.{run_by}
-use Rattle.reach.specs.Reach.{LosesNothing}
-use Rattle.run_growth.specs.Growth.{with_stored}
+use Rattle.runs.specs.Machine.{machine_of}
+use Rattle.runs.specs.ModuleRuns.{OfCollector}
+use Rattle.moves.specs.Runs.{run_by}
+use Rattle.stepping.specs.Reach.{LosesNothing}
+use Rattle.run_law.specs.Growth.{with_stored}
 use Rattle.stepping.proofs.Collects.{collector_is_behind, collected-none, collected, loses-none, stored-none, with-words}
 use Rattle.stepping.proofs.acting.Actors.step_of_collector.Goals as goal
 use Rattle.stepping.proofs.acting.Actors.step_of_collector.Goals.{in-Some, in_default, in-Free, in_default-matches}

@@ -3,19 +3,19 @@ use Rattle.std.proofs.Common.{◌≡◌, ℕ, Option, Some, List, slice_get, sli
 use Rattle.std.specs.Vec.{with_item}
 use Rattle.std.proofs.lemmas.Option.{slice_get_read}
 use Rattle.std.proofs.lemmas.List.{set-get_or}
-use Rattle.schedules.specs.Machine.{machine_of}
-use Rattle.schedules.specs.Moves.{answer_of}
-use Rattle.schedules.specs.Ends.{moved}
-use Rattle.actors.specs.declared.moves.Move.{Move}
-use Rattle.actors.specs.declared.shared.Shared.{Shared}
-use Rattle.actors.specs.declared.stand.Stand.{Stand}
-use Rattle.actors.specs.declared.actor.Actor.TheVariants as actor
-use Rattle.actors.specs.Calls.{move_in, made_by}
-use Rattle.actors.specs.Kinds.{MayAnswer}
-use Rattle.actors.specs.Moving.{HasRoom, HasRoomForNext, MayMake}
-use Rattle.actors.specs.Runs.{run_by}
-use Rattle.actors.specs.Stands.{standing, HasTryLeft}
-use Rattle.reach.specs.Reach.{AddsNothing}
+use Rattle.runs.specs.Machine.{machine_of}
+use Rattle.runs.specs.Moves.{answer_of}
+use Rattle.runs.specs.Ends.{moved}
+use Rattle.moves.specs.declared.moves.Move.{Move}
+use Rattle.moves.specs.declared.shared.Shared.{Shared}
+use Rattle.moves.specs.declared.stand.Stand.{Stand}
+use Rattle.moves.specs.declared.actor.Actor.TheVariants as actor
+use Rattle.moves.specs.Calls.{move_in, made_by}
+use Rattle.moves.specs.Kinds.{MayAnswer}
+use Rattle.moves.specs.Moving.{HasRoom, HasRoomForNext, MayMake}
+use Rattle.moves.specs.Runs.{run_by}
+use Rattle.moves.specs.Stands.{standing, HasTryLeft}
+use Rattle.stepping.specs.Reach.{AddsNothing}
 use Rattle.stepping.specs.declared.happening.Happening.TheVariants as happening
 use Rattle.stepping.specs.Ends.{IsOneStep}
 use Rattle.stepping.proofs.Lists.{on-err}

@@ -1,9 +1,0 @@
--- The law is that of every machine.
-use Rattle.schedules.specs.Machine.{machine_of}
-use Rattle.actors.specs.Stands.{standing}
-use Rattle.actors.proofs.Sights.{next_in_words}
-use Rattle.actors.proofs.laws.sight_law.Goals as goal
-
-pub returns : goal.returns
-returns g c s starts run t stand shared behind stands =
-    next_in_words s (machine_of g.M.Machine.action g.M.Machine.after_answer g.M.Machine.roots) starts run t (standing g.M.Machine.roots stand) shared behind stands

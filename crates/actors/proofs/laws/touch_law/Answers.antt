@@ -1,8 +1,0 @@
--- The law is that of every machine.
-use Rattle.schedules.specs.Machine.{machine_of}
-use Rattle.actors.proofs.Breaks.{first_cause}
-use Rattle.actors.proofs.laws.touch_law.Goals as goal
-
-pub returns : goal.returns
-returns g c s starts run t roots shared made cause behind breaks =
-    first_cause s (machine_of g.M.Machine.action g.M.Machine.after_answer g.M.Machine.roots) starts run t roots shared made cause behind breaks

@@ -1,6 +1,0 @@
--- Behind the mark of its next root a thread has marked one more.
-use Rattle.actors.proofs.Marked.{answering-mark}
-use Rattle.actors.proofs.moving.behind_mark.Goals as goal
-
-pub returns-in-Answering : goal.returns-in-Answering
-returns-in-Answering c s stage roots next = answering-mark s stage roots c.args.stance c.in-Answering.stage c.in-Answering.marked c.args.cell c.in-Answering.is next

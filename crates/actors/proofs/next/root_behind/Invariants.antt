@@ -1,8 +1,0 @@
--- What is looked for among all is what is looked for, behind fewer, among those that are left; and each that was passed is one of the list.
-use Rattle.std.proofs.Common.{◌≡◌, ◌≤◌, ◌+◌, ◌==◌, not, filter, drop, slice_get}
-use Rattle.actors.proofs.next.root_behind.Given as goal
-
-abbrev pub invariant-loop-root : goal.invariant-loop-root
-invariant-loop-root l =
-    (slice_get (filter (λ r. not (r.cell == 0)) l.roots) l.marked ≡ slice_get (filter (λ r. not (r.cell == 0)) (drop l.root-index l.roots)) l.left)
-    × (l.marked ≤ l.root-index + l.left)

@@ -1,0 +1,115 @@
+-- Bitcasts: to which types they may lead, and what is known behind them.
+use Rattle.std.specs.Prelude.{ℕ, ◌==◌, Bool, true, false, ◌&&◌, ◌||◌, if◌then◌else◌, List, Option, Some, None}
+use Rattle.ir_ast.specs.declared.module.Module.{Module}
+use Rattle.ir_ast.specs.declared.operand.Constant.{Constant}
+use Rattle.ir_ast.specs.declared.operand.Constant.TheVariants.{Number as Numeral, Truth, Null as NullWritten}
+use Rattle.ir_ast.specs.declared.operand.Operand.{Operand}
+use Rattle.ir_ast.specs.declared.operand.Operand.TheVariants.{Constant as Written, Local, CastGlobal}
+use Rattle.layout.specs.Globals.{global_word}
+use Rattle.layout.specs.Layouts.{LaidOut}
+use Rattle.pools.specs.declared.word_kind.WordKind.{WordKind}
+use Rattle.pools.specs.declared.word_set.WordSet.{WordSet}
+use Rattle.shadow_stack.specs.Slots.{SlotTable, slot_of, held_type}
+use Rattle.facts.specs.declared.known.Known.{Known}
+use Rattle.facts.specs.declared.known.Known.TheVariants.{Nothing, Number, Cell, Null, Address, GlobalAddress}
+use Rattle.facts.specs.Facts.{FactSet, known_at, define, off_base}
+use Rattle.block_rules.specs.declared.type_kind.TypeKind.{TypeKind}
+use Rattle.block_rules.specs.declared.type_kind.TypeKind.TheVariants.{Bits, Reference}
+use Rattle.block_rules.specs.Operands.{known_of}
+use Rattle.block_rules.specs.Places.{layout_of_word, loads_words, define_held}
+use Rattle.block_rules.specs.TypeKinds.{kind_of, place_kind, may_be_reference, fits_layout, layout_of_kind}
+use Rattle.block_rules.specs.Bounds.{below_next}
+
+-- null of a reference type is null of each, and null of an address of references likewise
+abbrev pub casts_null : Module → (from to : ℕ) → Bool
+casts_null m from to =
+    (may_be_reference (kind_of m from) && may_be_reference (kind_of m to))
+    || (may_be_reference (place_kind m from) && may_be_reference (place_kind m to))
+
+-- a number is never of another type
+abbrev pub casts_constant : Module → (from to : ℕ) → Constant → Bool
+casts_constant m from to NullWritten = casts_null m from to
+casts_constant m from to _ = false
+
+-- a slot of references to a layout may be named as a place of references to it, or as `i8**`
+abbrev pub casts_slot : (held to : TypeKind) → Bool
+casts_slot (Reference layout) to = fits_layout layout to
+casts_slot _ to = false
+
+-- the same by the types
+abbrev pub casts_held : Module → (to : ℕ) → (held : Option ℕ) → Bool
+casts_held m to None = false
+casts_held m to (Some held) = casts_slot (kind_of m held) (place_kind m to)
+
+-- words of a layout may be named as a place of this kind: all are references to one layout, and it fits
+abbrev pub casts_words : (layouts : List (List WordKind)) → (layout : ℕ) → WordSet → (to : TypeKind) → Bool
+casts_words layouts layout words to = may_be_reference to && loads_words layouts layout words to
+
+-- the same of words of the cell that a base refers to
+abbrev pub casts_base : LaidOut → (to : ℕ) → WordSet → (base : Known) → Bool
+casts_base p to words (Cell class layout stale) = casts_words p.layouts layout words (place_kind p.of_module to)
+casts_base p to words _ = true
+
+-- a place of references to this layout, if they refer to one, may be named as a place of references to it, or as `i8**`
+abbrev pub casts_to : (layout : Option ℕ) → (to : TypeKind) → Bool
+casts_to None to = false
+casts_to (Some layout) to = fits_layout layout to
+
+-- the same of the word of a global
+abbrev pub casts_global : Module → (to symbol : ℕ) → Bool
+casts_global m to symbol = casts_to (layout_of_word (global_word m symbol)) (place_kind m to)
+
+-- K19: a global stands under its own type, or under one of the same layout; other operands are not cast where they stand
+abbrev pub casts_operand : Module → Operand → Bool
+casts_operand m (CastGlobal from symbol to) = (from == to) || casts_global m to symbol
+casts_operand m _ = true
+
+-- a reference to a layout may be named as one, or as `i8*`
+abbrev pub casts_known : LaidOut → FactSet → (to : ℕ) → Known → Bool
+casts_known p facts to Nothing = true
+casts_known p facts to (Number bits below) = false
+casts_known p facts to (Cell class layout stale) = fits_layout layout (kind_of p.of_module to)
+casts_known p facts to Null = may_be_reference (kind_of p.of_module to)
+casts_known p facts to (Address base words) = casts_base p to words (known_at facts.values base)
+casts_known p facts to (GlobalAddress symbol) = casts_global p.of_module to symbol
+
+-- a name names a slot, or a value
+abbrev pub casts_local : LaidOut → SlotTable → FactSet → (to : ℕ) → Known → (slot : Option ℕ) → Bool
+casts_local p slots facts to known None = casts_known p facts to known
+casts_local p slots facts to known (Some s) = casts_held p.of_module to (held_type slots s)
+
+-- a bitcast to another type keeps the layout
+abbrev pub casts_other : LaidOut → SlotTable → FactSet → (from to : ℕ) → Operand → Bool
+casts_other p slots facts from to (Written c) = casts_constant p.of_module from to c
+casts_other p slots facts from to (Local v) = casts_local p slots facts to (known_at facts.values v) (slot_of slots v)
+casts_other p slots facts from to operand = casts_known p facts to (known_of facts operand)
+
+-- K19: a bitcast leads to the same type, or to a type of the same layout
+abbrev pub may_cast : LaidOut → SlotTable → FactSet → (from to : ℕ) → Operand → Bool
+may_cast p slots facts from to operand = (from == to) || casts_other p slots facts from to operand
+
+-- the layout of what null is cast to, or else from
+abbrev pub layout_of_null : (from to : TypeKind) → Option ℕ
+layout_of_null from to = elim (layout_of_kind to) [ None ↦ layout_of_kind from | Some layout ↦ Some layout ]
+
+-- a bitcast of a number is a number, which is below the next one
+abbrev pub cast_number : (v n : ℕ) → TypeKind → FactSet → FactSet
+cast_number v n (Bits bits) facts = define v (Number bits (below_next n)) facts
+cast_number v n _ facts = define v Nothing facts
+
+-- a constant under another type; null is a reference where a type says its layout
+abbrev pub cast_constant : Module → (v from to : ℕ) → Constant → FactSet → FactSet
+cast_constant m v from to (Numeral n) facts = cast_number v n (kind_of m to) facts
+cast_constant m v from to (Truth b) facts = define v Nothing facts
+cast_constant m v from to NullWritten facts = define_held v (layout_of_null (kind_of m from) (kind_of m to)) false facts
+
+-- a value under another name, but for an address whose base had this name; what has this name already stays, and a slot is no value, and is only named anew
+abbrev pub cast_local : (v u : ℕ) → Known → (slot : Option ℕ) → FactSet → FactSet
+cast_local v u known None facts = if u == v then facts else define v (off_base v known) facts
+cast_local v u known (Some s) facts = facts
+
+-- behind a bitcast
+abbrev pub after_cast : Module → SlotTable → (v from to : ℕ) → Operand → FactSet → FactSet
+after_cast m slots v from to (Written c) facts = cast_constant m v from to c facts
+after_cast m slots v from to (Local u) facts = cast_local v u (known_at facts.values u) (slot_of slots u) facts
+after_cast m slots v from to operand facts = define v (known_of facts operand) facts

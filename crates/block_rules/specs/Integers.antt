@@ -1,0 +1,125 @@
+-- Arithmetic, changes of width, comparisons, and the choice between two values.
+use Rattle.std.specs.Prelude.{ℕ, ◌==◌, Bool, true, false, ◌&&◌, if◌then◌else◌, Option, Some, None, nat_lt}
+use Rattle.ir_ast.specs.declared.op.Arithmetic.{Arithmetic}
+use Rattle.ir_ast.specs.declared.op.Arithmetic.TheVariants as arithmetic
+use Rattle.ir_ast.specs.declared.op.Comparison.{Comparison}
+use Rattle.ir_ast.specs.declared.op.Comparison.TheVariants as comparison
+use Rattle.ir_ast.specs.declared.op.Resize.{Resize}
+use Rattle.ir_ast.specs.declared.op.Resize.TheVariants as resize
+use Rattle.ir_ast.specs.declared.operand.Operand.{Operand}
+use Rattle.ir_ast.specs.declared.operand.Operand.TheVariants.{Constant as Written, Local}
+use Rattle.facts.specs.declared.known.Known.{Known}
+use Rattle.facts.specs.declared.known.Known.TheVariants.{Nothing, Number, Cell}
+use Rattle.facts.specs.Facts.{FactSet, define, define_test, drop_fresh_of}
+use Rattle.block_rules.specs.declared.type_kind.TypeKind.{TypeKind}
+use Rattle.block_rules.specs.declared.type_kind.TypeKind.TheVariants.{Bits, Reference, AnyReference}
+use Rattle.block_rules.specs.Operands.{known_of, number_of, is_nonnull}
+use Rattle.block_rules.specs.Places.{define_held}
+use Rattle.block_rules.specs.TypeKinds.{layout_of_kind}
+use Rattle.block_rules.specs.Bounds.{below_next}
+
+-- what a number is shown to be below
+abbrev pub below_known : Known → Option ℕ
+below_known (Number bits below) = below
+below_known _ = None
+
+-- what a constant is shown to be below
+abbrev pub constant_below : Option ℕ → Option ℕ
+constant_below None = None
+constant_below (Some n) = below_next n
+
+-- what an operand is shown to be below
+abbrev pub below_of : FactSet → Operand → Option ℕ
+below_of facts (Written c) = constant_below (number_of (Written c))
+below_of facts operand = below_known (known_of facts operand)
+
+-- the smaller of two bounds
+abbrev pub smaller : Option ℕ → Option ℕ → Option ℕ
+smaller None other = other
+smaller (Some n) None = Some n
+smaller (Some n) (Some m) = if nat_lt m n then Some m else Some n
+
+-- the larger of two bounds, where there are both
+abbrev pub larger : Option ℕ → Option ℕ → Option ℕ
+larger (Some n) (Some m) = if nat_lt n m then Some m else Some n
+larger _ _ = None
+
+-- what arithmetic shows its result to be below: `and` is no more than each constant
+abbrev pub arithmetic_below : Arithmetic → (first second : Operand) → Option ℕ
+arithmetic_below arithmetic.And first second = smaller (constant_below (number_of first)) (constant_below (number_of second))
+arithmetic_below _ first second = None
+
+-- v is an integer of a type of this kind
+abbrev pub define_number : (v : ℕ) → TypeKind → (below : Option ℕ) → FactSet → FactSet
+define_number v (Bits bits) below facts = define v (Number bits below) facts
+define_number v _ below facts = define v Nothing facts
+
+-- a number of so many bits may be changed to so many
+abbrev pub changes_width : Resize → (from to : ℕ) → Bool
+changes_width resize.ZeroExtend from to = nat_lt from to
+changes_width resize.SignExtend from to = nat_lt from to
+changes_width resize.Truncate from to = nat_lt to from
+
+-- K2: one type may be changed to the other
+abbrev pub may_resize : Resize → (from to : TypeKind) → Bool
+may_resize kind (Bits from) (Bits to) = changes_width kind from to
+may_resize kind _ _ = false
+
+-- a number that gets zeros in front stays below what it was
+abbrev pub resized_below : Resize → (below : Option ℕ) → Option ℕ
+resized_below resize.ZeroExtend below = below
+resized_below _ below = None
+
+-- a comparison for equality
+abbrev pub is_equality : Comparison → Bool
+is_equality comparison.Equal = true
+is_equality comparison.NotEqual = true
+is_equality _ = false
+
+-- K2: integers are compared, or references for equality
+abbrev pub may_compare : Comparison → TypeKind → Bool
+may_compare kind (Bits bits) = true
+may_compare kind (Reference layout) = is_equality kind
+may_compare kind AnyReference = is_equality kind
+may_compare kind _ = false
+
+-- a comparison of a value with a constant is one from which the ways on learn
+abbrev pub after_compare : (v : ℕ) → Comparison → (first second : Operand) → FactSet → FactSet
+after_compare v kind (Local u) (Written c) facts = define_test v (record { tested = u; kind = kind; constant = c }) facts
+after_compare v kind _ _ facts = define v (Number 1 None) facts
+
+-- the layout of a reference, if it is known
+abbrev pub known_layout : Known → Option ℕ
+known_layout (Cell class layout stale) = Some layout
+known_layout _ = None
+
+-- two layouts, if both are known, are one
+abbrev pub one_layout : Option ℕ → Option ℕ → Bool
+one_layout (Some layout) (Some other) = layout == other
+one_layout _ _ = true
+
+-- the first of these, if there is one, or else the second
+abbrev pub or_else : Option ℕ → Option ℕ → Option ℕ
+or_else None other = other
+or_else (Some layout) other = Some layout
+
+-- K2: integers are chosen from, or references
+abbrev pub may_choose : TypeKind → Bool
+may_choose (Bits bits) = true
+may_choose (Reference layout) = true
+may_choose AnyReference = true
+may_choose _ = false
+
+-- the layout of the reference that is chosen: its type says it, or one of the two
+abbrev pub chosen_layout : TypeKind → (chosen other : Known) → Option ℕ
+chosen_layout kind chosen other = or_else (layout_of_kind kind) (or_else (known_layout chosen) (known_layout other))
+
+-- one of two references: whatever it is, nothing is known of its sames, and neither class is fresh
+abbrev pub choose_reference : (v : ℕ) → TypeKind → (chosen other : Known) → FactSet → FactSet
+choose_reference v kind chosen other facts =
+    define_held v (chosen_layout kind chosen other) (is_nonnull facts chosen && is_nonnull facts other) (drop_fresh_of other (drop_fresh_of chosen facts))
+
+-- behind a choice
+abbrev pub after_select : (v : ℕ) → TypeKind → (chosen other : Operand) → FactSet → FactSet
+after_select v (Bits bits) chosen other facts = define v (Number bits (larger (below_of facts chosen) (below_of facts other))) facts
+after_select v kind chosen other facts = choose_reference v kind (known_of facts chosen) (known_of facts other) facts

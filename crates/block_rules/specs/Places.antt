@@ -1,0 +1,218 @@
+-- Loads and stores: what a place holds, and what may be moved there.
+use Rattle.std.specs.Prelude.{ℕ, ◌==◌, Bool, true, false, not, ◌&&◌, ◌||◌, if◌then◌else◌, List, [], ◌∷◌, Option, Some, None}
+use Rattle.std.specs.List.{list_all, range_with_len}
+use Rattle.ir_ast.specs.declared.module.Module.{Module}
+use Rattle.ir_ast.specs.declared.operand.Operand.{Operand}
+use Rattle.ir_ast.specs.declared.operand.Operand.TheVariants.{Constant as Written, Local}
+use Rattle.layout.specs.Globals.{global_word}
+use Rattle.layout.specs.Layouts.{LaidOut}
+use Rattle.pools.specs.Layouts.{kind_of_word}
+use Rattle.pools.specs.WordSets.{has_word}
+use Rattle.pools.specs.declared.word_kind.WordKind.{WordKind}
+use Rattle.pools.specs.declared.word_kind.WordKind.TheVariants as word
+use Rattle.pools.specs.declared.word_set.WordSet.{WordSet}
+use Rattle.shadow_stack.specs.Slots.{SlotTable, slot_of, held_type}
+use Rattle.facts.specs.declared.known.Known.{Known}
+use Rattle.facts.specs.declared.known.Known.TheVariants.{Nothing, Number, Cell, Null, Address, GlobalAddress}
+use Rattle.facts.specs.Facts.{FactSet, known_at, define, define_new, drop_fresh_of, store_slot, load_slot}
+use Rattle.block_rules.specs.declared.wanted.Wanted.{Wanted}
+use Rattle.block_rules.specs.declared.wanted.Wanted.TheVariants as want
+use Rattle.block_rules.specs.declared.type_kind.TypeKind.{TypeKind}
+use Rattle.block_rules.specs.declared.type_kind.TypeKind.TheVariants.{Bits, Reference, AnyReference}
+use Rattle.block_rules.specs.Operands.{slot_named, known_of, known_fits, is_null_constant}
+use Rattle.block_rules.specs.TypeKinds.{kind_of, is_any_reference, is_word}
+
+-- a value is moved between a slot that holds this type and an instruction that writes this type for it: they are the same, or the slot holds references and i8* is written
+abbrev pub moves_kind : (same : Bool) → (written : TypeKind) → (held : TypeKind) → Bool
+moves_kind same written (Bits bits) = same
+moves_kind same written (Reference layout) = same || is_any_reference written
+moves_kind same written _ = false
+
+-- the same by the types; a slot that there is not holds nothing
+abbrev pub moves : Module → (written : ℕ) → (held : Option ℕ) → Bool
+moves m written None = false
+moves m written (Some held) = moves_kind (written == held) (kind_of m written) (kind_of m held)
+
+-- a word that is there holds what is wanted
+abbrev pub holds_wanted : Wanted → Option WordKind → Bool
+holds_wanted (want.Integer bits) (Some (word.Integer other)) = other == bits
+holds_wanted (want.Reference layout) (Some (word.Reference other)) = other == layout
+holds_wanted want.AnyReference (Some (word.Reference other)) = true
+holds_wanted _ _ = false
+
+-- the layout to which a word that is there refers
+abbrev pub layout_of_word : Option WordKind → Option ℕ
+layout_of_word (Some (word.Reference layout)) = Some layout
+layout_of_word _ = None
+
+-- the words of a cell, by their numbers
+abbrev pub cell_words : List ℕ
+cell_words = range_with_len 0 64
+
+-- each word of a set holds what is wanted, in a layout
+abbrev pub each_word : Wanted → (layouts : List (List WordKind)) → (layout : ℕ) → WordSet → Bool
+each_word wanted layouts layout words = list_all (λ w. not (has_word words.members w) || holds_wanted wanted (kind_of_word layouts layout w)) cell_words
+
+-- the layout to which the first of these words refers that a set has
+abbrev pub first_layout : (layouts : List (List WordKind)) → (layout : ℕ) → WordSet → List ℕ → Option ℕ
+first_layout layouts layout words [] = None
+first_layout layouts layout words (w ∷ rest) = if has_word words.members w then layout_of_word (kind_of_word layouts layout w) else first_layout layouts layout words rest
+
+-- references of one layout are wanted: that of the first word, if there is one
+abbrev pub one_reference : (first : Option ℕ) → Wanted
+one_reference None = want.Nothing
+one_reference (Some layout) = want.Reference layout
+
+-- what a load of this kind wants of words, the first of which refers to this layout
+abbrev pub wanted_by_load : TypeKind → (first : Option ℕ) → Wanted
+wanted_by_load (Bits bits) first = want.Integer bits
+wanted_by_load (Reference layout) first = want.Reference layout
+wanted_by_load AnyReference first = one_reference first
+wanted_by_load _ first = want.Nothing
+
+-- words of a layout may be loaded under a type of this kind
+abbrev pub loads_words : (layouts : List (List WordKind)) → (layout : ℕ) → WordSet → TypeKind → Bool
+loads_words layouts layout words kind = each_word (wanted_by_load kind (first_layout layouts layout words cell_words)) layouts layout words
+
+-- the same of words of the cell that a base refers to
+abbrev pub loads_base : LaidOut → TypeKind → WordSet → (base : Known) → Bool
+loads_base p kind words (Cell class layout stale) = loads_words p.layouts layout words kind
+loads_base p kind words _ = true
+
+-- the same of the word of a global
+abbrev pub loads_word : TypeKind → Option WordKind → Bool
+loads_word kind word = holds_wanted (wanted_by_load kind (layout_of_word word)) word
+
+-- K2: a load of this kind from what is known of a place, which has to be an address
+abbrev pub loads_known : LaidOut → FactSet → TypeKind → Known → Bool
+loads_known p facts kind Nothing = true
+loads_known p facts kind (Address base words) = loads_base p kind words (known_at facts.values base)
+loads_known p facts kind (GlobalAddress symbol) = loads_word kind (global_word p.of_module symbol)
+loads_known p facts kind _ = false
+
+-- the same of a slot, or of what a name stands for that names no slot
+abbrev pub loads_local : LaidOut → SlotTable → FactSet → Known → (loaded : ℕ) → (slot : Option ℕ) → Bool
+loads_local p slots facts known loaded None = loads_known p facts (kind_of p.of_module loaded) known
+loads_local p slots facts known loaded (Some s) = moves p.of_module loaded (held_type slots s)
+
+-- a load of this type may be from this place
+abbrev pub may_load : LaidOut → SlotTable → FactSet → (loaded : ℕ) → (place : Operand) → Bool
+may_load p slots facts loaded (Written c) = is_null_constant c
+may_load p slots facts loaded (Local v) = loads_local p slots facts (known_at facts.values v) loaded (slot_of slots v)
+may_load p slots facts loaded place = loads_known p facts (kind_of p.of_module loaded) (known_of facts place)
+
+-- what a store of this kind wants of words
+abbrev pub wanted_by_store : TypeKind → Wanted
+wanted_by_store (Bits bits) = want.Integer bits
+wanted_by_store (Reference layout) = want.Reference layout
+wanted_by_store AnyReference = want.AnyReference
+wanted_by_store _ = want.Nothing
+
+-- what a value wants of words, if anything is known of it; null goes into each reference
+abbrev pub wanted_by_value : Known → Option Wanted
+wanted_by_value Nothing = None
+wanted_by_value (Number bits below) = Some (want.Integer bits)
+wanted_by_value (Cell class layout stale) = Some (want.Reference layout)
+wanted_by_value Null = Some want.AnyReference
+wanted_by_value _ = Some want.Nothing
+
+-- what is known of a value fits words of a layout
+abbrev pub fits_words : (layouts : List (List WordKind)) → (layout : ℕ) → WordSet → Option Wanted → Bool
+fits_words layouts layout words None = true
+fits_words layouts layout words (Some wanted) = each_word wanted layouts layout words
+
+-- both, of words of the cell that a base refers to
+abbrev pub stores_base : LaidOut → TypeKind → (value : Known) → WordSet → (base : Known) → Bool
+stores_base p kind value words (Cell class layout stale) = each_word (wanted_by_store kind) p.layouts layout words && fits_words p.layouts layout words (wanted_by_value value)
+stores_base p kind value words _ = true
+
+-- what is known of a value fits the word of a global
+abbrev pub fits_word : Option WordKind → Option Wanted → Bool
+fits_word word None = true
+fits_word word (Some wanted) = holds_wanted wanted word
+
+-- a store of this kind may put what is known of a value into the word of a global
+abbrev pub stores_word : TypeKind → (value : Known) → Option WordKind → Bool
+stores_word kind value word = holds_wanted (wanted_by_store kind) word && fits_word word (wanted_by_value value)
+
+-- K2: a store of this kind to what is known of a place, which has to be an address
+abbrev pub stores_known : LaidOut → FactSet → TypeKind → (value : Known) → (place : Known) → Bool
+stores_known p facts kind value Nothing = true
+stores_known p facts kind value (Address base words) = stores_base p kind value words (known_at facts.values base)
+stores_known p facts kind value (GlobalAddress symbol) = stores_word kind value (global_word p.of_module symbol)
+stores_known p facts kind value _ = false
+
+-- what is known of a value fits what a slot holds
+abbrev pub fits_held : Module → Known → (held : Option ℕ) → Bool
+fits_held m value None = false
+fits_held m value (Some held) = known_fits (kind_of m held) value
+
+-- a slot may take a value: its type is moved there, and what is known of the value fits
+abbrev pub stores_slot : Module → SlotTable → (stored : ℕ) → (value : Known) → (slot : ℕ) → Bool
+stores_slot m slots stored value s = moves m stored (held_type slots s) && fits_held m value (held_type slots s)
+
+-- the same for the slot that a name names, or for what it stands for
+abbrev pub stores_local : LaidOut → SlotTable → FactSet → Known → (stored : ℕ) → (value : Known) → (slot : Option ℕ) → Bool
+stores_local p slots facts place stored value None = stores_known p facts (kind_of p.of_module stored) value place
+stores_local p slots facts place stored value (Some s) = stores_slot p.of_module slots stored value s
+
+-- a store of this type may put what is known of a value at this place; at null its type is one of a word
+abbrev pub may_store : LaidOut → SlotTable → FactSet → (stored : ℕ) → (value : Known) → (place : Operand) → Bool
+may_store p slots facts stored value (Written c) = is_null_constant c && is_word (kind_of p.of_module stored)
+may_store p slots facts stored value (Local v) = stores_local p slots facts (known_at facts.values v) stored value (slot_of slots v)
+may_store p slots facts stored value place = stores_known p facts (kind_of p.of_module stored) value (known_of facts place)
+
+-- v is null or a cell of this layout, which is held; without a layout nothing is known
+abbrev pub define_held : (v : ℕ) → (layout : Option ℕ) → (nonnull : Bool) → FactSet → FactSet
+define_held v None nonnull facts = define v Nothing facts
+define_held v (Some layout) nonnull facts = define_new v layout (record { nonnull = nonnull; fresh = false }) facts
+
+-- a load from a slot is a number of its bits, or the reference there
+abbrev pub load_kind : (v s : ℕ) → TypeKind → FactSet → FactSet
+load_kind v s (Bits bits) facts = define v (Number bits None) facts
+load_kind v s (Reference layout) facts = load_slot v s layout facts
+load_kind v s _ facts = define v Nothing facts
+
+-- by the type that the slot holds
+abbrev pub load_held_type : Module → (v s : ℕ) → (held : Option ℕ) → FactSet → FactSet
+load_held_type m v s None facts = define v Nothing facts
+load_held_type m v s (Some held) facts = load_kind v s (kind_of m held) facts
+
+-- a load of this kind from words of a layout is a number of its bits, or null or a held cell
+abbrev pub load_words : (layouts : List (List WordKind)) → (v : ℕ) → (layout : ℕ) → WordSet → TypeKind → FactSet → FactSet
+load_words layouts v layout words (Bits bits) facts = define v (Number bits None) facts
+load_words layouts v layout words (Reference l) facts = define_held v (Some l) false facts
+load_words layouts v layout words AnyReference facts = define_held v (first_layout layouts layout words cell_words) false facts
+load_words layouts v layout words _ facts = define v Nothing facts
+
+-- by what is known of the base
+abbrev pub load_base : LaidOut → (v : ℕ) → TypeKind → WordSet → (base : Known) → FactSet → FactSet
+load_base p v kind words (Cell class layout stale) facts = load_words p.layouts v layout words kind facts
+load_base p v kind words _ facts = define v Nothing facts
+
+-- a load of this kind from the word of a global
+abbrev pub load_word : (v : ℕ) → TypeKind → Option WordKind → FactSet → FactSet
+load_word v (Bits bits) word facts = define v (Number bits None) facts
+load_word v (Reference layout) word facts = define_held v (Some layout) false facts
+load_word v AnyReference word facts = define_held v (layout_of_word word) false facts
+load_word v _ word facts = define v Nothing facts
+
+-- by what is known of the place
+abbrev pub load_known : LaidOut → (v : ℕ) → TypeKind → Known → FactSet → FactSet
+load_known p v kind (Address base words) facts = load_base p v kind words (known_at facts.values base) facts
+load_known p v kind (GlobalAddress symbol) facts = load_word v kind (global_word p.of_module symbol) facts
+load_known p v kind _ facts = define v Nothing facts
+
+-- behind a load, by the slot that the place is
+abbrev pub load_place : LaidOut → SlotTable → (v loaded : ℕ) → Operand → (slot : Option ℕ) → FactSet → FactSet
+load_place p slots v loaded place None facts = load_known p v (kind_of p.of_module loaded) (known_of facts place) facts
+load_place p slots v loaded place (Some s) facts = load_held_type p.of_module v s (held_type slots s) facts
+
+-- behind a load
+abbrev pub after_load : LaidOut → SlotTable → (v loaded : ℕ) → (place : Operand) → FactSet → FactSet
+after_load p slots v loaded place facts = load_place p slots v loaded place (slot_named slots place) facts
+
+-- behind a store: a slot holds the value, or null, or a number; in a word others may find it, so its class is fresh no more
+abbrev pub after_store : (value : Known) → (slot : Option ℕ) → FactSet → FactSet
+after_store value None facts = drop_fresh_of value facts
+after_store value (Some s) facts = store_slot s value facts

@@ -1,0 +1,224 @@
+-- The ways out of a block: where they lead, what they show, and which lines of their targets are not shown.
+use Rattle.std.specs.Prelude.{ℕ, ◌==◌, Bool, true, false, not, ◌&&◌, ◌||◌, if◌then◌else◌, List, [], ◌∷◌, ◌++◌, map, length, position, slice_get, Option, Some, None}
+use Rattle.std.specs.List.{list_all, list_any, range_with_len}
+use Rattle.ir_ast.specs.declared.function.Function.{Function}
+use Rattle.ir_ast.specs.declared.function.Parameter.{Parameter}
+use Rattle.ir_ast.specs.declared.instr.Instr.{Instr}
+use Rattle.ir_ast.specs.declared.module.Module.{Module}
+use Rattle.ir_ast.specs.declared.op.Incoming.{Incoming}
+use Rattle.ir_ast.specs.declared.op.Op.{Op}
+use Rattle.ir_ast.specs.declared.op.Op.TheVariants.{Phi, Jump, Branch, Switch}
+use Rattle.ir_ast.specs.declared.operand.Constant.{Constant}
+use Rattle.ir_ast.specs.declared.operand.Constant.TheVariants as constant
+use Rattle.ir_ast.specs.declared.operand.Operand.{Operand}
+use Rattle.ir_ast.specs.declared.operand.Operand.TheVariants.{Constant as Written, Local, Global, CastGlobal}
+use Rattle.layout.specs.Layouts.{LaidOut}
+use Rattle.types.specs.ValueTypes.{target_of}
+use Rattle.shadow_stack.specs.Slots.{SlotTable}
+use Rattle.certs.specs.declared.section.Line.{Line}
+use Rattle.certs.specs.declared.section.Promise.{Promise}
+use Rattle.certs.specs.declared.section.Section.{Section}
+use Rattle.facts.specs.declared.known.Entry.{Entry}
+use Rattle.facts.specs.declared.known.Given.{Given}
+use Rattle.facts.specs.declared.known.Known.{Known}
+use Rattle.facts.specs.declared.known.Known.TheVariants.{Nothing, Number, Null}
+use Rattle.facts.specs.Facts.{FactSet, test_at, learn_test, after_phis}
+use Rattle.facts.specs.Lines.{facts_of_lines, facts_of_parameters, shows_line}
+use Rattle.block_rules.specs.declared.type_kind.TypeKind.{TypeKind}
+use Rattle.block_rules.specs.declared.type_kind.TypeKind.TheVariants as kind
+use Rattle.block_rules.specs.Operands.{known_of}
+use Rattle.block_rules.specs.TypeKinds.{kind_of}
+use Rattle.block_rules.specs.Standing.{instructions_of}
+use Rattle.block_rules.specs.Bounds.{below_next}
+use Rattle.block_rules.specs.Promises.{promises_in, given_by}
+use Rattle.block_rules.specs.declared.block_fault.Detail.{Detail}
+
+-- a function of a program, with its slots and its certificate, among the certificates of all
+pub record Scene : Type 0 where
+  pub program : LaidOut
+  pub certs : List Section
+  pub function : Function
+  pub slots : SlotTable
+  pub section : Option Section
+
+-- ---- what a block begins with
+
+-- the lines of a block in a certificate
+abbrev pub lines_in : Option Section → (block : ℕ) → List Line
+lines_in None block = []
+lines_in (Some section) block = elim (slice_get section.blocks block) [ None ↦ [] | Some lines ↦ lines ]
+
+-- the parameters, each with what its type says and what is promised of it
+abbrev pub parameters_given : Module → List Parameter → List (Option Promise) → List (ℕ × Given × Option Promise)
+parameters_given m [] promises = []
+parameters_given m (parameter ∷ parameters) [] = (parameter.value, given_by (kind_of m parameter.written), None) ∷ parameters_given m parameters []
+parameters_given m (parameter ∷ parameters) (promise ∷ promises) = (parameter.value, given_by (kind_of m parameter.written), promise) ∷ parameters_given m parameters promises
+
+-- what the entry begins with: the parameters
+abbrev pub entry_facts : Scene → FactSet
+entry_facts s =
+    facts_of_parameters (length s.function.locals) (length s.slots.held) (parameters_given s.program.of_module s.function.parameters (promises_in s.section))
+
+-- what a block that may be entered from others begins with: its lines
+abbrev pub line_facts : Scene → (block : ℕ) → FactSet
+line_facts s block = facts_of_lines s.slots (length s.function.locals) (length s.slots.held) (lines_in s.section block)
+
+-- what a block begins with
+abbrev pub given_at : Scene → (block : ℕ) → FactSet
+given_at s block = elim (block == 0) [ true ↦ entry_facts s | false ↦ line_facts s block ]
+
+-- ---- the ways out
+
+-- a way out: the label of its target, and the value that decides it, if a value does, with what it is on this way
+pub record Way : Type 0 where
+  pub target : ℕ
+  pub decided : Option (ℕ × Bool)
+
+-- a way that no value decides
+abbrev pub open_way : (target : ℕ) → Way
+open_way target = record { target = target; decided = None }
+
+-- the ways of a branch on an operand
+abbrev pub branch_ways : Operand → (taken other : ℕ) → List Way
+branch_ways (Local c) taken other = record { target = taken; decided = Some (c, true) } ∷ record { target = other; decided = Some (c, false) } ∷ []
+branch_ways _ taken other = open_way taken ∷ open_way other ∷ []
+
+-- the ways out that an instruction has, in the order in which it names them
+abbrev pub ways : Op → List Way
+ways (Jump target) = open_way target ∷ []
+ways (Branch condition_type condition taken other) = branch_ways condition taken other
+ways (Switch written value otherwise cases) = open_way otherwise ∷ map (λ case. open_way case.target) cases
+ways _ = []
+
+-- what a way shows by what decides it
+abbrev pub decided_facts : Option (ℕ × Bool) → FactSet → FactSet
+decided_facts None facts = facts
+decided_facts (Some (c, taken)) facts = learn_test (test_at facts.tests c) taken facts
+
+-- ---- phis
+
+-- this is the number, if there is one
+abbrev pub is_number : ℕ → Option ℕ → Bool
+is_number n None = false
+is_number n (Some other) = other == n
+
+-- the operand that comes in from a block: the first that is named for it
+abbrev pub operand_from : Function → (from : ℕ) → List Incoming → Option Operand
+operand_from f from [] = None
+operand_from f from (entry ∷ incoming) = if is_number from (target_of f entry.from) then Some entry.operand else operand_from f from incoming
+
+-- what is known of a number that comes in at a type of this kind
+abbrev pub number_comes_in : (n : ℕ) → TypeKind → Known
+number_comes_in n (kind.Bits bits) = Number bits (below_next n)
+number_comes_in n _ = Nothing
+
+-- what is known of a constant that comes in
+abbrev pub constant_comes_in : Constant → TypeKind → Known
+constant_comes_in (constant.Number n) kind = number_comes_in n kind
+constant_comes_in constant.Null kind = Null
+constant_comes_in (constant.Truth b) kind = Nothing
+
+-- what is known of what comes in
+abbrev pub known_comes_in : FactSet → TypeKind → Option Operand → Known
+known_comes_in facts kind None = Nothing
+known_comes_in facts kind (Some (Written c)) = constant_comes_in c kind
+known_comes_in facts kind (Some operand) = known_of facts operand
+
+-- an instruction is a phi
+abbrev pub is_phi : Op → Bool
+is_phi (Phi written incoming) = true
+is_phi _ = false
+
+-- the phi that defines a name, with what is known of what comes in
+abbrev pub phi_comes_in : Module → Function → (from : ℕ) → FactSet → (v : ℕ) → Op → List Entry
+phi_comes_in m f from facts v (Phi written incoming) = record { phi = v; known = known_comes_in facts (kind_of m written) (operand_from f from incoming) } ∷ []
+phi_comes_in m f from facts v _ = []
+
+-- by the name, if there is one
+abbrev pub named_comes_in : Module → Function → (from : ℕ) → FactSet → (result : Option ℕ) → Op → List Entry
+named_comes_in m f from facts None op = []
+named_comes_in m f from facts (Some v) op = phi_comes_in m f from facts v op
+
+-- the phis at the front of a block, each with what is known of what comes in from a block
+abbrev pub comes_in : Module → Function → (from : ℕ) → FactSet → List Instr → List Entry
+comes_in m f from facts [] = []
+comes_in m f from facts (instr ∷ instrs) = if is_phi instr.op then named_comes_in m f from facts instr.result instr.op ++ comes_in m f from facts instrs else []
+
+-- what is known behind the phis of a block that is entered from another
+abbrev pub entered : Scene → (from to : ℕ) → FactSet → FactSet
+entered s from to facts = after_phis (comes_in s.program.of_module s.function from facts (instructions_of s.function to)) facts
+
+-- ---- what is shown
+
+-- the first line of a block that is not shown by these facts
+abbrev pub unshown_line : Scene → (block : ℕ) → FactSet → Option ℕ
+unshown_line s block facts = position (λ line. not (shows_line s.slots facts (line_facts s block) line)) (lines_in s.section block)
+
+-- K15: the first line of a target that is not shown where it is entered from a block with these facts
+abbrev pub unshown_at : Scene → (from : ℕ) → FactSet → (to : Option ℕ) → Option Detail
+unshown_at s from facts None = None
+unshown_at s from facts (Some to) = elim (unshown_line s to (entered s from to facts)) [ None ↦ None | Some line ↦ Some (record { target = to; line = line }) ]
+
+-- the first of some ways on which a line is not shown
+abbrev pub unshown_on : Scene → (from : ℕ) → FactSet → List Way → Option Detail
+unshown_on s from facts [] = None
+unshown_on s from facts (way ∷ ways) =
+    elim (unshown_at s from (decided_facts way.decided facts) (target_of s.function way.target)) [ None ↦ unshown_on s from facts ways | Some detail ↦ Some detail ]
+
+-- ---- where the entries of a phi come from
+
+-- an instruction leads to a block
+abbrev pub instruction_leads : Function → (to : ℕ) → Instr → Bool
+instruction_leads f to instr = list_any (λ way. is_number to (target_of f way.target)) (ways instr.op)
+
+-- a block is entered from another: one of its instructions leads there
+abbrev pub is_predecessor : Function → (to from : ℕ) → Bool
+is_predecessor f to from = list_any (instruction_leads f to) (instructions_of f from)
+
+-- a block that there is is entered from it
+abbrev pub precedes : Function → (to : ℕ) → (from : Option ℕ) → Bool
+precedes f to None = false
+precedes f to (Some from) = is_predecessor f to from
+
+-- two constants are one
+abbrev pub is_same_constant : Constant → Constant → Bool
+is_same_constant (constant.Number n) (constant.Number m) = n == m
+is_same_constant constant.Null constant.Null = true
+is_same_constant (constant.Truth true) (constant.Truth true) = true
+is_same_constant (constant.Truth false) (constant.Truth false) = true
+is_same_constant _ _ = false
+
+-- two operands are one
+abbrev pub is_same_operand : Operand → Operand → Bool
+is_same_operand (Written c) (Written d) = is_same_constant c d
+is_same_operand (Local v) (Local w) = v == w
+is_same_operand (Global g) (Global h) = g == h
+is_same_operand (CastGlobal from g to) (CastGlobal from_other h to_other) = (from == from_other) && (g == h) && (to == to_other)
+is_same_operand _ _ = false
+
+-- an operand is this one, if there is one
+abbrev pub is_operand : Operand → Option Operand → Bool
+is_operand operand None = true
+is_operand operand (Some other) = is_same_operand other operand
+
+-- an operand that is named for a block is the first that is named for it
+abbrev pub agrees_from : Function → List Incoming → Operand → (from : Option ℕ) → Bool
+agrees_from f incoming operand None = true
+agrees_from f incoming operand (Some from) = is_operand operand (operand_from f from incoming)
+
+-- K16: an entry of a phi is for a predecessor, and no other for that one differs
+abbrev pub is_entry_of : Function → (to : ℕ) → List Incoming → Incoming → Bool
+is_entry_of f to incoming entry = precedes f to (target_of f entry.from) && agrees_from f incoming entry.operand (target_of f entry.from)
+
+-- an entry is there
+abbrev pub is_there : Option Operand → Bool
+is_there None = false
+is_there (Some operand) = true
+
+-- K16: each predecessor has an entry
+abbrev pub has_each : Function → (to : ℕ) → List Incoming → Bool
+has_each f to incoming = list_all (λ from. not (is_predecessor f to from) || is_there (operand_from f from incoming)) (range_with_len 0 (length f.blocks))
+
+-- K16: the entries of a phi are those of the block's predecessors
+abbrev pub are_entries : Function → (to : ℕ) → List Incoming → Bool
+are_entries f to incoming = list_all (is_entry_of f to incoming) incoming && has_each f to incoming

@@ -1,0 +1,49 @@
+ghost use Rattle.std.specs.Prelude.{◌≡◌};
+ghost use Rattle.block_rules.specs.declared.block_fault.BlockFault.TheVariants.{Memory};
+
+use crate::rule::Rule;
+use ir_ast::{BlockId, FuncId};
+use std::alloc::AllocError;
+use thiserror::Error;
+
+/// What a refusal says besides its rule: of a fact that an edge does not show, the target and the place of its line.
+#[derive(Clone, Copy, Debug, PartialEq, Eq)]
+pub struct Detail {
+    pub target: BlockId,
+    pub line: usize,
+}
+
+/// What an instruction breaks: a rule, and for a fact that an edge does not show where that one stands.
+#[derive(Clone, Copy, PartialEq, Eq)]
+pub struct Breach {
+    pub rule: Rule,
+    pub detail: Option<Detail>,
+}
+
+/// The first instruction of a block that breaks a rule.
+#[derive(Clone, Copy, Debug, PartialEq, Eq)]
+pub struct Refusal {
+    pub func: FuncId,
+    pub block: BlockId,
+    /// The place of the instruction in its block, from 0.
+    pub instr: usize,
+    pub rule: Rule,
+    pub detail: Option<Detail>,
+}
+
+/// Why a block is not found to be certified.
+#[derive(Debug, Drop, Error)]
+pub enum BlockFault {
+    #[error("a rule is broken")]
+    Refused(Refusal),
+    #[error("out of memory")]
+    Memory,
+}
+
+impl From<AllocError> for BlockFault {
+    ghost from_gives = { λ _ e. e ≡ Memory };
+
+    fn from(_error: AllocError) -> Self {
+        BlockFault::Memory
+    }
+}

@@ -1,0 +1,226 @@
+ghost use Rattle.std.specs.Prelude.{◌≡◌, OnOk};
+ghost use Rattle.facts.specs.Facts.{is_on, off_base};
+ghost use Rattle.block_rules.specs.Casts.{casts_null, casts_constant, casts_slot, casts_held, casts_words, casts_base, casts_to, casts_global, casts_operand, casts_known, casts_other, may_cast, layout_of_null, cast_number, cast_constant, cast_local, after_cast};
+
+use crate::integers::below_next;
+use crate::operands::known_of;
+use crate::places::{define_held, layout_of_word, loads_words};
+use crate::scene::Scene;
+use crate::type_kind::TypeKind;
+use facts::{Facts, Known};
+use ir_ast::{Constant, Module, Operand, SymbolId, TypeId, ValueId};
+use layout::{Program, global_word};
+use pools::{LayoutId, Layouts, WordSet};
+use shadow_stack::SlotId;
+use std::alloc::AllocError;
+
+fn casts_null(module: &Module, from: TypeId, to: TypeId) -> bool
+    ensures { result ≡ casts_null «module».now from to }
+{
+    (TypeKind::of(module, from).may_be_reference() && TypeKind::of(module, to).may_be_reference())
+        || (TypeKind::of_place(module, from).may_be_reference()
+            && TypeKind::of_place(module, to).may_be_reference())
+}
+
+fn casts_constant(module: &Module, from: TypeId, to: TypeId, constant: Constant) -> bool
+    ensures { result ≡ casts_constant «module».now from to constant }
+{
+    match constant {
+        Constant::Null => casts_null(module, from, to),
+        _ => false,
+    }
+}
+
+fn casts_held(module: &Module, to: TypeId, held: Option<TypeId>) -> bool
+    ensures { result ≡ casts_held «module».now to held }
+{
+    match held {
+        Some(held) => match TypeKind::of(module, held) {
+            TypeKind::Reference(layout) => TypeKind::of_place(module, to).fits_layout(layout),
+            _ => false,
+        },
+        None => false,
+    }
+}
+
+fn casts_words(layouts: &Layouts, layout: LayoutId, words: &WordSet, to: &TypeKind) -> bool
+    ensures { result ≡ casts_words layouts.now layout words.now to.now }
+{
+    to.may_be_reference() && loads_words(layouts, layout, words, *to)
+}
+
+fn casts_base(program: &Program, to: TypeId, words: &WordSet, base: &Known) -> bool
+    ensures { result ≡ casts_base program.now to words.now base.now }
+{
+    match base {
+        Known::Cell { layout, .. } => casts_words(
+            program.layouts(),
+            *layout,
+            words,
+            &TypeKind::of_place(program.module(), to),
+        ),
+        _ => true,
+    }
+}
+
+fn casts_global(module: &Module, to: TypeId, symbol: SymbolId) -> bool
+    ensures { result ≡ casts_global «module».now to symbol }
+{
+    match layout_of_word(global_word(module, symbol)) {
+        Some(layout) => TypeKind::of_place(module, to).fits_layout(layout),
+        None => false,
+    }
+}
+
+/// Whether an operand stands under a type of its layout.
+pub fn casts_operand(module: &Module, operand: &Operand) -> bool
+    ensures { result ≡ casts_operand «module».now operand.now }
+{
+    match operand {
+        Operand::CastGlobal { from, global, to } => {
+            *from == *to || casts_global(module, *to, *global)
+        }
+        _ => true,
+    }
+}
+
+fn casts_known(program: &Program, facts: &Facts, to: TypeId, known: &Known) -> bool
+    ensures { result ≡ casts_known program.now facts.now to known.now }
+{
+    match known {
+        Known::Nothing => true,
+        Known::Number { .. } => false,
+        Known::Cell { layout, .. } => TypeKind::of(program.module(), to).fits_layout(*layout),
+        Known::Null => TypeKind::of(program.module(), to).may_be_reference(),
+        Known::Address { base, words } => casts_base(program, to, words, &facts.known(*base)),
+        Known::GlobalAddress(symbol) => casts_global(program.module(), to, *symbol),
+    }
+}
+
+/// Whether a bitcast to another type keeps the layout.
+fn casts_other(scene: &Scene, facts: &Facts, from: TypeId, to: TypeId, operand: &Operand) -> bool
+    ensures { result ≡ casts_other scene.now.program.now scene.now.slots.now facts.now from to operand.now }
+{
+    match operand {
+        Operand::Constant(constant) => casts_constant(scene.module(), from, to, *constant),
+        Operand::Local(v) => match scene.slots.slot_of(*v) {
+            Some(s) => casts_held(scene.module(), to, scene.slots.held_type(s)),
+            None => casts_known(scene.program, facts, to, &facts.known(*v)),
+        },
+        operand => casts_known(scene.program, facts, to, &known_of(facts, operand)),
+    }
+}
+
+/// Whether a bitcast is allowed.
+pub fn may_cast(scene: &Scene, facts: &Facts, from: TypeId, to: TypeId, operand: &Operand) -> bool
+    ensures { result ≡ may_cast scene.now.program.now scene.now.slots.now facts.now from to operand.now }
+{
+    from == to || casts_other(scene, facts, from, to, operand)
+}
+
+fn layout_of_null(from: TypeKind, to: TypeKind) -> Option<LayoutId>
+    ensures { result ≡ layout_of_null from to }
+{
+    match to.layout() {
+        Some(layout) => Some(layout),
+        None => from.layout(),
+    }
+}
+
+fn cast_number(facts: &mut Facts, v: ValueId, number: u64, kind: TypeKind) -> Result<(), AllocError>
+    ensures { OnOk result (facts.new ≡ cast_number v number kind facts.old) }
+{
+    match kind {
+        TypeKind::Bits(bits) => {
+            let below = below_next(number);
+            facts.define(v, Known::Number { bits, below })
+        }
+        _ => facts.define(v, Known::Nothing),
+    }
+}
+
+fn cast_constant(
+    module: &Module,
+    facts: &mut Facts,
+    v: ValueId,
+    from: TypeId,
+    to: TypeId,
+    constant: Constant,
+) -> Result<(), AllocError>
+    ensures { OnOk result (facts.new ≡ cast_constant «module».now v from to constant facts.old) }
+{
+    match constant {
+        Constant::Number(number) => cast_number(facts, v, number, TypeKind::of(module, to)),
+        Constant::Truth(_) => facts.define(v, Known::Nothing),
+        Constant::Null => {
+            let layout = layout_of_null(TypeKind::of(module, from), TypeKind::of(module, to));
+            define_held(facts, v, layout, false)
+        }
+    }
+}
+
+/// What is known of a value, if that is no address of which the other value is the base.
+pub fn off_base(v: ValueId, known: &Known) -> Known
+    ensures { result ≡ off_base v known.now }
+{
+    if is_on(v, known) {
+        Known::Nothing
+    } else {
+        *known
+    }
+}
+
+fn is_on(v: ValueId, known: &Known) -> bool
+    ensures { result ≡ is_on v known.now }
+{
+    match known {
+        Known::Address { base, .. } => *base == v,
+        _ => false,
+    }
+}
+
+fn cast_local(
+    facts: &mut Facts,
+    v: ValueId,
+    u: ValueId,
+    known: &Known,
+    slot: Option<SlotId>,
+) -> Result<(), AllocError>
+    ensures { OnOk result (facts.new ≡ cast_local v u known.now slot facts.old) }
+{
+    match slot {
+        Some(_) => Ok(()),
+        None => {
+            if u == v {
+                Ok(())
+            } else {
+                let known = off_base(v, known);
+                facts.define(v, known)
+            }
+        }
+    }
+}
+
+/// Goes on behind a bitcast.
+pub fn after_cast(
+    scene: &Scene,
+    facts: &mut Facts,
+    v: ValueId,
+    from: TypeId,
+    to: TypeId,
+    operand: &Operand,
+) -> Result<(), AllocError>
+    ensures { OnOk result (facts.new ≡ after_cast scene.now.program.now.of_module scene.now.slots.now v from to operand.now facts.old) }
+{
+    match operand {
+        Operand::Constant(constant) => cast_constant(scene.module(), facts, v, from, to, *constant),
+        Operand::Local(u) => {
+            let known = facts.known(*u);
+            cast_local(facts, v, *u, &known, scene.slots.slot_of(*u))
+        }
+        operand => {
+            let known = known_of(facts, operand);
+            facts.define(v, known)
+        }
+    }
+}

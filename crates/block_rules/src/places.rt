@@ -1,0 +1,472 @@
+ghost use Rattle.std.specs.Prelude.{◌≡◌, OnOk, Some};
+ghost use Rattle.pools.specs.Layouts.{kind_of_word};
+ghost use Rattle.facts.specs.Facts.{drop_fresh_of};
+ghost use Rattle.block_rules.specs.Operands.{known_of};
+ghost use Rattle.block_rules.specs.Places.{moves_kind, moves, holds_wanted, layout_of_word, cell_words, each_word, first_layout, one_reference, wanted_by_load, loads_words, loads_base, loads_word, loads_known, may_load, wanted_by_store, wanted_by_value, fits_words, stores_base, fits_word, stores_word, stores_known, fits_held, stores_slot, may_store, define_held, load_kind, load_held_type, load_words, load_base, load_word, load_known, load_place, after_load, after_store};
+
+use crate::operands::{is_null_constant, known_fits, known_of, slot_named};
+use crate::scene::Scene;
+use crate::type_kind::TypeKind;
+use crate::wanted::Wanted;
+use facts::{Class, Facts, Known};
+use ir_ast::{Module, Operand, TypeId, ValueId};
+use layout::{Program, global_word};
+use pools::{CELL_WORDS, LayoutId, Layouts, WordKind, WordSet};
+use shadow_stack::SlotId;
+use std::alloc::AllocError;
+
+fn moves_kind(same: bool, written: TypeKind, held: TypeKind) -> bool
+    ensures { result ≡ moves_kind same written held }
+{
+    match held {
+        TypeKind::Bits(_) => same,
+        TypeKind::Reference(_) => same || written.is_any_reference(),
+        _ => false,
+    }
+}
+
+fn moves(module: &Module, written: TypeId, held: Option<TypeId>) -> bool
+    ensures { result ≡ moves «module».now written held }
+{
+    match held {
+        Some(held) => moves_kind(
+            written == held,
+            TypeKind::of(module, written),
+            TypeKind::of(module, held),
+        ),
+        None => false,
+    }
+}
+
+fn kind_is_wanted(wanted: Wanted, kind: WordKind) -> bool
+    ensures { result ≡ holds_wanted wanted (Some kind) }
+{
+    match kind {
+        WordKind::Integer(bits) => matches!(wanted, Wanted::Integer(other) if bits == other),
+        WordKind::Reference(layout) => match wanted {
+            Wanted::Reference(other) => layout == other,
+            Wanted::AnyReference => true,
+            _ => false,
+        },
+    }
+}
+
+fn holds_wanted(wanted: Wanted, kind: Option<WordKind>) -> bool
+    ensures { result ≡ holds_wanted wanted kind }
+{
+    match kind {
+        Some(kind) => kind_is_wanted(wanted, kind),
+        None => false,
+    }
+}
+
+fn kind_of_word(layouts: &Layouts, layout: LayoutId, word: u32) -> Option<WordKind>
+    ensures { result ≡ kind_of_word layouts.now layout word }
+{
+    layouts.words(layout).get(word as usize).copied()
+}
+
+fn each_word(wanted: Wanted, layouts: &Layouts, layout: LayoutId, words: &WordSet) -> bool
+    ensures { result ≡ each_word wanted layouts.now layout words.now }
+{
+    (0..CELL_WORDS as u32).all(|word| {
+        !words.has(word) || holds_wanted(wanted, kind_of_word(layouts, layout, word))
+    })
+}
+
+/// The layout to which a word refers.
+pub fn layout_of_word(kind: Option<WordKind>) -> Option<LayoutId>
+    ensures { result ≡ layout_of_word kind }
+{
+    match kind? {
+        WordKind::Reference(layout) => Some(layout),
+        WordKind::Integer(_) => None,
+    }
+}
+
+/// The layout to which the first word of a set refers.
+fn first_layout(layouts: &Layouts, layout: LayoutId, words: &WordSet) -> Option<LayoutId>
+    ensures { result ≡ first_layout layouts.now layout words.now cell_words }
+{
+    for word in 0..CELL_WORDS as u32 {
+        if words.has(word) {
+            return layout_of_word(kind_of_word(layouts, layout, word));
+        }
+    }
+    None
+}
+
+fn wanted_by_load(kind: TypeKind, first: Option<LayoutId>) -> Wanted
+    ensures { result ≡ wanted_by_load kind first }
+{
+    match kind {
+        TypeKind::Bits(bits) => Wanted::Integer(bits),
+        TypeKind::Reference(layout) => Wanted::Reference(layout),
+        TypeKind::AnyReference => match first {
+            Some(layout) => Wanted::Reference(layout),
+            None => Wanted::Nothing,
+        },
+        _ => Wanted::Nothing,
+    }
+}
+
+/// Whether words of a layout may be loaded under a type of this kind.
+pub fn loads_words(layouts: &Layouts, layout: LayoutId, words: &WordSet, kind: TypeKind) -> bool
+    ensures { result ≡ loads_words layouts.now layout words.now kind }
+{
+    let first = first_layout(layouts, layout, words);
+    each_word(wanted_by_load(kind, first), layouts, layout, words)
+}
+
+fn loads_base(program: &Program, kind: TypeKind, words: &WordSet, base: &Known) -> bool
+    ensures { result ≡ loads_base program.now kind words.now base.now }
+{
+    match base {
+        Known::Cell { layout, .. } => loads_words(program.layouts(), *layout, words, kind),
+        _ => true,
+    }
+}
+
+fn loads_word(kind: TypeKind, word: &Option<WordKind>) -> bool
+    ensures { result ≡ loads_word kind word.now }
+{
+    let first = layout_of_word(*word);
+    holds_wanted(wanted_by_load(kind, first), *word)
+}
+
+/// Whether a load of this kind may be from what is known of a place.
+pub fn loads_known(program: &Program, facts: &Facts, kind: TypeKind, place: &Known) -> bool
+    ensures { result ≡ loads_known program.now facts.now kind place.now }
+{
+    match place {
+        Known::Nothing => true,
+        Known::Address { base, words } => loads_base(program, kind, words, &facts.known(*base)),
+        Known::GlobalAddress(symbol) => {
+            let word = global_word(program.module(), *symbol);
+            loads_word(kind, &word)
+        }
+        _ => false,
+    }
+}
+
+/// Whether a load of this type may be from a place.
+pub fn may_load(scene: &Scene, facts: &Facts, loaded: TypeId, place: &Operand) -> bool
+    ensures { result ≡ may_load scene.now.program.now scene.now.slots.now facts.now loaded place.now }
+{
+    match place {
+        Operand::Constant(constant) => is_null_constant(*constant),
+        Operand::Local(v) => match scene.slots.slot_of(*v) {
+            Some(s) => moves(scene.module(), loaded, scene.slots.held_type(s)),
+            None => {
+                let kind = TypeKind::of(scene.module(), loaded);
+                loads_known(scene.program, facts, kind, &facts.known(*v))
+            }
+        },
+        place => {
+            let kind = TypeKind::of(scene.module(), loaded);
+            loads_known(scene.program, facts, kind, &known_of(facts, place))
+        }
+    }
+}
+
+fn wanted_by_store(kind: TypeKind) -> Wanted
+    ensures { result ≡ wanted_by_store kind }
+{
+    match kind {
+        TypeKind::Bits(bits) => Wanted::Integer(bits),
+        TypeKind::Reference(layout) => Wanted::Reference(layout),
+        TypeKind::AnyReference => Wanted::AnyReference,
+        _ => Wanted::Nothing,
+    }
+}
+
+fn wanted_by_value(value: &Known) -> Option<Wanted>
+    ensures { result ≡ wanted_by_value value.now }
+{
+    match value {
+        Known::Nothing => None,
+        Known::Number { bits, .. } => Some(Wanted::Integer(*bits)),
+        Known::Cell { layout, .. } => Some(Wanted::Reference(*layout)),
+        Known::Null => Some(Wanted::AnyReference),
+        Known::Address { .. } | Known::GlobalAddress(_) => Some(Wanted::Nothing),
+    }
+}
+
+fn fits_words(layouts: &Layouts, layout: LayoutId, words: &WordSet, wanted: Option<Wanted>) -> bool
+    ensures { result ≡ fits_words layouts.now layout words.now wanted }
+{
+    match wanted {
+        None => true,
+        Some(wanted) => each_word(wanted, layouts, layout, words),
+    }
+}
+
+fn stores_base(
+    program: &Program,
+    kind: TypeKind,
+    value: &Known,
+    words: &WordSet,
+    base: &Known,
+) -> bool
+    ensures { result ≡ stores_base program.now kind value.now words.now base.now }
+{
+    match base {
+        Known::Cell { layout, .. } => {
+            each_word(wanted_by_store(kind), program.layouts(), *layout, words)
+                && fits_words(program.layouts(), *layout, words, wanted_by_value(value))
+        }
+        _ => true,
+    }
+}
+
+fn fits_word(word: Option<WordKind>, wanted: Option<Wanted>) -> bool
+    ensures { result ≡ fits_word word wanted }
+{
+    match wanted {
+        None => true,
+        Some(wanted) => holds_wanted(wanted, word),
+    }
+}
+
+fn stores_word(kind: TypeKind, value: &Known, word: &Option<WordKind>) -> bool
+    ensures { result ≡ stores_word kind value.now word.now }
+{
+    holds_wanted(wanted_by_store(kind), *word) && fits_word(*word, wanted_by_value(value))
+}
+
+/// Whether a store of this kind may put what is known of a value at what is known of a place.
+pub fn stores_known(
+    program: &Program,
+    facts: &Facts,
+    kind: TypeKind,
+    value: &Known,
+    place: &Known,
+) -> bool
+    ensures { result ≡ stores_known program.now facts.now kind value.now place.now }
+{
+    match place {
+        Known::Nothing => true,
+        Known::Address { base, words } => {
+            stores_base(program, kind, value, words, &facts.known(*base))
+        }
+        Known::GlobalAddress(symbol) => {
+            let word = global_word(program.module(), *symbol);
+            stores_word(kind, value, &word)
+        }
+        _ => false,
+    }
+}
+
+fn fits_held(module: &Module, value: &Known, held: Option<TypeId>) -> bool
+    ensures { result ≡ fits_held «module».now value.now held }
+{
+    match held {
+        Some(held) => known_fits(TypeKind::of(module, held), value),
+        None => false,
+    }
+}
+
+fn stores_slot(scene: &Scene, stored: TypeId, value: &Known, s: SlotId) -> bool
+    ensures { result ≡ stores_slot scene.now.program.now.of_module scene.now.slots.now stored value.now s }
+{
+    moves(scene.module(), stored, scene.slots.held_type(s))
+        && fits_held(scene.module(), value, scene.slots.held_type(s))
+}
+
+/// Whether a value may be stored at a place.
+pub fn may_store(
+    scene: &Scene,
+    facts: &Facts,
+    stored: TypeId,
+    value: &Known,
+    place: &Operand,
+) -> bool
+    ensures { result ≡ may_store scene.now.program.now scene.now.slots.now facts.now stored value.now place.now }
+{
+    match place {
+        Operand::Constant(constant) => {
+            is_null_constant(*constant) && TypeKind::of(scene.module(), stored).is_word()
+        }
+        Operand::Local(v) => match scene.slots.slot_of(*v) {
+            Some(s) => stores_slot(scene, stored, value, s),
+            None => {
+                let kind = TypeKind::of(scene.module(), stored);
+                stores_known(scene.program, facts, kind, value, &facts.known(*v))
+            }
+        },
+        place => {
+            let kind = TypeKind::of(scene.module(), stored);
+            stores_known(scene.program, facts, kind, value, &known_of(facts, place))
+        }
+    }
+}
+
+/// A value is null or a held cell of this layout.
+pub fn define_held(
+    facts: &mut Facts,
+    v: ValueId,
+    layout: Option<LayoutId>,
+    nonnull: bool,
+) -> Result<(), AllocError>
+    ensures { OnOk result (facts.new ≡ define_held v layout nonnull facts.old) }
+{
+    match layout {
+        Some(layout) => facts.define_new(
+            v,
+            layout,
+            Class {
+                nonnull,
+                fresh: false,
+            },
+        ),
+        None => facts.define(v, Known::Nothing),
+    }
+}
+
+fn load_kind(facts: &mut Facts, v: ValueId, s: SlotId, kind: TypeKind) -> Result<(), AllocError>
+    ensures { OnOk result (facts.new ≡ load_kind v s kind facts.old) }
+{
+    match kind {
+        TypeKind::Bits(bits) => facts.define(v, Known::Number { bits, below: None }),
+        TypeKind::Reference(layout) => facts.load_slot(v, s, layout),
+        _ => facts.define(v, Known::Nothing),
+    }
+}
+
+fn load_held_type(
+    module: &Module,
+    facts: &mut Facts,
+    v: ValueId,
+    s: SlotId,
+    held: Option<TypeId>,
+) -> Result<(), AllocError>
+    ensures { OnOk result (facts.new ≡ load_held_type «module».now v s held facts.old) }
+{
+    match held {
+        Some(held) => load_kind(facts, v, s, TypeKind::of(module, held)),
+        None => facts.define(v, Known::Nothing),
+    }
+}
+
+fn load_words(
+    layouts: &Layouts,
+    facts: &mut Facts,
+    v: ValueId,
+    layout: LayoutId,
+    words: &WordSet,
+    kind: TypeKind,
+) -> Result<(), AllocError>
+    ensures { OnOk result (facts.new ≡ load_words layouts.now v layout words.now kind facts.old) }
+{
+    match kind {
+        TypeKind::Bits(bits) => facts.define(v, Known::Number { bits, below: None }),
+        TypeKind::Reference(layout) => define_held(facts, v, Some(layout), false),
+        TypeKind::AnyReference => {
+            define_held(facts, v, first_layout(layouts, layout, words), false)
+        }
+        _ => facts.define(v, Known::Nothing),
+    }
+}
+
+fn load_base(
+    program: &Program,
+    facts: &mut Facts,
+    v: ValueId,
+    kind: TypeKind,
+    words: &WordSet,
+    base: &Known,
+) -> Result<(), AllocError>
+    ensures { OnOk result (facts.new ≡ load_base program.now v kind words.now base.now facts.old) }
+{
+    match base {
+        Known::Cell { layout, .. } => load_words(program.layouts(), facts, v, *layout, words, kind),
+        _ => facts.define(v, Known::Nothing),
+    }
+}
+
+fn load_word(
+    facts: &mut Facts,
+    v: ValueId,
+    kind: TypeKind,
+    word: Option<WordKind>,
+) -> Result<(), AllocError>
+    ensures { OnOk result (facts.new ≡ load_word v kind word facts.old) }
+{
+    match kind {
+        TypeKind::Bits(bits) => facts.define(v, Known::Number { bits, below: None }),
+        TypeKind::Reference(layout) => define_held(facts, v, Some(layout), false),
+        TypeKind::AnyReference => define_held(facts, v, layout_of_word(word), false),
+        _ => facts.define(v, Known::Nothing),
+    }
+}
+
+/// Goes on behind a load of this kind from what is known of a place.
+pub fn load_known(
+    program: &Program,
+    facts: &mut Facts,
+    v: ValueId,
+    kind: TypeKind,
+    place: &Known,
+) -> Result<(), AllocError>
+    ensures { OnOk result (facts.new ≡ load_known program.now v kind place.now facts.old) }
+{
+    match place {
+        Known::Address { base, words } => {
+            let base = facts.known(*base);
+            load_base(program, facts, v, kind, words, &base)
+        }
+        Known::GlobalAddress(symbol) => {
+            load_word(facts, v, kind, global_word(program.module(), *symbol))
+        }
+        _ => facts.define(v, Known::Nothing),
+    }
+}
+
+/// Goes on behind a load.
+pub fn after_load(
+    scene: &Scene,
+    facts: &mut Facts,
+    v: ValueId,
+    loaded: TypeId,
+    place: &Operand,
+) -> Result<(), AllocError>
+    ensures { OnOk result (facts.new ≡ after_load scene.now.program.now scene.now.slots.now v loaded place.now facts.old) }
+{
+    match slot_named(scene.slots, place) {
+        Some(s) => load_held_type(scene.module(), facts, v, s, scene.slots.held_type(s)),
+        None => {
+            let kind = TypeKind::of(scene.module(), loaded);
+            let known = known_of(facts, place);
+            load_known(scene.program, facts, v, kind, &known)
+        }
+    }
+}
+
+/// What is stored goes where others may find it.
+pub fn publish(facts: &mut Facts, value: &Operand)
+    ensures { facts.new ≡ drop_fresh_of (known_of facts.old value.now) facts.old }
+{
+    if let Operand::Local(v) = value {
+        barriers::after_store(facts, *v);
+    }
+}
+
+/// Goes on behind a store.
+pub fn after_store(
+    facts: &mut Facts,
+    value: &Operand,
+    slot: Option<SlotId>,
+) -> Result<(), AllocError>
+    ensures { OnOk result (facts.new ≡ after_store (known_of facts.old value.now) slot facts.old) }
+{
+    match slot {
+        Some(s) => {
+            let known = known_of(facts, value);
+            facts.store_slot(s, known)
+        }
+        None => {
+            publish(facts, value);
+            Ok(())
+        }
+    }
+}

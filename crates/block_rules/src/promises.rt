@@ -1,0 +1,118 @@
+ghost use Rattle.std.specs.Prelude.{◌≡◌};
+ghost use Rattle.std.specs.List.{list_all, zip};
+ghost use Rattle.std.specs.Option.{option_copied};
+ghost use Rattle.facts.specs.Lines.{implied, is_below};
+ghost use Rattle.block_rules.specs.Promises.{promises_in, promised_in, own_mark, callee_mark, given_by, is_promised, keeps_promise, shows_promise, show_promises};
+
+use crate::integers::{below_of, known_layout, one_layout};
+use crate::operands::{is_nonnull, known_of};
+use crate::type_kind::TypeKind;
+use certs::{Mark, Promise, Section};
+use facts::{Facts, Given};
+use ir_ast::{Argument, Operand};
+use pools::LayoutId;
+
+/// What a certificate promises of each parameter.
+pub fn promises_in(section: Option<&Section>) -> &[Option<Promise>]
+    ensures { result.now ≡ promises_in (option_copied section.entry) }
+{
+    match section {
+        Some(section) => section.parameters.as_slice(),
+        None => &[],
+    }
+}
+
+/// What a certificate promises of the result.
+pub fn promised_in(section: Option<&Section>) -> Option<Promise>
+    ensures { result ≡ promised_in (option_copied section.entry) }
+{
+    match section {
+        Some(section) => section.result,
+        None => None,
+    }
+}
+
+/// The mark by which a function with this certificate is checked.
+pub fn own_mark(section: Option<&Section>) -> Mark
+    ensures { result ≡ own_mark (option_copied section.entry) }
+{
+    match section {
+        Some(section) => section.mark,
+        None => Mark::None,
+    }
+}
+
+/// The mark by which a function with this certificate is called.
+pub fn callee_mark(section: Option<&Section>) -> Mark
+    ensures { result ≡ callee_mark (option_copied section.entry) }
+{
+    match section {
+        Some(section) => section.mark,
+        None => Mark::May,
+    }
+}
+
+/// What a type says of a parameter or a result.
+pub fn given_by(kind: TypeKind) -> Given
+    ensures { result ≡ given_by kind }
+{
+    match kind {
+        TypeKind::Bits(bits) => Given::Number(bits),
+        TypeKind::Reference(layout) => Given::Reference(layout),
+        TypeKind::AnyReference => Given::AnyReference,
+        _ => Given::Nothing,
+    }
+}
+
+fn implied(asked: bool, holds: bool) -> bool
+    ensures { result ≡ implied asked holds }
+{
+    holds || !asked
+}
+
+fn is_below(below: Option<u64>, asked: Option<u64>) -> bool
+    ensures { result ≡ is_below below asked }
+{
+    match (below, asked) {
+        (_, None) => true,
+        (Some(below), Some(asked)) => below <= asked,
+        (None, Some(_)) => false,
+    }
+}
+
+fn is_promised(promised: Option<LayoutId>, layout: Option<LayoutId>) -> bool
+    ensures { result ≡ is_promised promised layout }
+{
+    match promised {
+        Some(promised) => one_layout(Some(promised), layout),
+        None => true,
+    }
+}
+
+/// Whether what is promised of the result is shown of an operand.
+pub fn keeps_promise(facts: &Facts, promise: Option<Promise>, operand: &Operand) -> bool
+    ensures { result ≡ keeps_promise facts.now promise operand.now }
+{
+    let known = known_of(facts, operand);
+    let layout = known_layout(&known);
+    let nonnull = is_nonnull(facts, &known);
+    match promise {
+        Some(promise) => {
+            is_promised(promise.layout, layout)
+                && implied(promise.nonnull, nonnull)
+                && is_below(below_of(facts, operand), promise.below)
+        }
+        None => true,
+    }
+}
+
+/// Whether what is promised of each parameter is shown of its argument.
+pub fn show_promises(facts: &Facts, arguments: &[Argument], promises: &[Option<Promise>]) -> bool
+    ensures { result ≡ show_promises facts.now arguments.now promises.now }
+{
+    arguments.iter().zip(promises.iter()).all(|(argument, promise)| keeps_promise(
+        facts,
+        *promise,
+        &argument.operand,
+    ))
+}

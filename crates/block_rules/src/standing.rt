@@ -1,0 +1,15 @@
+use certs::{Mark, Promise};
+
+/// Where an instruction stands.
+#[derive(Clone, Copy, PartialEq, Eq)]
+pub struct Standing {
+    pub in_entry: bool,
+    /// In the head of the entry block, where gcroot stands.
+    pub in_head: bool,
+    /// Not the first instruction of a function that moves references without a shadow stack.
+    pub collected: bool,
+    /// What the function promises of its result.
+    pub promised: Option<Promise>,
+    /// Whether the function may reach a safepoint.
+    pub mark: Mark,
+}

@@ -1,0 +1,242 @@
+-- Printed promises are read as what they were printed for.
+use Rattle.std.proofs.Common.{◌≡◌, ℕ, Bool, true, false, not, ◌&&◌, ◌||◌, [], ◌∷◌, ◌++◌, slice_get, codes, Option, Some, None, refl, ap, sym, subst, ◌∙◌, append_assoc}
+use Rattle.std.specs.Prelude.{if◌then◌else◌}
+use Rattle.std.specs.List.{list_any}
+use Rattle.std.specs.Str.{bytes_eq}
+use Rattle.std.specs.Fmt.{decimal}
+use Rattle.std.proofs.lemmas.Bool.{eq-eqb}
+use Rattle.ir_ast.specs.declared.function.Function.{Function}
+use Rattle.ir_ast.specs.declared.function.LocalSort.{LocalSort}
+use Rattle.ir_ast.specs.declared.function.LocalSort.TheVariants as local
+use Rattle.ir_ast.specs.declared.function.Parameter.{Parameter}
+use Rattle.ir_ast.specs.declared.module.Module.{Module}
+use Rattle.ir_tokens.specs.Bytes.{Text}
+use Rattle.name_text.specs.Words.{past_blanks, past_lines, word_at, stops}
+use Rattle.certificate.specs.Names.{value_of_word}
+use Rattle.certs.specs.Families.{family_of_type, family_of_value, family_of_sort, is_reference, is_integer, refers_to}
+use Rattle.certificate.specs.Input.{Input, word, with_promise}
+use Rattle.certificate.specs.Forms.{is_parameter, is_named, unpromised, parameter_by, parameter_named, new_parameter}
+use Rattle.certificate.specs.Lines.{no_promise, promised_by, promise_by, promised_fact, more_facts, promise}
+use Rattle.certificate.specs.Text as text
+use Rattle.certs.specs.Fits.{is_count, stands_for, layout_fits, says_something, promised_layout_fits, promised_below_fits, promise_fits, promised_fits, is_value_sort, is_value}
+use Rattle.certificate.specs.Named.{IsNamed, IsNamedFunction}
+use Rattle.certificate.specs.Print.{local_text, layout_text, promise_text, parameter_text, result_text}
+use Rattle.name_text.proofs.Seams.{blanks_on}
+use Rattle.certificate.proofs.PrintedWords.{first_true, rest_true, count_read}
+use Rattle.certificate.proofs.PrintedNames.{value_printed, layout_printed}
+use Rattle.certificate.proofs.PrintedLines.{at, Behind, skip_on, word_is, taken_on, expect_on, line_end_on, count_on, layout_on}
+use Rattle.certs.specs.declared.family.Family.{Family}
+use Rattle.certs.specs.declared.family.Family.TheVariants as fam
+use Rattle.certificate.specs.declared.promises.Promised.TheVariants as promised
+use Rattle.certs.specs.declared.section.Promise.{Promise}
+
+module _ (m : Module) (f : Function) (named : IsNamed m) (own : IsNamedFunction f) where
+  -- no more facts where the line ends
+  no_more : (i : Input) (family : Family) (p : Promise) (t : Text) → (more_facts m family p).says (at i (10 ∷ t)) p (at i (10 ∷ t))
+  unfolding more_facts
+  no_more i family p t = (refl, refl)
+
+  -- `nonnull`, which is not promised so far
+  null_fact : (i : Input) (family : Family) (layout : Option ℕ) (t : Text) → is_reference family ≡ true
+      → (promised_fact m family (record { layout = layout; nonnull = false; below = None })).says (at i (codes "nonnull" ++ 10 ∷ t)) (record { layout = layout; nonnull = true; below = None }) (at i (10 ∷ t))
+  unfolding promised_fact
+  null_fact i family layout t refers =
+      let p : Promise = record { layout = layout; nonnull = false; below = None } in
+      let q : Promise = record { layout = layout; nonnull = true; below = None } in
+      let is = word_is i (codes "nonnull") (10 ∷ t) (10 ∷ t) refl (refl, refl) in
+      let kind : promised_by family p (word (at i (codes "nonnull" ++ 10 ∷ t))) ≡ promised.Nonnull = ap (promised_by family p) is ∙ ap (λ (x : Bool). if x then promised.Nonnull else promised.Other) refers in
+      subst (λ x. (promise_by m family p x).says (at i (codes "nonnull" ++ 10 ∷ t)) q (at i (10 ∷ t))) (sym kind) (taken_on q i (codes "nonnull") (10 ∷ t) (10 ∷ t) refl (refl, refl))
+
+  -- a layout, with which the line begins
+  layout_fact : (i : Input) (family : Family) (layout : ℕ) (t u : Text) → is_reference family ≡ true → layout_fits m family layout ≡ true → Behind t u
+      → (promised_fact m family no_promise).says (at i (codes "ref" ++ 32 ∷ (layout_text m layout ++ t))) (record { layout = Some layout; nonnull = false; below = None }) (at i u)
+  unfolding promised_fact
+  layout_fact i family layout t u refers fits b =
+      let w = layout_text m layout in
+      let p = layout_printed m layout named (rest_true (refers_to layout family) (list_any (stands_for layout) m.struct_of) fits) in
+      let q : Promise = record { layout = Some layout; nonnull = false; below = None } in
+      let behind : Behind (32 ∷ (w ++ t)) (w ++ t) = (refl, blanks_on w t p.1) in
+      let is = word_is i (codes "ref") (32 ∷ (w ++ t)) (w ++ t) refl behind in
+      let kind : promised_by family no_promise (word (at i (codes "ref" ++ 32 ∷ (w ++ t)))) ≡ promised.Layout = ap (promised_by family no_promise) is ∙ ap (λ (x : Bool). if x then promised.Layout else promised.Other) refers in
+      subst (λ x. (promise_by m family no_promise x).says (at i (codes "ref" ++ 32 ∷ (w ++ t))) q (at i u)) (sym kind)
+      (layout, at i u, (tt, at i (w ++ t), skip_on i (codes "ref") (32 ∷ (w ++ t)) (w ++ t) refl behind, layout_on m f named own i family layout t u fits b), (refl, refl))
+
+  -- a bound, with which the line begins
+  below_fact : (i : Input) (family : Family) (n : ℕ) (t : Text) → is_integer family ≡ true → is_count n ≡ true
+      → (promised_fact m family no_promise).says (at i (codes "below" ++ 32 ∷ (decimal n ++ 10 ∷ t))) (record { layout = None; nonnull = false; below = Some n }) (at i (10 ∷ t))
+  unfolding promised_fact
+  below_fact i family n t integer fits =
+      let q : Promise = record { layout = None; nonnull = false; below = Some n } in
+      let end = decimal n ++ 10 ∷ t in
+      let behind : Behind (32 ∷ end) end = (refl, blanks_on (decimal n) (10 ∷ t) (count_read n fits).1) in
+      let is = word_is i (codes "below") (32 ∷ end) end refl behind in
+      let kind : promised_by family no_promise (word (at i (codes "below" ++ 32 ∷ end))) ≡ promised.Below = ap (promised_by family no_promise) is ∙ ap (λ (x : Bool). if x then promised.Below else promised.Other) integer in
+      subst (λ x. (promise_by m family no_promise x).says (at i (codes "below" ++ 32 ∷ end)) q (at i (10 ∷ t))) (sym kind)
+      (n, at i (10 ∷ t), (tt, at i end, skip_on i (codes "below") (32 ∷ end) end refl behind, count_on i n (10 ∷ t) (10 ∷ t) fits (refl, refl)), (refl, refl))
+
+  -- a word stands where `nonnull` does, so that the line goes on
+  null_more : (i : Input) (family : Family) (layout : Option ℕ) (t : Text) → is_reference family ≡ true
+      → (more_facts m family (record { layout = layout; nonnull = false; below = None })).says (at i (codes "nonnull" ++ 10 ∷ t)) (record { layout = layout; nonnull = true; below = None }) (at i (10 ∷ t))
+  unfolding more_facts
+  null_more i family layout t refers = null_fact i family layout t refers
+
+  refers_is : (family : Family) (layout : ℕ) → refers_to layout family ≡ true → is_reference family ≡ true
+  refers_is (fam.Reference own) layout e = refl
+  refers_is fam.AnyReference layout e = refl
+  refers_is (fam.Number bits) layout e = absurd cc
+  refers_is fam.Address layout e = absurd cc
+  refers_is fam.Nothing layout e = absurd cc
+
+  not_both : (family : Family) → is_reference family ≡ true → is_integer family ≡ true → ⊥
+  not_both (fam.Reference own) e g = cc
+  not_both fam.AnyReference e g = cc
+  not_both (fam.Number bits) e g = cc
+  not_both fam.Address e g = cc
+  not_both fam.Nothing e g = cc
+
+  -- what is promised, and the line's end
+  abbrev PromiseOn : Input → Family → Promise → (t u : Text) → Type 0
+  PromiseOn i family p t u = (stops (promise_text m p ++ t) ≡ true) × (promise m family).says (at i (past_blanks (promise_text m p ++ t))) p (at i u)
+
+  parts_on : (i : Input) (family : Family) (layout : Option ℕ) (nonnull : Bool) (n : Option ℕ) (t u : Text)
+      → says_something (record { layout = layout; nonnull = nonnull; below = n }) ≡ true → promised_layout_fits m family layout ≡ true → (not nonnull || is_reference family) ≡ true → promised_below_fits family n ≡ true
+      → past_lines false t ≡ u → PromiseOn i family (record { layout = layout; nonnull = nonnull; below = n }) t u
+  unfolding promise
+  parts_on i family (Some l) false None t u some fits null low e =
+      let w = layout_text m l in
+      let refers = refers_is family l (first_true (refers_to l family) (list_any (stands_for l) m.struct_of) fits) in
+      let p : Promise = record { layout = Some l; nonnull = false; below = None } in
+      let text : promise_text m p ++ t ≡ codes " ref " ++ (w ++ 10 ∷ t) = ap (λ (x : Text). codes " ref " ++ x) (ap (λ (x : Text). x ++ t) (end_only w) ∙ append_assoc w (10 ∷ []) t) in (
+        refl,
+        subst (λ x. (promise m family).says (at i (past_blanks x)) p (at i u)) (sym text) (
+          p,
+          at i (10 ∷ t),
+          layout_fact i family l (10 ∷ t) (10 ∷ t) refers fits (refl, refl),
+          (p, at i (10 ∷ t), no_more i family p t, (p, at i (10 ∷ t), no_more i family p t, (p, at i (10 ∷ t), no_more i family p t, (tt, at i u, line_end_on i t u e, (refl, refl))))),
+        ),
+      )
+    where
+      end_only : (w : Text) → w ++ [] ++ [] ++ 10 ∷ [] ≡ w ++ 10 ∷ []
+      end_only [] = refl
+      end_only (b ∷ w) = ap (λ (x : Text). b ∷ x) (end_only w)
+  parts_on i family (Some l) true None t u some fits null low e =
+      let w = layout_text m l in
+      let refers = refers_is family l (first_true (refers_to l family) (list_any (stands_for l) m.struct_of) fits) in
+      let one : Promise = record { layout = Some l; nonnull = false; below = None } in
+      let p : Promise = record { layout = Some l; nonnull = true; below = None } in
+      let a = codes " nonnull" ++ 10 ∷ t in
+      let b = codes "nonnull" ++ 10 ∷ t in
+      let text : promise_text m p ++ t ≡ codes " ref " ++ (w ++ a) = ap (λ (x : Text). codes " ref " ++ x) (ap (λ (x : Text). x ++ t) (null_only w) ∙ append_assoc w (codes " nonnull" ++ 10 ∷ []) t) in (
+        refl,
+        subst (λ x. (promise m family).says (at i (past_blanks x)) p (at i u)) (sym text) (
+          one,
+          at i b,
+          layout_fact i family l a b refers fits (refl, refl),
+          (p, at i (10 ∷ t), null_more i family (Some l) t refers, (p, at i (10 ∷ t), no_more i family p t, (p, at i (10 ∷ t), no_more i family p t, (tt, at i u, line_end_on i t u e, (refl, refl))))),
+        ),
+      )
+    where
+      null_only : (w : Text) → w ++ codes " nonnull" ++ [] ++ 10 ∷ [] ≡ w ++ (codes " nonnull" ++ 10 ∷ [])
+      null_only [] = refl
+      null_only (b ∷ w) = ap (λ (x : Text). b ∷ x) (null_only w)
+  parts_on i family None true None t u some fits null low e =
+      let p : Promise = record { layout = None; nonnull = true; below = None } in (
+        refl,
+        (
+          p,
+          at i (10 ∷ t),
+          null_fact i family None t null,
+          (p, at i (10 ∷ t), no_more i family p t, (p, at i (10 ∷ t), no_more i family p t, (p, at i (10 ∷ t), no_more i family p t, (tt, at i u, line_end_on i t u e, (refl, refl))))),
+        ),
+      )
+  parts_on i family None false (Some n) t u some fits null low e =
+      let p : Promise = record { layout = None; nonnull = false; below = Some n } in
+      let text : promise_text m p ++ t ≡ codes " below " ++ (decimal n ++ 10 ∷ t) = ap (λ (x : Text). codes " below " ++ x) (append_assoc (decimal n) (10 ∷ []) t) in (
+        refl,
+        subst (λ x. (promise m family).says (at i (past_blanks x)) p (at i u)) (sym text) (
+          p,
+          at i (10 ∷ t),
+          below_fact i family n t (first_true (is_integer family) (is_count n) low) (rest_true (is_integer family) (is_count n) low),
+          (p, at i (10 ∷ t), no_more i family p t, (p, at i (10 ∷ t), no_more i family p t, (p, at i (10 ∷ t), no_more i family p t, (tt, at i u, line_end_on i t u e, (refl, refl))))),
+        ),
+      )
+  parts_on i family None false None t u some fits null low e = absurd cc
+  parts_on i family None true (Some n) t u some fits null low e = absurd (not_both family null (first_true (is_integer family) (is_count n) low))
+  parts_on i family (Some l) nonnull (Some n) t u some fits null low e =
+      absurd (not_both family (refers_is family l (first_true (refers_to l family) (list_any (stands_for l) m.struct_of) fits)) (first_true (is_integer family) (is_count n) low))
+
+  pub promise_on : (i : Input) (family : Family) (p : Promise) (t u : Text) → promise_fits m family p ≡ true → past_lines false t ≡ u → PromiseOn i family p t u
+  promise_on i family p t u e lines = parts (says_something p) (promised_layout_fits m family p.layout) (not p.nonnull || is_reference family) (promised_below_fits family p.below) e
+      (λ a b c d. parts_on i family p.layout p.nonnull p.below t u a b c d lines)
+    where
+      parts : (a b c d : Bool) → (a && b && c && d) ≡ true → (a ≡ true → b ≡ true → c ≡ true → d ≡ true → PromiseOn i family p t u) → PromiseOn i family p t u
+      parts true true true true e on = on refl refl refl refl
+      parts false b c d e on = absurd cc
+      parts true false c d e on = absurd cc
+      parts true true false d e on = absurd cc
+      parts true true true false e on = absurd cc
+
+  -- ---- parameters and the result
+
+  -- a value of which something may be promised is a value
+  value_is : (value : ℕ) (p : Promise) → promise_fits m (family_of_value m f value) p ≡ true → is_value f value ≡ true
+  value_is value p e = by (slice_get f.sorts value) e
+    where
+      nothing : (layout : Option ℕ) (nonnull : Bool) (n : Option ℕ) → promise_fits m fam.Nothing (record { layout = layout; nonnull = nonnull; below = n }) ≡ true → ⊥
+      nothing None false None e = cc
+      nothing None false (Some n) e = cc
+      nothing None true n e = cc
+      nothing (Some l) false n e = cc
+      nothing (Some l) true n e = cc
+
+      none : promise_fits m fam.Nothing p ≡ true → ⊥
+      none e = nothing p.layout p.nonnull p.below e
+
+      by : (s : Option LocalSort) → promise_fits m (family_of_sort m f s) p ≡ true → is_value_sort s ≡ true
+      by (Some (local.Value written)) e = refl
+      by (Some (local.Element block place)) e = refl
+      by (Some local.Unknown) e = absurd (none e)
+      by (Some (local.Block block)) e = absurd (none e)
+      by None e = absurd (none e)
+
+  -- with what is promised of a parameter
+  pub parameter_on : (i : Input) (place : ℕ) (parameter : Parameter) (p : Promise) (t u : Text) → slice_get f.parameters place ≡ Some parameter → slice_get i.draft.parameters place ≡ Some None
+      → promise_fits m (family_of_value m f parameter.value) p ≡ true → past_lines false t ≡ u
+      → (text.parameter m f).says (at i (parameter_text m f parameter (Some p) ++ t)) tt (at (with_promise place p i) u)
+  unfolding text.parameter new_parameter with_promise
+  parameter_on i place parameter p t u is free fits e =
+      let same : parameter.value ≡ place = own.parameters place parameter is in
+      let value = parameter.value in
+      let w = local_text f value in
+      let a = promise_text m p ++ t in
+      let printed = value_printed f value own (value_is value p fits) in
+      let said = promise_on i (family_of_value m f value) p t u fits e in
+      let one : parameter_text m f parameter (Some p) ++ t ≡ codes "param " ++ (w ++ a) = ap (λ (x : Text). codes "param " ++ x) (append_assoc w (promise_text m p) t) in
+      let first : Behind (32 ∷ (w ++ a)) (w ++ a) = (refl, blanks_on w a printed.1) in
+      let b : Behind a (past_blanks a) = (said.0, refl) in
+      let is_one : is_parameter f value ≡ true = ap (λ x. is_parameter f x) same ∙ ap (is_named place) is ∙ eq-eqb parameter.value place same in
+      let still_free : slice_get i.draft.parameters value ≡ Some None = ap (slice_get i.draft.parameters) same ∙ free in
+      let name : (new_parameter f).says (at i (w ++ a)) value (at i (past_blanks a)) =
+      subst (λ x. (parameter_named f x).says (at i (w ++ a)) value (at i (past_blanks a))) (sym (ap (value_of_word f) (word_is i w a (past_blanks a) printed.1 b) ∙ printed.0))
+      (subst (λ x. (parameter_by value x).says (at i (w ++ a)) value (at i (past_blanks a))) (sym is_one)
+      (subst (λ x. (unpromised value x).says (at i (w ++ a)) value (at i (past_blanks a))) (sym still_free) (taken_on value i w a (past_blanks a) printed.1 b))) in
+      subst (λ x. (text.parameter m f).says (at i x) tt (at (with_promise place p i) u)) (sym one) (
+        tt,
+        at i (w ++ a),
+        expect_on i (codes "param") (32 ∷ (w ++ a)) (w ++ a) refl first,
+        (value, at i (past_blanks a), name, (p, at i u, said.1, (refl, ap (λ x. at (with_promise x p i) u) same))),
+      )
+
+  -- with the line of the result, if something is promised of it
+  pub result_on : (i : Input) (p : Option Promise) (t u : Text) → promised_fits m (family_of_type m f.returned) p ≡ true → past_lines false t ≡ u → past_lines false u ≡ u → bytes_eq (word_at u) (codes "result") ≡ false → t ≡ u
+      → (text.result_line m f).says (at i (result_text m p ++ t)) p (at i u)
+  unfolding text.result_line
+  result_on i None t u fits e start other same =
+      subst (λ x. (text.result_by m f x).says (at i t) None (at i u)) (sym (ap (λ x. bytes_eq (word_at x) (codes "result")) same ∙ other)) (refl, ap (at i) same)
+  result_on i (Some p) t u fits e start other same =
+      let a = promise_text m p ++ t in
+      let said = promise_on i (family_of_type m f.returned) p t u fits e in
+      let b : Behind a (past_blanks a) = (said.0, refl) in
+      let is = word_is i (codes "result") a (past_blanks a) refl b in
+      subst (λ x. (text.result_by m f x).says (at i (codes "result" ++ a)) (Some p) (at i u)) (sym (ap (λ x. bytes_eq x (codes "result")) is))
+      (p, at i u, (tt, at i (past_blanks a), skip_on i (codes "result") a (past_blanks a) refl b, said.1), (refl, refl))

@@ -1,0 +1,134 @@
+-- The printed words of a set are read as that set.
+use Rattle.std.proofs.Common.{◌≡◌, ℕ, zero, suc, ◌+◌, ◌-◌, ◌*◌, ◌/◌, ◌%◌, ◌<◌, ◌≤◌, Bool, true, false, cond, ◌||◌, nat_lt, List, [], ◌∷◌, ◌++◌, Option, Some, None, refl, ap, sym, ◌∙◌, arith, append_assoc}
+use Rattle.std.specs.Prelude.{if◌then◌else◌, filter}
+use Rattle.std.specs.List.{list_all, list_any, flat_map, join_by, range_with_len}
+use Rattle.std.specs.Fmt.{decimal}
+use Rattle.std.proofs.lemmas.Bool.{lt-ltb, ltb-true}
+use Rattle.std.proofs.lemmas.Fmt.{decimal_by_steps}
+use Rattle.ir_tokens.specs.Bytes.{Text, is_digit}
+use Rattle.pools.specs.WordSets.{no_words, has_word, adds_word}
+use Rattle.pools.specs.declared.word_set.WordSet.{WordSet}
+use Rattle.certificate.specs.Numbers.{with_digit, words_behind, words_of_word}
+use Rattle.certificate.specs.Print.{words_of, words_text}
+use Rattle.certs.specs.Fits.{add_words, own_words, same_words, words_fit}
+use Rattle.name_text.specs.Words.{is_word}
+use Rattle.name_text.proofs.Seams.{is_word_byte, bytes_close}
+use Rattle.name_text.proofs.Spelled.{number_is_inner, number_is_word}
+use Rattle.certificate.proofs.PrintedWords.{digit_is, first_true, rest_true}
+
+-- sets that are one
+are_same : (xs ys : List Bool) → same_words xs ys ≡ true → xs ≡ ys
+are_same [] [] e = refl
+are_same [] (y ∷ ys) e = absurd cc
+are_same (x ∷ xs) [] e = absurd cc
+are_same (true ∷ xs) (true ∷ ys) e = ap (λ (l : List Bool). true ∷ l) (are_same xs ys e)
+are_same (true ∷ xs) (false ∷ ys) e = absurd cc
+are_same (false ∷ xs) (true ∷ ys) e = absurd cc
+are_same (false ∷ xs) (false ∷ ys) e = ap (λ (l : List Bool). false ∷ l) (are_same xs ys e)
+
+digit_on : (set : WordSet) (number : Option ℕ) (d n : ℕ) (rest : Text) → is_digit d ≡ true → with_digit number d ≡ n → n < 64 → words_behind set number (d ∷ rest) ≡ words_behind set (Some n) rest
+digit_on set number d n rest e w lt = rw (e, w, lt-ltb n 64 lt) refl
+
+-- the bytes are read as this number
+abbrev Reads : ℕ → Text → Type 0
+Reads n ds = n < 64 → (set : WordSet) (rest : Text) → words_behind set None (ds ++ rest) ≡ words_behind set (Some n) rest
+
+number_behind : (n : ℕ) → n < 64 → (set : WordSet) (rest : Text) → words_behind set None (decimal n ++ rest) ≡ words_behind set (Some n) rest
+number_behind n small = decimal_by_steps Reads one more n (omega (arith, small)) small
+  where
+    one : (n : ℕ) → n < 10 → Reads n ((48 + n) ∷ [])
+    one n lt small set rest = let is : 48 + n - 48 ≡ n = omega arith in digit_on set None (48 + n) n rest (digit_is n lt) is small
+
+    more : (n : ℕ) (ds : Text) → 10 ≤ n → Reads (n / 10) ds → Reads n (ds ++ ((48 + n % 10) ∷ []))
+    more n ds ge h small set rest =
+        let low : n % 10 < 10 = omega arith in
+        let fewer : n / 10 < 64 = omega (arith, small) in
+        let value : 10 * (n / 10) + (48 + n % 10 - 48) ≡ n = omega arith in
+        ap (words_behind set None) (append_assoc ds ((48 + n % 10) ∷ []) rest) ∙ h fewer set ((48 + n % 10) ∷ rest) ∙ digit_on set (Some (n / 10)) (48 + n % 10) n rest (digit_is (n % 10) low) value small
+
+-- these words are added
+abbrev added : List ℕ → List Bool → List Bool
+added [] own = own
+added (word ∷ words) own = added words (adds_word own word)
+
+abbrev are_small : List ℕ → Bool
+are_small words = list_all (λ word. nat_lt word 64) words
+
+abbrev behind_commas : List ℕ → Text
+behind_commas words = flat_map (λ word. (44 ∷ []) ++ decimal word) words
+
+first_small : (word : ℕ) (words : List ℕ) → are_small (word ∷ words) ≡ true → word < 64
+first_small word words small = ltb-true word 64 (first_true (nat_lt word 64) (are_small words) small)
+
+commas_read : (words : List ℕ) (set : WordSet) (n : ℕ) → are_small words ≡ true → words_behind set (Some n) (behind_commas words) ≡ Some (record { members = added words (adds_word set.members n) })
+commas_read [] set n small = refl
+commas_read (word ∷ words) set n small =
+    let next : WordSet = record { members = adds_word set.members n } in
+    number_behind word (first_small word words small) next (behind_commas words) ∙ commas_read words next word (rest_true (nat_lt word 64) (are_small words) small)
+
+joined_read : (words : List ℕ) → are_small words ≡ true → (words ≡ [] → ⊥) → words_of_word (join_by decimal (44 ∷ []) words) ≡ Some (record { members = added words no_words })
+joined_read [] small some = absurd (some refl)
+joined_read (word ∷ words) small some =
+    let none : WordSet = record { members = no_words } in
+    number_behind word (first_small word words small) none (behind_commas words) ∙ commas_read words none word (rest_true (nat_lt word 64) (are_small words) small)
+
+-- ---- the words of a set
+
+filtered_small : (test : ℕ → Bool) (count first : ℕ) → first + count ≤ 64 → are_small (filter test (range_with_len first count)) ≡ true
+filtered_small test zero first le = refl
+filtered_small test (suc count) first le = by (test first) (filtered_small test count (first + 1) (omega (arith, le)))
+  where
+    by : (b : Bool) → are_small (filter test (range_with_len (first + 1) count)) ≡ true
+        → are_small (cond b (first ∷ filter test (range_with_len (first + 1) count)) (filter test (range_with_len (first + 1) count))) ≡ true
+    by true more = rw (lt-ltb first 64 (omega (arith, le))) more
+    by false more = more
+
+filtered_added : (set : List Bool) (words : List ℕ) (own : List Bool) → added (filter (has_word set) words) own ≡ add_words set words own
+filtered_added set [] own = refl
+filtered_added set (word ∷ words) own = by (has_word set word) (λ own. filtered_added set words own)
+  where
+    by : (b : Bool) → ((own : List Bool) → added (filter (has_word set) words) own ≡ add_words set words own)
+        → added (cond b (word ∷ filter (has_word set) words) (filter (has_word set) words)) own ≡ add_words set words (if b then adds_word own word else own)
+    by true more = more (adds_word own word)
+    by false more = more own
+
+filtered_some : (test : ℕ → Bool) (words : List ℕ) → list_any test words ≡ true → filter test words ≡ [] → ⊥
+filtered_some test [] some e = absurd cc
+filtered_some test (word ∷ words) some e = by (test word) some e (filtered_some test words)
+  where
+    by : (b : Bool) → (b || list_any test words) ≡ true → cond b (word ∷ filter test words) (filter test words) ≡ [] → (list_any test words ≡ true → filter test words ≡ [] → ⊥) → ⊥
+    by true some e more = absurd cc
+    by false some e more = more some e
+
+all_joined : (a b : Text) → list_all is_word_byte a ≡ true → list_all is_word_byte b ≡ true → list_all is_word_byte (a ++ b) ≡ true
+all_joined [] b e f = f
+all_joined (x ∷ a) b e f = rw (first_true (is_word_byte x) (list_all is_word_byte a) e) (all_joined a b (rest_true (is_word_byte x) (list_all is_word_byte a) e) f)
+
+commas_word : (words : List ℕ) → are_small words ≡ true → list_all is_word_byte (behind_commas words) ≡ true
+commas_word [] small = refl
+commas_word (word ∷ words) small =
+    let lt = first_small word words small in
+    all_joined (decimal word) (behind_commas words) (number_is_inner word (omega (arith, lt))) (commas_word words (rest_true (nat_lt word 64) (are_small words) small))
+
+word_joined : (a b : Text) → is_word a ≡ true → list_all is_word_byte a ≡ true → list_all is_word_byte b ≡ true → is_word (a ++ b) ≡ true
+word_joined [] b is e f = absurd cc
+word_joined (x ∷ a) b is e f = bytes_close (x ∷ (a ++ b)) (all_joined (x ∷ a) b e f)
+
+joined_word : (words : List ℕ) → are_small words ≡ true → (words ≡ [] → ⊥) → is_word (join_by decimal (44 ∷ []) words) ≡ true
+joined_word [] small some = absurd (some refl)
+joined_word (word ∷ words) small some =
+    let lt = first_small word words small in
+    word_joined (decimal word) (behind_commas words) (number_is_word word (omega (arith, lt))) (number_is_inner word (omega (arith, lt))) (commas_word words (rest_true (nat_lt word 64) (are_small words) small))
+
+abbrev words_set : List Bool → Option WordSet
+words_set members = Some (record { members = members })
+
+-- a set that fits is read as it was printed, and is printed as one word
+pub words_read : (set : List Bool) → words_fit set ≡ true → (words_of_word (words_text set) ≡ Some (record { members = set })) × (is_word (words_text set) ≡ true)
+unfolding words_text own_words
+words_read set e =
+    let some = first_true (list_any (has_word set) (range_with_len 0 64)) (same_words set (own_words set)) e in
+    let same = are_same set (own_words set) (rest_true (list_any (has_word set) (range_with_len 0 64)) (same_words set (own_words set)) e) in
+    let small = filtered_small (has_word set) 64 0 (omega arith) in
+    let full = filtered_some (has_word set) (range_with_len 0 64) some in
+    (joined_read (words_of set) small full ∙ ap words_set (filtered_added set (range_with_len 0 64) no_words ∙ sym same), joined_word (words_of set) small full)

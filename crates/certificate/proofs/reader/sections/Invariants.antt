@@ -1,0 +1,8 @@
+use Rattle.std.proofs.Common.{◌≡◌, ◌-◌, suc}
+use Rattle.certificate.specs.Input.{left, ended}
+use Rattle.certificate.specs.Text.{section}
+use Rattle.grammar.proofs.Turns.{turns}
+use Rattle.certificate.proofs.reader.sections.Given as goal
+
+abbrev pub invariant-loop-turn : goal.invariant-loop-turn
+invariant-loop-turn l = turns ended (section l.module).read (suc (left l.fn.input)) l.fn.input ≡ turns ended (section l.module).read (l._turn-end - l._turn) l.input

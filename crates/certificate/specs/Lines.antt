@@ -1,0 +1,226 @@
+-- The forms of facts and lines.
+use Rattle.std.specs.Prelude.{ℕ, Bool, true, false, not, ◌&&◌, ◌||◌, ◌==◌, if◌then◌else◌, Option, Some, None, is_some, codes}
+use Rattle.std.specs.Str.{bytes_eq}
+use Rattle.ir_ast.specs.declared.function.Function.{Function}
+use Rattle.ir_ast.specs.declared.module.Module.{Module}
+use Rattle.grammar.specs.Grammar.{pure, ◌>>=◌, ◌>>◌, checked, look}
+use Rattle.ir_tokens.specs.Bytes.{Text as Bytes}
+use Rattle.name_text.specs.Words.{begins_with}
+use Rattle.certificate.specs.Numbers.{bits_of_word}
+use Rattle.certificate.specs.Names.{global_of_word}
+use Rattle.certs.specs.Families.{family_of_value, is_reference, is_integer, is_address, same_bits}
+use Rattle.certificate.specs.Input.{Form, left, word, begins, line_ends}
+use Rattle.certificate.specs.Forms.{syntax, unknown, twice, skip, taken, expect, line_end, flag, count, word_set, age, new_value, new_slot, listed_name, layout_name, put_value, put_slot}
+use Rattle.certs.specs.declared.family.Family.{Family}
+use Rattle.certificate.specs.declared.facts.Head.{Head}
+use Rattle.certificate.specs.declared.facts.Head.TheVariants as head
+use Rattle.certificate.specs.declared.naming.Naming.{Naming}
+use Rattle.certificate.specs.declared.naming.Naming.TheVariants.{NoName, Unknown, Named}
+use Rattle.certificate.specs.declared.promises.Promised.{Promised}
+use Rattle.certificate.specs.declared.promises.Promised.TheVariants as promised
+use Rattle.certs.specs.declared.section.Age.{Age}
+use Rattle.certs.specs.declared.section.Age.TheVariants as ages
+use Rattle.certs.specs.declared.section.Fact.{Fact}
+use Rattle.certs.specs.declared.section.Fact.TheVariants as fact
+use Rattle.certs.specs.declared.section.Promise.{Promise}
+use Rattle.certificate.specs.declared.found.Found.TheVariants.{ListedTwice}
+
+-- ---- promises
+
+-- nothing is promised
+abbrev pub no_promise : Promise
+no_promise = record { layout = None; nonnull = false; below = None }
+
+-- a fact may be given where it fits and is not given so far
+abbrev pub fact_if : (given fits : Bool) → Promised → Promised
+fact_if given fits fact = if given then promised.Again else (if fits then fact else promised.Other)
+
+-- what a word promises of such a value, behind what is promised so far
+abbrev pub promised_by : Family → Promise → Bytes → Promised
+promised_by family promise word =
+    if bytes_eq word (codes "ref") then fact_if (is_some promise.layout) (is_reference family) promised.Layout
+    else (if bytes_eq word (codes "nonnull") then fact_if promise.nonnull (is_reference family) promised.Nonnull
+    else (if bytes_eq word (codes "below") then fact_if (is_some promise.below) (is_integer family) promised.Below else promised.Other))
+
+-- what is promised with this fact
+abbrev pub promise_by : Module → Family → Promise → Promised → Form Promise
+promise_by m family promise promised.Layout = skip >> layout_name m family >>= λ layout. pure (record promise { layout = Some layout })
+promise_by m family promise promised.Nonnull = taken (record promise { nonnull = true })
+promise_by m family promise promised.Below = skip >> count >>= λ n. pure (record promise { below = Some n })
+promise_by m family promise promised.Again = twice
+promise_by m family promise promised.Other = syntax
+
+-- one more fact of a promise
+unfoldable pub promised_fact : Module → Family → Promise → Form Promise
+promised_fact m family promise = look (λ i. promised_by family promise (word i)) (promise_by m family promise)
+
+-- one more fact unless the line has ended
+abbrev pub more_by : Module → Family → Promise → Bool → Form Promise
+more_by m family promise true = pure promise
+more_by m family promise false = promised_fact m family promise
+
+-- one more fact unless the line ends
+unfoldable pub more_facts : Module → Family → Promise → Form Promise
+more_facts m family promise = look line_ends (more_by m family promise)
+
+-- up to three facts and the line's end
+unfoldable pub promise : Module → Family → Form Promise
+promise m family = do
+  one ← promised_fact m family no_promise
+  two ← more_facts m family one
+  three ← more_facts m family two
+  all ← more_facts m family three
+  line_end
+  pure all
+
+-- ---- facts
+
+-- the bits of an integer begin its fact
+abbrev pub number_head : Option ℕ → Head
+number_head None = head.Other
+number_head (Some bits) = head.Number bits
+
+-- which fact of such a value a word begins
+abbrev pub head_by : Family → Bytes → Head
+head_by family word =
+    if bytes_eq word (codes "ref") then (if is_reference family then head.Reference else head.Other)
+    else (if bytes_eq word (codes "addr") then (if is_address family then head.Address else head.Other) else number_head (same_bits family (bits_of_word word)))
+
+-- a number behind `below`, if the word stands there
+abbrev pub below_by : Bool → Form (Option ℕ)
+below_by true = skip >> count >>= λ n. pure (Some n)
+below_by false = pure None
+
+-- `below` and a number, or nothing
+unfoldable pub below : Form (Option ℕ)
+below = look (begins (codes "below")) below_by
+
+-- a value behind such a word, if the word stands there
+abbrev pub listed_if : Function → Bool → Form (Option ℕ)
+listed_if f true = skip >> listed_name f >>= λ value. pure (Some value)
+listed_if f false = pure None
+
+-- this word and a value that the block has to list, or nothing
+unfoldable pub listed_behind : Function → (wanted : Bytes) → Form (Option ℕ)
+listed_behind f wanted = look (begins wanted) (listed_if f)
+
+-- a fact of a number
+unfoldable pub number : (bits : ℕ) → Form Fact
+number bits = do
+  skip
+  n ← below
+  pure (fact.Number bits n)
+
+-- a fact of a reference
+unfoldable pub reference : Module → Function → Family → Form Fact
+reference m f family = do
+  skip
+  layout ← layout_name m family
+  nonnull ← flag (codes "nonnull")
+  how ← age
+  same ← listed_behind f (codes "same")
+  pure (fact.Reference layout nonnull how same)
+
+-- a value that the block has to list, and words of its cell
+unfoldable pub words_of_cell : Function → Form Fact
+words_of_cell f = do
+  base ← listed_name f
+  words ← word_set
+  pure (fact.Address base words)
+
+-- the address of the global that is named
+abbrev pub global_by : Naming → Form Fact
+global_by NoName = syntax
+global_by Unknown = unknown
+global_by (Named symbol) = taken (fact.GlobalAddress symbol)
+
+-- the name of a global
+unfoldable pub global_address : Module → Form Fact
+global_address m = look (λ i. global_of_word m (word i)) global_by
+
+-- of a global where the sign of its name begins the word, and otherwise of words of a cell
+abbrev pub address_by : Module → Function → (begins : Bool) → Form Fact
+address_by m f true = global_address m
+address_by m f false = words_of_cell f
+
+-- a fact of an address
+unfoldable pub address : Module → Function → Form Fact
+address m f = skip >> look (λ i. begins_with 64 (word i)) (address_by m f)
+
+-- the fact that begins so
+abbrev pub fact_by : Module → Function → Family → Head → Form Fact
+fact_by m f family (head.Number bits) = number bits
+fact_by m f family head.Reference = reference m f family
+fact_by m f family head.Address = address m f
+fact_by m f family head.Other = syntax
+
+-- a fact that fits such a value
+unfoldable pub fact_of : Module → Function → Family → Form Fact
+fact_of m f family = look (λ i. head_by family (word i)) (fact_by m f family)
+
+-- ---- the ends of lines
+
+-- whether the bits are there and are these
+abbrev pub has_bits : (bits : ℕ) → Option ℕ → Bool
+has_bits bits None = false
+has_bits bits (Some n) = n == bits
+
+-- whether a word is this age
+abbrev pub has_age : Age → Bytes → Bool
+has_age ages.Stale word = bytes_eq word (codes "stale")
+has_age ages.Fresh word = bytes_eq word (codes "fresh")
+has_age ages.Held word = false
+
+-- a word of a fact that is given
+abbrev pub has_word : Fact → Bytes → Bool
+has_word (fact.Number bits below) word = has_bits bits (bits_of_word word) || (is_some below && bytes_eq word (codes "below"))
+has_word (fact.Reference layout nonnull age same) word = bytes_eq word (codes "ref") || (nonnull && bytes_eq word (codes "nonnull")) || has_age age word || (is_some same && bytes_eq word (codes "same"))
+has_word (fact.Address base words) word = bytes_eq word (codes "addr")
+has_word (fact.GlobalAddress symbol) word = bytes_eq word (codes "addr")
+
+-- the end of a line with this fact, which no word of it follows once more
+unfoldable pub fact_end : Fact → Form (Unit {0})
+fact_end given = checked (λ i. line_ends i || not (has_word given (word i))) (λ i. ListedTwice (left i)) >> line_end
+
+-- a word of a slot's line that is given
+abbrev pub slot_has_word : (nonnull : Bool) → (holds : Option ℕ) → Bytes → Bool
+slot_has_word nonnull holds word = (nonnull && bytes_eq word (codes "nonnull")) || (is_some holds && bytes_eq word (codes "holds"))
+
+-- the end of a slot's line, likewise
+unfoldable pub slot_end : (nonnull : Bool) → (holds : Option ℕ) → Form (Unit {0})
+slot_end nonnull holds = checked (λ i. line_ends i || not (slot_has_word nonnull holds (word i))) (λ i. ListedTwice (left i)) >> line_end
+
+-- ---- lines
+
+-- a line of a value behind the value's name
+abbrev pub value_behind : Module → Function → (block value : ℕ) → Form (Unit {0})
+value_behind m f block value = do
+  fact ← fact_of m f (family_of_value m f value)
+  fact_end fact
+  put_value block value fact
+
+-- a line of a value
+unfoldable pub value_line : Module → Function → (block : ℕ) → Form (Unit {0})
+value_line m f block = new_value f block >>= λ value. value_behind m f block value
+
+-- a line of a slot behind its first word
+abbrev pub slot_behind : Function → (block : ℕ) → Form (Unit {0})
+slot_behind f block = do
+  slot ← new_slot f block
+  nonnull ← flag (codes "nonnull")
+  holds ← listed_behind f (codes "holds")
+  slot_end nonnull holds
+  put_slot block slot nonnull holds
+
+-- a line of a slot
+unfoldable pub slot_line : Function → (block : ℕ) → Form (Unit {0})
+slot_line f block = expect (codes "slot") >> slot_behind f block
+
+-- a line of a slot, or else of a value
+abbrev pub line_by : Module → Function → (block : ℕ) → Bool → Form (Unit {0})
+line_by m f block true = slot_line f block
+line_by m f block false = value_line m f block
+
+-- a line of a block
+unfoldable pub line : Module → Function → (block : ℕ) → Form (Unit {0})
+line m f block = look (begins (codes "slot")) (line_by m f block)

@@ -1,0 +1,180 @@
+-- How certificates are printed.
+use Rattle.std.specs.Prelude.{ℕ, Bool, if◌then◌else◌, List, [], ◌∷◌, ◌++◌, drop, filter, Option, Some, None, slice_get, codes}
+use Rattle.std.specs.List.{flat_map, join_by, range_with_len, zip}
+use Rattle.std.specs.Fmt.{decimal}
+pub use Rattle.ir_ast.specs.Names.{name_at}
+pub use Rattle.ir_ast.specs.StructNames.{struct_name}
+use Rattle.ir_ast.specs.declared.block.Block.{Block}
+use Rattle.ir_ast.specs.declared.function.Function.{Function}
+use Rattle.ir_ast.specs.declared.function.Parameter.{Parameter}
+use Rattle.ir_ast.specs.declared.module.Module.{Module}
+use Rattle.ir_tokens.specs.Bytes.{Text}
+use Rattle.name_text.specs.Names as names
+use Rattle.name_text.specs.declared.blank.Blank.TheVariants as blank
+use Rattle.pools.specs.WordSets.{has_word}
+use Rattle.certs.specs.declared.section.Age.{Age}
+use Rattle.certs.specs.declared.section.Age.TheVariants as ages
+use Rattle.certs.specs.declared.section.Fact.{Fact}
+use Rattle.certs.specs.declared.section.Fact.TheVariants as fact
+use Rattle.certs.specs.declared.section.Line.{Line}
+use Rattle.certs.specs.declared.section.Line.TheVariants as line
+use Rattle.certs.specs.declared.section.Mark.{Mark}
+use Rattle.certs.specs.declared.section.Mark.TheVariants as mark
+use Rattle.certs.specs.declared.section.Promise.{Promise}
+use Rattle.certs.specs.declared.section.Section.{Section}
+
+-- ---- names
+
+-- a name, in quotes where it is not plain; words stand apart by blanks, so it shows none
+abbrev pub name_text : Text → Text
+name_text = names.name_text blank.Escaped
+
+-- what has this key: the number of a value or a block without a name as it is, and otherwise the name
+abbrev pub key_text : Text → Text
+key_text = names.key_text blank.Escaped
+
+-- a local name with its sign
+abbrev pub local_text : Function → (value : ℕ) → Text
+local_text f value = names.local_text blank.Escaped f.locals value
+
+-- a global name with its sign
+abbrev pub global_text : Module → (symbol : ℕ) → Text
+global_text = names.global_text blank.Escaped
+
+-- the name of a layout's type, without its sign
+abbrev pub layout_text : Module → (layout : ℕ) → Text
+layout_text = names.layout_text blank.Escaped
+
+-- ---- facts
+
+-- a word that may stand there
+abbrev pub word_if : Bool → (word : Text) → Text
+word_if stands word = if stands then word else []
+
+-- below what a number is, if that is known
+abbrev pub below_text : Option ℕ → Text
+below_text None = []
+below_text (Some n) = codes " below " ++ decimal n
+
+-- a word and a value, if there is one
+abbrev pub value_text : Function → (word : Text) → Option ℕ → Text
+value_text f word None = []
+value_text f word (Some value) = word ++ local_text f value
+
+-- how old a reference is
+abbrev pub age_text : Age → Text
+age_text ages.Fresh = codes " fresh"
+age_text ages.Held = []
+age_text ages.Stale = codes " stale"
+
+-- the words of a set, ascending
+abbrev pub words_of : List Bool → List ℕ
+words_of set = filter (has_word set) (range_with_len 0 64)
+
+-- the words of a set with commas between
+unfoldable pub words_text : List Bool → Text
+words_text set = join_by decimal (44 ∷ []) (words_of set)
+
+-- a word behind a comma, if the set has it
+abbrev pub listed_word : List Bool → (word : ℕ) → Text
+listed_word set word = word_if (has_word set word) (44 ∷ decimal word)
+
+-- what is said of a value
+abbrev pub fact_text : Module → Function → Fact → Text
+fact_text m f (fact.Number bits below) = codes " i" ++ decimal bits ++ below_text below
+fact_text m f (fact.Reference layout nonnull age same) = codes " ref " ++ layout_text m layout ++ word_if nonnull (codes " nonnull") ++ age_text age ++ value_text f (codes " same ") same
+fact_text m f (fact.Address base words) = codes " addr " ++ local_text f base ++ 32 ∷ words_text words.members
+fact_text m f (fact.GlobalAddress symbol) = codes " addr " ++ global_text m symbol
+
+-- a line of a block, without its end
+abbrev pub line_text : Module → Function → Line → Text
+line_text m f (line.Value value fact) = local_text f value ++ fact_text m f fact
+line_text m f (line.Slot slot nonnull holds) = codes "slot " ++ local_text f slot ++ word_if nonnull (codes " nonnull") ++ value_text f (codes " holds ") holds
+
+-- ---- one line
+
+-- the lines of a block
+abbrev pub lines_at : Section → (block : ℕ) → Option (List Line)
+lines_at section block = slice_get section.blocks block
+
+-- the line at a place of some lines
+abbrev pub line_in : (place : ℕ) → Option (List Line) → Option Line
+line_in place None = None
+line_in place (Some lines) = slice_get lines place
+
+-- the line at a place of a block of a section
+abbrev pub line_at : Option Section → (block place : ℕ) → Option Line
+line_at None block place = None
+line_at (Some section) block place = line_in place (lines_at section block)
+
+-- a line of a function, if both are there
+abbrev pub shown_line : Module → Option Function → Option Line → Text
+shown_line m (Some f) (Some line) = line_text m f line
+shown_line m _ _ = []
+
+-- the line at this place of a block's lines, without its end
+abbrev pub line_shown : List Section → Module → (function block place : ℕ) → Text
+line_shown sections m function block place = shown_line m (slice_get m.functions function) (line_at (slice_get sections function) block place)
+
+-- ---- sections
+
+-- the layout that is promised, if there is one
+abbrev pub promised_layout : Module → Option ℕ → Text
+promised_layout m None = []
+promised_layout m (Some layout) = codes " ref " ++ layout_text m layout
+
+-- what is promised, and the line's end
+abbrev pub promise_text : Module → Promise → Text
+promise_text m promise = promised_layout m promise.layout ++ word_if promise.nonnull (codes " nonnull") ++ below_text promise.below ++ 10 ∷ []
+
+-- the line of a parameter, if something is promised of it
+abbrev pub parameter_text : Module → Function → Parameter → Option Promise → Text
+parameter_text m f parameter None = []
+parameter_text m f parameter (Some promise) = codes "param " ++ local_text f parameter.value ++ promise_text m promise
+
+-- the lines of parameters
+abbrev pub parameters_text : Module → Function → List Parameter → List (Option Promise) → Text
+parameters_text m f parameters promises = flat_map (λ p. parameter_text m f p.0 p.1) (zip parameters promises)
+
+-- the line of the result, if something is promised of it
+abbrev pub result_text : Module → Option Promise → Text
+result_text m None = []
+result_text m (Some promise) = codes "result" ++ promise_text m promise
+
+-- the lines of a block
+abbrev pub lines_text : Module → Function → List Line → Text
+lines_text m f lines = flat_map (λ line. line_text m f line ++ 10 ∷ []) lines
+
+-- a block and its lines
+abbrev pub block_text : Module → Function → Block → List Line → Text
+block_text m f block lines = codes "block " ++ local_text f block.label ++ 10 ∷ lines_text m f lines
+
+-- blocks and their lines
+abbrev pub blocks_text : Module → Function → List Block → List (List Line) → Text
+blocks_text m f blocks lists = flat_map (λ p. block_text m f p.0 p.1) (zip blocks lists)
+
+-- how a function is marked
+abbrev pub mark_text : Mark → Text
+mark_text mark.May = codes " may"
+mark_text mark.None = codes " none"
+
+-- the first line of a section
+abbrev pub heading_text : Module → Function → Mark → Text
+heading_text m f mark = codes "function " ++ global_text m f.symbol ++ mark_text mark ++ 10 ∷ []
+
+-- the section of a function; the entry block has no lines
+abbrev pub section_text : Module → Function → Section → Text
+section_text m f section =
+    heading_text m f section.mark
+    ++ parameters_text m f f.parameters section.parameters
+    ++ result_text m section.result
+    ++ blocks_text m f (drop 1 f.blocks) (drop 1 section.blocks)
+    ++ (codes "end" ++ 10 ∷ [])
+
+-- the sections of functions
+abbrev pub sections_text : Module → List Function → List Section → Text
+sections_text m functions sections = flat_map (λ p. section_text m p.0 p.1) (zip functions sections)
+
+-- the text of certificates, by the numbers of their functions
+abbrev pub cert_text : List Section → Module → Text
+cert_text sections m = codes "cert 1" ++ 10 ∷ sections_text m m.functions sections

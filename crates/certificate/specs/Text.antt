@@ -1,0 +1,226 @@
+-- The forms of sections, and a certificate's text.
+use Rattle.std.specs.Prelude.{◌≡◌, ℕ, ◌+◌, Bool, true, false, not, ◌||◌, List, [], ◌∷◌, Option, Some, None, Result, Ok, Err, slice_get, codes}
+use Rattle.ir_ast.specs.declared.function.Function.{Function}
+use Rattle.ir_ast.specs.declared.module.Module.{Module}
+use Rattle.grammar.specs.Grammar.{pure, ◌>>=◌, ◌>>◌, step, checked, look, refuse}
+use Rattle.grammar.specs.Many.{many}
+use Rattle.grammar.specs.Outcome.{Outcome}
+use Rattle.grammar.specs.Takes.{Takes}
+use Rattle.ir_tokens.specs.Bytes.{Text as Bytes}
+use Rattle.name_text.specs.Numbers.{is_number}
+use Rattle.certs.specs.Families.{family_of_type, family_of_value}
+use Rattle.certificate.specs.Drafts.{first_unlisted}
+use Rattle.certificate.specs.Input.{Input, Form, left, start_of, ended, word, begins, with_promise, with_block, with_section, emptied}
+use Rattle.certificate.specs.Falls.{with_promise_falls, with_block_falls, with_section_falls, emptied_falls}
+use Rattle.certificate.specs.Forms.{unknown, skip, expect, line_end, marked, new_function, new_parameter, new_block, begin}
+use Rattle.certificate.specs.Lines.{promise, line}
+use Rattle.certificate.specs.Ends.{expect_takes, line_takes}
+use Rattle.certificate.specs.declared.input.Kept.{Kept}
+use Rattle.certs.specs.declared.section.Promise.{Promise}
+use Rattle.certs.specs.declared.section.Section.{Section}
+use Rattle.certificate.specs.declared.found.Found.{Found}
+use Rattle.certificate.specs.declared.found.Found.TheVariants.{Syntax, Version, UnknownName, ListedTwice, Missing, MissingBlock, Memory}
+use Rattle.certificate.specs.declared.fault.CertFault.{CertFault}
+use Rattle.certificate.specs.declared.fault.CertFault.TheVariants as fault
+use Rattle.name_text.specs.Places.{place}
+use Rattle.grammar.specs.Takes.{first_takes}
+use Rattle.std.proofs.Common.{lit<}
+
+-- the number 1
+unfoldable pub version : Form (Unit {0})
+version = do
+  checked (λ i. is_number (word i)) (λ i. Syntax (left i))
+  checked (begins (49 ∷ [])) (λ i. Version (left i))
+  skip
+
+-- ---- parameters and the result
+
+-- what is promised of a parameter, behind its first word
+abbrev pub parameter_behind : Module → Function → Form (Unit {0})
+parameter_behind m f = do
+  place ← new_parameter f
+  promise ← promise m (family_of_value m f place)
+  step (λ _. tt) (with_promise place promise) (with_promise_falls place promise)
+
+-- what is promised of a parameter
+unfoldable pub parameter : Module → Function → Form (Unit {0})
+parameter m f = expect (codes "param") >> parameter_behind m f
+
+-- no parameter comes here
+abbrev pub past_parameters : Input → Bool
+past_parameters i = not (begins (codes "param") i)
+
+-- what is promised of a parameter takes bytes
+pub parameter_takes : (m : Module) (f : Function) → Takes (parameter m f)
+unfolding parameter
+parameter_takes m f = first_takes (expect (codes "param")) (λ _. parameter_behind m f) (expect_takes (codes "param") (lit< tt))
+
+-- what is promised of parameters
+unfoldable pub parameters : Module → Function → Form (Unit {0})
+parameters m f = many past_parameters (parameter m f) (parameter_takes m f) >> pure tt
+
+-- what is promised of the result, if its word stands there
+abbrev pub result_by : Module → Function → Bool → Form (Option Promise)
+result_by m f true = skip >> promise m (family_of_type m f.returned) >>= λ promise. pure (Some promise)
+result_by m f false = pure None
+
+-- what is promised of the result, or nothing
+unfoldable pub result_line : Module → Function → Form (Option Promise)
+result_line m f = look (begins (codes "result")) (result_by m f)
+
+-- ---- blocks
+
+-- a block or the section ends here
+abbrev pub past_lines : Input → Bool
+past_lines i = begins (codes "block") i || begins (codes "end") i
+
+-- the lines of a block
+unfoldable pub lines : Module → Function → (block : ℕ) → Form (Unit {0})
+lines m f block = many past_lines (line m f block) (line_takes m f block) >> pure tt
+
+-- the name of a value that is not listed is unknown
+abbrev pub listed_by : Option ℕ → Form (Unit {0})
+listed_by None = pure tt
+listed_by (Some left) = refuse (λ _. UnknownName left)
+
+-- the block lists each value that it has to list
+unfoldable pub all_listed : (block : ℕ) → Form (Unit {0})
+all_listed block = look (λ i. first_unlisted block i.draft.values i.draft.wanted) listed_by
+
+-- a block behind its first word
+abbrev pub block_behind : Module → Function → Form (Unit {0})
+block_behind m f = do
+  block ← new_block f
+  line_end
+  lines m f block
+  all_listed block
+  step (λ _. tt) (with_block block) (with_block_falls block)
+
+-- a block and its lines
+unfoldable pub block : Module → Function → Form (Unit {0})
+block m f = expect (codes "block") >> block_behind m f
+
+-- no block comes here
+abbrev pub past_blocks : Input → Bool
+past_blocks i = not (begins (codes "block") i)
+
+-- a block takes bytes
+pub block_takes : (m : Module) (f : Function) → Takes (block m f)
+unfolding block
+block_takes m f = first_takes (expect (codes "block")) (λ _. block_behind m f) (expect_takes (codes "block") (lit< tt))
+
+-- the blocks of a section
+unfoldable pub blocks : Module → Function → Form (Unit {0})
+blocks m f = many past_blocks (block m f) (block_takes m f) >> pure tt
+
+-- ---- sections
+
+-- a section between its first line and its end
+unfoldable pub body : Module → Function → Form (Option Promise)
+body m f = do
+  begin m f
+  parameters m f
+  promise ← result_line m f
+  blocks m f
+  pure promise
+
+-- a section behind its function's name
+unfoldable pub section_of : Module → (function : ℕ) → Function → Form (Unit {0})
+section_of m function f = do
+  mark ← marked
+  line_end
+  promise ← body m f
+  expect (codes "end")
+  line_end
+  step (λ _. tt) (with_section function mark promise) (with_section_falls function mark promise)
+
+-- the section of this function, if it is defined
+abbrev pub section_by : Module → (function : ℕ) → Option Function → Form (Unit {0})
+section_by m function None = unknown
+section_by m function (Some f) = section_of m function f
+
+-- a section behind its first word
+unfoldable pub section_behind : Module → Form (Unit {0})
+section_behind m = new_function m >>= λ function. section_by m function (slice_get m.functions function)
+
+-- a section
+unfoldable pub section : Module → Form (Unit {0})
+section m = expect (codes "function") >> section_behind m
+
+-- a section takes bytes
+pub section_takes : (m : Module) → Takes (section m)
+unfolding section
+section_takes m = first_takes (expect (codes "function")) (λ _. section_behind m) (expect_takes (codes "function") (lit< tt))
+
+-- ---- the whole
+
+-- sections up to the text's end
+unfoldable pub sections : Module → Form (Unit {0})
+sections m = many ended (section m) (section_takes m) >> pure tt
+
+-- the block that is missing of a function, if there is one
+abbrev pub gap_in : (function : ℕ) → Option ℕ → Option Found
+gap_in function None = None
+gap_in function (Some block) = Some (MissingBlock function block)
+
+-- what is missing of a function
+abbrev pub gap_of : (function : ℕ) → Option Kept → Option Found
+gap_of function None = Some (Missing function)
+gap_of function (Some kept) = gap_in function kept.missing
+
+-- the first of what is missing
+abbrev pub gap_or : Option Found → Option Found → Option Found
+gap_or (Some gap) others = Some gap
+gap_or None others = others
+
+-- the first function or block without a section, from this function on
+abbrev pub first_gap : (function : ℕ) → List (Option Kept) → Option Found
+first_gap function [] = None
+first_gap function (kept ∷ more) = gap_or (gap_of function kept) (first_gap (function + 1) more)
+
+-- the sections that are there
+abbrev pub sections_in : List (Option Kept) → List Section
+sections_in [] = []
+sections_in (None ∷ more) = sections_in more
+sections_in (Some kept ∷ more) = kept.section ∷ sections_in more
+
+-- the sections, if nothing is missing
+abbrev pub finished_by : Option Found → Form (List Section)
+finished_by None = step (λ i. sections_in i.sections) emptied emptied_falls
+finished_by (Some gap) = refuse (λ _. gap)
+
+-- each function and each of its blocks has a section
+unfoldable pub finished : Form (List Section)
+finished = look (λ i. first_gap 0 i.sections) finished_by
+
+-- a text of certificates
+unfoldable pub file : Module → Form (List Section)
+file m = do
+  expect (codes "cert")
+  version
+  line_end
+  sections m
+  finished
+
+-- what reading gives, without the state from which reading goes on
+abbrev pub value_of : {A : Type 0} → Outcome Input Found A → Result A Found
+value_of (Ok p) = Ok p.0
+value_of (Err e) = Err e
+
+-- the text is one of these sections, by the numbers of their functions
+abbrev pub IsCert : Bytes → Module → List Section → Type 0
+IsCert bytes m sections = (o : Input) × (file m).says (start_of m bytes) sections o
+
+-- a fault with its place
+abbrev pub placed : Bytes → Found → CertFault
+placed bytes (Syntax rest) = fault.Syntax (place bytes rest)
+placed bytes (Version rest) = fault.Version (place bytes rest)
+placed bytes (UnknownName rest) = fault.UnknownName (place bytes rest)
+placed bytes (ListedTwice rest) = fault.ListedTwice (place bytes rest)
+placed bytes (Missing function) = fault.Missing function
+placed bytes (MissingBlock function block) = fault.MissingBlock function block
+placed bytes Memory = fault.Memory
+
+-- the text is of the format up to a place, where it has this fault
+abbrev pub IsFault : Bytes → Module → CertFault → Type 0
+IsFault bytes m fault = (found : Found) × (file m).stuck (start_of m bytes) found × (placed bytes found ≡ fault)

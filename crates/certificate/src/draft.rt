@@ -1,0 +1,189 @@
+//! The section that is read.
+ghost use Rattle.std.specs.Prelude.{◌≡◌, None, [], map, length, replicate, slice_set, IfOk, true, false};
+ghost use Rattle.certs.specs.RootNames as root_spec;
+ghost use Rattle.certificate.specs.Drafts as spec;
+ghost use Rattle.certificate.specs.declared.draft.Draft.{Draft as ADraft};
+
+use certs::{Line, Promise};
+use ir_ast::{Block, BlockId, Function, Instr, Module, Op, ValueId};
+use items::Items;
+use shadow_stack::Slots;
+use std::alloc::{AllocError, Global};
+
+/// A value that the block has to list.
+#[derive(Clone, Copy, PartialEq, Eq)]
+pub struct Wanted {
+    pub value: ValueId,
+    /// How much of the text is left where it is named.
+    pub left: usize,
+}
+
+/// What is read so far of the section of a function, and of the block that is read.
+#[derive(Drop)]
+pub struct Draft {
+    /// Whether each local name is that of a root slot.
+    pub roots: Items<bool>,
+    pub parameters: Items<Option<Promise>>,
+    /// Whether each block has had its lines; the entry has none, and no more are to come.
+    pub given: Items<bool>,
+    pub blocks: Items<Items<Line>>,
+    /// The lines of the block that is read.
+    pub lines: Items<Line>,
+    /// The block that lists each value last.
+    pub values: Items<Option<BlockId>>,
+    /// The block that lists each slot last, by the names of slots.
+    pub slots: Items<Option<BlockId>>,
+    /// What the block has to list, in the order of the text.
+    pub wanted: Items<Wanted>,
+}
+
+fn is_root(slots: &Slots, value: ValueId) -> bool
+    ensures { result ≡ root_spec.is_root slots.now value }
+{
+    match slots.slot_of(value) {
+        Some(slot) => slots.is_root(slot),
+        None => false,
+    }
+}
+
+fn note_root(roots: &mut Items<bool>, slots: &Slots, instr: &Instr)
+    ensures { roots.new ≡ root_spec.root_noted slots.now instr.now.op instr.now.result roots.old }
+{
+    match (&instr.op, instr.result) {
+        (Op::Alloca(_), Some(value)) => {
+            let at = value.number() as usize;
+            if at < roots.len() {
+                roots.set(at, is_root(slots, value));
+            }
+        }
+        _ => {}
+    }
+}
+
+fn note_roots(roots: &mut Items<bool>, slots: &Slots, instructions: &[Instr])
+    ensures { roots.new ≡ root_spec.roots_noted slots.now instructions.now roots.old }
+{
+    for instr in instructions {
+        note_root(roots, slots, instr);
+    }
+}
+
+fn note_blocks(roots: &mut Items<bool>, slots: &Slots, blocks: &[Block])
+    ensures { roots.new ≡ root_spec.roots_of_blocks slots.now blocks.now roots.old }
+{
+    for block in blocks {
+        note_roots(roots, slots, block.instructions.as_slice());
+    }
+}
+
+/// Whether each local name is that of a root slot: of its alloca.
+fn root_names(
+    alloc: Global,
+    module: &Module,
+    function: &Function,
+) -> Result<Items<bool>, AllocError>
+    ensures { IfOk result (λ roots. roots ≡ root_spec.root_names «module».now function.now) }
+{
+    let slots = Slots::of(alloc, module, function)?;
+    let none = vec![in alloc; false; function.locals.count()]?;
+    let mut roots = Items::from_vec(none);
+    note_blocks(&mut roots, &slots, function.blocks.as_slice());
+    Ok(roots)
+}
+
+/// No block has a line.
+fn no_lines(alloc: Global, function: &Function) -> Result<Items<Items<Line>>, AllocError>
+    ensures { IfOk result (λ blocks. blocks ≡ map (λ _. []) function.now.blocks) }
+{
+    let mut blocks = Items::new(alloc);
+    for _block in function.blocks.as_slice() {
+        blocks.push(Items::new(alloc))?;
+    }
+    Ok(blocks)
+}
+
+/// The entry alone has had its lines.
+fn entry_given(alloc: Global, function: &Function) -> Result<Items<bool>, AllocError>
+    ensures { IfOk result (λ given. given ≡ slice_set (replicate (length function.now.blocks) false) 0 true) }
+{
+    let none = vec![in alloc; false; function.blocks.len()]?;
+    let mut given = Items::from_vec(none);
+    if 0 < given.len() {
+        given.set(0, true);
+    }
+    Ok(given)
+}
+
+fn unlisted(alloc: Global, function: &Function) -> Result<Items<Option<BlockId>>, AllocError>
+    ensures { IfOk result (λ listed. listed ≡ replicate (length function.now.locals) None) }
+{
+    let none = vec![in alloc; None; function.locals.count()]?;
+    Ok(Items::from_vec(none))
+}
+
+/// As many parameters with this promise.
+fn promised_alike(
+    alloc: Global,
+    count: usize,
+    promise: Option<Promise>,
+) -> Result<Items<Option<Promise>>, AllocError>
+    ensures { IfOk result (λ promises. promises ≡ replicate count promise) }
+{
+    let alike = match promise {
+        None => None,
+        Some(
+            Promise {
+                layout,
+                nonnull,
+                below,
+            },
+        ) => Some(Promise {
+            layout,
+            nonnull,
+            below,
+        }),
+    };
+    let promises = vec![in alloc; alike; count]?;
+    Ok(Items::from_vec(promises))
+}
+
+/// Nothing is promised.
+fn no_promise() -> Option<Promise>
+    ensures { result ≡ None }
+{
+    None
+}
+
+impl Draft {
+    /// No section is read.
+    pub fn none(alloc: Global) -> Draft
+        ensures { result ≡ spec.no_draft }
+    {
+        Draft {
+            roots: Items::new(alloc),
+            parameters: Items::new(alloc),
+            given: Items::new(alloc),
+            blocks: Items::new(alloc),
+            lines: Items::new(alloc),
+            values: Items::new(alloc),
+            slots: Items::new(alloc),
+            wanted: Items::new(alloc),
+        }
+    }
+
+    /// Nothing is read so far of the section of this function.
+    pub fn of(alloc: Global, module: &Module, function: &Function) -> Result<Draft, AllocError>
+        ensures { IfOk result (λ draft. draft ≡ spec.draft_of «module».now function.now) }
+    {
+        Ok(Draft {
+            roots: root_names(alloc, module, function)?,
+            parameters: promised_alike(alloc, function.parameters.len(), no_promise())?,
+            given: entry_given(alloc, function)?,
+            blocks: no_lines(alloc, function)?,
+            lines: Items::new(alloc),
+            values: unlisted(alloc, function)?,
+            slots: unlisted(alloc, function)?,
+            wanted: Items::new(alloc),
+        })
+    }
+}

@@ -1,0 +1,314 @@
+//! Facts, and the lines of a block.
+ghost use Rattle.std.specs.Prelude.{◌≡◌};
+ghost use Rattle.certificate.specs.Input.{Reads};
+ghost use Rattle.certificate.specs.Lines as form;
+ghost use Rattle.name_text.specs.Words.{begins_with};
+ghost use Rattle.certs.specs.declared.section.Line.TheVariants.{Slot};
+
+use crate::found::Found;
+use crate::input::Input;
+use crate::naming::{Naming, global_of_word};
+use crate::numbers::bits_of_word;
+use certs::{Age, Fact, Family, Line, family_of_value};
+use ir_ast::{BlockId, Function, Module, SymbolId, ValueId};
+use std::alloc::Global;
+
+/// Which fact a word begins.
+#[derive(Clone, Copy, PartialEq, Eq)]
+pub enum Head {
+    Number(u32),
+    Reference,
+    Address,
+    /// None, or one that does not fit the type.
+    Other,
+}
+
+fn head_by(family: Family, word: &[u8]) -> Head
+    ensures { result ≡ form.head_by family word.now }
+{
+    if word == b"ref".as_slice() {
+        return if family.is_reference() {
+            Head::Reference
+        } else {
+            Head::Other
+        };
+    }
+    if word == b"addr".as_slice() {
+        return if family.is_address() {
+            Head::Address
+        } else {
+            Head::Other
+        };
+    }
+    match family.same_bits(bits_of_word(word)) {
+        None => Head::Other,
+        Some(bits) => Head::Number(bits),
+    }
+}
+
+#[tactic(auto, unfolding(crate::specs::Lines::below, crate::specs::Forms::skip))]
+fn below(input: &mut Input<'_>) -> Result<Option<u64>, Found>
+    ensures { Reads (form.below.read input.old) result input.new }
+{
+    if !input.begins(b"below") {
+        return Ok(None);
+    }
+    input.skip();
+    let count = input.count()?;
+    Ok(Some(count))
+}
+
+/// This word and a value that the block has to list, or nothing.
+#[tactic(auto, unfolding(crate::specs::Lines::listed_behind, crate::specs::Forms::skip))]
+fn listed_behind(
+    alloc: Global,
+    input: &mut Input<'_>,
+    function: &Function,
+    wanted: &[u8],
+) -> Result<Option<ValueId>, Found>
+    ensures { Reads ((form.listed_behind function.now wanted.now).read input.old) result input.new }
+{
+    if !input.begins(wanted) {
+        return Ok(None);
+    }
+    input.skip();
+    let value = input.listed_name(alloc, function)?;
+    Ok(Some(value))
+}
+
+#[tactic(auto, unfolding(crate::specs::Lines::number, crate::specs::Forms::skip))]
+fn number(input: &mut Input<'_>, bits: u32) -> Result<Fact, Found>
+    ensures { Reads ((form.number bits).read input.old) result input.new }
+{
+    input.skip();
+    let below = below(input)?;
+    Ok(Fact::Number { bits, below })
+}
+
+#[tactic(auto, unfolding(crate::specs::Lines::reference, crate::specs::Forms::skip))]
+fn reference(
+    alloc: Global,
+    input: &mut Input<'_>,
+    module: &Module,
+    function: &Function,
+    family: &Family,
+) -> Result<Fact, Found>
+    ensures { Reads ((form.reference «module».now function.now family.now).read input.old) result input.new }
+{
+    input.skip();
+    let layout = input.layout_name(alloc, module, *family)?;
+    let nonnull = input.flag(b"nonnull")?;
+    let age = input.age()?;
+    let same = listed_behind(alloc, input, function, b"same")?;
+    Ok(Fact::Reference {
+        layout,
+        nonnull,
+        age,
+        same,
+    })
+}
+
+#[tactic(auto, unfolding(crate::specs::Lines::words_of_cell))]
+fn words_of_cell(alloc: Global, input: &mut Input<'_>, function: &Function) -> Result<Fact, Found>
+    ensures { Reads ((form.words_of_cell function.now).read input.old) result input.new }
+{
+    let base = input.listed_name(alloc, function)?;
+    let words = input.word_set()?;
+    Ok(Fact::Address { base, words })
+}
+
+/// The address of the global that is named.
+#[tactic(auto, unfolding(crate::specs::Lines::global_address, crate::specs::Forms::skip))]
+fn global_address(alloc: Global, input: &mut Input<'_>, module: &Module) -> Result<Fact, Found>
+    ensures { Reads ((form.global_address «module».now).read input.old) result input.new }
+{
+    match global_of_word(alloc, module, input.word())? {
+        Naming::NoName => Err(Found::Syntax(input.left())),
+        Naming::Unknown => Err(Found::UnknownName(input.left())),
+        Naming::Named(symbol) => {
+            input.skip();
+            Ok(Fact::GlobalAddress(SymbolId::new(symbol)))
+        }
+    }
+}
+
+fn begins_global(word: &[u8]) -> bool
+    ensures { result ≡ begins_with 64 word.now }
+{
+    match word {
+        [first, ..] => *first == b'@',
+        [] => false,
+    }
+}
+
+/// The address of a global where the sign of its name begins the word, and otherwise of words of a cell.
+#[tactic(auto, unfolding(crate::specs::Lines::address, crate::specs::Forms::skip))]
+fn address(
+    alloc: Global,
+    input: &mut Input<'_>,
+    module: &Module,
+    function: &Function,
+) -> Result<Fact, Found>
+    ensures { Reads ((form.address «module».now function.now).read input.old) result input.new }
+{
+    input.skip();
+    if begins_global(input.word()) {
+        global_address(alloc, input, module)
+    } else {
+        words_of_cell(alloc, input, function)
+    }
+}
+
+/// A fact that fits such a value.
+#[tactic(auto, unfolding(crate::specs::Lines::fact_of))]
+fn fact_of(
+    alloc: Global,
+    input: &mut Input<'_>,
+    module: &Module,
+    function: &Function,
+    family: &Family,
+) -> Result<Fact, Found>
+    ensures { Reads ((form.fact_of «module».now function.now family.now).read input.old) result input.new }
+{
+    match head_by(*family, input.word()) {
+        Head::Number(bits) => number(input, bits),
+        Head::Reference => reference(alloc, input, module, function, family),
+        Head::Address => address(alloc, input, module, function),
+        Head::Other => Err(Found::Syntax(input.left())),
+    }
+}
+
+fn has_bits(bits: u32, word: Option<u64>) -> bool
+    ensures { result ≡ form.has_bits bits word }
+{
+    match word {
+        None => false,
+        Some(number) => number == bits as u64,
+    }
+}
+
+fn has_age(age: Age, word: &[u8]) -> bool
+    ensures { result ≡ form.has_age age word.now }
+{
+    match age {
+        Age::Stale => word == b"stale".as_slice(),
+        Age::Fresh => word == b"fresh".as_slice(),
+        Age::Held => false,
+    }
+}
+
+/// Whether a word is one of a fact that is given.
+fn has_word(fact: &Fact, word: &[u8]) -> bool
+    ensures { result ≡ form.has_word fact.now word.now }
+{
+    match *fact {
+        Fact::Number { bits, below } => {
+            has_bits(bits, bits_of_word(word)) || (below.is_some() && word == b"below".as_slice())
+        }
+        Fact::Reference {
+            nonnull,
+            age,
+            same,
+            ..
+        } => {
+            word == b"ref".as_slice()
+                || (nonnull && word == b"nonnull".as_slice())
+                || has_age(age, word)
+                || (same.is_some() && word == b"same".as_slice())
+        }
+        Fact::Address { .. } | Fact::GlobalAddress(_) => word == b"addr".as_slice(),
+    }
+}
+
+#[tactic(auto, unfolding(crate::specs::Lines::fact_end))]
+fn fact_end(input: &mut Input<'_>, fact: &Fact) -> Result<(), Found>
+    ensures { Reads ((form.fact_end fact.now).read input.old) result input.new }
+{
+    if !input.line_ends() && has_word(fact, input.word()) {
+        return Err(Found::ListedTwice(input.left()));
+    }
+    input.line_end()
+}
+
+fn slot_has_word(nonnull: bool, holds: Option<ValueId>, word: &[u8]) -> bool
+    ensures { result ≡ form.slot_has_word nonnull holds word.now }
+{
+    (nonnull && word == b"nonnull".as_slice()) || (holds.is_some() && word == b"holds".as_slice())
+}
+
+#[tactic(auto, unfolding(crate::specs::Lines::slot_end))]
+fn slot_end(input: &mut Input<'_>, nonnull: bool, holds: Option<ValueId>) -> Result<(), Found>
+    ensures { Reads ((form.slot_end nonnull holds).read input.old) result input.new }
+{
+    if !input.line_ends() && slot_has_word(nonnull, holds, input.word()) {
+        return Err(Found::ListedTwice(input.left()));
+    }
+    input.line_end()
+}
+
+/// A line of a value.
+#[tactic(auto, unfolding(crate::specs::Lines::value_line))]
+fn value_line(
+    alloc: Global,
+    input: &mut Input<'_>,
+    module: &Module,
+    function: &Function,
+    block: BlockId,
+) -> Result<(), Found>
+    ensures { Reads ((form.value_line «module».now function.now block).read input.old) result input.new }
+{
+    let value = input.new_value(alloc, function, block)?;
+    let family = family_of_value(module, function, value);
+    let fact = fact_of(alloc, input, module, function, &family)?;
+    fact_end(input, &fact)?;
+    input.put_value(block, value, &fact)
+}
+
+/// What a line says of a slot.
+fn slot_said(slot: ValueId, nonnull: bool, holds: &Option<ValueId>) -> Line
+    ensures { result ≡ Slot slot nonnull holds.now }
+{
+    Line::Slot {
+        slot,
+        nonnull,
+        holds: *holds,
+    }
+}
+
+/// A line of a slot.
+#[tactic(auto, unfolding(crate::specs::Lines::slot_line, crate::specs::Forms::put_slot))]
+fn slot_line(
+    alloc: Global,
+    input: &mut Input<'_>,
+    function: &Function,
+    block: BlockId,
+) -> Result<(), Found>
+    ensures { Reads ((form.slot_line function.now block).read input.old) result input.new }
+{
+    input.expect(b"slot")?;
+    let slot = input.new_slot(alloc, function, block)?;
+    let nonnull = input.flag(b"nonnull")?;
+    let holds = listed_behind(alloc, input, function, b"holds")?;
+    slot_end(input, nonnull, holds)?;
+    let line = slot_said(slot, nonnull, &holds);
+    input.put_slot(block, slot, &line)?;
+    Ok(())
+}
+
+/// A line of a block.
+#[tactic(auto, unfolding(crate::specs::Lines::line))]
+pub fn line(
+    alloc: Global,
+    input: &mut Input<'_>,
+    module: &Module,
+    function: &Function,
+    block: BlockId,
+) -> Result<(), Found>
+    ensures { Reads ((form.line «module».now function.now block).read input.old) result input.new }
+{
+    if input.begins(b"slot") {
+        slot_line(alloc, input, function, block)
+    } else {
+        value_line(alloc, input, module, function, block)
+    }
+}

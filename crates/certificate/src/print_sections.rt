@@ -1,0 +1,225 @@
+//! The text of certificates.
+ghost use Rattle.std.specs.Prelude.{◌≡◌, ◌++◌, true, OnOk, IfOk, drop};
+ghost use Rattle.certs.specs.Fits.{fits};
+ghost use Rattle.certificate.specs.Named.{IsNamed};
+ghost use Rattle.certificate.specs.Print as spec;
+ghost use Rattle.certificate.specs.Text.{IsCert};
+
+use crate::print::{put_below, put_if, put_line};
+use certs::{Certs, Line, Mark, Promise, Section};
+use ir_ast::{Block, Function, Module, Parameter};
+use items::Items;
+use name_text::{Blank, put_global, put_layout, put_local};
+use pools::LayoutId;
+use std::alloc::{AllocError, Global};
+
+fn put_promised_layout(
+    out: &mut Vec<u8>,
+    module: &Module,
+    layout: Option<LayoutId>,
+) -> Result<(), AllocError>
+    ensures { OnOk result (out.new.items ≡ out.old.items ++ spec.promised_layout «module».now layout) }
+{
+    match layout {
+        None => Ok(()),
+        Some(layout) => {
+            out.extend_from_slice(b" ref ")?;
+            put_layout(out, module, layout, Blank::Escaped)
+        }
+    }
+}
+
+/// What is promised, and the line's end.
+fn put_promise(
+    alloc: Global,
+    out: &mut Vec<u8>,
+    module: &Module,
+    promise: &Promise,
+) -> Result<(), AllocError>
+    ensures { OnOk result (out.new.items ≡ out.old.items ++ spec.promise_text «module».now promise.now) }
+{
+    put_promised_layout(out, module, promise.layout)?;
+    put_if(out, promise.nonnull, b" nonnull")?;
+    put_below(alloc, out, promise.below)?;
+    out.extend_from_slice(b"\n")
+}
+
+fn put_parameter(
+    alloc: Global,
+    out: &mut Vec<u8>,
+    module: &Module,
+    function: &Function,
+    parameter: &Parameter,
+    promise: &Option<Promise>,
+) -> Result<(), AllocError>
+    ensures { OnOk result (out.new.items ≡ out.old.items ++ spec.parameter_text «module».now function.now parameter.now promise.now) }
+{
+    match promise {
+        None => Ok(()),
+        Some(promise) => {
+            out.extend_from_slice(b"param ")?;
+            put_local(out, &function.locals, parameter.value, Blank::Escaped)?;
+            put_promise(alloc, out, module, promise)
+        }
+    }
+}
+
+fn put_parameters(
+    alloc: Global,
+    out: &mut Vec<u8>,
+    module: &Module,
+    function: &Function,
+    parameters: &[Parameter],
+    promises: &[Option<Promise>],
+) -> Result<(), AllocError>
+    ensures { OnOk result (out.new.items ≡ out.old.items ++ spec.parameters_text «module».now function.now parameters.now promises.now) }
+{
+    for (parameter, promise) in parameters.iter().zip(promises) {
+        put_parameter(alloc, out, module, function, parameter, promise)?;
+    }
+    Ok(())
+}
+
+fn put_result(
+    alloc: Global,
+    out: &mut Vec<u8>,
+    module: &Module,
+    promise: &Option<Promise>,
+) -> Result<(), AllocError>
+    ensures { OnOk result (out.new.items ≡ out.old.items ++ spec.result_text «module».now promise.now) }
+{
+    match promise {
+        None => Ok(()),
+        Some(promise) => {
+            out.extend_from_slice(b"result")?;
+            put_promise(alloc, out, module, promise)
+        }
+    }
+}
+
+fn put_lines(
+    alloc: Global,
+    out: &mut Vec<u8>,
+    module: &Module,
+    function: &Function,
+    lines: &[Line],
+) -> Result<(), AllocError>
+    ensures { OnOk result (out.new.items ≡ out.old.items ++ spec.lines_text «module».now function.now lines.now) }
+{
+    for line in lines {
+        put_line(alloc, out, module, function, line)?;
+        out.push(b'\n')?;
+    }
+    Ok(())
+}
+
+fn put_block(
+    alloc: Global,
+    out: &mut Vec<u8>,
+    module: &Module,
+    function: &Function,
+    block: &Block,
+    lines: &[Line],
+) -> Result<(), AllocError>
+    ensures { OnOk result (out.new.items ≡ out.old.items ++ spec.block_text «module».now function.now block.now lines.now) }
+{
+    out.extend_from_slice(b"block ")?;
+    put_local(out, &function.locals, block.label, Blank::Escaped)?;
+    out.push(b'\n')?;
+    put_lines(alloc, out, module, function, lines)
+}
+
+fn put_blocks(
+    alloc: Global,
+    out: &mut Vec<u8>,
+    module: &Module,
+    function: &Function,
+    blocks: &[Block],
+    lists: &[Items<Line>],
+) -> Result<(), AllocError>
+    ensures { OnOk result (out.new.items ≡ out.old.items ++ spec.blocks_text «module».now function.now blocks.now lists.now) }
+{
+    for (block, lines) in blocks.iter().zip(lists) {
+        put_block(alloc, out, module, function, block, lines.as_slice())?;
+    }
+    Ok(())
+}
+
+/// The first line of a section.
+fn put_heading(
+    out: &mut Vec<u8>,
+    module: &Module,
+    function: &Function,
+    mark: Mark,
+) -> Result<(), AllocError>
+    ensures { OnOk result (out.new.items ≡ out.old.items ++ spec.heading_text «module».now function.now mark) }
+{
+    out.extend_from_slice(b"function ")?;
+    put_global(out, module, function.symbol, Blank::Escaped)?;
+    match mark {
+        Mark::May => out.extend_from_slice(b" may\n"),
+        Mark::None => out.extend_from_slice(b" none\n"),
+    }
+}
+
+/// The blocks but the entry, which has no lines.
+fn put_other_blocks(
+    alloc: Global,
+    out: &mut Vec<u8>,
+    module: &Module,
+    function: &Function,
+    lists: &[Items<Line>],
+) -> Result<(), AllocError>
+    ensures { OnOk result (out.new.items ≡ out.old.items ++ spec.blocks_text «module».now function.now (drop 1 function.now.blocks) (drop 1 lists.now)) }
+{
+    let blocks = function.blocks.as_slice().get(1..).unwrap_or(&[]);
+    let lists = lists.get(1..).unwrap_or(&[]);
+    put_blocks(alloc, out, module, function, blocks, lists)
+}
+
+fn put_section(
+    alloc: Global,
+    out: &mut Vec<u8>,
+    module: &Module,
+    function: &Function,
+    section: &Section,
+) -> Result<(), AllocError>
+    ensures { OnOk result (out.new.items ≡ out.old.items ++ spec.section_text «module».now function.now section.now) }
+{
+    put_heading(out, module, function, section.mark)?;
+    let parameters = function.parameters.as_slice();
+    let promises = section.parameters.as_slice();
+    put_parameters(alloc, out, module, function, parameters, promises)?;
+    put_result(alloc, out, module, &section.result)?;
+    put_other_blocks(alloc, out, module, function, section.blocks.as_slice())?;
+    out.extend_from_slice(b"end\n")
+}
+
+fn put_sections(
+    alloc: Global,
+    out: &mut Vec<u8>,
+    module: &Module,
+    functions: &[Function],
+    sections: &[Section],
+) -> Result<(), AllocError>
+    ensures { OnOk result (out.new.items ≡ out.old.items ++ spec.sections_text «module».now functions.now sections.now) }
+{
+    for (function, section) in functions.iter().zip(sections) {
+        put_section(alloc, out, module, function, section)?;
+    }
+    Ok(())
+}
+
+/// The text of certificates: sections in the module's order, parameters and blocks in their function's, lines as they
+/// were given.
+pub fn print_cert(alloc: Global, certs: &Certs, module: &Module) -> Result<Vec<u8>, AllocError>
+    ensures text { IfOk result (λ text. text.items ≡ spec.cert_text certs.now «module».now) }
+    // Of certificates that fit it is a text of them, where the module's names are bytes, printed below 2 to the 24 of them, and each leads back to what it names.
+    ensures same { IsNamed «module».now → fits «module».now certs.now ≡ true → IfOk result (λ text. IsCert text.items «module».now certs.now) }
+{
+    let mut out = Vec::new(alloc);
+    out.extend_from_slice(b"cert 1\n")?;
+    let functions = module.functions.as_slice();
+    put_sections(alloc, &mut out, module, functions, certs.sections())?;
+    Ok(out)
+}

@@ -1,0 +1,135 @@
+//! What is promised of a parameter or of the result.
+ghost use Rattle.std.specs.Prelude.{◌≡◌};
+ghost use Rattle.certificate.specs.Input.{Reads};
+ghost use Rattle.certificate.specs.Lines as form;
+
+use crate::found::Found;
+use crate::input::Input;
+use certs::{Family, Promise};
+use ir_ast::Module;
+use std::alloc::Global;
+
+/// What a word promises.
+#[derive(Clone, Copy, PartialEq, Eq)]
+pub enum Promised {
+    /// `ref`.
+    Layout,
+    Nonnull,
+    Below,
+    /// It is promised already.
+    Again,
+    /// Nothing, or what does not fit the type.
+    Other,
+}
+
+/// Nothing is promised.
+fn no_promise() -> Promise
+    ensures { result ≡ form.no_promise }
+{
+    Promise {
+        layout: None,
+        nonnull: false,
+        below: None,
+    }
+}
+
+fn fact_if(given: bool, fits: bool, fact: Promised) -> Promised
+    ensures { result ≡ form.fact_if given fits fact }
+{
+    if given {
+        Promised::Again
+    } else if fits {
+        fact
+    } else {
+        Promised::Other
+    }
+}
+
+fn promised_by(family: Family, promise: &Promise, word: &[u8]) -> Promised
+    ensures { result ≡ form.promised_by family promise.now word.now }
+{
+    if word == b"ref".as_slice() {
+        fact_if(
+            promise.layout.is_some(),
+            family.is_reference(),
+            Promised::Layout,
+        )
+    } else if word == b"nonnull".as_slice() {
+        fact_if(promise.nonnull, family.is_reference(), Promised::Nonnull)
+    } else if word == b"below".as_slice() {
+        fact_if(
+            promise.below.is_some(),
+            family.is_integer(),
+            Promised::Below,
+        )
+    } else {
+        Promised::Other
+    }
+}
+
+#[tactic(auto, unfolding(crate::specs::Lines::promised_fact, crate::specs::Forms::skip))]
+fn promised_fact(
+    alloc: Global,
+    input: &mut Input<'_>,
+    module: &Module,
+    family: &Family,
+    promise: &Promise,
+) -> Result<Promise, Found>
+    ensures { Reads ((form.promised_fact «module».now family.now promise.now).read input.old) result input.new }
+{
+    match promised_by(*family, promise, input.word()) {
+        Promised::Again => Err(Found::ListedTwice(input.left())),
+        Promised::Other => Err(Found::Syntax(input.left())),
+        Promised::Layout => {
+            input.skip();
+            let layout = Some(input.layout_name(alloc, module, *family)?);
+            Ok(Promise { layout, ..*promise })
+        }
+        Promised::Nonnull => {
+            input.skip();
+            Ok(Promise {
+                nonnull: true,
+                ..*promise
+            })
+        }
+        Promised::Below => {
+            input.skip();
+            let below = Some(input.count()?);
+            Ok(Promise { below, ..*promise })
+        }
+    }
+}
+
+#[tactic(auto, unfolding(crate::specs::Lines::more_facts))]
+fn more_facts(
+    alloc: Global,
+    input: &mut Input<'_>,
+    module: &Module,
+    family: &Family,
+    promise: &Promise,
+) -> Result<Promise, Found>
+    ensures { Reads ((form.more_facts «module».now family.now promise.now).read input.old) result input.new }
+{
+    if input.line_ends() {
+        return Ok(*promise);
+    }
+    promised_fact(alloc, input, module, family, promise)
+}
+
+/// Up to three facts and the line's end.
+#[tactic(auto, unfolding(crate::specs::Lines::promise))]
+pub fn promise(
+    alloc: Global,
+    input: &mut Input<'_>,
+    module: &Module,
+    family: Family,
+) -> Result<Promise, Found>
+    ensures { Reads ((form.promise «module».now family).read input.old) result input.new }
+{
+    let one = promised_fact(alloc, input, module, &family, &no_promise())?;
+    let two = more_facts(alloc, input, module, &family, &one)?;
+    let three = more_facts(alloc, input, module, &family, &two)?;
+    let all = more_facts(alloc, input, module, &family, &three)?;
+    input.line_end()?;
+    Ok(all)
+}

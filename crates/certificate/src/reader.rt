@@ -1,0 +1,412 @@
+//! The reader of certificates.
+ghost use Rattle.std.specs.Prelude.{◌≡◌, ◌≢◌, ◌+◌, List, None, true, map, slice_get, IfOk, IfErr, Ok, Err};
+ghost use Rattle.certificate.specs.Drafts as drafts;
+ghost use Rattle.certificate.specs.Drafts.{is_in};
+ghost use Rattle.certs.specs.Fits.{fits};
+ghost use Rattle.certificate.specs.Input.{Reads, start_of};
+ghost use Rattle.certificate.specs.Text as text;
+ghost use Rattle.certificate.specs.Text.{IsCert, IsFault};
+ghost use Rattle.grammar.specs.Outcome.{Gives};
+ghost use Rattle.certs.specs.declared.section.Section.{Section as ASection};
+ghost use Rattle.certificate.specs.declared.fault.CertFault.{CertFault as AFault};
+ghost use Rattle.certificate.specs.declared.fault.CertFault.TheVariants as fault;
+ghost use Rattle.certificate.specs.declared.found.Found.TheVariants.{Memory};
+
+use crate::draft::{Draft, Wanted};
+use crate::facts::line;
+use crate::fault::CertFault;
+use crate::found::Found;
+use crate::input::{Input, Kept};
+use crate::promises::promise;
+use certs::{Certs, Promise, Section, family_of_type, family_of_value};
+use ir_ast::{BlockId, FuncId, Function, Module};
+use items::Items;
+use name_text::{is_number, place};
+use std::alloc::{AllocError, Global};
+
+/// The number of the format's version.
+#[tactic(auto, unfolding(crate::specs::Text::version, crate::specs::Forms::skip))]
+fn version(input: &mut Input<'_>) -> Result<(), Found>
+    ensures { Reads (text.version.read input.old) result input.new }
+{
+    if !is_number(input.word()) {
+        return Err(Found::Syntax(input.left()));
+    }
+    if !input.begins(b"1") {
+        return Err(Found::Version(input.left()));
+    }
+    input.skip();
+    Ok(())
+}
+
+/// What is promised of a parameter.
+#[tactic(auto, unfolding(crate::specs::Text::parameter))]
+fn parameter(
+    alloc: Global,
+    input: &mut Input<'_>,
+    module: &Module,
+    function: &Function,
+) -> Result<(), Found>
+    ensures { Reads ((text.parameter «module».now function.now).read input.old) result input.new }
+{
+    input.expect(b"param")?;
+    let value = input.new_parameter(alloc, function)?;
+    let family = family_of_value(module, function, value);
+    let Promise {
+        layout,
+        nonnull,
+        below,
+    } = promise(alloc, input, module, family)?;
+    let promised = Promise {
+        layout,
+        nonnull,
+        below,
+    };
+    input.promise(value.number() as usize, &promised);
+    Ok(())
+}
+
+fn past_parameters(input: &Input<'_>) -> bool
+    ensures { result ≡ text.past_parameters input.now }
+{
+    !input.begins(b"param")
+}
+
+#[tactic(auto, unfolding(crate::specs::Text::parameters))]
+fn parameters(
+    alloc: Global,
+    input: &mut Input<'_>,
+    module: &Module,
+    function: &Function,
+) -> Result<(), Found>
+    ensures { Reads ((text.parameters «module».now function.now).read input.old) result input.new }
+{
+    for _turn in 0..input.left() + 1 {
+        if past_parameters(input) {
+            return Ok(());
+        }
+        parameter(alloc, input, module, function)?;
+    }
+    Ok(())
+}
+
+/// What is promised of the result, or nothing.
+#[tactic(auto, unfolding(crate::specs::Text::result_line, crate::specs::Forms::skip))]
+fn result_line(
+    alloc: Global,
+    input: &mut Input<'_>,
+    module: &Module,
+    function: &Function,
+) -> Result<Option<Promise>, Found>
+    ensures { Reads ((text.result_line «module».now function.now).read input.old) result input.new }
+{
+    if !input.begins(b"result") {
+        return Ok(None);
+    }
+    input.skip();
+    let promised = promise(
+        alloc,
+        input,
+        module,
+        family_of_type(module, function.returned),
+    )?;
+    Ok(Some(promised))
+}
+
+fn past_lines(input: &Input<'_>) -> bool
+    ensures { result ≡ text.past_lines input.now }
+{
+    input.begins(b"block") || input.begins(b"end")
+}
+
+#[tactic(auto, unfolding(crate::specs::Text::lines))]
+fn lines(
+    alloc: Global,
+    input: &mut Input<'_>,
+    module: &Module,
+    function: &Function,
+    block: BlockId,
+) -> Result<(), Found>
+    ensures { Reads ((text.lines «module».now function.now block).read input.old) result input.new }
+{
+    for _turn in 0..input.left() + 1 {
+        if past_lines(input) {
+            return Ok(());
+        }
+        line(alloc, input, module, function, block)?;
+    }
+    Ok(())
+}
+
+fn lists(listed: &[Option<BlockId>], block: BlockId, wanted: Wanted) -> bool
+    ensures { result ≡ is_in block (slice_get listed.now wanted.value) }
+{
+    match listed.get(wanted.value.number() as usize) {
+        Some(Some(last)) => *last == block,
+        _ => false,
+    }
+}
+
+/// Where the first value is named that the block does not list.
+fn first_unlisted(block: BlockId, listed: &[Option<BlockId>], wanted: &[Wanted]) -> Option<usize>
+    ensures { result ≡ drafts.first_unlisted block listed.now wanted.now }
+{
+    for wanted in wanted {
+        if !lists(listed, block, *wanted) {
+            return Some(wanted.left);
+        }
+    }
+    None
+}
+
+/// The block lists each value that it has to list.
+#[tactic(auto, unfolding(crate::specs::Text::all_listed))]
+fn all_listed(input: &mut Input<'_>, block: BlockId) -> Result<(), Found>
+    ensures { Reads ((text.all_listed block).read input.old) result input.new }
+{
+    let draft = input.draft();
+    match first_unlisted(block, draft.values.as_slice(), draft.wanted.as_slice()) {
+        None => Ok(()),
+        Some(left) => Err(Found::UnknownName(left)),
+    }
+}
+
+/// A block and its lines.
+#[tactic(auto, unfolding(crate::specs::Text::block))]
+fn block(
+    alloc: Global,
+    input: &mut Input<'_>,
+    module: &Module,
+    function: &Function,
+) -> Result<(), Found>
+    ensures { Reads ((text.block «module».now function.now).read input.old) result input.new }
+{
+    input.expect(b"block")?;
+    let block = input.new_block(alloc, function)?;
+    input.line_end()?;
+    lines(alloc, input, module, function, block)?;
+    all_listed(input, block)?;
+    input.end_block(alloc, block);
+    Ok(())
+}
+
+fn past_blocks(input: &Input<'_>) -> bool
+    ensures { result ≡ text.past_blocks input.now }
+{
+    !input.begins(b"block")
+}
+
+#[tactic(auto, unfolding(crate::specs::Text::blocks))]
+fn blocks(
+    alloc: Global,
+    input: &mut Input<'_>,
+    module: &Module,
+    function: &Function,
+) -> Result<(), Found>
+    ensures { Reads ((text.blocks «module».now function.now).read input.old) result input.new }
+{
+    for _turn in 0..input.left() + 1 {
+        if past_blocks(input) {
+            return Ok(());
+        }
+        block(alloc, input, module, function)?;
+    }
+    Ok(())
+}
+
+/// A section between its first line and its end.
+#[tactic(auto, unfolding(crate::specs::Text::body))]
+fn body(
+    alloc: Global,
+    input: &mut Input<'_>,
+    module: &Module,
+    function: &Function,
+) -> Result<Option<Promise>, Found>
+    ensures { Reads ((text.body «module».now function.now).read input.old) result input.new }
+{
+    input.begin(alloc, module, function)?;
+    parameters(alloc, input, module, function)?;
+    let promised = result_line(alloc, input, module, function)?;
+    blocks(alloc, input, module, function)?;
+    Ok(promised)
+}
+
+/// A section behind its function's name.
+#[tactic(auto, unfolding(crate::specs::Text::section_of))]
+fn section_of(
+    alloc: Global,
+    input: &mut Input<'_>,
+    module: &Module,
+    number: FuncId,
+    function: &Function,
+) -> Result<(), Found>
+    ensures { Reads ((text.section_of «module».now number function.now).read input.old) result input.new }
+{
+    let mark = input.mark()?;
+    input.line_end()?;
+    let promised = body(alloc, input, module, function)?;
+    input.expect(b"end")?;
+    input.line_end()?;
+    let promised = match promised {
+        None => None,
+        Some(
+            Promise {
+                layout,
+                nonnull,
+                below,
+            },
+        ) => Some(Promise {
+            layout,
+            nonnull,
+            below,
+        }),
+    };
+    input.end_section(alloc, number, mark, &promised);
+    Ok(())
+}
+
+/// A section behind its first word.
+#[tactic(auto, unfolding(crate::specs::Text::section_behind))]
+fn section_behind(alloc: Global, input: &mut Input<'_>, module: &Module) -> Result<(), Found>
+    ensures { Reads ((text.section_behind «module».now).read input.old) result input.new }
+{
+    let number = input.new_function(alloc, module)?;
+    match module.functions.get(number.number() as usize) {
+        None => Err(Found::UnknownName(input.left())),
+        Some(function) => section_of(alloc, input, module, number, function),
+    }
+}
+
+#[tactic(auto, unfolding(crate::specs::Text::section))]
+fn section(alloc: Global, input: &mut Input<'_>, module: &Module) -> Result<(), Found>
+    ensures { Reads ((text.section «module».now).read input.old) result input.new }
+{
+    input.expect(b"function")?;
+    section_behind(alloc, input, module)
+}
+
+/// The sections up to the text's end.
+#[tactic(auto, unfolding(crate::specs::Text::sections))]
+fn sections(alloc: Global, input: &mut Input<'_>, module: &Module) -> Result<(), Found>
+    ensures { Reads ((text.sections «module».now).read input.old) result input.new }
+{
+    for _turn in 0..input.left() + 1 {
+        if input.ended() {
+            return Ok(());
+        }
+        section(alloc, input, module)?;
+    }
+    Ok(())
+}
+
+fn sections_in(alloc: Global, kept: Vec<Option<Kept>>) -> Result<Items<Section>, AllocError>
+    ensures { IfOk result (λ sections. sections ≡ text.sections_in kept.items) }
+{
+    let mut sections = Items::new(alloc);
+    for kept in kept {
+        if let Some(kept) = kept {
+            sections.push(kept.section)?;
+        }
+    }
+    Ok(sections)
+}
+
+/// What is missing of a function.
+fn gap_of(function: usize, kept: &Option<Kept>) -> Option<Found>
+    ensures { result ≡ text.gap_of function kept.now }
+{
+    match kept {
+        None => Some(Found::Missing(function)),
+        Some(kept) => {
+            let block = kept.missing?;
+            Some(Found::MissingBlock(function, block))
+        }
+    }
+}
+
+/// The first function or block without a section.
+fn first_gap(sections: &[Option<Kept>]) -> Option<Found>
+    ensures { result ≡ text.first_gap 0 sections.now }
+{
+    for (function, kept) in sections.iter().enumerate() {
+        if let Some(gap) = gap_of(function, kept) {
+            return Some(gap);
+        }
+    }
+    None
+}
+
+/// The sections, where none is missing.
+#[tactic(auto, unfolding(crate::specs::Text::finished))]
+fn finished(alloc: Global, input: &mut Input<'_>) -> Result<Items<Section>, Found>
+    ensures { Reads (text.finished.read input.old) result input.new }
+{
+    if let Some(gap) = first_gap(input.sections()) {
+        return Err(gap);
+    }
+    let kept = input.take_sections(alloc);
+    Ok(sections_in(alloc, kept)?)
+}
+
+#[tactic(auto, unfolding(crate::specs::Text::file))]
+fn file(alloc: Global, input: &mut Input<'_>, module: &Module) -> Result<Items<Section>, Found>
+    ensures { Reads ((text.file «module».now).read input.old) result input.new }
+{
+    input.expect(b"cert")?;
+    version(input)?;
+    input.line_end()?;
+    sections(alloc, input, module)?;
+    finished(alloc, input)
+}
+
+/// No function has a section.
+fn no_sections(alloc: Global, module: &Module) -> Result<Vec<Option<Kept>>, AllocError>
+    ensures { IfOk result (λ sections. sections.items ≡ map (λ _. None) «module».now.functions) }
+{
+    let mut sections = Vec::new(alloc);
+    for _function in module.functions.as_slice() {
+        sections.push(None)?;
+    }
+    Ok(sections)
+}
+
+fn sections_of(alloc: Global, bytes: &[u8], module: &Module) -> Result<Items<Section>, Found>
+    ensures { Gives Memory result (text.value_of ((text.file «module».now).read (start_of «module».now bytes.now))) }
+{
+    let mut input = Input::new(alloc, bytes, no_sections(alloc, module)?);
+    file(alloc, &mut input, module)
+}
+
+/// The fault with its line and column.
+fn placed(bytes: &[u8], found: Found) -> CertFault
+    ensures { result ≡ text.placed bytes.now found }
+{
+    match found {
+        Found::Syntax(rest) => CertFault::Syntax(place(bytes, rest)),
+        Found::Version(rest) => CertFault::Version(place(bytes, rest)),
+        Found::UnknownName(rest) => CertFault::UnknownName(place(bytes, rest)),
+        Found::ListedTwice(rest) => CertFault::ListedTwice(place(bytes, rest)),
+        Found::Missing(function) => CertFault::Missing(function),
+        Found::MissingBlock(function, block) => CertFault::MissingBlock(function, block),
+        Found::Memory => CertFault::Memory,
+    }
+}
+
+/// Reads the certificates of a module.
+pub fn read_cert(alloc: Global, bytes: &[u8], module: &Module) -> Result<Certs, CertFault>
+    // What is read is a text of these certificates.
+    ensures found { IfOk result (λ certs. IsCert bytes.now «module».now certs) }
+    // They are certificates of the module.
+    ensures fits { IfOk result (λ certs. fits «module».now certs ≡ true) }
+    // What is a text of some certificates is read, unless memory runs out.
+    ensures only { (certs : List ASection) → IsCert bytes.now «module».now certs → Gives fault.Memory result (Ok certs) }
+    // What is refused is refused for its first fault.
+    ensures fault { IfErr result (λ e. e ≢ fault.Memory → IsFault bytes.now «module».now e) }
+    // What has a first fault is refused for it, unless memory runs out.
+    ensures only_fault { (e : AFault) → IsFault bytes.now «module».now e → Gives fault.Memory result (Err e) }
+{
+    match sections_of(alloc, bytes, module) {
+        Ok(sections) => Ok(Certs::new(sections)),
+        Err(found) => Err(placed(bytes, found)),
+    }
+}

@@ -1,9 +1,0 @@
-pub mod ListedWords
-pub mod Zipped
-pub mod PrintedWords
-pub mod PrintedSets
-pub mod PrintedNames
-pub mod PrintedLines
-pub mod PrintedPromises
-pub mod PrintedBlocks
-pub mod PrintedCerts

@@ -1,2 +1,0 @@
-pub mod Print
-pub mod Named

@@ -1,5 +1,0 @@
-pub mod Laws
-pub mod Between
-pub mod ReadSets
-pub mod ReadWords
-pub mod ReadFits

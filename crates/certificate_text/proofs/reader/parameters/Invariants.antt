@@ -1,8 +1,0 @@
-use Rattle.std.proofs.Common.{◌≡◌, ◌-◌, suc}
-use Rattle.certificate_words.specs.Input.{left}
-use Rattle.certificate_text.specs.Text.{past_parameters, parameter}
-use Rattle.grammar.proofs.Turns.{turns}
-use Rattle.certificate_text.proofs.reader.parameters.Given as goal
-
-abbrev pub invariant-loop-turn : goal.invariant-loop-turn
-invariant-loop-turn l = turns past_parameters (parameter l.module l.function).read (suc (left l.fn.input)) l.fn.input ≡ turns past_parameters (parameter l.module l.function).read (l._turn-end - l._turn) l.input

@@ -1,8 +1,0 @@
-use Rattle.std.proofs.Common.{◌≡◌, ◌-◌, suc}
-use Rattle.certificate_words.specs.Input.{left, ended}
-use Rattle.certificate_text.specs.Text.{section}
-use Rattle.grammar.proofs.Turns.{turns}
-use Rattle.certificate_text.proofs.reader.sections.Given as goal
-
-abbrev pub invariant-loop-turn : goal.invariant-loop-turn
-invariant-loop-turn l = turns ended (section l.module).read (suc (left l.fn.input)) l.fn.input ≡ turns ended (section l.module).read (l._turn-end - l._turn) l.input

@@ -1,5 +1,0 @@
-use Rattle.std.proofs.Common.{◌≡◌, [], map, take}
-use Rattle.certificate_words.proofs.draft.no_lines.Given as goal
-
-abbrev pub invariant-loop-block : goal.invariant-loop-block
-invariant-loop-block l = l.blocks ≡ map (λ _. []) (take l._block-index l.function.blocks)

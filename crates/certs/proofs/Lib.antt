@@ -1,0 +1,2 @@
+pub mod SlotRoots
+pub mod WordSets

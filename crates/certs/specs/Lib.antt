@@ -1,0 +1,5 @@
+pub mod Certs
+pub mod Roots
+pub mod RootNames
+pub mod Fits
+pub mod Families

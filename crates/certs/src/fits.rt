@@ -1,0 +1,351 @@
+//! Which certificates are certificates of a module.
+ghost use Rattle.std.specs.Prelude.{◌≡◌, ◌&&◌, drop};
+ghost use Rattle.std.specs.List.{list_all, list_any, range_with_len, zip};
+ghost use Rattle.pools.specs.WordSets.{has_word};
+ghost use Rattle.certs.specs.Fits as spec;
+
+use crate::family::{Family, family_of_type, family_of_value};
+use crate::roots::is_root_found;
+use crate::section::{Fact, Line, Promise, Section};
+use ir_ast::{Function, LocalSort, Module, Parameter, ValueId};
+use items::Items;
+use pools::{LayoutId, WordSet};
+use types::global_named;
+
+fn is_count(number: u64) -> bool
+    ensures { result ≡ spec.is_count number }
+{
+    number != 0
+}
+
+fn below_fits(below: Option<u64>) -> bool
+    ensures { result ≡ spec.below_fits below }
+{
+    match below {
+        None => true,
+        Some(number) => is_count(number),
+    }
+}
+
+fn stands_for(layout: LayoutId, own: &Option<LayoutId>) -> bool
+    ensures { result ≡ spec.stands_for layout own.now }
+{
+    match own {
+        None => false,
+        Some(own) => *own == layout,
+    }
+}
+
+fn is_layout(module: &Module, layout: LayoutId) -> bool
+    ensures { result ≡ list_any (spec.stands_for layout) «module».now.struct_of }
+{
+    module
+        .struct_of
+        .as_slice()
+        .iter()
+        .any(|own| stands_for(layout, own))
+}
+
+fn layout_fits(module: &Module, family: Family, layout: LayoutId) -> bool
+    ensures { result ≡ spec.layout_fits «module».now family layout }
+{
+    family.refers_to(layout) && is_layout(module, layout)
+}
+
+fn some_word(words: &WordSet) -> bool
+    ensures { result ≡ list_any (has_word words.now.members) (range_with_len 0 64) }
+{
+    (0..64u32).any(|word| words.has(word))
+}
+
+fn add_word(words: &WordSet, word: u32, own: &mut WordSet)
+    ensures { own.new.members ≡ spec.add_word words.now.members word own.old.members }
+{
+    if words.has(word) {
+        own.add(word);
+    }
+}
+
+/// The words of a set from 0 to 63, as a set of their own.
+fn own_words(words: &WordSet) -> WordSet
+    ensures { result.members ≡ spec.own_words words.now.members }
+{
+    let mut own = WordSet::new();
+    for word in 0..64u32 {
+        add_word(words, word, &mut own);
+    }
+    own
+}
+
+fn same_words(words: &WordSet, own: &WordSet) -> bool
+    ensures { result ≡ spec.same_words words.now.members own.now.members }
+{
+    *words == *own
+}
+
+fn words_fit(words: &WordSet) -> bool
+    ensures { result ≡ spec.words_fit words.now.members }
+{
+    some_word(words) && same_words(words, &own_words(words))
+}
+
+/// Whether this may be promised of such a value.
+fn promise_fits(module: &Module, family: &Family, promise: &Promise) -> bool
+    ensures { result ≡ spec.promise_fits «module».now family.now promise.now }
+{
+    let says_something = promise.layout.is_some() || promise.nonnull || promise.below.is_some();
+    says_something
+        && promised_layout_fits(module, family, promise.layout)
+        && (!promise.nonnull || family.is_reference())
+        && promised_below_fits(family, promise.below)
+}
+
+fn promised_layout_fits(module: &Module, family: &Family, layout: Option<LayoutId>) -> bool
+    ensures { result ≡ spec.promised_layout_fits «module».now family.now layout }
+{
+    match layout {
+        None => true,
+        Some(layout) => layout_fits(module, *family, layout),
+    }
+}
+
+fn promised_below_fits(family: &Family, below: Option<u64>) -> bool
+    ensures { result ≡ spec.promised_below_fits family.now below }
+{
+    match below {
+        None => true,
+        Some(number) => family.is_integer() && is_count(number),
+    }
+}
+
+fn promised_fits(module: &Module, family: &Family, promise: &Option<Promise>) -> bool
+    ensures { result ≡ spec.promised_fits «module».now family.now promise.now }
+{
+    match promise {
+        None => true,
+        Some(promise) => promise_fits(module, family, promise),
+    }
+}
+
+fn parameter_fits(
+    module: &Module,
+    function: &Function,
+    parameter: &Parameter,
+    promise: &Option<Promise>,
+) -> bool
+    ensures { result ≡ spec.parameter_fits «module».now function.now parameter.now promise.now }
+{
+    let family = family_of_value(module, function, parameter.value);
+    promised_fits(module, &family, promise)
+}
+
+/// Whether a fact may be said of such a value.
+fn fact_fits(module: &Module, family: Family, fact: &Fact) -> bool
+    ensures { result ≡ spec.fact_fits «module».now family fact.now }
+{
+    match fact {
+        Fact::Number { bits, below } => {
+            family.same_bits(Some(*bits as u64)).is_some() && below_fits(*below)
+        }
+        Fact::Reference { layout, .. } => layout_fits(module, family, *layout),
+        Fact::Address { words, .. } => family.is_address() && words_fit(words),
+        Fact::GlobalAddress(symbol) => {
+            family.is_address() && global_named(module, *symbol).is_some()
+        }
+    }
+}
+
+fn is_value(function: &Function, value: ValueId) -> bool
+    ensures { result ≡ spec.is_value function.now value }
+{
+    matches!(
+        function.sorts.get(value.number() as usize),
+        Some(LocalSort::Value(_) | LocalSort::Element { .. })
+    )
+}
+
+/// Whether it is the name of a root slot's alloca.
+fn is_root_name(module: &Module, function: &Function, slot: ValueId) -> bool
+    ensures { result ≡ spec.is_root_name «module».now function.now slot }
+{
+    is_value(function, slot) && is_root_found(module, function, slot)
+}
+
+/// Whether a line may be said, wherever it stands.
+fn line_fits(module: &Module, function: &Function, line: &Line) -> bool
+    ensures { result ≡ spec.line_fits «module».now function.now line.now }
+{
+    match line {
+        Line::Value { value, fact } => {
+            fact_fits(module, family_of_value(module, function, *value), fact)
+        }
+        Line::Slot { slot, .. } => is_root_name(module, function, *slot),
+    }
+}
+
+fn lists(value: ValueId, line: &Line) -> bool
+    ensures { result ≡ spec.lists value line.now }
+{
+    match line {
+        Line::Value { value: own, .. } => *own == value,
+        Line::Slot { .. } => false,
+    }
+}
+
+fn lists_slot(slot: ValueId, line: &Line) -> bool
+    ensures { result ≡ spec.lists_slot slot line.now }
+{
+    match line {
+        Line::Value { .. } => false,
+        Line::Slot { slot: own, .. } => *own == slot,
+    }
+}
+
+fn some_lists(lines: &[Line], value: ValueId) -> bool
+    ensures { result ≡ list_any (spec.lists value) lines.now }
+{
+    lines.iter().any(|line| lists(value, line))
+}
+
+fn some_lists_slot(lines: &[Line], slot: ValueId) -> bool
+    ensures { result ≡ list_any (spec.lists_slot slot) lines.now }
+{
+    lines.iter().any(|line| lists_slot(slot, line))
+}
+
+/// Whether some line lists what this one lists.
+fn is_listed(lines: &[Line], line: &Line) -> bool
+    ensures { result ≡ spec.is_listed lines.now line.now }
+{
+    match line {
+        Line::Value { value, .. } => some_lists(lines, *value),
+        Line::Slot { slot, .. } => some_lists_slot(lines, *slot),
+    }
+}
+
+/// Whether no value and no slot is listed twice.
+fn lists_once(lines: &[Line]) -> bool
+    ensures { result ≡ spec.lists_once lines.now }
+{
+    let mut rest = lines;
+    while let [line, behind @ ..] = rest {
+        if is_listed(behind, line) {
+            return false;
+        }
+        rest = behind;
+    }
+    true
+}
+
+fn named_in_fact(fact: &Fact) -> Option<ValueId>
+    ensures { result ≡ spec.named_in_fact fact.now }
+{
+    match fact {
+        Fact::Reference { same, .. } => *same,
+        Fact::Address { base, .. } => Some(*base),
+        _ => None,
+    }
+}
+
+/// The value that a line names besides the one that it lists.
+fn named_in(line: &Line) -> Option<ValueId>
+    ensures { result ≡ spec.named_in line.now }
+{
+    match line {
+        Line::Value { fact, .. } => named_in_fact(fact),
+        Line::Slot { holds, .. } => *holds,
+    }
+}
+
+fn lists_named(lines: &[Line], value: Option<ValueId>) -> bool
+    ensures { result ≡ spec.lists_named lines.now value }
+{
+    match value {
+        None => true,
+        Some(value) => some_lists(lines, value),
+    }
+}
+
+fn each_line_fits(module: &Module, function: &Function, lines: &[Line]) -> bool
+    ensures { result ≡ list_all (spec.line_fits «module».now function.now) lines.now }
+{
+    lines.iter().all(|line| line_fits(module, function, line))
+}
+
+fn all_named_listed(lines: &[Line]) -> bool
+    ensures { result ≡ spec.all_named_listed lines.now }
+{
+    lines.iter().all(|line| lists_named(lines, named_in(line)))
+}
+
+/// Whether they may be the lines of a block.
+fn lines_fit(module: &Module, function: &Function, lines: &[Line]) -> bool
+    ensures { result ≡ spec.lines_fit «module».now function.now lines.now }
+{
+    each_line_fits(module, function, lines) && lists_once(lines) && all_named_listed(lines)
+}
+
+fn entry_is_empty(blocks: &[Items<Line>]) -> bool
+    ensures { result ≡ spec.entry_is_empty blocks.now }
+{
+    match blocks {
+        [] => true,
+        [entry, ..] => entry.len() == 0,
+    }
+}
+
+fn each_block_fits(module: &Module, function: &Function, blocks: &[Items<Line>]) -> bool
+    ensures { result ≡ list_all (spec.lines_fit «module».now function.now) blocks.now }
+{
+    blocks
+        .iter()
+        .all(|lines| lines_fit(module, function, lines.as_slice()))
+}
+
+fn blocks_fit(module: &Module, function: &Function, blocks: &[Items<Line>]) -> bool
+    ensures { result ≡ spec.blocks_fit «module».now function.now blocks.now }
+{
+    blocks.len() == function.blocks.len()
+        && entry_is_empty(blocks)
+        && each_block_fits(module, function, blocks)
+}
+
+fn parameters_fit(module: &Module, function: &Function, promises: &[Option<Promise>]) -> bool
+    ensures { result ≡ spec.parameters_fit «module».now function.now promises.now }
+{
+    let parameters = function.parameters.as_slice();
+    promises.len() == parameters.len()
+        && each_parameter_fits(module, function, parameters, promises)
+}
+
+fn each_parameter_fits(
+    module: &Module,
+    function: &Function,
+    parameters: &[Parameter],
+    promises: &[Option<Promise>],
+) -> bool
+    ensures { result ≡ list_all (λ p. spec.parameter_fits «module».now function.now p.0 p.1) (zip parameters.now promises.now) }
+{
+    parameters.iter().zip(promises.iter()).all(|(parameter, promise)| parameter_fits(
+        module, function, parameter, promise,
+    ))
+}
+
+/// Whether it may be the certificate of this function.
+fn section_fits(module: &Module, function: &Function, section: &Section) -> bool
+    ensures { result ≡ spec.section_fits «module».now function.now section.now }
+{
+    let returned = family_of_type(module, function.returned);
+    parameters_fit(module, function, section.parameters.as_slice())
+        && promised_fits(module, &returned, &section.result)
+        && blocks_fit(module, function, section.blocks.as_slice())
+}
+
+/// Whether each section may be the certificate of the function beside it.
+pub fn sections_fit(module: &Module, functions: &[Function], sections: &[Section]) -> bool
+    ensures { result ≡ list_all (λ p. spec.section_fits «module».now p.0 p.1) (zip functions.now sections.now) }
+{
+    functions.iter().zip(sections.iter()).all(|(function, section)| section_fits(
+        module, function, section,
+    ))
+}

@@ -1,0 +1,97 @@
+-- The grammar of the command line, as `clap` has it, and what the words of a line ask for.
+use Rattle.std.specs.Prelude.{◌≡◌, ◌&&◌, ◌^◌, ℕ, pos, length, nat_lt, List, Option, Some, None, true, codes, option_map, option_and_then, if◌then◌else◌}
+use Rattle.std.specs.Str.{all_ascii_digits, bytes_eq}
+use Rattle.std.specs.Str.Parse.{digits_value, without_leading_plus}
+use Rattle.clap.specs.Words.{App, IsAmong, Row, Rule, Text, fault_of, first_of, kind_of, new_app, new_rule, one_of, subcommand_of, with_rule, with_subcommand}
+use Rattle.clap.specs.declared.builder.value_parser.ValueParser.TheVariants.{Signed}
+use Rattle.commands.specs.Asked.{Asked, check, replay, soak}
+use Rattle.commands.specs.declared.asked.LineFault.{LineFault}
+use Rattle.commands.specs.declared.asked.LineFault.TheVariants.{Memory, NoCommand, Words}
+
+-- a word that has to be given: a file's path
+abbrev pub file_rule : Text → Rule
+file_rule name = record (new_rule name) { required = true }
+
+-- an option that has to be given, and whose value is a number of 32 bits
+abbrev pub number_rule : Text → Rule
+number_rule name = record (new_rule name) {
+  long = Some name;
+  required = true;
+  value_names = 1;
+  parser = Some (Signed (pos 0) (pos 4294967295));
+}
+
+-- NAME MODULE SECOND: a command on two files
+abbrev pub files_app : (name second : Text) → App
+files_app name second = with_rule (with_rule (new_app name) (file_rule (codes "MODULE"))) (file_rule second)
+
+-- check MODULE CERT
+abbrev pub check_app : App
+check_app = files_app (codes "check") (codes "CERT")
+
+-- replay MODULE TRACE
+abbrev pub replay_app : App
+replay_app = files_app (codes "replay") (codes "TRACE")
+
+-- soak MODULE TRACE --seeds N --steps S
+abbrev pub soak_app : App
+soak_app = with_rule (with_rule (files_app (codes "soak") (codes "TRACE")) (number_rule (codes "seeds"))) (number_rule (codes "steps"))
+
+-- a command that has a version, and needs a subcommand
+abbrev pub with_version_and_commands : App → App
+with_version_and_commands app = record app { top = record app.top { has_version = true; subcommand_required = true } }
+
+-- the whole grammar
+abbrev pub dgc_app : App
+dgc_app =
+    with_subcommand (with_subcommand (with_subcommand (with_version_and_commands (new_app (codes "dgc"))) check_app.top)
+    replay_app.top) soak_app.top
+
+-- the number that a text of decimal digits writes, where it is below 2 to the 32; a plus may stand first
+abbrev pub number_in : Text → Option ℕ
+number_in text =
+    let digits = without_leading_plus text in
+    if nat_lt 0 (length digits) && all_ascii_digits digits && nat_lt (digits_value 10 digits) (2 ^ 32)
+    then Some (digits_value 10 digits) else None
+
+-- the number that was given as this option
+abbrev pub number_of : Text → List Row → Option ℕ
+number_of name given = option_and_then number_in (one_of name given)
+
+-- the paths of the module and of the other file, if both were given
+abbrev pub paths_in : (second : Text) → List Row → Option (Text × Text)
+paths_in second given =
+    option_and_then (λ module_path. option_map (λ path. (module_path, path)) (first_of second given)) (first_of (codes "MODULE") given)
+
+-- `check` with what was given to it, if that is a module and a certificate
+abbrev pub check_of : List Row → Option Asked
+check_of given = option_map (λ paths. check paths.0 paths.1) (paths_in (codes "CERT") given)
+
+-- `replay` with what was given to it, if that is a module and a trace
+abbrev pub replay_of : List Row → Option Asked
+replay_of given = option_map (λ paths. replay paths.0 paths.1) (paths_in (codes "TRACE") given)
+
+-- `soak` with what was given to it, if that is a module, a trace and both numbers
+abbrev pub soak_of : List Row → Option Asked
+soak_of given =
+    option_and_then (λ paths. option_and_then (λ seeds. option_map (λ steps. soak paths.0 paths.1 seeds steps)
+    (number_of (codes "steps") given)) (number_of (codes "seeds") given)) (paths_in (codes "TRACE") given)
+
+-- what a command's name with what was given to it asks for
+abbrev pub asked_of : Option (Text × List Row) → Option Asked
+asked_of None = None
+asked_of (Some found) =
+    if bytes_eq found.0 (codes "check") then check_of found.1
+    else if bytes_eq found.0 (codes "replay") then replay_of found.1
+    else if bytes_eq found.0 (codes "soak") then soak_of found.1
+    else None
+
+-- what the words of a command line ask for, the program's own name first
+abbrev pub asked_in : List Text → Option Asked
+asked_in words = asked_of (subcommand_of dgc_app words)
+
+-- why these words are refused: an error of a kind that `clap` finds in them, or they ask for nothing
+abbrev pub IsRefusalOf : List Text → LineFault → Type 0
+IsRefusalOf words Memory = Unit
+IsRefusalOf words (Words error) = IsAmong (kind_of error) (fault_of dgc_app words)
+IsRefusalOf words NoCommand = asked_in words ≡ None

@@ -1,0 +1,172 @@
+//! The grammar of the command line, and how a line is read.
+ghost use Rattle.std.specs.Prelude.{◌≡◌, IfOk, IfErr, IsOk, [], map, option_map, false};
+ghost use Rattle.clap.specs.Words.{app_of, fault_of, found_of, rows_of, rule_of};
+ghost use Rattle.clap.specs.declared.builder.command.Command.TheViews.{out-Command};
+ghost use Rattle.commands.specs.Asked.{asked_by};
+ghost use Rattle.commands.specs.Grammar.{asked_in, asked_of, check_of, dgc_app, file_rule, files_app, IsRefusalOf, number_of, number_rule, paths_in, replay_of, soak_app, soak_of};
+
+use crate::asked::{Line, LineFault};
+use clap::{Arg, ArgMatches, Command, value_parser};
+use std::alloc::{AllocError, Global};
+
+/// A file's path, which has to be given.
+fn file<'a>(alloc: Global, name: &'a str) -> Arg<'a>
+    ensures rule { rule_of result ≡ file_rule name.entry.now }
+    ensures own { result.global ≡ false }
+{
+    Arg::new(alloc, name).required(true)
+}
+
+/// A number that has to be given as the option of this name.
+fn number<'a>(alloc: Global, name: &'a str, shown: &'a str) -> Arg<'a>
+    ensures rule { rule_of result ≡ number_rule name.entry.now }
+    ensures own { result.global ≡ false }
+{
+    Arg::new(alloc, name)
+        .long(name)
+        .value_name(shown)
+        .value_parser(value_parser!(u32))
+        .required(true)
+}
+
+/// A command of this name on two files, a module and another one.
+fn files_command<'a>(
+    alloc: Global,
+    name: &'a str,
+    second: &'a str,
+) -> Result<Command<'a>, AllocError>
+    ensures app { IfOk result (λ command. app_of command ≡ files_app name.entry.now second.entry.now) }
+    ensures own { IfOk result (λ command. (out-Command command).has_globals ≡ false) }
+{
+    Command::new(alloc, name)
+        .arg(file(alloc, "MODULE"))?
+        .arg(file(alloc, second))
+}
+
+fn soak_command<'a>(alloc: Global) -> Result<Command<'a>, AllocError>
+    ensures app { IfOk result (λ command. app_of command ≡ soak_app) }
+    ensures own { IfOk result (λ command. (out-Command command).has_globals ≡ false) }
+{
+    files_command(alloc, "soak", "TRACE")?
+        .arg(number(alloc, "seeds", "N"))?
+        .arg(number(alloc, "steps", "S"))
+}
+
+fn dgc_command<'a>(alloc: Global) -> Result<Command<'a>, AllocError>
+    ensures app { IfOk result (λ command. app_of command ≡ dgc_app) }
+    ensures own { IfOk result (λ command. (out-Command command).has_globals ≡ false) }
+{
+    let check = files_command(alloc, "check", "CERT")?;
+    let command = Command::new(alloc, "dgc")
+        .version("0.1.0")
+        .subcommand_required(true)
+        .subcommand(check)?;
+    let Ok(replay) = files_command(alloc, "replay", "TRACE") else {
+        drop(command);
+        return Err(AllocError);
+    };
+    let command = command.subcommand(replay)?;
+    let Ok(soak) = soak_command(alloc) else {
+        drop(command);
+        return Err(AllocError);
+    };
+    command.subcommand(soak)
+}
+
+/// The paths of the module and of the other file, if both were given.
+fn paths_given<'a>(given: &ArgMatches<'a>, second: &str) -> Option<(&'a str, &'a str)>
+    ensures { option_map (λ paths. (paths.0.now, paths.1.now)) result ≡ paths_in second.now (rows_of (found_of given.now)) }
+{
+    let Some(module_path) = given.get_str("MODULE") else {
+        return None;
+    };
+    let Some(path) = given.get_str(second) else {
+        return None;
+    };
+    Some((module_path, path))
+}
+
+/// The number that was given as the option of this name.
+fn number_given(given: &ArgMatches<'_>, name: &str) -> Option<u32>
+    ensures { result ≡ number_of name.now (rows_of (found_of given.now)) }
+{
+    given.get_one::<u32>(name)
+}
+
+/// The line of `check`, from what was given to it.
+fn check_line<'a>(given: &ArgMatches<'a>) -> Option<Line<'a>>
+    ensures { option_map asked_by result ≡ check_of (rows_of (found_of given.now)) }
+{
+    let Some((module_path, certificate_path)) = paths_given(given, "CERT") else {
+        return None;
+    };
+    Some(Line::Check {
+        module_path,
+        certificate_path,
+    })
+}
+
+/// The line of `replay`, from what was given to it.
+fn replay_line<'a>(given: &ArgMatches<'a>) -> Option<Line<'a>>
+    ensures { option_map asked_by result ≡ replay_of (rows_of (found_of given.now)) }
+{
+    let Some((module_path, trace_path)) = paths_given(given, "TRACE") else {
+        return None;
+    };
+    Some(Line::Replay {
+        module_path,
+        trace_path,
+    })
+}
+
+/// The line of `soak`, from what was given to it.
+fn soak_line<'a>(given: &ArgMatches<'a>) -> Option<Line<'a>>
+    ensures { option_map asked_by result ≡ soak_of (rows_of (found_of given.now)) }
+{
+    let Some((module_path, trace_path)) = paths_given(given, "TRACE") else {
+        return None;
+    };
+    let Some(seeds) = number_given(given, "seeds") else {
+        return None;
+    };
+    let Some(steps) = number_given(given, "steps") else {
+        return None;
+    };
+    Some(Line::Soak {
+        module_path,
+        trace_path,
+        seeds,
+        steps,
+    })
+}
+
+/// The line of a command with what was given to it.
+fn command_line<'a>(name: &str, given: &ArgMatches<'a>) -> Option<Line<'a>>
+    ensures { option_map asked_by result ≡ asked_of (Some (name.now, rows_of (found_of given.now))) }
+{
+    match name {
+        "check" => check_line(given),
+        "replay" => replay_line(given),
+        "soak" => soak_line(given),
+        _ => None,
+    }
+}
+
+/// Reads the command line, the program's own name first.
+pub fn line<'a>(alloc: Global, words: &'a [&'a str]) -> Result<Line<'a>, LineFault>
+    ensures found { IfOk result (λ line. asked_in (map (λ word. word.now) words.now) ≡ Some (asked_by line)) }
+    ensures taken { IsOk result → fault_of dgc_app (map (λ word. word.now) words.now) ≡ [] }
+    ensures refused { IfErr result (IsRefusalOf (map (λ word. word.now) words.now)) }
+{
+    let matches = dgc_command(alloc)?.try_get_matches_from(words)?;
+    let Some((name, given)) = matches.subcommand() else {
+        drop(matches);
+        return Err(LineFault::NoCommand);
+    };
+    let line = command_line(name, given);
+    drop(matches);
+    match line {
+        Some(line) => Ok(line),
+        None => Err(LineFault::NoCommand),
+    }
+}

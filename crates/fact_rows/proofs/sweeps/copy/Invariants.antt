@@ -1,6 +1,0 @@
-use Rattle.std.proofs.Common.{◌≡◌, drop}
-use Rattle.fact_rows.specs.Sheets.{each, copied}
-use Rattle.fact_rows.proofs.sweeps.copy.Given as goal
-
-abbrev pub invariant-loop-v : goal.invariant-loop-v
-invariant-loop-v l = each (copied l.others) l.marked l.fn.rows.items ≡ each (copied l.others) (drop l.v-index l.marked) l.rows.items

@@ -1,6 +1,0 @@
-use Rattle.std.proofs.Common.{◌≡◌, drop}
-use Rattle.fact_rows.specs.Sheets.{each, changed}
-use Rattle.fact_rows.proofs.sweeps.sweep.Given as goal
-
-abbrev pub invariant-loop-u : goal.invariant-loop-u
-invariant-loop-u l = each (changed l.change) l.marked l.fn.rows.items ≡ each (changed l.change) (drop l.u-index l.marked) l.rows.items

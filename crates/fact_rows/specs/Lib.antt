@@ -1,4 +1,0 @@
-pub mod Facts
-pub mod Lines
-pub mod Sheets
-pub mod Values

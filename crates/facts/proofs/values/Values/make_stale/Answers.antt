@@ -1,0 +1,12 @@
+use Rattle.std.proofs.Common.{◌∙◌, ◌++◌, ap, subst, map, List}
+use Rattle.std.specs.List.{enumerate_from, zip}
+use Rattle.facts.specs.declared.known.Class.{Class}
+use Rattle.facts.specs.Facts.{stale_of, stale_class}
+use Rattle.facts.specs.Sheets.{EachRow, class_of, stale_row}
+use Rattle.facts.specs.Values.{ValueFacts}
+use Rattle.facts.proofs.Changes.{stale_facts}
+use Rattle.facts.proofs.values.Values.make_stale.Goals as goal
+
+pub returns : goal.returns
+returns c = stale_facts c.self.inside.sheet c.make_stale.new.self c.self.inside.added.items (subst (λ (added : List Class). EachRow (stale_row (map class_of c.self.inside.sheet ++ added)) c.self.inside.sheet c.make_stale.new.self) c.deref.ensures.value c.make_stale.ensures) c.clear.new.self.items c.clear.ensures.items
+    ∙ ap (λ (f : ValueFacts). record f { values = map stale_of (enumerate_from 0 f.values); classes = map (stale_class f.classes) (zip f.classes f.values) }) c.self.view_is

@@ -1,0 +1,43 @@
+ghost use Rattle.std.specs.Prelude.{◌≡◌};
+ghost use Rattle.facts.specs.Sheets.{blank, is_blank};
+
+use crate::known::{Class, Known, Test};
+
+/// What is known of a value and of the class that it has for itself.
+#[derive(Clone, Copy, PartialEq, Eq)]
+pub(crate) struct Row {
+    pub known: Known,
+    pub test: Option<Test>,
+    pub class: Class,
+    /// An address or a comparison may name the value.
+    pub named: bool,
+    /// The class of the value was not null where the last safepoint came.
+    pub aside: bool,
+}
+
+impl Row {
+    /// A row of which nothing is known.
+    pub fn blank() -> Self
+        ensures { result ≡ blank }
+    {
+        Row {
+            known: Known::Nothing,
+            test: None,
+            class: Class::lost(),
+            named: false,
+            aside: false,
+        }
+    }
+
+    /// Whether nothing is known of the row.
+    pub fn is_blank(&self) -> bool
+        ensures { result ≡ is_blank self.now }
+    {
+        matches!(self.known, Known::Nothing)
+            && self.test.is_none()
+            && !self.class.nonnull
+            && !self.class.fresh
+            && !self.named
+            && !self.aside
+    }
+}

@@ -1,0 +1,225 @@
+//! What changes in whole rows of facts.
+ghost use Rattle.std.specs.Prelude.{◌≡◌, map, length, replicate, IfOk};
+ghost use Rattle.std.specs.List.{list_any, list_all, zip};
+ghost use Rattle.facts.specs.Facts.{open_slot, class_at, is_of, holds, let_go, is_on, off_base, off_test, slot_nonnull, held_nonnull, stale_of, end_hold, holds_class};
+ghost use Rattle.facts.specs.Lines.{moved, move, covers_value, covers_slot};
+
+use crate::class_id::ClassId;
+use crate::known::{Class, Known, SlotFact, Test};
+use crate::values::Values;
+use ir_ast::ValueId;
+use std::alloc::{AllocError, Global};
+
+/// Nothing is known of so many slots.
+pub fn open_slots(alloc: Global, count: usize) -> Result<Vec<SlotFact>, AllocError>
+    ensures { IfOk result (λ rows. rows.items ≡ replicate count open_slot) }
+{
+    let rows = vec![in alloc; SlotFact {
+        rooted: false,
+        nonnull: false,
+        holds: None
+    }; count]?;
+    Ok(rows)
+}
+
+/// Nothing is known of these slots.
+pub fn open_each(slots: &mut [SlotFact])
+    ensures { slots.new ≡ replicate (length slots.old) open_slot }
+{
+    slots.fill(SlotFact {
+        rooted: false,
+        nonnull: false,
+        holds: None,
+    });
+}
+
+/// What is known of a class.
+pub fn class_at(classes: &[Class], c: ClassId) -> Class
+    ensures { result ≡ class_at classes.now c }
+{
+    match classes.get(c.number()) {
+        Some(class) => *class,
+        None => Class::lost(),
+    }
+}
+
+/// Whether a value is known to be a reference of this class.
+pub fn is_of(c: ClassId, known: Known) -> bool
+    ensures { result ≡ is_of c known }
+{
+    match known {
+        Known::Cell { class, .. } => class == c,
+        _ => false,
+    }
+}
+
+/// Whether some slot holds this class.
+pub fn any_holds(slots: &[SlotFact], c: ClassId) -> bool
+    ensures { result ≡ list_any (holds c) slots.now }
+{
+    slots.iter().any(|slot| holds(c, *slot))
+}
+
+fn holds(c: ClassId, slot: SlotFact) -> bool
+    ensures { result ≡ holds c slot }
+{
+    holds_class(c, slot.holds)
+}
+
+/// No slot holds the class.
+pub fn let_go_each(slots: &mut [SlotFact], c: ClassId, nonnull: bool)
+    ensures { slots.new ≡ map (let_go c nonnull) slots.old }
+{
+    for slot in slots.iter_mut() {
+        *slot = let_go(c, nonnull, *slot);
+    }
+}
+
+fn let_go(c: ClassId, nonnull: bool, slot: SlotFact) -> SlotFact
+    ensures { result ≡ let_go c nonnull slot }
+{
+    match slot.holds {
+        Some(d) if d == c => SlotFact {
+            nonnull: slot.nonnull || nonnull,
+            holds: None,
+            ..slot
+        },
+        _ => slot,
+    }
+}
+
+/// What is known of a value, unless it is an address with this base.
+pub fn off_base(v: ValueId, known: Known) -> Known
+    ensures { result ≡ off_base v known }
+{
+    let on = is_on(v, &known);
+    if on { Known::Nothing } else { known }
+}
+
+fn is_on(v: ValueId, known: &Known) -> bool
+    ensures { result ≡ is_on v known.now }
+{
+    match known {
+        Known::Address { base, .. } => *base == v,
+        _ => false,
+    }
+}
+
+/// The comparison, unless it is of this value.
+pub fn off_test(v: ValueId, test: Option<Test>) -> Option<Test>
+    ensures { result ≡ off_test v test }
+{
+    match test {
+        Some(test) if test.tested == v => None,
+        _ => test,
+    }
+}
+
+/// No slot holds a class.
+pub fn end_holds(slots: &mut [SlotFact], values: &Values)
+    ensures { slots.new ≡ map (end_hold values.now.classes) slots.old }
+{
+    for slot in slots.iter_mut() {
+        *slot = end_hold(values, *slot);
+    }
+}
+
+fn end_hold(values: &Values, slot: SlotFact) -> SlotFact
+    ensures { result ≡ end_hold values.now.classes slot }
+{
+    let nonnull = slot.nonnull || held_nonnull(values, slot.holds);
+    SlotFact {
+        nonnull,
+        holds: None,
+        ..slot
+    }
+}
+
+/// Whether what a slot holds is not null.
+pub fn slot_nonnull(values: &Values, slot: SlotFact) -> bool
+    ensures { result ≡ slot_nonnull values.now.classes slot }
+{
+    slot.nonnull || held_nonnull(values, slot.holds)
+}
+
+fn held_nonnull(values: &Values, holds: Option<ClassId>) -> bool
+    ensures { result ≡ held_nonnull values.now.classes holds }
+{
+    match holds {
+        Some(c) => values.class(c).nonnull,
+        None => false,
+    }
+}
+
+/// A reference is stale, and of the class that its value has for itself.
+pub fn stale_of(v: usize, known: Known) -> Known
+    ensures { result ≡ stale_of (v, known) }
+{
+    match known {
+        Known::Cell { layout, .. } => Known::Cell {
+            class: ClassId::new(v),
+            layout,
+            stale: true,
+        },
+        _ => known,
+    }
+}
+
+/// A reference of one class is of another.
+pub fn move_known(from: ClassId, to: ClassId, known: Known) -> Known
+    ensures { result ≡ move from to known }
+{
+    match known {
+        Known::Cell {
+            class,
+            layout,
+            stale,
+        } => Known::Cell {
+            class: moved(from, to, class),
+            layout,
+            stale,
+        },
+        _ => known,
+    }
+}
+
+fn moved(from: ClassId, to: ClassId, c: ClassId) -> ClassId
+    ensures { result ≡ moved from to c }
+{
+    if c == from { to } else { c }
+}
+
+/// Whether a slot holds this class.
+pub fn holds_class(c: ClassId, holds: Option<ClassId>) -> bool
+    ensures { result ≡ holds_class c holds }
+{
+    match holds {
+        Some(d) => d == c,
+        None => false,
+    }
+}
+
+/// Whether a value of a class here is listed there as of another, if as a reference.
+pub fn covers_value(c: ClassId, d: ClassId, here: Known, there: Known) -> bool
+    ensures { result ≡ covers_value c d (here, there) }
+{
+    match there {
+        Known::Cell { class, .. } => class == d || !is_of(c, here),
+        _ => true,
+    }
+}
+
+/// Whether all slots that hold a class here hold another there.
+pub fn covers_slots(here: &[SlotFact], there: &[SlotFact], c: ClassId, d: ClassId) -> bool
+    ensures { result ≡ list_all (covers_slot c d) (zip here.now there.now) }
+{
+    here.iter()
+        .zip(there.iter())
+        .all(|(here, there)| covers_slot(c, d, *here, *there))
+}
+
+fn covers_slot(c: ClassId, d: ClassId, here: SlotFact, there: SlotFact) -> bool
+    ensures { result ≡ covers_slot c d (here, there) }
+{
+    holds_class(d, there.holds) || !holds_class(c, here.holds)
+}

@@ -1,0 +1,142 @@
+ghost use Rattle.std.specs.Prelude.{◌≡◌, ◌<◌, ◌++◌, map, length, replicate, slice_set, IfOk, OnOk, OnErr};
+ghost use Rattle.std.specs.List.{list_any, list_all, zip};
+ghost use Rattle.facts.specs.Facts.{is_of, class_at};
+ghost use Rattle.facts.specs.Lines.{covers_value};
+ghost use Rattle.facts.specs.Sheets.{row_at, blank, EachRow, changed, known_of, class_of, stale_row};
+
+use crate::class_id::ClassId;
+use crate::known::Class;
+use crate::row::Row;
+use crate::sweeps::{self, Change};
+use std::alloc::{AllocError, Global};
+use std::marker::Model;
+
+/// A row for each value, of which few are filled: only those that are marked.
+#[derive(Drop)]
+pub(crate) struct Sheet {
+    rows: Vec<Row>,
+    marked: Vec<usize>,
+}
+
+impl Model for Sheet {
+    ghost use Rattle.std.specs.Prelude.{List};
+    ghost use Rattle.facts.specs.declared.row.Row.{Row};
+    ghost use Rattle.facts.specs.Sheets.{OnlyMarked};
+
+    ghost Value = { List Row };
+
+    ghost view = { λ sheet. sheet.rows.items };
+
+    ghost invariant = { λ sheet. OnlyMarked sheet.marked.items sheet.rows.items };
+}
+
+impl Sheet {
+    /// So many blank rows.
+    pub fn new(alloc: Global, count: usize) -> Result<Self, AllocError>
+        ensures { IfOk result (λ sheet. sheet ≡ replicate count blank) }
+    {
+        let rows = sweeps::blank_rows(alloc, count)?;
+        Ok(Sheet {
+            rows,
+            marked: Vec::new(alloc),
+        })
+    }
+
+    /// How many rows there are.
+    pub fn len(&self) -> usize
+        ensures count { result ≡ length self.now }
+        ensures small { result < 9223372036854775808 }
+    {
+        self.rows.len()
+    }
+
+    /// A row, or a blank one.
+    pub fn row(&self, at: usize) -> Row
+        ensures { result ≡ row_at self.now at }
+    {
+        sweeps::row_at(&self.rows, at)
+    }
+
+    /// What is known of a class, which a value has for itself or which was added.
+    pub fn class(&self, added: &[Class], c: ClassId) -> Class
+        ensures { result ≡ class_at (map class_of self.now ++ added.now) c }
+    {
+        sweeps::class_of(&self.rows, added, c)
+    }
+
+    /// A row is this from now on.
+    pub fn set(&mut self, at: usize, row: Row) -> Result<(), AllocError>
+        ensures ok { OnOk result (self.new ≡ slice_set self.old at row) }
+        ensures err { OnErr result (self.new ≡ self.old) }
+    {
+        if at < self.rows.len() {
+            sweeps::mark(&mut self.marked, &self.rows, at)?;
+            self.rows[at] = row;
+        }
+        Ok(())
+    }
+
+    /// A row that is filled, or that stays blank, is this from now on.
+    pub fn change(&mut self, at: usize, row: Row)
+        requires { row_at self.old at ≡ blank → row ≡ blank }
+        ensures { self.new ≡ slice_set self.old at row }
+    {
+        if at < self.rows.len() {
+            self.rows[at] = row;
+        }
+    }
+
+    /// All rows are blank.
+    pub fn clear(&mut self)
+        ensures { self.new ≡ replicate (length self.old) blank }
+    {
+        sweeps::copy(&mut self.rows, &self.marked, &[]);
+        self.marked.clear();
+    }
+
+    /// The rows are those of a sheet of the same length.
+    pub fn set_from(&mut self, alloc: Global, other: &Sheet) -> Result<(), AllocError>
+        requires { length self.old ≡ length other.now }
+        ensures ok { OnOk result (self.new ≡ other.now) }
+        ensures err { OnErr result (self.new ≡ self.old) }
+    {
+        let marked = Vec::from_slice(alloc, &other.marked)?;
+        sweeps::copy(&mut self.rows, &self.marked, &[]);
+        sweeps::copy(&mut self.rows, &marked, &other.rows);
+        self.marked = marked;
+        Ok(())
+    }
+
+    /// Each row changes.
+    pub fn sweep(&mut self, change: &Change)
+        ensures { EachRow (changed change.now) self.old self.new }
+    {
+        sweeps::sweep(&mut self.rows, &self.marked, change);
+    }
+
+    /// Each reference is stale, and of the class that its value has for itself; these classes were added.
+    pub fn make_stale(&mut self, added: &[Class])
+        ensures { EachRow (stale_row (map class_of self.old ++ added.now)) self.old self.new }
+    {
+        sweeps::keep_rows(&mut self.rows, &self.marked, added);
+        sweeps::sweep(&mut self.rows, &self.marked, &Change::Settle);
+    }
+
+    /// Whether some value is of this class.
+    pub fn any_of(&self, c: ClassId) -> bool
+        ensures { result ≡ list_any (is_of c) (map known_of self.now) }
+    {
+        sweeps::any_of(&self.rows, &self.marked, c)
+    }
+
+    /// Whether all values of a class here are listed there as of another.
+    pub fn covers(&self, there: &Sheet, c: ClassId, d: ClassId) -> bool
+        ensures { result ≡ list_all (covers_value c d) (zip (map known_of self.now) (map known_of there.now)) }
+    {
+        if self.marked.len() < there.marked.len() {
+            sweeps::covers(&self.rows, &self.marked, &there.rows, c, d)
+        } else {
+            sweeps::covers(&self.rows, &there.marked, &there.rows, c, d)
+        }
+    }
+}

@@ -1,0 +1,181 @@
+//! What changes in the rows that are marked, and what is asked of them.
+ghost use Rattle.std.specs.Prelude.{◌≡◌, ◌++◌, map, replicate, slice_set, IfOk, OnOk, OnErr};
+ghost use Rattle.std.specs.List.{list_any, list_all};
+ghost use Rattle.facts.specs.Facts.{class_at};
+ghost use Rattle.facts.specs.Sheets.{blank, each, copied, changed, row_at, with_mark, class_of, known_nonnull, keep_row, settled_class, row_is_of, covers_row};
+
+use crate::class_id::ClassId;
+use crate::known::{Class, Known};
+use crate::row::Row;
+use crate::rows;
+use ir_ast::ValueId;
+use std::alloc::{AllocError, Global};
+
+/// A change of each row.
+#[derive(Clone, Copy)]
+pub enum Change {
+    /// The row does not name this value.
+    Off(ValueId),
+    /// A reference of the first class is of the second.
+    Move(ClassId, ClassId),
+    /// A reference is stale, and of the class that its value has for itself.
+    Settle,
+}
+
+/// So many blank rows.
+pub fn blank_rows(alloc: Global, count: usize) -> Result<Vec<Row>, AllocError>
+    ensures { IfOk result (λ rows. rows.items ≡ replicate count blank) }
+{
+    let rows = vec![in alloc; Row {
+        known: Known::Nothing,
+        test: None,
+        class: Class::lost(),
+        named: false,
+        aside: false
+    }; count]?;
+    Ok(rows)
+}
+
+/// A row, or a blank one.
+pub fn row_at(rows: &[Row], at: usize) -> Row
+    ensures { result ≡ row_at rows.now at }
+{
+    match rows.get(at) {
+        Some(row) => *row,
+        None => Row::blank(),
+    }
+}
+
+/// A row is marked, unless it is filled.
+pub fn mark(marked: &mut Vec<usize>, rows: &[Row], at: usize) -> Result<(), AllocError>
+    ensures ok { OnOk result (marked.new.items ≡ with_mark at (row_at rows.now at) marked.old.items) }
+    ensures err { OnErr result (marked.new.items ≡ marked.old.items) }
+{
+    if row_at(rows, at).is_blank() {
+        marked.push(at)?;
+    }
+    Ok(())
+}
+
+/// The rows are those of another sheet, which are blank where it is shorter.
+pub fn copy(rows: &mut Vec<Row>, marked: &[usize], others: &[Row])
+    ensures { rows.new.items ≡ each (copied others.now) marked.now rows.old.items }
+{
+    for v in marked {
+        let at = *v;
+        if at < rows.len() {
+            rows[at] = row_at(others, at);
+        }
+    }
+}
+
+/// All rows that are marked change.
+pub fn sweep(rows: &mut Vec<Row>, marked: &[usize], change: &Change)
+    ensures { rows.new.items ≡ each (changed change.now) marked.now rows.old.items }
+{
+    for u in marked {
+        let at = *u;
+        if at < rows.len() {
+            rows[at] = changed(change, at, &row_at(rows, at));
+        }
+    }
+}
+
+fn changed(change: &Change, at: usize, row: &Row) -> Row
+    ensures { result ≡ changed change.now at row.now }
+{
+    match change {
+        Change::Off(v) => Row {
+            known: rows::off_base(*v, row.known),
+            test: rows::off_test(*v, row.test),
+            ..*row
+        },
+        Change::Move(from, to) => Row {
+            known: rows::move_known(*from, *to, row.known),
+            ..*row
+        },
+        Change::Settle => Row {
+            known: rows::stale_of(at, row.known),
+            class: settled_class(row),
+            ..*row
+        },
+    }
+}
+
+/// What is known of a class, which a value has for itself or which was added.
+pub fn class_of(rows: &[Row], added: &[Class], c: ClassId) -> Class
+    ensures { result ≡ class_at (map class_of rows.now ++ added.now) c }
+{
+    let at = c.number();
+    if at < rows.len() {
+        row_at(rows, at).class
+    } else {
+        rows::class_at(added, ClassId::new(at - rows.len()))
+    }
+}
+
+/// Each value's class is noted: whether it is not null.
+pub fn keep_rows(rows: &mut Vec<Row>, marked: &[usize], added: &[Class])
+    ensures { rows.new.items ≡ each (keep_row (map class_of rows.old.items ++ added.now)) marked.now rows.old.items }
+{
+    for u in marked {
+        keep_row(rows, added, *u);
+    }
+}
+
+fn keep_row(rows: &mut Vec<Row>, added: &[Class], at: usize)
+    ensures { rows.new.items ≡ slice_set rows.old.items at (keep_row (map class_of rows.old.items ++ added.now) at (row_at rows.old.items at)) }
+{
+    if at < rows.len() {
+        let row = row_at(rows, at);
+        let aside = known_nonnull(rows, added, &row.known);
+        rows[at] = Row { aside, ..row };
+    }
+}
+
+fn known_nonnull(rows: &[Row], added: &[Class], known: &Known) -> bool
+    ensures { result ≡ known_nonnull (map class_of rows.now ++ added.now) known.now }
+{
+    match known {
+        Known::Cell { class, .. } => class_of(rows, added, *class).nonnull,
+        _ => false,
+    }
+}
+
+fn settled_class(row: &Row) -> Class
+    ensures { result ≡ settled_class row.now.aside row.now.class row.now.known }
+{
+    match row.known {
+        Known::Cell { .. } => Class {
+            nonnull: row.aside,
+            fresh: false,
+        },
+        _ => row.class,
+    }
+}
+
+/// Whether a row that is marked is of this class.
+pub fn any_of(rows: &[Row], marked: &[usize], c: ClassId) -> bool
+    ensures { result ≡ list_any (row_is_of c rows.now) marked.now }
+{
+    marked.iter().any(|u| row_is_of(c, rows, *u))
+}
+
+fn row_is_of(c: ClassId, rows: &[Row], at: usize) -> bool
+    ensures { result ≡ row_is_of c rows.now at }
+{
+    rows::is_of(c, row_at(rows, at).known)
+}
+
+/// Whether all rows of a class that are marked are listed there as of another.
+pub fn covers(here: &[Row], marked: &[usize], there: &[Row], c: ClassId, d: ClassId) -> bool
+    ensures { result ≡ list_all (covers_row c d here.now there.now) marked.now }
+{
+    marked.iter().all(|u| covers_row(c, d, here, there, *u))
+}
+
+fn covers_row(c: ClassId, d: ClassId, here: &[Row], there: &[Row], at: usize) -> bool
+    ensures { result ≡ covers_row c d here.now there.now at }
+{
+    rows::covers_value(c, d, row_at(here, at).known, row_at(there, at).known)
+}

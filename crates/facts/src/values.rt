@@ -1,0 +1,267 @@
+ghost use Rattle.std.specs.Prelude.{◌≡◌, false, ◌∷◌, [], ◌++◌, map, length, slice_set, IfOk, OnOk, OnErr};
+ghost use Rattle.std.specs.List.{list_any, list_all, enumerate_from, zip};
+ghost use Rattle.facts.specs.Facts.{known_at, class_at, test_at, is_of, values_without, tests_without, stale_of, stale_class};
+ghost use Rattle.facts.specs.Lines.{move, covers_value};
+ghost use Rattle.facts.specs.declared.sweeps.Change.TheVariants.{Off};
+ghost use Rattle.facts.specs.Sheets.{OnlyNamed, EachRow, changed};
+ghost use Rattle.facts.specs.Values.{no_values, name_row, with_base, with_tested};
+
+use crate::class_id::ClassId;
+use crate::known::{Class, Known, Test};
+use crate::row::Row;
+use crate::rows;
+use crate::sheet::Sheet;
+use crate::sweeps::Change;
+use ir_ast::ValueId;
+use std::alloc::{AllocError, Global};
+use std::marker::Model;
+
+/// What is known of values and classes.
+#[derive(Drop)]
+pub struct Values {
+    sheet: Sheet,
+    added: Vec<Class>,
+}
+
+impl Model for Values {
+    ghost use Rattle.facts.specs.Values.{ValueFacts, facts_of_rows};
+    ghost use Rattle.facts.specs.Sheets.{OnlyNamed};
+
+    ghost Value = { ValueFacts };
+
+    ghost view = { λ values. facts_of_rows values.sheet values.added.items };
+
+    ghost invariant = { λ values. OnlyNamed values.sheet };
+}
+
+impl Values {
+    /// Nothing is known of so many values.
+    pub fn new(alloc: Global, count: usize) -> Result<Self, AllocError>
+        ensures { IfOk result (λ values. values ≡ no_values count) }
+    {
+        let sheet = Sheet::new(alloc, count)?;
+        Ok(Values {
+            sheet,
+            added: Vec::new(alloc),
+        })
+    }
+
+    /// How many values there are.
+    pub fn count(&self) -> usize
+        ensures { result ≡ length self.now.values }
+    {
+        self.sheet.len()
+    }
+
+    /// What is known of a value.
+    pub fn known(&self, v: ValueId) -> Known
+        ensures { result ≡ known_at self.now.values v }
+    {
+        self.sheet.row(v.number() as usize).known
+    }
+
+    /// The comparison that gave a value.
+    pub fn test(&self, v: ValueId) -> Option<Test>
+        ensures { result ≡ test_at self.now.tests v }
+    {
+        self.sheet.row(v.number() as usize).test
+    }
+
+    /// What is known of a class.
+    pub fn class(&self, c: ClassId) -> Class
+        ensures { result ≡ class_at self.now.classes c }
+    {
+        self.sheet.class(&self.added, c)
+    }
+
+    /// The number of the class that is added next.
+    pub fn next_class(&self) -> ClassId
+        ensures { result ≡ length self.now.classes }
+    {
+        ClassId::new(self.sheet.len() + self.added.len())
+    }
+
+    /// Nothing is known any more.
+    pub fn clear(&mut self)
+        ensures { self.new ≡ no_values (length self.old.values) }
+    {
+        self.sheet.clear();
+        self.added.clear();
+    }
+
+    /// What is known elsewhere of as many values, in place of what is known here.
+    pub fn set_from(&mut self, alloc: Global, other: &Values) -> Result<(), AllocError>
+        requires { length self.old.values ≡ length other.now.values }
+        ensures ok { OnOk result (self.new ≡ other.now) }
+        ensures err { OnErr result (self.new ≡ self.old) }
+    {
+        let added = Vec::from_slice(alloc, &other.added)?;
+        self.sheet.set_from(alloc, &other.sheet)?;
+        self.added = added;
+        Ok(())
+    }
+
+    /// This is known of a value besides.
+    pub fn set_known(&mut self, v: ValueId, known: Known) -> Result<(), AllocError>
+        ensures ok { OnOk result (self.new ≡ record self.old { values = slice_set self.old.values v known }) }
+        ensures err { OnErr result (self.new ≡ self.old) }
+    {
+        name_base(&mut self.sheet, &known)?;
+        let at = v.number() as usize;
+        let row = self.sheet.row(at);
+        self.sheet.set(at, Row { known, ..row })?;
+        Ok(())
+    }
+
+    /// A value is given by this comparison.
+    pub fn set_test(&mut self, v: ValueId, test: Option<Test>) -> Result<(), AllocError>
+        ensures ok { OnOk result (self.new ≡ record self.old { tests = slice_set self.old.tests v test }) }
+        ensures err { OnErr result (self.new ≡ self.old) }
+    {
+        name_tested(&mut self.sheet, &test)?;
+        let at = v.number() as usize;
+        let row = self.sheet.row(at);
+        self.sheet.set(at, Row { test, ..row })?;
+        Ok(())
+    }
+
+    /// Each row that names a value ends, and nothing is known of the value itself.
+    pub fn forget(&mut self, v: ValueId)
+        ensures { self.new ≡ record self.old { values = values_without v self.old.values; tests = tests_without v self.old.tests } }
+    {
+        end_names(&mut self.sheet, v);
+        let at = v.number() as usize;
+        let row = self.sheet.row(at);
+        self.sheet.change(
+            at,
+            Row {
+                known: Known::Nothing,
+                test: None,
+                named: false,
+                ..row
+            },
+        );
+    }
+
+    /// A class more.
+    pub fn add_class(&mut self, class: Class) -> Result<(), AllocError>
+        ensures ok { OnOk result (self.new ≡ record self.old { classes = self.old.classes ++ class ∷ [] }) }
+        ensures err { OnErr result (self.new ≡ self.old) }
+    {
+        self.added.push(class)?;
+        Ok(())
+    }
+
+    /// This is known of a class.
+    pub fn set_class(&mut self, c: ClassId, class: Class) -> Result<(), AllocError>
+        ensures ok { OnOk result (self.new ≡ record self.old { classes = slice_set self.old.classes c class }) }
+        ensures err { OnErr result (self.new ≡ self.old) }
+    {
+        let at = c.number();
+        let own = self.sheet.len();
+        if at < own {
+            let row = self.sheet.row(at);
+            self.sheet.set(at, Row { class, ..row })?;
+        } else {
+            set_added(&mut self.added, at - own, class);
+        }
+        Ok(())
+    }
+
+    /// A class is fresh no more.
+    pub fn drop_fresh(&mut self, c: ClassId)
+        ensures { self.new ≡ record self.old { classes = slice_set self.old.classes c (record (class_at self.old.classes c) { fresh = false }) } }
+    {
+        let class = Class {
+            fresh: false,
+            ..self.class(c)
+        };
+        let at = c.number();
+        let own = self.sheet.len();
+        if at < own {
+            let row = self.sheet.row(at);
+            self.sheet.change(at, Row { class, ..row });
+        } else {
+            set_added(&mut self.added, at - own, class);
+        }
+    }
+
+    /// The references of one class are of another.
+    pub fn move_class(&mut self, from: ClassId, to: ClassId)
+        ensures { self.new ≡ record self.old { values = map (move from to) self.old.values } }
+    {
+        self.sheet.sweep(&Change::Move(from, to));
+    }
+
+    /// Each reference is stale, and of the class that its value has for itself.
+    pub fn make_stale(&mut self)
+        ensures { self.new ≡ record self.old { values = map stale_of (enumerate_from 0 self.old.values); classes = map (stale_class self.old.classes) (zip self.old.classes self.old.values) } }
+    {
+        self.sheet.make_stale(&self.added);
+        self.added.clear();
+    }
+
+    /// Whether some value is of this class.
+    pub fn any_of(&self, c: ClassId) -> bool
+        ensures { result ≡ list_any (is_of c) self.now.values }
+    {
+        self.sheet.any_of(c)
+    }
+
+    /// Whether all values of a class here are listed there as of another.
+    pub fn covers(&self, there: &Values, c: ClassId, d: ClassId) -> bool
+        ensures { result ≡ list_all (covers_value c d) (zip self.now.values there.now.values) }
+    {
+        self.sheet.covers(&there.sheet, c, d)
+    }
+}
+
+/// The base of an address is named.
+fn name_base(sheet: &mut Sheet, known: &Known) -> Result<(), AllocError>
+    ensures ok { OnOk result (sheet.new ≡ with_base known.now sheet.old) }
+    ensures err { OnErr result (sheet.new ≡ sheet.old) }
+{
+    match known {
+        Known::Address { base, .. } => name(sheet, *base),
+        _ => Ok(()),
+    }
+}
+
+/// The value that is compared is named.
+fn name_tested(sheet: &mut Sheet, test: &Option<Test>) -> Result<(), AllocError>
+    ensures ok { OnOk result (sheet.new ≡ with_tested test.now sheet.old) }
+    ensures err { OnErr result (sheet.new ≡ sheet.old) }
+{
+    match test {
+        Some(test) => name(sheet, test.tested),
+        None => Ok(()),
+    }
+}
+
+fn name(sheet: &mut Sheet, v: ValueId) -> Result<(), AllocError>
+    ensures ok { OnOk result (sheet.new ≡ name_row v sheet.old) }
+    ensures err { OnErr result (sheet.new ≡ sheet.old) }
+{
+    let at = v.number() as usize;
+    let row = sheet.row(at);
+    sheet.set(at, Row { named: true, ..row })
+}
+
+/// No row names this value.
+fn end_names(sheet: &mut Sheet, v: ValueId)
+    ensures { OnlyNamed sheet.old → EachRow (changed (Off v)) sheet.old sheet.new }
+{
+    let at = v.number() as usize;
+    if at < sheet.len() && !sheet.row(at).named {
+        return;
+    }
+    sheet.sweep(&Change::Off(v));
+}
+
+fn set_added(added: &mut Vec<Class>, at: usize, class: Class)
+    ensures { added.new.items ≡ slice_set added.old.items at class }
+{
+    if at < added.len() {
+        added[at] = class;
+    }
+}

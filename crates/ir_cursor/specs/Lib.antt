@@ -1,6 +1,0 @@
-pub mod Place
-pub mod View
-pub mod Cursor
-pub mod Number
-pub mod Table
-pub mod RuntimeNames

@@ -1,3 +1,0 @@
-pub mod ManyWith
-pub mod Starts
-pub mod Decorations

@@ -1,0 +1,100 @@
+-- Calls.
+use Rattle.std.specs.Prelude.{ℕ, Some, None}
+use Rattle.grammar.specs.Grammar.{pure, refuse, look, ◌>>=◌, ◌>>◌}
+use Rattle.ir_tokens.specs.declared.token.Kind.{Kind}
+use Rattle.ir_tokens.specs.declared.token.Kind.TheVariants as k
+use Rattle.ir_ast.specs.declared.ir_type.IrType.TheVariants as type
+use Rattle.ir_ast.specs.declared.instr.Instr.{Instr}
+use Rattle.ir_ast.specs.declared.op.Op.{Op}
+use Rattle.ir_ast.specs.declared.op.Op.TheVariants as op
+use Rattle.ir_forms.specs.Cursor.{kind}
+use Rattle.ir_forms.specs.Input.{Form, unread, skip, expect, sees_a}
+use Rattle.ir_forms.specs.Names.{set_type, callee, unnamed_value}
+use Rattle.ir_forms.specs.Written.{scalar, intern}
+use Rattle.ir_forms.specs.Starts.{is_indirect_callee}
+use Rattle.ir_forms.specs.Decorations.{decorations, trailed}
+use Rattle.ir_forms.specs.declared.decorating.Spot.TheVariants as spot
+use Rattle.ir_forms.specs.Lists.{arguments}
+
+-- the name of the function that is called
+abbrev pub called_by : Kind → Form ℕ
+called_by k.GlobalName = callee
+called_by _ = refuse (unread is_indirect_callee)
+
+-- the function that is called, by its name
+unfoldable pub called : Form ℕ
+called = look (λ i. kind i.cursor) called_by
+
+-- `@f(T V, ..)`
+unfoldable pub call_behind : ℕ → Form Op
+call_behind returned = do
+  f ← called
+  expect k.OpenRound
+  xs ← arguments
+  expect k.CloseRound
+  decorations spot.Call
+  pure (op.Call returned f xs)
+
+-- `T @f(T V, ..)` behind the word, whose value is a T
+abbrev pub typed_call : ℕ → Form Op
+typed_call value = do
+  returned ← scalar
+  x ← call_behind returned.id
+  set_type value returned.id
+  pure x
+
+-- `call T @f(T V, ..)`, whose value has a name
+unfoldable pub call : ℕ → Form Op
+call value = do
+  skip
+  decorations spot.Result
+  typed_call value
+
+-- ---- calls without the name of a value
+
+-- an instruction with this value, and the decorations behind it
+abbrev pub valued : ℕ → Op → Form Instr
+valued value op = trailed op >>= λ x. pure (record { result = Some value; op = x })
+
+-- an instruction without a value, and the decorations behind it
+abbrev pub unnamed : Op → Form Instr
+unnamed op = trailed op >>= λ x. pure (record { result = None; op = x })
+
+-- `void @f(T V, ..)` behind the word
+unfoldable pub void_call : Form Op
+void_call = skip >> intern type.Void >>= call_behind
+
+-- a call whose result is this value
+abbrev pub valued_call : ℕ → Form Instr
+valued_call value = typed_call value >>= valued value
+
+-- a call whose value takes the next number
+unfoldable pub numbered_call : Form Instr
+numbered_call = unnamed_value >>= valued_call
+
+-- a call that is an instruction without a written result: one of `void`, or one whose result takes the next number
+abbrev pub call_by : Kind → Form Instr
+call_by k.Void = void_call >>= unnamed
+call_by _ = numbered_call
+
+-- what stands behind `call`, with what decorates the result
+abbrev pub call_statement_behind : Form Instr
+call_statement_behind = decorations spot.Result >> look (λ i. kind i.cursor) call_by
+
+-- `call T @f(T V, ..)`, where T may be `void`
+unfoldable pub call_statement : Form Instr
+call_statement = skip >> call_statement_behind
+
+-- ---- words before a call
+
+-- `tail` or `notail`, before `call`
+abbrev pub sees_call : Form (Unit {0})
+sees_call = skip >> sees_a k.Call
+
+-- `tail` or `notail` before a call
+unfoldable pub tail_call : ℕ → Form Op
+tail_call value = sees_call >> call value
+
+-- `tail call ..` or `notail call ..`
+unfoldable pub tail_call_statement : Form Instr
+tail_call_statement = sees_call >> call_statement

@@ -1,0 +1,284 @@
+-- Decorations: what stands beside the parts of a form and has no effect on the module.
+use Rattle.std.specs.Prelude.{◌≡◌, ◌≢◌, ◌+◌, ◌-◌, ◌==◌, nat_lt, Bool, true, false, not, ◌&&◌, List, refl}
+use Rattle.grammar.specs.Grammar.{pure, checked, refuse, look, ◌>>◌}
+use Rattle.grammar.specs.Takes.{Takes, TakesWhere, first_takes, first_takes_where, second_takes, look_takes, checked_takes}
+use Rattle.grammar.specs.Many.{many}
+use Rattle.ir_tokens.specs.declared.token.Kind.{Kind}
+use Rattle.ir_tokens.specs.declared.token.Kind.TheVariants as k
+use Rattle.ir_ast.specs.declared.op.Op.{Op}
+use Rattle.ir_ast.specs.declared.op.Op.TheVariants as op
+use Rattle.ir_forms.specs.Cursor.{kind, kind_behind, same_kind, sees, begins_line}
+use Rattle.ir_forms.specs.declared.input.Input.{Input}
+use Rattle.ir_forms.specs.Input.{Form, limit, unexpected, unread, skip, expect, expect_takes, IsKind, skip_takes}
+use Rattle.ir_forms.specs.declared.decorating.Brackets.{Brackets}
+use Rattle.ir_forms.specs.declared.decorating.Spot.{Spot}
+use Rattle.ir_forms.specs.declared.decorating.Spot.TheVariants as spot
+use Rattle.ir_forms.specs.declared.decorating.Trail.{Trail}
+use Rattle.ir_forms.specs.declared.decorating.Trail.TheVariants as trail
+use Rattle.ir_forms.specs.ManyWith.{many_with}
+use Rattle.ir_forms.specs.Starts.{is_flag, begins_any_type}
+
+-- one form or the other
+abbrev pub either : {A : Type 0} → Form A → Form A → Bool → Form A
+either a b true = a
+either a b false = b
+
+-- ---- any token
+
+ends_text : (i : Input) → kind i.cursor ≡ k.End → sees k.End i.cursor ≡ true
+unfolding sees same_kind
+ends_text i e = rw e refl
+
+is_token : (i : Input) → not (sees k.End i.cursor) ≡ true → kind i.cursor ≢ k.End
+is_token i e = λ is. let ends = ends_text i is in cc
+
+-- a token, whatever its kind, but not the end of the text
+unfoldable pub any_token : Form Kind
+any_token = checked (λ i. not (sees k.End i.cursor)) unexpected >> look (λ i. kind i.cursor) (λ x. skip >> pure x)
+
+pub any_token_takes : Takes any_token
+unfolding any_token
+any_token_takes = checked_takes (λ i. not (sees k.End i.cursor)) unexpected (look (λ i. kind i.cursor) (λ x. skip >> pure x))
+    (λ i a o e h. first_takes_where (IsKind (kind i.cursor)) skip (λ _. pure (kind i.cursor)) (skip_takes (kind i.cursor) (is_token i e)) i a o refl h)
+
+-- ---- what stands behind a word
+
+-- each round bracket that was opened is closed
+abbrev pub are_closed : Brackets → Input → Bool
+are_closed b i = b.depth == 0
+
+-- how many brackets are open is a number of 32 bits
+abbrev pub has_room : Brackets → Form (Unit {0})
+has_room b = checked (λ _. nat_lt b.depth 4294967295) limit
+
+-- a token within brackets, which may open or close one
+abbrev pub in_brackets : Brackets → Form Kind
+in_brackets b = has_room b >> any_token
+
+pub in_brackets_takes : (b : Brackets) → Takes (in_brackets b)
+in_brackets_takes b = second_takes (has_room b) (λ _. any_token) (λ _. any_token_takes)
+
+-- the brackets behind a token, which may open or close one
+abbrev pub behind_bracket : Brackets → Kind → Brackets
+behind_bracket b k.OpenRound = record b { depth = b.depth + 1 }
+behind_bracket b k.CloseRound = record b { depth = b.depth - 1 }
+behind_bracket b _ = b
+
+-- the tokens behind a round bracket, up to the one that closes it
+unfoldable pub bracketed : Form (List Kind)
+bracketed = many_with are_closed in_brackets in_brackets_takes behind_bracket (record { depth = 1 })
+
+-- a part in brackets, up to the one that closes it
+unfoldable pub past_brackets : Form (Unit {0})
+past_brackets = bracketed >> pure tt
+
+-- the place is that of an argument
+abbrev pub is_argument : Spot → Bool
+is_argument spot.Argument = true
+is_argument _ = false
+
+-- an operand ends before this token
+abbrev pub ends_operand : Kind → Bool
+ends_operand k.Comma = true
+ends_operand k.CloseRound = true
+ends_operand _ = false
+
+-- in an argument a number that ends the argument is its operand
+abbrev pub is_operand : Spot → Input → Bool
+is_operand s i = is_argument s && ends_operand (kind_behind i.cursor)
+
+-- what belongs to a decorating word: a part in brackets, a quoted text or a number behind it
+abbrev pub word_end_by : Spot → Kind → Form (Unit {0})
+word_end_by s k.OpenRound = skip >> past_brackets
+word_end_by s k.Quoted = skip
+word_end_by s k.Number = look (is_operand s) (either (pure tt) skip)
+word_end_by s _ = pure tt
+
+-- round brackets, a quoted text or a number behind a word, or nothing
+unfoldable pub word_end : Spot → Form (Unit {0})
+word_end s = look (λ i. kind i.cursor) (word_end_by s)
+
+-- a decorating word with what belongs to it
+abbrev pub word : Spot → Form (Unit {0})
+word s = skip >> word_end s
+
+-- ---- decorations of a part
+
+-- a global that is external has no value
+abbrev pub may_be_external : Spot → Bool
+may_be_external spot.Global = false
+may_be_external _ = true
+
+-- the place is at the end of a function's head
+abbrev pub ends_head : Spot → Bool
+ends_head spot.Defined = true
+ends_head spot.Declared = true
+ends_head _ = false
+
+-- groups of attributes stand behind parameters and arguments
+abbrev pub may_have_group : Spot → Bool
+may_have_group spot.Call = true
+may_have_group s = ends_head s
+
+-- behind a declared function a line may begin that is metadata
+abbrev pub may_have_metadata : Spot → Bool → Bool
+may_have_metadata spot.Defined first = true
+may_have_metadata spot.Declared first = not first
+may_have_metadata _ first = false
+
+-- a token of this kind is a decoration there, which is the first one on its line or not
+abbrev pub begins_decoration : Spot → Bool → Kind → Bool
+begins_decoration s first k.LowercaseWord = true
+begins_decoration s first k.Align = true
+begins_decoration s first k.External = may_be_external s
+begins_decoration s first k.ExternWeak = may_be_external s
+begins_decoration s first k.Comdat = ends_head s
+begins_decoration s first k.AttributeGroup = may_have_group s
+begins_decoration s first k.MetadataName = may_have_metadata s first
+begins_decoration s first _ = false
+
+-- `!name !n`
+abbrev pub metadata : Form (Unit {0})
+metadata = skip >> expect k.MetadataNumber
+
+-- a decoration at this place, by the token with which it begins
+abbrev pub decoration_by : Spot → Kind → Form (Unit {0})
+decoration_by s k.LowercaseWord = word s
+decoration_by s k.Align = word s
+decoration_by s k.External = word s
+decoration_by s k.ExternWeak = word s
+decoration_by s k.Comdat = word s
+decoration_by s k.AttributeGroup = skip
+decoration_by s k.MetadataName = metadata
+decoration_by s _ = refuse unexpected
+
+-- a decoration of this part: a word with what stands behind it, a group of attributes, or metadata
+unfoldable pub decoration : Spot → Form (Unit {0})
+decoration s = look (λ i. kind i.cursor) (decoration_by s)
+
+decoration_takes_by : (s : Spot) (x : Kind) → TakesWhere (IsKind x) (decoration_by s x)
+decoration_takes_by s k.LowercaseWord = first_takes_where (IsKind k.LowercaseWord) skip (λ _. word_end s) (skip_takes k.LowercaseWord (λ x. cc))
+decoration_takes_by s k.Align = first_takes_where (IsKind k.Align) skip (λ _. word_end s) (skip_takes k.Align (λ x. cc))
+decoration_takes_by s k.External = first_takes_where (IsKind k.External) skip (λ _. word_end s) (skip_takes k.External (λ x. cc))
+decoration_takes_by s k.ExternWeak = first_takes_where (IsKind k.ExternWeak) skip (λ _. word_end s) (skip_takes k.ExternWeak (λ x. cc))
+decoration_takes_by s k.Comdat = first_takes_where (IsKind k.Comdat) skip (λ _. word_end s) (skip_takes k.Comdat (λ x. cc))
+decoration_takes_by s k.AttributeGroup = skip_takes k.AttributeGroup (λ x. cc)
+decoration_takes_by s k.MetadataName = first_takes_where (IsKind k.MetadataName) skip (λ _. expect k.MetadataNumber) (skip_takes k.MetadataName (λ x. cc))
+decoration_takes_by s _ = λ i a o e h. absurd h
+
+pub decoration_takes : (s : Spot) → Takes (decoration s)
+unfolding decoration
+decoration_takes s = look_takes (λ i. kind i.cursor) (decoration_by s) (decoration_takes_by s)
+
+-- no decoration of this place begins here
+abbrev pub at_no_decoration : Spot → Input → Bool
+at_no_decoration s i = not (begins_decoration s (begins_line i.cursor) (kind i.cursor))
+
+-- the place stays the same behind a decoration
+abbrev pub same_spot : Spot → Unit {0} → Spot
+same_spot s _ = s
+
+-- the decorations of this part
+unfoldable pub decorations : Spot → Form (Unit {0})
+decorations s = many_with at_no_decoration decoration decoration_takes same_spot s >> pure tt
+
+-- ---- words that stand once, and flags
+
+-- this word, if it is there
+unfoldable pub optional : Kind → Form (Unit {0})
+optional x = look (λ i. sees x i.cursor) (either skip (pure tt))
+
+-- no `nsw` or `nuw` stands here
+abbrev pub at_no_flag : Input → Bool
+at_no_flag i = not (is_flag (kind i.cursor))
+
+-- `nsw` or `nuw`
+abbrev pub flag_by : Kind → Form (Unit {0})
+flag_by k.Nsw = skip
+flag_by k.Nuw = skip
+flag_by _ = refuse unexpected
+
+-- `nsw` or `nuw`
+unfoldable pub flag : Form (Unit {0})
+flag = look (λ i. kind i.cursor) flag_by
+
+flag_takes_by : (x : Kind) → TakesWhere (IsKind x) (flag_by x)
+flag_takes_by k.Nsw = skip_takes k.Nsw (λ x. cc)
+flag_takes_by k.Nuw = skip_takes k.Nuw (λ x. cc)
+flag_takes_by _ = λ i a o e h. absurd h
+
+pub flag_takes : Takes flag
+unfolding flag
+flag_takes = look_takes (λ i. kind i.cursor) flag_by flag_takes_by
+
+-- the flags of an instruction that may have some
+abbrev pub flags_or : Bool → Form (Unit {0})
+flags_or true = many at_no_flag flag flag_takes >> pure tt
+flags_or false = pure tt
+
+-- the flags behind a word that may have some
+unfoldable pub flags : Bool → Form (Unit {0})
+flags may_wrap = flags_or may_wrap
+
+-- ---- behind an instruction or a global
+
+-- an instruction of this sort may have an alignment
+abbrev pub may_align : Trail → Bool
+may_align trail.Slot = true
+may_align trail.Memory = true
+may_align trail.Other = false
+
+-- the instruction is an alloca
+abbrev pub is_slot : Trail → Bool
+is_slot trail.Slot = true
+is_slot _ = false
+
+-- `align n`, where it may stand
+abbrev pub aligned : Bool → Form (Unit {0})
+aligned true = skip >> expect k.Number
+aligned false = refuse unexpected
+
+-- the count of an alloca, which begins with its type, is left out
+abbrev pub begins_count : Trail → Kind → Bool
+begins_count t x = is_slot t && begins_any_type x
+
+-- what may stand behind an instruction's comma: metadata or an alignment
+abbrev pub trail_by : Trail → Kind → Form (Unit {0})
+trail_by t k.MetadataName = metadata
+trail_by t k.Align = aligned (may_align t)
+trail_by t _ = refuse (unread (begins_count t))
+
+-- what stands behind a comma at an instruction's end
+abbrev pub trail_behind : Trail → Form (Unit {0})
+trail_behind t = look (λ i. kind i.cursor) (trail_by t)
+
+-- `, align n` or `, !name !n`
+unfoldable pub comma_trail : Trail → Form (Unit {0})
+comma_trail t = expect k.Comma >> trail_behind t
+
+pub comma_trail_takes : (t : Trail) → Takes (comma_trail t)
+unfolding comma_trail
+comma_trail_takes t = first_takes (expect k.Comma) (λ _. trail_behind t) (expect_takes k.Comma (λ x. cc))
+
+-- no comma follows an instruction
+abbrev pub at_no_trail : Trail → Input → Bool
+at_no_trail t i = not (sees k.Comma i.cursor)
+
+-- the sort of the instruction stays the same behind a trailing part
+abbrev pub same_trail : Trail → Unit {0} → Trail
+same_trail t _ = t
+
+-- the decorations behind an instruction or a global
+unfoldable pub trailing : Trail → Form (Unit {0})
+trailing t = many_with at_no_trail comma_trail comma_trail_takes same_trail t >> pure tt
+
+-- what may stand behind an instruction
+abbrev pub trail_of : Op → Trail
+trail_of (op.Alloca held) = trail.Slot
+trail_of (op.Load loaded place_type place) = trail.Memory
+trail_of (op.Store stored value place_type place) = trail.Memory
+trail_of _ = trail.Other
+
+-- an instruction, and the decorations behind it
+abbrev pub trailed : Op → Form Op
+trailed x = trailing (trail_of x) >> pure x

@@ -1,0 +1,421 @@
+-- Types as they are written: a base with stars behind it, where arrays and structs are bases that have types inside.
+use Rattle.std.specs.Prelude.{ℕ, zero, suc, ◌-◌, ◌≤◌, Bool, true, false, not, ◌||◌, ◌==◌, ◌&&◌, if◌then◌else◌, nat_lt, nat_le, min, List, [], ◌∷◌, Option, Some, None, is_some, unwrap_or, slice_get}
+use Rattle.std.proofs.Common.{arith}
+use Rattle.grammar.specs.Grammar.{pure, step, checked, refuse, look, ◌>>=◌, ◌>>◌}
+use Rattle.grammar.specs.Takes.{Takes, TakesWhere, first_takes, first_takes_where, look_takes, stays_takes}
+use Rattle.grammar.specs.Many.{many}
+use Rattle.ir_tokens.specs.declared.token.Kind.{Kind}
+use Rattle.ir_tokens.specs.declared.token.Kind.TheVariants as k
+use Rattle.ir_ast.specs.Names.{place_of}
+use Rattle.ir_ast.specs.Types.{number_of_type, numbered_type}
+use Rattle.ir_ast.specs.declared.ir_type.IrType.{IrType}
+use Rattle.ir_ast.specs.declared.ir_type.IrType.TheVariants as type
+use Rattle.ir_forms.specs.declared.fault.Fault.{Fault}
+use Rattle.ir_forms.specs.declared.fault.Fault.TheVariants.{OutOfRange}
+use Rattle.ir_forms.specs.declared.input.Input.{Input}
+use Rattle.ir_forms.specs.declared.written.Base.{Base}
+use Rattle.ir_forms.specs.declared.written.Base.TheVariants.{Integer, Named, Aggregate}
+use Rattle.ir_forms.specs.declared.written.WrittenType.{WrittenType}
+use Rattle.ir_forms.specs.Cursor.{kind, sees, start, name, spelled, spelling, left_out}
+use Rattle.ir_forms.specs.Number.{decimal, natural}
+use Rattle.ir_forms.specs.Input.{Form, left, limit, unexpected, unread, advanced, advanced_falls, advanced_left, advance_takes, skip, skip_takes, sees_a, expect, IsKind}
+use Rattle.ir_forms.specs.Names.{has_number, is_at, struct_name, struct_name_takes}
+
+-- ---- the table of types
+
+-- the number of a type in the table of types
+abbrev pub place_in_table : IrType → Input → ℕ
+place_in_table t i = number_of_type t i.types
+
+-- the type stands in the table of types
+abbrev pub with_type_interned : IrType → Input → Input
+with_type_interned t i = record i { types = numbered_type t i.types }
+
+pub with_type_interned_falls : (t : IrType) (i : Input) → left (with_type_interned t i) ≤ left i
+unfolding left
+with_type_interned_falls t i = omega arith
+
+-- the place of a type in the table, which has it from now on; no token is read
+unfoldable pub intern : IrType → Form ℕ
+intern t = has_number (place_in_table t) >> step (place_in_table t) (with_type_interned t) (with_type_interned_falls t)
+
+-- ---- a type before its stars
+
+-- how many bits the digits behind the `i` of an integer type tell
+unfoldable pub bits_at : Input → ℕ
+bits_at i = decimal (name i.cursor)
+
+-- an integer has 1 to 64 bits
+abbrev pub has_bits : Form (Unit {0})
+has_bits = checked (λ i. nat_le 1 (bits_at i) && nat_le (bits_at i) 64) (λ i. OutOfRange (start i.cursor))
+
+-- an integer type
+unfoldable pub integer : Form ℕ
+integer = has_bits >> step bits_at advanced advanced_falls
+
+-- ---- types inside of types
+
+-- a form that takes a token
+pub record Firm : Type 1 where
+  pub form : Form WrittenType
+  pub takes : Takes form
+
+-- types of the forms that are read
+abbrev pub begins_type : Kind → Bool
+begins_type k.IntegerType = true
+begins_type k.LocalName = true
+begins_type k.OpenSquare = true
+begins_type k.OpenBrace = true
+begins_type _ = false
+
+-- numbered types, vectors, packed structs and lists of any length
+abbrev pub begins_unread_type : Kind → Bool
+begins_unread_type k.LocalNumber = true
+begins_unread_type k.Less = true
+begins_unread_type k.Dots = true
+begins_unread_type _ = false
+
+-- a type without a star, where so many levels more there might be
+abbrev pub part_of : Base → ℕ → ℕ → WrittenType
+part_of base room id = record { base = base; stars = 0; id = id; room = room }
+
+-- this type, which the table has from now on
+abbrev pub interned : Base → ℕ → IrType → Form WrittenType
+interned base room t = intern t >>= λ id. pure (part_of base room id)
+
+-- the length that the next token spells, if it is below 2 to the 64
+unfoldable pub length_at : Input → Option ℕ
+length_at i = natural (spelling i.cursor)
+
+-- the number that stands here is the length of an array
+abbrev pub has_length : Form (Unit {0})
+has_length = checked (λ i. is_some (length_at i)) (λ i. OutOfRange (start i.cursor))
+
+-- the length of an array
+unfoldable pub array_length : Form ℕ
+array_length = sees_a k.Number >> has_length >> step (λ i. unwrap_or (length_at i) 0) advanced advanced_falls
+
+-- what stands behind the bracket of an array type
+abbrev pub array_behind : Firm → Form WrittenType
+array_behind inner = do
+  n ← array_length
+  expect k.X
+  part ← inner.form
+  expect k.CloseSquare
+  interned Aggregate part.room (type.Array n part.id)
+
+-- `[n x T]`
+abbrev pub array : Firm → Form WrittenType
+array inner = skip >> array_behind inner
+
+-- the list of fields ends here
+abbrev pub at_brace : Input → Bool
+at_brace i = sees k.CloseBrace i.cursor
+
+-- no comma before the first field, and one before each further field
+abbrev pub comma_or : Bool → Form (Unit {0})
+comma_or true = pure tt
+comma_or false = expect k.Comma >> checked (λ i. not (at_brace i)) unexpected
+
+-- nothing before the brace that closes, or else a comma with a further field behind it
+unfoldable pub behind_field : Form (Unit {0})
+behind_field = look at_brace comma_or
+
+-- a field with what stands behind it
+abbrev pub field_of : WrittenType → Form WrittenType
+field_of p = behind_field >> pure p
+
+-- a field of a struct
+abbrev pub field : Firm → Form WrittenType
+field inner = inner.form >>= field_of
+
+pub field_takes : (inner : Firm) → Takes (field inner)
+field_takes inner = first_takes inner.form field_of inner.takes
+
+-- the struct that has this field before those of another struct
+abbrev pub field_before : WrittenType → WrittenType → Form WrittenType
+field_before p whole = interned Aggregate (min p.room whole.room) (type.Struct p.id whole.id)
+
+-- the struct that has these fields before those of another struct
+unfoldable pub before : List WrittenType → WrittenType → Form WrittenType
+before [] whole = pure whole
+before (p ∷ parts) whole = before parts whole >>= field_before p
+
+-- the struct with these fields
+unfoldable pub struct_of : ℕ → List WrittenType → Form WrittenType
+struct_of room fields = interned Aggregate room type.EmptyStruct >>= before fields
+
+-- the brace that closes a struct type
+abbrev pub close_struct : ℕ → List WrittenType → Form WrittenType
+close_struct room fields = expect k.CloseBrace >> struct_of room fields
+
+-- the fields of a struct type, up to its brace
+abbrev pub fields_behind : ℕ → Firm → Form WrittenType
+fields_behind room inner = many at_brace (field inner) (field_takes inner) >>= close_struct room
+
+-- `{ T, .. }`
+abbrev pub braced : ℕ → Firm → Form WrittenType
+braced room inner = skip >> fields_behind room inner
+
+-- a type without the stars behind it, by the token with which it begins
+abbrev pub base_by : ℕ → Firm → Kind → Form WrittenType
+base_by room inner k.IntegerType = integer >>= λ bits. interned (Integer bits) room (type.Integer bits)
+base_by room inner k.LocalName = struct_name >>= λ name. interned Named room (type.Named name)
+base_by room inner k.OpenSquare = array inner
+base_by room inner k.OpenBrace = braced room inner
+base_by room inner _ = refuse (unread begins_unread_type)
+
+-- a type before its stars
+abbrev pub base : ℕ → Firm → Form WrittenType
+base room inner = look (λ i. kind i.cursor) (base_by room inner)
+
+-- ---- stars
+
+-- a star stands here
+abbrev pub at_star : Input → Bool
+at_star i = sees k.Star i.cursor
+
+-- one form at a star, the other elsewhere
+abbrev pub star_or : {A : Type 0} → Form A → Form A → Bool → Form A
+star_or star none true = star
+star_or star none false = none
+
+-- stars behind a type, of which there may be so many: how many more there might be, and the place of the pointer type
+unfoldable pub pointers : ℕ → ℕ → Form (ℕ × ℕ)
+pointers zero pointee = look at_star (star_or (refuse limit) (pure (0, pointee)))
+pointers (suc room) pointee = look at_star (star_or (skip >> intern (type.Pointer pointee) >>= pointers room) (pure (suc room, pointee)))
+
+-- no function type
+abbrev pub no_parameters : Form (Unit {0})
+no_parameters = checked (λ i. not (sees k.OpenRound i.cursor)) (λ i. left_out i.cursor)
+
+-- a type with the stars that were found behind it
+abbrev pub with_stars : WrittenType → ℕ × ℕ → WrittenType
+with_stars p found = record { base = p.base; stars = p.room - found.0; id = found.1; room = found.0 }
+
+-- the stars behind a type
+unfoldable pub starred : WrittenType → Form WrittenType
+starred p = do
+  found ← pointers p.room p.id
+  no_parameters
+  pure (with_stars p found)
+
+-- ---- a type
+
+-- a type that passes the limit of levels
+unfoldable pub no_type : Form WrittenType
+no_type = refuse (λ i. if begins_type (kind i.cursor) then limit i else unread begins_unread_type i)
+
+-- a type with its stars, whose parts are of this form
+abbrev pub over : ℕ → Firm → Form WrittenType
+over room inner = base room inner >>= starred
+
+pub integer_takes : TakesWhere (IsKind k.IntegerType) integer
+unfolding integer
+integer_takes = stays_takes (IsKind k.IntegerType) has_bits (step bits_at advanced advanced_falls) (λ i a o h. h.1) (advance_takes k.IntegerType (λ x. cc) bits_at advanced advanced_falls advanced_left)
+
+pub base_takes_by : (room : ℕ) (inner : Firm) (x : Kind) → TakesWhere (IsKind x) (base_by room inner x)
+base_takes_by room inner k.IntegerType = first_takes_where (IsKind k.IntegerType) integer (λ bits. interned (Integer bits) room (type.Integer bits)) integer_takes
+base_takes_by room inner k.LocalName = first_takes_where (IsKind k.LocalName) struct_name (λ name. interned Named room (type.Named name)) struct_name_takes
+base_takes_by room inner k.OpenSquare = first_takes_where (IsKind k.OpenSquare) skip (λ _. array_behind inner) (skip_takes k.OpenSquare (λ x. cc))
+base_takes_by room inner k.OpenBrace = first_takes_where (IsKind k.OpenBrace) skip (λ _. fields_behind room inner) (skip_takes k.OpenBrace (λ x. cc))
+base_takes_by room inner _ = λ i a o e h. absurd h
+
+pub over_takes : (room : ℕ) (inner : Firm) → Takes (over room inner)
+over_takes room inner = first_takes (base room inner) starred (look_takes (λ i. kind i.cursor) (base_by room inner) (base_takes_by room inner))
+
+pub no_type_takes : Takes no_type
+unfolding no_type
+no_type_takes i a o h = absurd h
+
+-- a type of at most so many levels: an integer or a name is one, and each star, array or struct around it is one more
+unfoldable pub firm : ℕ → Firm
+firm zero = record { form = no_type; takes = no_type_takes }
+firm (suc room) = record { form = over room (firm room); takes = over_takes room (firm room) }
+
+-- a type of at most so many levels
+abbrev pub part : ℕ → Form WrittenType
+part levels = (firm levels).form
+
+-- a type that has at most so many levels over its first
+unfoldable pub type_within : ℕ → Form WrittenType
+type_within room = part (suc room)
+
+-- `{ T, .. }` as the type that a name stands for: its place
+unfoldable pub struct_body : Form ℕ
+struct_body = braced 63 (firm 63) >>= λ p. pure p.id
+
+-- ---- which types may stand where
+
+-- how many bits an integer type has
+abbrev pub bits_of_base : Base → Option ℕ
+bits_of_base (Integer bits) = Some bits
+bits_of_base Named = None
+bits_of_base Aggregate = None
+
+-- an integer or a pointer, which are one word
+abbrev pub is_scalar : WrittenType → Bool
+is_scalar w = nat_lt 0 w.stars || is_some (bits_of_base w.base)
+
+-- how many bits a type has, if it is an integer type
+abbrev pub bits_of : WrittenType → Option ℕ
+bits_of w = if w.stars == 0 then bits_of_base w.base else None
+
+-- an integer, a reference or `i8*`, which a function may take and give
+abbrev pub is_passed : WrittenType → Bool
+is_passed w = passed_by w.base w.stars where
+  passed_by : Base → ℕ → Bool
+  passed_by (Integer bits) stars = stars == 0 || (stars == 1 && bits == 8)
+  passed_by Named stars = stars == 1
+  passed_by Aggregate stars = false
+
+-- an integer or a reference, which a global may hold
+abbrev pub is_held : WrittenType → Bool
+is_held w = held_by w.base w.stars where
+  held_by : Base → ℕ → Bool
+  held_by (Integer bits) stars = stars == 0
+  held_by Named stars = stars == 1
+  held_by Aggregate stars = false
+
+-- the type before here may stand here; otherwise it has this fault, but where the text ends, since a star might follow
+abbrev pub allow : Bool → Fault → Form (Unit {0})
+allow allowed fault = checked (λ i. allowed) (λ i. if sees k.End i.cursor then unexpected i else fault)
+
+-- the type, if it may stand here, or else the fault
+abbrev pub then_allowed : (WrittenType → Bool) → WrittenType → Fault → Form WrittenType
+then_allowed may_stand w fault = allow (may_stand w) fault >> pure w
+
+-- a type that may stand here, or else its first word is left out
+abbrev pub type_that : (WrittenType → Bool) → ℕ → Form WrittenType
+type_that may_stand room = look (λ i. left_out i.cursor) (λ fault. type_within room >>= λ w. then_allowed may_stand w fault)
+
+-- any type but `void`: a type has at most 64 levels
+unfoldable pub any_type : Form WrittenType
+any_type = type_within 63
+
+-- a type that a word holds, with at most so many levels over its first
+unfoldable pub scalar_within : ℕ → Form WrittenType
+scalar_within = type_that is_scalar
+
+-- a type that a word holds
+unfoldable pub scalar : Form WrittenType
+scalar = scalar_within 63
+
+-- the type of a parameter or a result
+unfoldable pub passed_type : Form WrittenType
+passed_type = type_that is_passed 63
+
+-- the type of a global
+unfoldable pub held_type : Form WrittenType
+held_type = type_that is_held 63
+
+-- a type with a star behind it
+unfoldable pub pointer_type : Form WrittenType
+pointer_type = any_type >>= λ w. checked (λ _. nat_lt 0 w.stars) unexpected >> pure w
+
+-- ---- a second mention of a type
+
+-- the next token begins a type, as a token of this kind does
+abbrev pub sees_type : Kind → Form (Unit {0})
+sees_type wanted = checked (λ i. sees wanted i.cursor) (unread begins_unread_type)
+
+-- an integer of so many bits again
+unfoldable pub integer_again : ℕ → Form (Unit {0})
+integer_again bits = sees_type k.IntegerType >> has_bits >> checked (λ i. bits_at i == bits) unexpected >> skip
+
+-- the next token's name is the one with this number
+unfoldable pub is_named : ℕ → Input → Bool
+is_named wanted i = is_at wanted (place_of (spelled i.cursor) i.struct_names.names)
+
+-- the name of a struct again
+unfoldable pub name_again : ℕ → Form (Unit {0})
+name_again wanted = sees_type k.LocalName >> checked (is_named wanted) unexpected >> skip
+
+-- the length of an array again
+unfoldable pub length_again : ℕ → Form (Unit {0})
+length_again wanted = sees_a k.Number >> has_length >> checked (λ i. is_at wanted (length_at i)) unexpected >> skip
+
+-- the array type of this length and part once more
+abbrev pub array_again : (ℕ → Form (Unit {0})) → ℕ → ℕ → Form (Unit {0})
+array_again inner n part = do
+  sees_type k.OpenSquare
+  skip
+  length_again n
+  expect k.X
+  inner part
+  expect k.CloseSquare
+
+-- the type of this number
+abbrev pub type_at : ℕ → Input → Option IrType
+type_at id i = slice_get i.types id
+
+-- another field once more, or the end of the struct type
+abbrev pub field_or : (ℕ → ℕ → Form (Unit {0})) → Option IrType → Form (Unit {0})
+field_or next (Some (type.Struct first rest)) = expect k.Comma >> next first rest
+field_or next _ = expect k.CloseBrace
+
+-- the fields of this struct again, of which there are at most so many, behind others
+unfoldable pub fields_again : (ℕ → Form (Unit {0})) → ℕ → ℕ → Form (Unit {0})
+fields_again inner zero id = refuse unexpected
+fields_again inner (suc most) id = look (type_at id) (field_or (λ first rest. inner first >> fields_again inner most rest))
+
+-- each field has a token before it
+abbrev pub all_fields_again : (ℕ → Form (Unit {0})) → ℕ → Form (Unit {0})
+all_fields_again inner id = look left (λ most. fields_again inner (suc most) id)
+
+-- this type once more, its parts by the inner form
+abbrev pub again_by : (ℕ → Form (Unit {0})) → Option IrType → Form (Unit {0})
+again_by inner (Some (type.Integer bits)) = integer_again bits
+again_by inner (Some (type.Named wanted)) = name_again wanted
+again_by inner (Some (type.Pointer part)) = inner part >> expect k.Star
+again_by inner (Some (type.Array n part)) = array_again inner n part
+again_by inner (Some type.EmptyStruct) = sees_type k.OpenBrace >> skip >> expect k.CloseBrace
+again_by inner (Some (type.Struct first rest)) = sees_type k.OpenBrace >> skip >> inner first >> all_fields_again inner rest
+again_by inner _ = refuse unexpected
+
+-- the type of this number once more
+abbrev pub again_over : (ℕ → Form (Unit {0})) → ℕ → Form (Unit {0})
+again_over inner id = look (type_at id) (again_by inner)
+
+-- the type with this place again, which has at most so many levels
+unfoldable pub again_within : ℕ → ℕ → Form (Unit {0})
+again_within zero id = refuse unexpected
+again_within (suc room) id = again_over (again_within room) id >> no_parameters
+
+-- the same type again: at the first token that departs no form goes on
+unfoldable pub again : WrittenType → Form (Unit {0})
+again w = again_within 64 w.id
+
+-- a star, where so many levels more there might be
+abbrev pub further_star : ℕ → Form (Unit {0})
+further_star room = sees_a k.Star >> checked (λ _. nat_lt 0 room) limit >> skip
+
+-- a pointer to the same type: the place of its type
+unfoldable pub pointer_again : WrittenType → Form ℕ
+pointer_again w = again w >> further_star w.room >> intern (type.Pointer w.id)
+
+-- ---- types take a token
+
+pub type_takes : (room : ℕ) → Takes (type_within room)
+unfolding type_within
+type_takes room = (firm (suc room)).takes
+
+type_that_takes : (may_stand : WrittenType → Bool) (room : ℕ) → Takes (type_that may_stand room)
+type_that_takes may_stand room = look_takes (λ i. left_out i.cursor) (λ fault. type_within room >>= λ w. then_allowed may_stand w fault)
+    (λ fault i a o e h. first_takes (type_within room) (λ w. then_allowed may_stand w fault) (type_takes room) i a o h)
+
+pub any_type_takes : Takes any_type
+unfolding any_type
+any_type_takes = type_takes 63
+
+pub scalar_within_takes : (room : ℕ) → Takes (scalar_within room)
+unfolding scalar_within
+scalar_within_takes room = type_that_takes is_scalar room
+
+pub scalar_takes : Takes scalar
+unfolding scalar
+scalar_takes = scalar_within_takes 63
+
+pub passed_type_takes : Takes passed_type
+unfolding passed_type
+passed_type_takes = type_that_takes is_passed 63

@@ -1,0 +1,194 @@
+//! Second mentions of a type.
+ghost use Rattle.std.specs.Prelude.{◌≡◌, suc};
+ghost use Rattle.ir_forms.specs.Input.{Reads, left};
+ghost use Rattle.ir_forms.specs.Written as form;
+
+use crate::fault::Fault;
+use crate::input::Input;
+use crate::names::is_at;
+use crate::number::natural;
+use crate::written::{ROOM, WrittenType, begins_unread_type};
+use ir_ast::{IrType, StructNameId, TypeId};
+use ir_tokens::Kind;
+use name_text::decimal;
+use std::alloc::Global;
+
+impl<'a> Input<'a> {
+    /// The next token begins a type, as a token of this kind does.
+    fn sees_type(&self, wanted: Kind) -> Result<(), Fault>
+        ensures { Reads ((form.sees_type wanted).read self.now) result self.now }
+    {
+        if !self.sees(wanted) {
+            return Err(self.refuse(begins_unread_type(self.kind())));
+        }
+        Ok(())
+    }
+
+    /// An integer of so many bits again.
+    #[tactic(auto, unfolding(crate::specs::Written::integer_again, crate::specs::Written::bits_at))]
+    fn integer_again(&mut self, bits: u32) -> Result<(), Fault>
+        ensures { Reads ((form.integer_again bits).read self.old) result self.new }
+    {
+        self.sees_type(Kind::IntegerType)?;
+        match decimal(self.cursor.name()) {
+            Some(found) if found >= 1 && found <= 64 => {
+                if found as u32 != bits {
+                    return Err(self.refuse(false));
+                }
+                self.skip();
+                Ok(())
+            }
+            _ => Err(Fault::OutOfRange(self.cursor.start())),
+        }
+    }
+
+    /// The name of a struct again.
+    #[tactic(auto, unfolding(crate::specs::Written::name_again, crate::specs::Written::is_named))]
+    fn name_again(&mut self, alloc: Global, wanted: StructNameId) -> Result<(), Fault>
+        ensures { Reads ((form.name_again wanted).read self.old) result self.new }
+    {
+        self.sees_type(Kind::LocalName)?;
+        let place = self.struct_names.find_next(alloc, &self.cursor)?;
+        if !is_at(wanted.number() as usize, place) {
+            return Err(self.refuse(false));
+        }
+        self.skip();
+        Ok(())
+    }
+
+    /// The length of an array again.
+    #[tactic(auto, unfolding(crate::specs::Written::length_again, crate::specs::Written::length_at))]
+    fn length_again(&mut self, wanted: u64) -> Result<(), Fault>
+        ensures { Reads ((form.length_again wanted).read self.old) result self.new }
+    {
+        if !self.sees(Kind::Number) {
+            return Err(self.refuse(false));
+        }
+        let Some(length) = natural(self.cursor.spelling()) else {
+            return Err(Fault::OutOfRange(self.cursor.start()));
+        };
+        if length != wanted {
+            return Err(self.refuse(false));
+        }
+        self.skip();
+        Ok(())
+    }
+
+    /// The type with this place again, which has at most so many levels.
+    #[cycle(mentions)]
+    #[tactic(auto, unfolding(crate::specs::Written::again_within))]
+    fn again_within(&mut self, alloc: Global, levels: u32, id: TypeId) -> Result<(), Fault>
+        ensures { Reads ((form.again_within levels id).read self.old) result self.new }
+    {
+        if levels == 0 {
+            return Err(self.refuse(false));
+        }
+        self.again_by(alloc, levels - 1, id)?;
+        self.no_parameters()
+    }
+
+    /// The type with this place again, whose parts have at most so many levels.
+    #[cycle(mentions)]
+    fn again_by(&mut self, alloc: Global, levels: u32, id: TypeId) -> Result<(), Fault>
+        ensures { Reads ((form.again_over (form.again_within levels) id).read self.old) result self.new }
+    {
+        let shown = self.types.get(id);
+        match &shown {
+            Some(IrType::Integer(bits)) => self.integer_again(*bits),
+            Some(IrType::Named(wanted)) => self.name_again(alloc, *wanted),
+            Some(IrType::Pointer(pointee)) => {
+                self.again_within(alloc, levels, *pointee)?;
+                self.expect(Kind::Star)
+            }
+            Some(IrType::Array { length, part }) => self.array_again(alloc, levels, *length, *part),
+            Some(IrType::EmptyStruct) => {
+                self.sees_type(Kind::OpenBrace)?;
+                self.skip();
+                self.expect(Kind::CloseBrace)
+            }
+            Some(IrType::Struct { first, rest }) => {
+                self.sees_type(Kind::OpenBrace)?;
+                self.skip();
+                self.again_within(alloc, levels, *first)?;
+                self.fields_again(alloc, levels, *rest)
+            }
+            _ => Err(self.refuse(false)),
+        }
+    }
+
+    /// An array of so many of a part again, which has at most so many levels.
+    #[cycle(mentions)]
+    fn array_again(
+        &mut self,
+        alloc: Global,
+        levels: u32,
+        length: u64,
+        part: TypeId,
+    ) -> Result<(), Fault>
+        ensures { Reads ((form.array_again (form.again_within levels) length part).read self.old) result self.new }
+    {
+        self.sees_type(Kind::OpenSquare)?;
+        self.skip();
+        self.length_again(length)?;
+        self.expect(Kind::X)?;
+        self.again_within(alloc, levels, part)?;
+        self.expect(Kind::CloseSquare)
+    }
+
+    /// The fields of this struct again, behind others, up to the brace that closes.
+    #[cycle(mentions)]
+    fn fields_again(&mut self, alloc: Global, levels: u32, rest: TypeId) -> Result<(), Fault>
+        ensures { Reads ((form.all_fields_again (form.again_within levels) rest).read self.old) result self.new }
+    {
+        let mut rest = rest;
+        for _turn in 0..self.left() + 1 {
+            let shown = self.types.get(rest);
+            match &shown {
+                Some(
+                    IrType::Struct {
+                        first,
+                        rest: behind,
+                    },
+                ) => {
+                    self.expect(Kind::Comma)?;
+                    self.again_within(alloc, levels, *first)?;
+                    rest = *behind;
+                }
+                _ => return self.expect(Kind::CloseBrace),
+            }
+        }
+        Err(self.refuse(false))
+    }
+
+    /// A second mention of a type.
+    #[tactic(auto, unfolding(crate::specs::Written::again))]
+    pub fn again(&mut self, alloc: Global, written: &WrittenType) -> Result<(), Fault>
+        ensures { Reads ((form.again written.now).read self.old) result self.new }
+    {
+        self.again_within(alloc, ROOM + 1, written.id)
+    }
+
+    /// A star, where so many levels more there might be.
+    fn further_star(&mut self, room: u32) -> Result<(), Fault>
+        ensures { Reads ((form.further_star room).read self.old) result self.new }
+    {
+        if !self.sees(Kind::Star) {
+            return Err(self.refuse(false));
+        }
+        if room == 0 {
+            return Err(self.limit());
+        }
+        self.skip();
+        Ok(())
+    }
+
+    /// The type of pointers to a type that is mentioned here again. Answers its place.
+    #[tactic(auto, unfolding(crate::specs::Written::pointer_again))]
+    pub fn pointer_again(&mut self, alloc: Global, written: &WrittenType) -> Result<TypeId, Fault>
+        ensures { Reads ((form.pointer_again written.now).read self.old) result self.new }
+    {
+        self.again(alloc, written)?;
+        self.further_star(written.room)?;
+        self.intern(IrType::Pointer(written.id))
+    }
+}

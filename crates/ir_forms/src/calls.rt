@@ -1,0 +1,146 @@
+//! Calls.
+ghost use Rattle.std.specs.Prelude.{◌≡◌};
+ghost use Rattle.ir_forms.specs.Input.{Reads};
+ghost use Rattle.ir_forms.specs.Calls as form;
+
+use crate::decorating::{Spot, decorations, trailed};
+use crate::fault::Fault;
+use crate::input::Input;
+use crate::listed::many;
+use crate::lists::Arguments;
+use crate::starts::is_indirect_callee;
+use ir_ast::{Instr, IrType, Op, SymbolId, TypeId, ValueId};
+use ir_tokens::Kind;
+use std::alloc::Global;
+
+/// The function that is called.
+#[tactic(auto, unfolding(crate::specs::Calls::called))]
+fn called(alloc: Global, input: &mut Input<'_>) -> Result<SymbolId, Fault>
+    ensures { Reads (form.called.read input.old) result input.new }
+{
+    match input.kind() {
+        Kind::GlobalName => input.callee(alloc),
+        kind => Err(input.refuse(is_indirect_callee(kind))),
+    }
+}
+
+/// A call behind the type of its result.
+#[tactic(auto, unfolding(crate::specs::Calls::call_behind, crate::specs::Lists::arguments))]
+fn call_behind(alloc: Global, input: &mut Input<'_>, returned: TypeId) -> Result<Op, Fault>
+    ensures { Reads ((form.call_behind returned).read input.old) result input.new }
+{
+    let callee = called(alloc, input)?;
+    input.expect(Kind::OpenRound)?;
+    let arguments = many::<Arguments>(alloc, input)?;
+    input.expect(Kind::CloseRound)?;
+    decorations(alloc, input, Spot::Call)?;
+    Ok(Op::Call {
+        returned,
+        callee,
+        arguments,
+    })
+}
+
+/// A call behind its word, whose value is this one.
+fn typed_call(alloc: Global, input: &mut Input<'_>, value: ValueId) -> Result<Op, Fault>
+    ensures { Reads ((form.typed_call value).read input.old) result input.new }
+{
+    let returned = input.scalar(alloc)?.id;
+    let call = call_behind(alloc, input, returned)?;
+    input.set_type(value, returned);
+    Ok(call)
+}
+
+/// A call whose value has this name.
+#[tactic(auto, unfolding(crate::specs::Calls::call))]
+pub fn call(alloc: Global, input: &mut Input<'_>, value: ValueId) -> Result<Op, Fault>
+    ensures { Reads ((form.call value).read input.old) result input.new }
+{
+    input.skip();
+    decorations(alloc, input, Spot::Result)?;
+    typed_call(alloc, input, value)
+}
+
+/// An instruction with this value, and the decorations behind it.
+pub fn valued(alloc: Global, input: &mut Input<'_>, value: ValueId, op: Op) -> Result<Instr, Fault>
+    ensures { Reads ((form.valued value op).read input.old) result input.new }
+{
+    let op = trailed(alloc, input, op)?;
+    Ok(Instr {
+        result: Some(value),
+        op,
+    })
+}
+
+/// An instruction without a value, and the decorations behind it.
+pub fn unnamed(alloc: Global, input: &mut Input<'_>, op: Op) -> Result<Instr, Fault>
+    ensures { Reads ((form.unnamed op).read input.old) result input.new }
+{
+    let op = trailed(alloc, input, op)?;
+    Ok(Instr { result: None, op })
+}
+
+/// A call without a value, behind its word.
+#[tactic(auto, unfolding(crate::specs::Calls::void_call))]
+fn void_call(alloc: Global, input: &mut Input<'_>) -> Result<Op, Fault>
+    ensures { Reads (form.void_call.read input.old) result input.new }
+{
+    input.skip();
+    let returned = input.intern(IrType::Void)?;
+    call_behind(alloc, input, returned)
+}
+
+/// A call whose value takes the next number.
+#[tactic(auto, unfolding(crate::specs::Calls::numbered_call))]
+fn numbered_call(alloc: Global, input: &mut Input<'_>) -> Result<Instr, Fault>
+    ensures { Reads (form.numbered_call.read input.old) result input.new }
+{
+    let value = input.unnamed_value(alloc)?;
+    let op = typed_call(alloc, input, value)?;
+    valued(alloc, input, value, op)
+}
+
+/// A call without the name of a value.
+#[tactic(auto, unfolding(crate::specs::Calls::call_statement))]
+pub fn call_statement(alloc: Global, input: &mut Input<'_>) -> Result<Instr, Fault>
+    ensures { Reads (form.call_statement.read input.old) result input.new }
+{
+    input.skip();
+    decorations(alloc, input, Spot::Result)?;
+    match input.kind() {
+        Kind::Void => {
+            let op = void_call(alloc, input)?;
+            unnamed(alloc, input, op)
+        }
+        _ => numbered_call(alloc, input),
+    }
+}
+
+/// A word before a call.
+fn sees_call(input: &mut Input<'_>) -> Result<(), Fault>
+    ensures { Reads (form.sees_call.read input.old) result input.new }
+{
+    input.skip();
+    if !input.sees(Kind::Call) {
+        return Err(input.refuse(false));
+    }
+    Ok(())
+}
+
+/// A call whose value has this name, with a word before it.
+#[tactic(auto, unfolding(crate::specs::Calls::tail_call))]
+pub fn tail_call(alloc: Global, input: &mut Input<'_>, value: ValueId) -> Result<Op, Fault>
+    ensures { Reads ((form.tail_call value).read input.old) result input.new }
+{
+    sees_call(input)?;
+    call(alloc, input, value)
+}
+
+/// A call without the name of a value, with a word before it.
+#[tactic(auto, unfolding(crate::specs::Calls::tail_call_statement))]
+pub fn tail_call_statement(alloc: Global, input: &mut Input<'_>) -> Result<Instr, Fault>
+    ensures { Reads (form.tail_call_statement.read input.old) result input.new }
+{
+    sees_call(input)?;
+    call_statement(alloc, input)
+}

@@ -1,0 +1,383 @@
+//! Decorations: what stands beside the parts of a form and has no effect on the module.
+ghost use Rattle.std.specs.Prelude.{◌≡◌, Ok};
+ghost use Rattle.ir_forms.specs.Input.{Reads};
+ghost use Rattle.ir_forms.specs.Decorations as form;
+
+use crate::fault::Fault;
+use crate::following::{Following, many_with};
+use crate::input::Input;
+use crate::listed::{Listed, many};
+use crate::starts::{begins_any_type, is_flag};
+use ir_ast::Op;
+use ir_tokens::Kind;
+use std::alloc::Global;
+
+/// A token, whatever its kind, but not the end of the text.
+#[tactic(auto, unfolding(crate::specs::Decorations::any_token))]
+pub fn any_token(input: &mut Input<'_>) -> Result<Kind, Fault>
+    ensures { Reads (form.any_token.read input.old) result input.new }
+{
+    if input.sees(Kind::End) {
+        return Err(input.refuse(false));
+    }
+    let kind = input.kind();
+    input.skip();
+    Ok(kind)
+}
+
+// ---- what stands behind a word
+
+/// How many round brackets are open.
+#[derive(Clone, Copy, PartialEq, Eq)]
+pub struct Brackets {
+    pub depth: u32,
+}
+
+impl Following for Brackets {
+    ghost use Rattle.ir_forms.specs.Decorations.{in_brackets, are_closed, behind_bracket};
+
+    type Item = Kind;
+
+    ghost form = { λ b. (in_brackets b).read };
+
+    ghost ends = { are_closed };
+
+    ghost next = { behind_bracket };
+
+    fn ends(&self, _input: &Input<'_>) -> bool {
+        self.depth == 0
+    }
+
+    fn read(&mut self, _alloc: Global, input: &mut Input<'_>) -> Result<Kind, Fault> {
+        if self.depth >= u32::MAX {
+            return Err(input.limit());
+        }
+        let kind = any_token(input)?;
+        match kind {
+            Kind::OpenRound => self.depth += 1,
+            Kind::CloseRound => self.depth = self.depth.saturating_sub(1),
+            _ => {}
+        }
+        Ok(kind)
+    }
+}
+
+/// The tokens behind a round bracket, up to the one that closes it.
+#[tactic(auto, unfolding(crate::specs::Decorations::bracketed, crate::specs::Decorations::past_brackets))]
+fn past_brackets(alloc: Global, input: &mut Input<'_>) -> Result<(), Fault>
+    ensures { Reads (form.past_brackets.read input.old) result input.new }
+{
+    many_with(alloc, input, Brackets { depth: 1 })?;
+    Ok(())
+}
+
+/// Which part of a form the decorations stand beside.
+#[derive(Clone, Copy, PartialEq, Eq)]
+pub enum Spot {
+    /// A global, behind its `=`.
+    Global,
+    /// The result of a function or a call, before its type.
+    Result,
+    /// A parameter, behind its type.
+    Parameter,
+    /// An argument, behind its type.
+    Argument,
+    /// A call, behind its arguments.
+    Call,
+    /// A defined function, behind its parameters.
+    Defined,
+    /// A declared function, behind its parameters.
+    Declared,
+}
+
+fn ends_operand(kind: Kind) -> bool
+    ensures { result ≡ form.ends_operand kind }
+{
+    matches!(kind, Kind::Comma | Kind::CloseRound)
+}
+
+/// Whether a number behind a word is the operand of an argument.
+fn is_operand(input: &Input<'_>, spot: Spot) -> bool
+    ensures { result ≡ form.is_operand spot input.now }
+{
+    matches!(spot, Spot::Argument) && ends_operand(input.cursor.kind_behind())
+}
+
+/// Round brackets, a quoted text or a number behind a word, or nothing.
+#[tactic(auto, unfolding(crate::specs::Decorations::word_end))]
+fn word_end(alloc: Global, input: &mut Input<'_>, spot: Spot) -> Result<(), Fault>
+    ensures { Reads ((form.word_end spot).read input.old) result input.new }
+{
+    match input.kind() {
+        Kind::OpenRound => {
+            input.skip();
+            past_brackets(alloc, input)
+        }
+        Kind::Quoted => {
+            input.skip();
+            Ok(())
+        }
+        Kind::Number => {
+            if !is_operand(input, spot) {
+                input.skip();
+            }
+            Ok(())
+        }
+        _ => Ok(()),
+    }
+}
+
+// ---- decorations of a part
+
+fn may_be_external(spot: Spot) -> bool
+    ensures { result ≡ form.may_be_external spot }
+{
+    !matches!(spot, Spot::Global)
+}
+
+fn ends_head(spot: Spot) -> bool
+    ensures { result ≡ form.ends_head spot }
+{
+    matches!(spot, Spot::Defined | Spot::Declared)
+}
+
+fn may_have_group(spot: Spot) -> bool
+    ensures { result ≡ form.may_have_group spot }
+{
+    ends_head(spot) || matches!(spot, Spot::Call)
+}
+
+fn may_have_metadata(spot: Spot, is_first: bool) -> bool
+    ensures { result ≡ form.may_have_metadata spot is_first }
+{
+    match spot {
+        Spot::Defined => true,
+        Spot::Declared => !is_first,
+        _ => false,
+    }
+}
+
+/// Whether a token of this kind is a decoration there, which is the first one on its line or not.
+fn begins_decoration(spot: Spot, is_first: bool, kind: Kind) -> bool
+    ensures { result ≡ form.begins_decoration spot is_first kind }
+{
+    match kind {
+        Kind::LowercaseWord | Kind::Align => true,
+        Kind::External | Kind::ExternWeak => may_be_external(spot),
+        Kind::Comdat => ends_head(spot),
+        Kind::AttributeGroup => may_have_group(spot),
+        Kind::MetadataName => may_have_metadata(spot, is_first),
+        _ => false,
+    }
+}
+
+/// `!name !n`
+fn metadata(input: &mut Input<'_>) -> Result<(), Fault>
+    ensures { Reads (form.metadata.read input.old) result input.new }
+{
+    input.skip();
+    input.expect(Kind::MetadataNumber)
+}
+
+/// A decoration of this part.
+#[tactic(auto, unfolding(crate::specs::Decorations::decoration))]
+fn decoration(alloc: Global, input: &mut Input<'_>, spot: Spot) -> Result<(), Fault>
+    ensures { Reads ((form.decoration spot).read input.old) result input.new }
+{
+    match input.kind() {
+        Kind::LowercaseWord | Kind::Align | Kind::External | Kind::ExternWeak | Kind::Comdat => {
+            input.skip();
+            word_end(alloc, input, spot)
+        }
+        Kind::AttributeGroup => {
+            input.skip();
+            Ok(())
+        }
+        Kind::MetadataName => metadata(input),
+        _ => Err(input.refuse(false)),
+    }
+}
+
+impl Following for Spot {
+    ghost use Rattle.ir_forms.specs.Decorations.{decoration, at_no_decoration, same_spot};
+
+    type Item = ();
+
+    ghost form = { λ s. (decoration s).read };
+
+    ghost ends = { at_no_decoration };
+
+    ghost next = { same_spot };
+
+    fn ends(&self, input: &Input<'_>) -> bool {
+        !begins_decoration(*self, input.cursor.begins_line(), input.kind())
+    }
+
+    fn read(&mut self, alloc: Global, input: &mut Input<'_>) -> Result<(), Fault> {
+        decoration(alloc, input, *self)
+    }
+}
+
+/// The decorations of this part.
+#[tactic(auto, unfolding(crate::specs::Decorations::decorations))]
+pub fn decorations(alloc: Global, input: &mut Input<'_>, spot: Spot) -> Result<(), Fault>
+    ensures { Reads ((form.decorations spot).read input.old) result input.new }
+{
+    many_with(alloc, input, spot)?;
+    Ok(())
+}
+
+// ---- words that stand once, and flags
+
+/// A word, if it is there.
+#[tactic(auto, unfolding(crate::specs::Decorations::optional))]
+pub fn optional(input: &mut Input<'_>, kind: Kind)
+    ensures { (form.optional kind).read input.old ≡ Ok (tt, input.new) }
+{
+    if input.sees(kind) {
+        input.skip();
+    }
+}
+
+/// `nsw` or `nuw`
+#[tactic(auto, unfolding(crate::specs::Decorations::flag))]
+fn flag(input: &mut Input<'_>) -> Result<(), Fault>
+    ensures { Reads (form.flag.read input.old) result input.new }
+{
+    match input.kind() {
+        Kind::Nsw | Kind::Nuw => {
+            input.skip();
+            Ok(())
+        }
+        _ => Err(input.refuse(false)),
+    }
+}
+
+/// The flags of a sum, a difference or a product.
+pub struct FlagList;
+
+impl Listed for FlagList {
+    ghost use Rattle.ir_forms.specs.Decorations.{flag, at_no_flag};
+
+    type Item = ();
+
+    ghost form = { flag.read };
+
+    ghost ends = { at_no_flag };
+
+    fn ends(input: &Input<'_>) -> bool {
+        !is_flag(input.kind())
+    }
+
+    fn read(_alloc: Global, input: &mut Input<'_>) -> Result<(), Fault> {
+        flag(input)
+    }
+}
+
+/// The flags behind a word that may have some.
+#[tactic(auto, unfolding(crate::specs::Decorations::flags))]
+pub fn flags(alloc: Global, input: &mut Input<'_>, may_wrap: bool) -> Result<(), Fault>
+    ensures { Reads ((form.flags may_wrap).read input.old) result input.new }
+{
+    if may_wrap {
+        many::<FlagList>(alloc, input)?;
+    }
+    Ok(())
+}
+
+// ---- behind an instruction or a global
+
+/// Which decorations may stand behind an instruction or a global.
+#[derive(Clone, Copy, PartialEq, Eq)]
+pub enum Trail {
+    /// Those of an alloca, whose count is left out.
+    Slot,
+    /// Those of a load, a store or a global.
+    Memory,
+    /// Those of another instruction.
+    Other,
+}
+
+/// What may stand behind an instruction.
+fn trail_of(op: &Op) -> Trail
+    ensures { result ≡ form.trail_of op.now }
+{
+    match op {
+        Op::Alloca(_) => Trail::Slot,
+        Op::Load { .. } | Op::Store { .. } => Trail::Memory,
+        _ => Trail::Other,
+    }
+}
+
+fn may_align(trail: Trail) -> bool
+    ensures { result ≡ form.may_align trail }
+{
+    matches!(trail, Trail::Slot | Trail::Memory)
+}
+
+fn begins_count(trail: Trail, kind: Kind) -> bool
+    ensures { result ≡ form.begins_count trail kind }
+{
+    matches!(trail, Trail::Slot) && begins_any_type(kind)
+}
+
+/// `align n`, where it may stand.
+fn aligned(input: &mut Input<'_>, may_stand: bool) -> Result<(), Fault>
+    ensures { Reads ((form.aligned may_stand).read input.old) result input.new }
+{
+    if !may_stand {
+        return Err(input.refuse(false));
+    }
+    input.skip();
+    input.expect(Kind::Number)
+}
+
+/// `, align n` or `, !name !n`
+#[tactic(auto, unfolding(crate::specs::Decorations::comma_trail))]
+fn comma_trail(input: &mut Input<'_>, trail: Trail) -> Result<(), Fault>
+    ensures { Reads ((form.comma_trail trail).read input.old) result input.new }
+{
+    input.expect(Kind::Comma)?;
+    match input.kind() {
+        Kind::MetadataName => metadata(input),
+        Kind::Align => aligned(input, may_align(trail)),
+        kind => Err(input.refuse(begins_count(trail, kind))),
+    }
+}
+
+impl Following for Trail {
+    ghost use Rattle.ir_forms.specs.Decorations.{comma_trail, at_no_trail, same_trail};
+
+    type Item = ();
+
+    ghost form = { λ t. (comma_trail t).read };
+
+    ghost ends = { at_no_trail };
+
+    ghost next = { same_trail };
+
+    fn ends(&self, input: &Input<'_>) -> bool {
+        !input.sees(Kind::Comma)
+    }
+
+    fn read(&mut self, _alloc: Global, input: &mut Input<'_>) -> Result<(), Fault> {
+        comma_trail(input, *self)
+    }
+}
+
+/// The decorations behind an instruction or a global.
+#[tactic(auto, unfolding(crate::specs::Decorations::trailing))]
+pub fn trailing(alloc: Global, input: &mut Input<'_>, trail: Trail) -> Result<(), Fault>
+    ensures { Reads ((form.trailing trail).read input.old) result input.new }
+{
+    many_with(alloc, input, trail)?;
+    Ok(())
+}
+
+/// The decorations behind an instruction.
+pub fn trailed(alloc: Global, input: &mut Input<'_>, op: Op) -> Result<Op, Fault>
+    ensures { Reads ((form.trailed op).read input.old) result input.new }
+{
+    trailing(alloc, input, trail_of(&op))?;
+    Ok(op)
+}

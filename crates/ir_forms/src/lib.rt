@@ -1,0 +1,44 @@
+//! The forms of a module's text from tokens: types, constants, operands, decorations and instructions, with the reader's state.
+#![tactic(auto)]
+
+mod again;
+mod bodies;
+mod branches;
+mod calls;
+mod case_values;
+mod cursor;
+mod decorating;
+mod fault;
+mod following;
+mod input;
+mod integers;
+mod listed;
+mod lists;
+mod memory;
+mod names;
+mod nested;
+mod number;
+mod operand;
+mod phis;
+mod runtime_names;
+mod site;
+mod starts;
+mod table;
+mod uses;
+mod written;
+
+pub use bodies::instructions;
+pub use cursor::Cursor;
+pub use decorating::{Spot, Trail, any_token, decorations, trailing};
+pub use fault::Fault;
+pub use following::{Following, many_with};
+pub use input::Input;
+pub use listed::{Listed, many};
+pub use lists::separator;
+pub use names::first_missing;
+pub use number::constant;
+pub use operand::begins_unread_operand;
+pub use runtime_names::runtime_of;
+pub use table::Table;
+pub use uses::{LocalUse, StructUse, SymbolUse, Wanted};
+pub use written::{Base, WrittenType, bits_of};

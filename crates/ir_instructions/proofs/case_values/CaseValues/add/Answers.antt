@@ -1,6 +1,0 @@
-use Rattle.std.proofs.Common.{◌∙◌}
-use Rattle.ir_instructions.proofs.Values.{values-are}
-use Rattle.ir_instructions.proofs.case_values.CaseValues.add.Goals as goal
-
-pub returns : goal.returns
-returns c = c.in_ok-insert_full.ensures.keys ∙ values-are c.args.value c.self.inside.each.keys c.args.self.now c.self.view_is

@@ -1,9 +1,0 @@
-pub mod Lists
-pub mod Sites
-pub mod Memory
-pub mod Integers
-pub mod Calls
-pub mod CaseValues
-pub mod Branches
-pub mod Phis
-pub mod Instructions

@@ -1,4 +1,0 @@
-use Rattle.ir_parts.proofs.input.Input.+pointers.Given as goal
-
-abbrev pub decreases-pointers : goal.decreases-pointers
-decreases-pointers l = l.room

@@ -1,4 +1,0 @@
-pub mod Input
-pub mod Names
-pub mod Written
-pub mod Operand

@@ -1,0 +1,191 @@
+-- Operands with their types, pairs of operands, places and lists of arguments, as they are read.
+use Rattle.std.proofs.Common.{ℕ, ◌<◌, false, List, [], ◌∷◌, length, Option, None, Some, sym, subst, arith}
+use Rattle.std.specs.List.{AllByRecursion}
+use Rattle.ir_ast.specs.declared.function.Function.{Function}
+use Rattle.ir_ast.specs.declared.ir_type.IrType.TheVariants as type
+use Rattle.ir_ast.specs.declared.module.Module.{Module}
+use Rattle.ir_ast.specs.declared.op.Argument.{Argument}
+use Rattle.ir_ast.specs.declared.operand.Operand.{Operand}
+use Rattle.ir_tokens.specs.declared.token.Kind.TheVariants as k
+use Rattle.ir_forms.specs.declared.input.Input.{Input}
+use Rattle.ir_forms.specs.declared.written.WrittenType.{WrittenType}
+use Rattle.ir_forms.specs.Written.{is_scalar, bits_of}
+use Rattle.ir_forms.specs.ManyWith.{Follows}
+use Rattle.ir_forms.specs.Lists.{argument, argument_takes, arguments, at_round, typed, index, any_index, indices, ends_indices, behind_index}
+use Rattle.ir_forms.specs.Integers.{pair, typed_pair, condition, bit_type}
+use Rattle.ir_forms.specs.Memory.{place_of}
+use Rattle.ir_forms.specs.declared.decorating.Spot.TheVariants as spot
+use Rattle.ir_forms.specs.declared.integers.TwoOperands.{TwoOperands}
+use Rattle.ir_forms.specs.declared.lists.IndexList.{IndexList}
+use Rattle.ir_print_law.specs.Definitions.{defined_structs}
+use Rattle.ir_print_law.specs.Printable.{IsArgument, IsOperand, ArePair, IsCondition, IsPlaceType}
+use Rattle.ir_print_law.specs.Shapes.{Shape, Integer, Pointer, Array, Empty, Struct, Named, IsWritten, bits_of_shape}
+use Rattle.ir_print_law.proofs.Forms.{Keeps, Same, all, each_with}
+use Rattle.ir_print_law.proofs.Decorations.{decorations_pass, separator_passes}
+use Rattle.ir_print_law.proofs.Looks.{IsTypeOf, bits_are}
+use Rattle.ir_print_law.proofs.Operands.{AreBits, IsRead, operand_keeps}
+use Rattle.ir_print_law.proofs.Passes.{expect_passes, again_passes}
+use Rattle.ir_print_law.proofs.Reading.{Within}
+use Rattle.ir_print_law.proofs.Tokens.{intern_goes}
+use Rattle.ir_print_law.proofs.TypesThat.{IsFit, scalar_of, scalar_keeps, place_type_keeps}
+
+pub bits_written : (structs : _) (shape : Shape) → IsWritten structs shape → AreBits (bits_of_shape shape)
+bits_written structs (Integer bits) h = h
+bits_written structs (Pointer part) h = tt
+bits_written structs (Array count part) h = tt
+bits_written structs Empty h = tt
+bits_written structs (Struct first rest) h = tt
+bits_written structs (Named name) h = tt
+
+module _ {m : Module} {f : Function} (v : Within m f) where
+  -- what was read as an operand of this type is one
+  pub operand_at : (w : WrittenType) (h : IsFit m is_scalar w) (x : Operand) → IsRead v (bits_of w) x → IsOperand m f (bits_of_shape h.0.0) x
+  operand_at w h x read =
+      let e = bits_are m 64 w h.0.0 h.0.1 in
+      subst (λ (b : Option ℕ). IsOperand m f b x) e (read (subst AreBits (sym e) (bits_written (defined_structs m) h.0.0 h.0.1.is_written)))
+
+  pub typed_keeps : (i : Input) → Keeps v.reading.Fore (Same v.reading.Fore) v.reading.Back typed (IsArgument m f) i
+  unfolding typed
+  typed_keeps i x o h fore =
+      let r = v.reading in
+      let t = h.3 in
+      let u = t.3 in
+      let a = scalar_keeps r i h.0 h.1 h.2 fore in
+      let b = operand_keeps v (bits_of h.0) h.1 t.0 t.1 t.2 a.0 in (
+        subst r.Fore u.1 b.0,
+        λ back.
+            let bb = b.1 (subst r.Back (sym u.1) back) in
+            let ab = a.1 bb.0 in
+            (ab.0, subst (IsArgument m f) u.0 (ab.1.0.0, scalar_of m h.0 ab.1, operand_at h.0 ab.1 t.0 bb.1)),
+      )
+
+  pub pair_keeps : (i : Input) → Keeps v.reading.Fore (Same v.reading.Fore) v.reading.Back pair (λ p. ArePair m f p.written p.first p.second) i
+  unfolding pair
+  pair_keeps i p o h fore =
+      let r = v.reading in
+      let t = h.3 in
+      let u = t.3 in
+      let w = u.3 in
+      let z = w.3 in
+      let a = scalar_keeps r i h.0 h.1 h.2 fore in
+      let b = operand_keeps v (bits_of h.0) h.1 t.0 t.1 t.2 a.0 in
+      let c = expect_passes r k.Comma t.1 u.0 u.1 u.2 b.0 in
+      let d = operand_keeps v (bits_of h.0) u.1 w.0 w.1 w.2 c.0 in (
+        subst r.Fore z.1 d.0,
+        λ back.
+            let db = d.1 (subst r.Back (sym z.1) back) in
+            let cb = c.1 db.0 in
+            let bb = b.1 cb.0 in
+            let ab = a.1 bb.0 in
+            (ab.0, subst (λ (y : TwoOperands). ArePair m f y.written y.first y.second) z.0 (ab.1.0.0, scalar_of m h.0 ab.1, operand_at h.0 ab.1 t.0 bb.1, operand_at h.0 ab.1 w.0 db.1)),
+      )
+
+  pub typed_pair_keeps : (i : Input) → Keeps v.reading.Fore (Same v.reading.Fore) v.reading.Back typed_pair (λ p. ArePair m f p.written p.first p.second) i
+  unfolding typed_pair
+  typed_pair_keeps i p o h fore =
+      let r = v.reading in
+      let t = h.3 in
+      let u = t.3 in
+      let g = u.3 in
+      let w = g.3 in
+      let z = w.3 in
+      let a = scalar_keeps r i h.0 h.1 h.2 fore in
+      let b = operand_keeps v (bits_of h.0) h.1 t.0 t.1 t.2 a.0 in
+      let c = expect_passes r k.Comma t.1 u.0 u.1 u.2 b.0 in
+      let e = again_passes r h.0 u.1 g.0 g.1 g.2 c.0 in
+      let d = operand_keeps v (bits_of h.0) g.1 w.0 w.1 w.2 e.0 in (
+        subst r.Fore z.1 d.0,
+        λ back.
+            let db = d.1 (subst r.Back (sym z.1) back) in
+            let eb = e.1 db.0 in
+            let cb = c.1 eb.0 in
+            let bb = b.1 cb.0 in
+            let ab = a.1 bb.0 in
+            (ab.0, subst (λ (y : TwoOperands). ArePair m f y.written y.first y.second) z.0 (ab.1.0.0, scalar_of m h.0 ab.1, operand_at h.0 ab.1 t.0 bb.1, operand_at h.0 ab.1 w.0 db.1)),
+      )
+
+  pub condition_keeps : (i : Input) → Keeps v.reading.Fore (Same v.reading.Fore) v.reading.Back condition (λ x. IsCondition m f x.written x.operand) i
+  unfolding condition
+  condition_keeps i x o h fore =
+      let r = v.reading in
+      let t = h.3 in
+      let u = t.3 in
+      let z = u.3 in
+      let a = intern_goes r (type.Integer 1) i tt h.0 h.1 h.2 fore in
+      let b = again_passes r (bit_type h.0) h.1 t.0 t.1 t.2 a.0 in
+      let c = operand_keeps v (Some 1) t.1 u.0 u.1 u.2 b.0 in (
+        subst r.Fore z.1 c.0,
+        λ back.
+            let cb = c.1 (subst r.Back (sym z.1) back) in
+            let bb = b.1 cb.0 in
+            let ab = a.1 bb.0 in
+            (ab.0, subst (λ (y : Argument). IsCondition m f y.written y.operand) z.0 (ab.1.0, cb.1 (omega arith, omega arith))),
+      )
+
+  -- a place of a value of this type
+  abbrev pub IsPlaceOf : WrittenType → Argument → Type 0
+  IsPlaceOf held a = ((shape : Shape) → IsTypeOf m 64 held shape → IsPlaceType m shape held.id a.written) × IsOperand m f None a.operand
+
+  pub place_keeps : (held : WrittenType) (i : Input) → Keeps v.reading.Fore (Same v.reading.Fore) v.reading.Back (place_of held) (IsPlaceOf held) i
+  unfolding place_of
+  place_keeps held i x o h fore =
+      let r = v.reading in
+      let t = h.3 in
+      let u = t.3 in
+      let a = place_type_keeps r held i h.0 h.1 h.2 fore in
+      let b = operand_keeps v None h.1 t.0 t.1 t.2 a.0 in (
+        subst r.Fore u.1 b.0,
+        λ back.
+            let bb = b.1 (subst r.Back (sym u.1) back) in
+            let ab = a.1 bb.0 in
+            (ab.0, subst (IsPlaceOf held) u.0 (ab.1, bb.1 tt)),
+      )
+
+  -- ---- arguments of a call
+
+  argument_keeps : (i : Input) → Keeps v.reading.Fore (Same v.reading.Fore) v.reading.Back argument (IsArgument m f) i
+  unfolding argument
+  argument_keeps i x o h fore =
+      let r = v.reading in
+      let t = h.3 in
+      let u = t.3 in
+      let w = u.3 in
+      let z = w.3 in
+      let a = scalar_keeps r i h.0 h.1 h.2 fore in
+      let b = decorations_pass r spot.Argument h.1 t.0 t.1 t.2 a.0 in
+      let c = operand_keeps v (bits_of h.0) t.1 u.0 u.1 u.2 b.0 in
+      let d = separator_passes r k.CloseRound u.1 w.0 w.1 w.2 c.0 in (
+        subst r.Fore z.1 d.0,
+        λ back.
+            let db = d.1 (subst r.Back (sym z.1) back) in
+            let cb = c.1 db.0 in
+            let bb = b.1 cb.0 in
+            let ab = a.1 bb.0 in
+            (ab.0, subst (IsArgument m f) z.0 (ab.1.0.0, scalar_of m h.0 ab.1, operand_at h.0 ab.1 u.0 cb.1)),
+      )
+
+  pub arguments_keep : (i : Input) → Keeps v.reading.Fore (Same v.reading.Fore) v.reading.Back arguments (AllByRecursion (IsArgument m f)) i
+  unfolding arguments
+  arguments_keep i = all v.reading.Back v.reading.Fore (IsArgument m f) at_round argument argument_takes argument_keeps i
+
+  -- ---- indices
+
+  index_keeps : (s : IndexList) (i : Input) → Keeps v.reading.Fore (Same v.reading.Fore) v.reading.Back (any_index s) (IsArgument m f) i
+  unfolding index
+  index_keeps s i x o h fore =
+      let r = v.reading in
+      let a = expect_passes r k.Comma i h.0 h.1 h.2 fore in
+      let b = typed_keeps h.1 x o h.3 a.0 in
+      (b.0, λ back. let bb = b.1 back in ((a.1 bb.0).0, bb.1))
+
+  some_index : (i : Input) (xs : List Argument) (o : Input) → Follows ends_indices (λ c. (any_index c).says) behind_index (record { is_further = false }) i xs o → 0 < length xs
+  some_index i [] o h = absurd (let e = h.0 in cc)
+  some_index i (x ∷ xs) o h = omega arith
+
+  pub indices_keep : (i : Input) → Keeps v.reading.Fore (Same v.reading.Fore) v.reading.Back indices (λ xs. (0 < length xs) × AllByRecursion (IsArgument m f) xs) i
+  unfolding indices
+  indices_keep i xs o h fore =
+      let r = v.reading in
+      let x = each_with r.Back (λ _. r.Fore) (λ c xs. AllByRecursion (IsArgument m f) xs) ends_indices any_index behind_index (λ c. tt)
+      (λ c j a p said fore. let y = index_keeps c j a p said fore in (y.0, λ b. let z = y.1 b in (z.0, λ xs rest. (z.1, rest)))) (record { is_further = false }) i xs o h fore in
+      (x.0.1, λ b. let c = x.1 b in (c.0, (some_index i xs o h, c.1)))

@@ -1,0 +1,229 @@
+-- Printed calls are read as calls that are printed alike.
+use Rattle.std.proofs.Common.{◌≡◌, ℕ, ◌+◌, Bool, true, false, not, List, [], ◌∷◌, ◌++◌, slice_get, Option, None, Some, unwrap_or, refl, sym, ap, subst, ◌∙◌, arith, append_assoc}
+use Rattle.std.specs.Prelude.{codes}
+use Rattle.grammar.specs.Grammar.{pure, look, ◌>>=◌, ◌>>◌}
+use Rattle.ir_ast.specs.declared.function.Function.{Function}
+use Rattle.ir_ast.specs.declared.function.LocalSort.TheVariants as local
+use Rattle.ir_ast.specs.declared.ir_type.IrType.TheVariants as type
+use Rattle.ir_ast.specs.declared.module.Module.{Module}
+use Rattle.ir_ast.specs.declared.op.Argument.{Argument}
+use Rattle.ir_ast.specs.declared.op.Op.{Op}
+use Rattle.ir_ast.specs.declared.op.Op.TheVariants as op
+use Rattle.ir_tokens.specs.declared.token.Kind.{Kind}
+use Rattle.ir_tokens.specs.declared.token.Kind.TheVariants as k
+use Rattle.ir_tokens.specs.Bytes.{Text, class_of}
+use Rattle.ir_tokens.specs.Keywords.{word_kind, keywords}
+use Rattle.ir_forms.specs.Cursor.{kind, sees}
+use Rattle.ir_forms.specs.declared.input.Input.{Input}
+use Rattle.ir_forms.specs.declared.written.WrittenType.{WrittenType}
+use Rattle.ir_forms.specs.Input.{Form, advanced, skip, expect}
+use Rattle.ir_forms.specs.Names.{set_type}
+use Rattle.ir_forms.specs.Written as w
+use Rattle.ir_forms.specs.Lists as lists
+use Rattle.ir_print.specs.Operands.{argument_text}
+use Rattle.ir_print.specs.Instructions.{op_text}
+use Rattle.ir_print.specs.Standing.{IsSeam, AreBlanks}
+use Rattle.ir_print.specs.Types.{type_text, type_within, type_by}
+use Rattle.ir_print_law.specs.Printable.{IsScalar, IsArgument}
+use Rattle.ir_print_law.specs.Shapes.{IsIn, Shape}
+use Rattle.ir_print_law.proofs.Tables.{stays}
+use Rattle.ir_print_law.proofs.State.{Invariant, Ready, IsLater, Reads}
+use Rattle.ir_print_law.proofs.Shown.{shown, IsTypeRead}
+use Rattle.ir_print_law.proofs.Steps.{looked, given, sign_reads, word_skipped, word_seen, intern_reads, unlike, grows_itself, later_before}
+use Rattle.ir_print_law.proofs.Types.{EndsType, ends_type}
+use Rattle.ir_print_law.proofs.WholeTypes.{type_begins}
+use Rattle.ir_print_law.proofs.PrintedTypes.{type_shown, read_shown, scalar_reads}
+use Rattle.ir_print_law.proofs.Parts.{OpPrints, Sets}
+use Rattle.ir_print_law.proofs.OperationsAgain.{on, said_on, set_reads}
+use Rattle.std.specs.List.{AllByRecursion}
+use Rattle.std.specs.Prelude.{map}
+use Rattle.ir_forms.specs.Cursor.{begins_line}
+use Rattle.ir_forms.specs.Decorations.{decorations, begins_decoration}
+use Rattle.ir_forms.specs.Calls as calls
+use Rattle.ir_forms.specs.declared.decorating.Spot.TheVariants as spot
+use Rattle.ir_forms.specs.Names.{callee, with_symbol_use}
+use Rattle.ir_ast.specs.Names.{number_of}
+use Rattle.name_text.specs.Names.{name_text}
+use Rattle.name_text.specs.Readings.{AreBytes}
+use Rattle.name_text.specs.declared.blank.Blank.TheVariants as blank
+use Rattle.ir_print.specs.Names.{name_at, global_text}
+use Rattle.ir_print.specs.Operands.{listed}
+use Rattle.ir_print.proofs.NamesRead.{callees_are_read}
+use Rattle.ir_print.proofs.Words.{global_comes}
+use Rattle.ir_print_law.specs.Printable.{IsVoid}
+use Rattle.ir_print_law.specs.Definitions.{functions_of}
+use Rattle.ir_print_law.proofs.OperandsAgain.{symbol_ready, symbol_grows, symbol_few, symbol_there, sign_less}
+use Rattle.ir_ast.specs.declared.instr.Instr.{Instr}
+use Rattle.ir_forms.specs.Decorations.{trailing, trail_of}
+use Rattle.ir_forms.specs.declared.decorating.Trail.{Trail}
+use Rattle.ir_print_law.proofs.ArgumentsAgain.{ends_line, EndsLine, undecorated_line, undecorated_type, decorations_said, listed_by, ListPrints, arguments_read}
+
+-- a call of these texts
+abbrev call_by : (returned callee arguments : Text) → Text
+call_by returned callee arguments = codes "call " ++ returned ++ 32 ∷ callee ++ 40 ∷ arguments ++ 41 ∷ []
+
+-- the parts of a call, and what stands behind it
+call_front : (returned callee arguments rest : Text) → call_by returned callee arguments ++ rest ≡ codes "call" ++ (32 ∷ (returned ++ (32 ∷ (callee ++ (40 ∷ (arguments ++ 41 ∷ rest))))))
+call_front returned callee arguments rest = simp append_assoc
+
+-- how `void` is printed
+pub void_shown : (n : Module) (t : ℕ) → slice_get n.types t ≡ Some type.Void → type_text n t ≡ codes "void"
+unfolding type_within
+void_shown n t e = ap (type_by (type_within 63 n) n) e
+
+-- a token of this kind is no comma
+abbrev pub not_comma : Kind → Bool
+not_comma k.Comma = false
+not_comma _ = true
+
+-- no comma comes at the end of a line
+line_no_comma : (x : Kind) → ends_line x ≡ true → not_comma x ≡ true
+line_no_comma k.Comma e = absurd cc
+line_no_comma _ e = refl
+
+-- so none is seen there
+pub no_comma_seen : (i : Input) → ends_line (kind i.cursor) ≡ true → sees k.Comma i.cursor ≡ false
+no_comma_seen i e = unlike k.Comma not_comma i refl (line_no_comma (kind i.cursor) e)
+
+-- there are no decorations behind an instruction
+pub trailing_said : (t : Trail) (i : Input) → sees k.Comma i.cursor ≡ false → (trailing t).says i tt i
+unfolding trailing
+trailing_said t i e = ([], i, (ap not e, refl), (refl, refl))
+
+-- the name of a function ends a type
+ends_callee : (name behind : Text) → AreBytes name → IsSeam behind → EndsType (32 ∷ 64 ∷ (name_text blank.Kept name ++ behind))
+unfolding class_of
+ends_callee name behind own seam = (refl, λ i at. ap ends_type (global_comes i.cursor (32 ∷ []) name behind refl own seam at).0)
+
+-- an instruction with this value, or none, whose operation is printed so
+abbrev pub InstrPrints : Option ℕ → Text → Instr → Input → Type 0
+InstrPrints value text x o = (x.result ≡ value) × OpPrints text x.op o
+
+module _ {m : Module} {f : Function} (v : Invariant m f) where
+  -- `@f(T V, ..)`
+  pub call_behind_reads : (returned number callee : ℕ) (xs : List Argument) (i : Input) (rest : Text) (s : ℕ) → IsIn (functions_of m) (name_at m.symbols callee) → AllByRecursion (IsArgument m f) xs
+      → ((n : Module) (others : List Text) → IsLater i n others → type_text n number ≡ type_text m returned) → EndsLine rest
+      → Ready v s i (32 ∷ (global_text m callee ++ (40 ∷ (listed (argument_text m f.locals) xs ++ 41 ∷ rest)))) → Reads v s (calls.call_behind number) i rest (OpPrints (op_text m f.locals (op.Call returned callee xs)))
+  unfolding calls.call_behind calls.called class_of
+  call_behind_reads returned number callee xs i rest s there own prints ends ready =
+      let name = name_at m.symbols callee in
+      let good = OpPrints (op_text m f.locals (op.Call returned callee xs)) in
+      let t2 = listed (argument_text m f.locals) xs ++ 41 ∷ rest in
+      let t1 = 40 ∷ t2 in
+      let is = v.is_symbol true name there in
+      let c = callees_are_read name i (32 ∷ []) t1 is.0 is.1 (symbol_few v i _ s name ready) refl refl ready.stands in
+      let g1 = global_comes i.cursor (32 ∷ []) name t1 refl is.0 refl ready.stands in
+      let a : Reads v s calls.called i (40 ∷ (listed (argument_text m f.locals) xs ++ 41 ∷ rest)) (λ n o. slice_get o.symbols.names n ≡ Some (name_at m.symbols callee)) =
+      looked v (λ i. kind i.cursor) calls.called_by i (40 ∷ (listed (argument_text m f.locals) xs ++ 41 ∷ rest)) s (λ n o. slice_get o.symbols.names n ≡ Some (name_at m.symbols callee)) k.GlobalName g1.0
+      (number_of name i.symbols.names, with_symbol_use true i, c.0, symbol_ready v true i _ t1 s name c.1 there ready (sign_less v 64 (32 ∷ []) (name_text blank.Kept name) t1) c.2, symbol_grows v true i, symbol_there v i name true c.1) in
+      on v v calls.called round_form i t1 rest s s (λ n o. slice_get o.symbols.names n ≡ Some (name_at m.symbols callee)) good a
+      (λ fn o ready g named.
+      on v v (expect k.OpenRound) (λ _. arguments_form fn) o t2 rest s s (λ _ q. advanced o ≡ q) good
+      (sign_reads v 40 k.OpenRound o [] t2 s s refl refl refl (omega arith) ready)
+      (λ _ q ready h e.
+      on v v lists.arguments (close_form fn) q (41 ∷ rest) rest s s (ListPrints (λ n others x. argument_text n others x) (map (λ x. argument_text m f.locals x) xs)) good
+      (arguments_read v xs q rest s own ready)
+      (λ ys r ready hh lists_print.
+      on v v (expect k.CloseRound) (λ _. end_form fn ys) r rest rest s s (λ _ z. advanced r ≡ z) good
+      (sign_reads v 41 k.CloseRound r [] rest s s refl refl refl (omega arith) ready)
+      (λ _ z ready h3 e.
+      said_on v (decorations spot.Call) (λ _. pure (op.Call number fn ys)) z tt rest s good (decorations_said spot.Call z (undecorated_line (begins_line z.cursor) (kind z.cursor) (ends.1 z ready.stands)))
+      (given v (op.Call number fn ys) z rest s good ready
+      (λ n others later.
+      let laterr = later_before r z n others h3 later in
+      let laterq = later_before q r n others hh laterr in
+      let latero = later_before o q n others h laterq in
+      let lateri = later_before i o n others g latero in
+      ap (λ (y : Text). call_by y (global_text n fn) (listed (argument_text n others) ys)) (prints n others lateri)
+      ∙ ap (λ (y : Option Text). call_by (type_text m returned) (64 ∷ name_text blank.Kept (unwrap_or y [])) (listed (argument_text n others) ys)) (stays o.symbols.names n.symbols fn (name_at m.symbols callee) latero.symbols named)
+      ∙ ap (λ (y : Text). call_by (type_text m returned) (global_text m callee) y)
+      (listed_by (λ x. argument_text n others x) ys ∙ ap (λ (zs : List Text). listed (λ (x : Text). x) zs) (lists_print n others laterr) ∙ sym (listed_by (λ x. argument_text m f.locals x) xs))))))))
+    where
+      end_form : ℕ → List Argument → Form Op
+      end_form fn ys = decorations spot.Call >> pure (op.Call number fn ys)
+
+      close_form : ℕ → List Argument → Form Op
+      close_form fn ys = expect k.CloseRound >> end_form fn ys
+
+      arguments_form : ℕ → Form Op
+      arguments_form fn = lists.arguments >>= close_form fn
+
+      round_form : ℕ → Form Op
+      round_form fn = expect k.OpenRound >> arguments_form fn
+
+  -- an instruction without a value
+  pub unnamed_reads : (x : Op) (text : Text) (i : Input) (rest : Text) (s : ℕ) → EndsLine rest → OpPrints text x i → Ready v s i rest → Reads v s (calls.unnamed x) i rest (InstrPrints None text)
+  unnamed_reads x text i rest s ends prints ready =
+      let said = trailing_said (trail_of x) i (no_comma_seen i (ends.1 i ready.stands)) in
+      (record { result = None; op = x }, i, (x, i, (tt, i, said, (refl, refl)), (refl, refl)), ready, grows_itself i, (refl, prints))
+
+  -- an instruction with a value
+  pub valued_reads : (value : ℕ) (x : Op) (text : Text) (i : Input) (rest : Text) (s : ℕ) → EndsLine rest → OpPrints text x i → Ready v s i rest → Reads v s (calls.valued value x) i rest (InstrPrints (Some value) text)
+  valued_reads value x text i rest s ends prints ready =
+      let said = trailing_said (trail_of x) i (no_comma_seen i (ends.1 i ready.stands)) in
+      (record { result = Some value; op = x }, i, (x, i, (tt, i, said, (refl, refl)), (refl, refl)), ready, grows_itself i, (refl, prints))
+
+  -- `call void @f(T V, ..)`
+  pub void_call_reads : (returned callee : ℕ) (xs : List Argument) (i : Input) (gap rest : Text) (s : ℕ) → IsVoid m returned → IsIn (functions_of m) (name_at m.symbols callee) → AllByRecursion (IsArgument m f) xs
+      → EndsLine rest → AreBlanks gap → Ready v s i (gap ++ (op_text m f.locals (op.Call returned callee xs) ++ rest))
+      → Reads v s calls.call_statement i rest (InstrPrints None (op_text m f.locals (op.Call returned callee xs)))
+  unfolding calls.call_statement calls.void_call class_of word_kind keywords
+  void_call_reads returned callee xs i gap rest s is_void there own ends blanks ready =
+      let text = op_text m f.locals (op.Call returned callee xs) in
+      let good = InstrPrints None (op_text m f.locals (op.Call returned callee xs)) in
+      let t2 = 32 ∷ (global_text m callee ++ (40 ∷ (listed (argument_text m f.locals) xs ++ 41 ∷ rest))) in
+      let t1 = codes "void" ++ t2 in
+      let ready = subst (λ (y : Text). Ready v s i (gap ++ y)) (call_front (type_text m returned) (global_text m callee) (listed (argument_text m f.locals) xs) rest) ready in
+      let ready = subst (λ (y : Text). Ready v s i (gap ++ (codes "call" ++ (32 ∷ (y ++ t2))))) (void_text m returned is_void) ready in
+      on v v skip (λ _. calls.call_statement_behind) i (32 ∷ t1) rest s s (λ _ o. advanced i ≡ o) good
+      (word_skipped v (codes "call") i gap (32 ∷ t1) s s blanks refl refl (omega arith) ready)
+      (λ _ o ready g e.
+      let is = word_seen v (codes "void") o (32 ∷ []) t2 s refl refl refl ready in
+      said_on v (decorations spot.Result) (λ _. look (λ i. kind i.cursor) calls.call_by) o tt rest s good (decorations_said spot.Result o (ap (begins_decoration spot.Result (begins_line o.cursor)) is))
+      (looked v (λ i. kind i.cursor) calls.call_by o rest s good k.Void is
+      (on v v calls.void_call calls.unnamed o rest rest s s (OpPrints (op_text m f.locals (op.Call returned callee xs))) good
+      (on v v (skip >> w.intern type.Void) calls.call_behind o t2 rest s s (λ n q. slice_get q.types n ≡ Some type.Void) (OpPrints (op_text m f.locals (op.Call returned callee xs)))
+      (on v v skip (λ _. w.intern type.Void) o t2 t2 (s + 1) s (λ _ q. advanced o ≡ q) (λ n q. slice_get q.types n ≡ Some type.Void)
+      (word_skipped v (codes "void") o (32 ∷ []) t2 s (s + 1) refl refl refl (omega arith) ready)
+      (λ _ q ready h e. intern_reads v type.Void q t2 s tt ready))
+      (λ n q ready h is_there. call_behind_reads returned n callee xs q rest s there own
+      (λ later_module others later. void_text later_module n (stays q.types later_module.types n type.Void later.types is_there) ∙ sym (void_text m returned is_void)) ends ready))
+      (λ x q ready h prints. unnamed_reads x (op_text m f.locals (op.Call returned callee xs)) q rest s ends prints ready))))
+    where
+      void_text : (n : Module) (t : ℕ) → slice_get n.types t ≡ Some type.Void → type_text n t ≡ codes "void"
+      void_text n t e = void_shown n t e
+
+module _ {m : Module} {f : Function} (v u : Invariant m f) where
+  -- `call T @f(T V, ..)`, whose value has a name
+  pub call_reads : (shape : Shape) (value returned callee : ℕ) (xs : List Argument) (i : Input) (gap rest : Text) (s : ℕ) → IsScalar m shape returned → IsIn (functions_of m) (name_at m.symbols callee)
+      → AllByRecursion (IsArgument m f) xs → Sets v u value → EndsLine rest → AreBlanks gap → Ready v s i (gap ++ (op_text m f.locals (op.Call returned callee xs) ++ rest))
+      → Reads u s (calls.call value) i rest (OpPrints (op_text m f.locals (op.Call returned callee xs)))
+  unfolding calls.call class_of word_kind keywords
+  call_reads shape value returned callee xs i gap rest s scalar there own sets ends blanks ready =
+      let good = OpPrints (op_text m f.locals (op.Call returned callee xs)) in
+      let type_is = type_shown m shape returned scalar.0.0 scalar.0.1 in
+      let t2 = 32 ∷ (global_text m callee ++ (40 ∷ (listed (argument_text m f.locals) xs ++ 41 ∷ rest))) in
+      let t1 = shown false shape ++ t2 in
+      let is = v.is_symbol true (name_at m.symbols callee) there in
+      let ready = subst (λ (y : Text). Ready v s i (gap ++ y)) (call_front (type_text m returned) (global_text m callee) (listed (argument_text m f.locals) xs) rest) ready in
+      let ready = subst (λ (y : Text). Ready v s i (gap ++ (codes "call" ++ (32 ∷ (y ++ t2))))) type_is ready in
+      on v u skip (λ _. typed_form) i (32 ∷ t1) rest s s (λ _ o. advanced i ≡ o) good
+      (word_skipped v (codes "call") i gap (32 ∷ t1) s s blanks refl refl (omega arith) ready)
+      (λ _ o ready g e.
+      let begins = type_begins v shape o (32 ∷ []) t2 scalar.0.2 refl refl ready.stands in
+      said_on u (decorations spot.Result) (λ _. calls.typed_call value) o tt rest s good (decorations_said spot.Result o (undecorated_type (begins_line o.cursor) (kind o.cursor) begins))
+      (on v u w.scalar call_form o t2 rest s s (IsTypeRead shape 64) good
+      (scalar_reads v shape o (32 ∷ []) t2 s scalar.0.2 scalar.0.1 scalar.1 refl (ends_callee (name_at m.symbols callee) (40 ∷ (listed (argument_text m f.locals) xs ++ 41 ∷ rest)) is.0 refl) ready)
+      (λ p q ready h read.
+      on v u (calls.call_behind p.id) (set_form p) q rest rest s s (OpPrints (op_text m f.locals (op.Call returned callee xs))) good
+      (call_behind_reads v returned p.id callee xs q rest s there own (λ n others later. read_shown shape p.id q n others read.has_shape scalar.0.1 later ∙ sym type_is) ends ready)
+      (λ x r ready hh prints. set_reads v u value (local.Value p.id) x (op_text m f.locals (op.Call returned callee xs)) r rest s sets refl ready prints))))
+    where
+      set_form : WrittenType → Op → Form Op
+      set_form p x = set_type value p.id >> pure x
+
+      call_form : WrittenType → Form Op
+      call_form p = calls.call_behind p.id >>= set_form p
+
+      typed_form : Form Op
+      typed_form = decorations spot.Result >> calls.typed_call value

@@ -1,0 +1,127 @@
+-- Decorations keep what holds of the state.
+use Rattle.std.proofs.Common.{◌≡◌, Bool, true, false, not, sym, subst}
+use Rattle.std.specs.Prelude.{nat_lt}
+use Rattle.grammar.specs.Grammar.{pure, look, checked, ◌>>◌}
+use Rattle.grammar.specs.Many.{many}
+use Rattle.ir_ast.specs.declared.module.Module.{Module}
+use Rattle.ir_ast.specs.declared.op.Op.{Op}
+use Rattle.ir_tokens.specs.declared.token.Kind.{Kind}
+use Rattle.ir_tokens.specs.declared.token.Kind.TheVariants as k
+use Rattle.ir_forms.specs.Cursor.{kind, sees}
+use Rattle.ir_forms.specs.declared.input.Input.{Input}
+use Rattle.ir_forms.specs.Input.{skip, expect, unexpected, unread, limit}
+use Rattle.ir_forms.specs.ManyWith.{many_with}
+use Rattle.ir_forms.specs.Decorations.{either, any_token, in_brackets, in_brackets_takes, has_room, are_closed, behind_bracket, bracketed, past_brackets, is_operand, word_end_by, word_end, word, metadata, decoration_by, decoration, decoration_takes, at_no_decoration, same_spot, decorations, optional, flag_by, flag, flag_takes, at_no_flag, flags, aligned, may_align, trail_by, trail_behind, comma_trail, comma_trail_takes, at_no_trail, same_trail, trailing, trail_of, trailed, begins_count}
+use Rattle.ir_forms.specs.declared.decorating.Brackets.{Brackets}
+use Rattle.ir_forms.specs.declared.decorating.Spot.{Spot}
+use Rattle.ir_forms.specs.declared.decorating.Trail.{Trail}
+use Rattle.ir_forms.specs.Lists.{separator, comma, sees_no}
+use Rattle.ir_print_law.proofs.Forms.{Keeps, Same}
+use Rattle.ir_print_law.proofs.Passes.{Passes, skip_passes, expect_passes, check_passes, pure_passes, refuse_passes, past, look_passes, all_pass, all_with_pass}
+use Rattle.ir_print_law.proofs.Reading.{Reading}
+
+module _ {m : Module} (r : Reading m) where
+  pub optional_passes : (x : Kind) → Passes r (optional x)
+  unfolding optional
+  optional_passes x = look_passes r (λ i. sees x i.cursor) (either skip (pure tt)) by where
+    by : (t : Bool) → Passes r (either skip (pure tt) t)
+    by true = skip_passes r
+    by false = pure_passes r tt
+
+  any_token_passes : Passes r any_token
+  unfolding any_token
+  any_token_passes =
+      past r (checked (λ i. not (sees k.End i.cursor)) unexpected) (look (λ i. kind i.cursor) (λ x. skip >> pure x)) (check_passes r (λ i. not (sees k.End i.cursor)) unexpected)
+      (look_passes r (λ i. kind i.cursor) (λ x. skip >> pure x) (λ x. past r skip (pure x) (skip_passes r) (pure_passes r x)))
+
+  in_brackets_passes : (b : Brackets) → Passes r (in_brackets b)
+  in_brackets_passes b = past r (has_room b) any_token (check_passes r (λ _. nat_lt b.depth 4294967295) limit) any_token_passes
+
+  past_brackets_passes : Passes r past_brackets
+  unfolding past_brackets bracketed
+  past_brackets_passes =
+      past r bracketed (pure tt) (all_with_pass r are_closed in_brackets in_brackets_takes behind_bracket (record { depth = 1 }) in_brackets_passes) (pure_passes r tt)
+
+  word_end_by_passes : (s : Spot) (x : Kind) → Passes r (word_end_by s x)
+  word_end_by_passes s k.OpenRound = past r skip past_brackets (skip_passes r) past_brackets_passes
+  word_end_by_passes s k.Quoted = skip_passes r
+  word_end_by_passes s k.Number = look_passes r (is_operand s) (either (pure tt) skip) by where
+    by : (t : Bool) → Passes r (either (pure tt) skip t)
+    by true = pure_passes r tt
+    by false = skip_passes r
+  word_end_by_passes s _ = pure_passes r tt
+
+  word_passes : (s : Spot) → Passes r (word s)
+  unfolding word_end
+  word_passes s = past r skip (word_end s) (skip_passes r) (look_passes r (λ i. kind i.cursor) (word_end_by s) (word_end_by_passes s))
+
+  metadata_passes : Passes r metadata
+  metadata_passes = past r skip (expect k.MetadataNumber) (skip_passes r) (expect_passes r k.MetadataNumber)
+
+  decoration_by_passes : (s : Spot) (x : Kind) → Passes r (decoration_by s x)
+  decoration_by_passes s k.LowercaseWord = word_passes s
+  decoration_by_passes s k.Align = word_passes s
+  decoration_by_passes s k.External = word_passes s
+  decoration_by_passes s k.ExternWeak = word_passes s
+  decoration_by_passes s k.Comdat = word_passes s
+  decoration_by_passes s k.AttributeGroup = skip_passes r
+  decoration_by_passes s k.MetadataName = metadata_passes
+  decoration_by_passes s _ = refuse_passes r unexpected
+
+  decoration_passes : (s : Spot) → Passes r (decoration s)
+  unfolding decoration
+  decoration_passes s = look_passes r (λ i. kind i.cursor) (decoration_by s) (decoration_by_passes s)
+
+  pub decorations_pass : (s : Spot) → Passes r (decorations s)
+  unfolding decorations
+  decorations_pass s =
+      past r (many_with at_no_decoration decoration decoration_takes same_spot s) (pure tt) (all_with_pass r at_no_decoration decoration decoration_takes same_spot s decoration_passes) (pure_passes r tt)
+
+  flag_by_passes : (x : Kind) → Passes r (flag_by x)
+  flag_by_passes k.Nsw = skip_passes r
+  flag_by_passes k.Nuw = skip_passes r
+  flag_by_passes _ = refuse_passes r unexpected
+
+  flag_passes : Passes r flag
+  unfolding flag
+  flag_passes = look_passes r (λ i. kind i.cursor) flag_by flag_by_passes
+
+  pub flags_pass : (may_wrap : Bool) → Passes r (flags may_wrap)
+  unfolding flags
+  flags_pass true = past r (many at_no_flag flag flag_takes) (pure tt) (all_pass r at_no_flag flag flag_takes flag_passes) (pure_passes r tt)
+  flags_pass false = pure_passes r tt
+
+  -- ---- behind an instruction or a global
+
+  aligned_passes : (t : Bool) → Passes r (aligned t)
+  aligned_passes true = past r skip (expect k.Number) (skip_passes r) (expect_passes r k.Number)
+  aligned_passes false = refuse_passes r unexpected
+
+  trail_by_passes : (t : Trail) (x : Kind) → Passes r (trail_by t x)
+  trail_by_passes t k.MetadataName = metadata_passes
+  trail_by_passes t k.Align = aligned_passes (may_align t)
+  trail_by_passes t _ = refuse_passes r (unread (begins_count t))
+
+  comma_trail_passes : (t : Trail) → Passes r (comma_trail t)
+  unfolding comma_trail
+  comma_trail_passes t = past r (expect k.Comma) (trail_behind t) (expect_passes r k.Comma) (look_passes r (λ i. kind i.cursor) (trail_by t) (trail_by_passes t))
+
+  pub trailing_passes : (t : Trail) → Passes r (trailing t)
+  unfolding trailing
+  trailing_passes t =
+      past r (many_with at_no_trail comma_trail comma_trail_takes same_trail t) (pure tt) (all_with_pass r at_no_trail comma_trail comma_trail_takes same_trail t comma_trail_passes) (pure_passes r tt)
+
+  pub trailed_keeps : (x : Op) (i : Input) → Keeps r.Fore (Same r.Fore) r.Back (trailed x) (λ y. x ≡ y) i
+  trailed_keeps x i y o h f =
+      let a = trailing_passes (trail_of x) i h.0 h.1 h.2 f in
+      (subst r.Fore h.3.1 a.0, λ b. ((a.1 (subst r.Back (sym h.3.1) b)).0, h.3.0))
+
+  -- ---- between the parts of a list
+
+  separator_by : (x : Kind) (t : Bool) → Passes r (either (pure tt) (comma x) t)
+  separator_by x true = pure_passes r tt
+  separator_by x false = past r (expect k.Comma) (sees_no x) (expect_passes r k.Comma) (check_passes r (λ i. not (sees x i.cursor)) unexpected)
+
+  pub separator_passes : (x : Kind) → Passes r (separator x)
+  unfolding separator
+  separator_passes x = look_passes r (λ i. sees x i.cursor) (either (pure tt) (comma x)) (separator_by x)

@@ -1,0 +1,130 @@
+-- The types of items and the first values of globals, as they are read.
+use Rattle.std.proofs.Common.{◌≡◌, ℕ, Bool, true, false, if◌then◌else◌, is_some, Option, None, Some, sym, ap, subst, ◌∙◌, arith, inl, inr, ◌⊎◌}
+use Rattle.std.specs.Prelude.{◌==◌}
+use Rattle.std.proofs.Math.Pow.{pow_pos}
+use Rattle.std.proofs.lemmas.Bool.Decides.{nat_tests}
+use Rattle.grammar.specs.Grammar.{pure, step, ◌>>=◌, ◌>>◌}
+use Rattle.ir_ast.specs.declared.ir_type.IrType.TheVariants as type
+use Rattle.ir_ast.specs.declared.module.Module.{Module}
+use Rattle.ir_ast.specs.declared.operand.Constant.{Constant}
+use Rattle.ir_ast.specs.declared.operand.Constant.TheVariants as c
+use Rattle.ir_tokens.specs.declared.token.Kind.{Kind}
+use Rattle.ir_tokens.specs.declared.token.Kind.TheVariants as k
+use Rattle.ir_forms.specs.Cursor.{kind, start}
+use Rattle.ir_forms.specs.declared.fault.Fault.TheVariants.{OutOfRange}
+use Rattle.ir_forms.specs.declared.input.Input.{Input}
+use Rattle.ir_forms.specs.Input.{advanced, advanced_falls, skip}
+use Rattle.ir_forms.specs.Operand.{zero_of, truth_of, number_at, number_or_zero, number, constant_by, constant}
+use Rattle.ir_forms.specs.Written.{any_type, passed_type}
+use Rattle.ir_forms.specs.declared.decorating.Spot.TheVariants as spot
+use Rattle.ir_text.specs.ItemsOfText.{body_by, body, is_initial, initial, void_result, declared_result_by, declared_result, defined_result_by, defined_result}
+use Rattle.ir_print_law.specs.Printable.{IsType, IsVoid, IsPassed, IsAnyType, IsInitial}
+use Rattle.ir_print_law.specs.Shapes.{Shape, is_struct_shape}
+use Rattle.ir_print_law.proofs.Decorations.{decorations_pass}
+use Rattle.ir_print_law.proofs.Forms.{Keeps, Same, stepped, where_true}
+use Rattle.ir_print_law.proofs.Operands.{AreBits, number_fits}
+use Rattle.ir_print_law.proofs.Passes.{skip_passes}
+use Rattle.ir_print_law.proofs.Reading.{Reading}
+use Rattle.ir_print_law.proofs.Tokens.{intern_goes}
+use Rattle.ir_print_law.proofs.TypesThat.{type_of, passed_of, any_type_keeps, passed_keeps, struct_body_keeps}
+
+-- a first value, where its type may be
+abbrev pub IsFirst : Option ℕ → Constant → Type 0
+IsFirst bits x = AreBits bits → IsInitial bits x
+
+zero_first : (bits : Option ℕ) → IsFirst bits (zero_of bits)
+zero_first None u = tt
+zero_first (Some bits) u = (u.0, u.1, pow_pos bits)
+
+truth_first : (bits : ℕ) (truth : Bool) → bits == 1 ≡ true → IsFirst (Some bits) (truth_of (Some bits) truth)
+truth_first bits truth e u = subst (λ (t : Bool). IsInitial (Some bits) (if t then c.Number (if truth then 1 else 0) else c.Truth truth)) (sym e) (by truth) where
+  by : (t : Bool) → IsInitial (Some bits) (c.Number (if t then 1 else 0))
+  by true = let one : bits ≡ 1 = grind (arith, nat_tests) in (u.0, u.1, rw one (omega arith))
+  by false = (u.0, u.1, pow_pos bits)
+
+module _ {m : Module} (r : Reading m) where
+  word_is : (bits : Option ℕ) (x : Constant) → IsFirst bits x → (i : Input) → Keeps r.Fore (Same r.Fore) r.Back (skip >> pure x) (IsFirst bits) i
+  word_is bits x first i a o h f =
+      let s = skip_passes r i h.0 h.1 h.2 f in
+      (subst r.Fore h.3.1 s.0, λ b. ((s.1 (subst r.Back (sym h.3.1) b)).0, subst (IsFirst bits) h.3.0 first))
+
+  number_first : (bits : ℕ) (i : Input) → Keeps r.Fore (Same r.Fore) r.Back (number (Some bits)) (IsFirst (Some bits)) i
+  unfolding number
+  number_first bits i =
+      where_true r.Back r.Fore (Same r.Fore) (IsFirst (Some bits)) (λ i. is_some (number_at (Some bits) i)) (λ i. OutOfRange (start i.cursor)) (step (number_or_zero (Some bits)) advanced advanced_falls) i
+      (λ e. stepped r.Back r.Fore (Same r.Fore) (IsFirst (Some bits)) (number_or_zero (Some bits)) advanced advanced_falls i (λ f. (r.on_token i f, λ b. (r.from_token i b, number_fits (Some bits) i))))
+
+  initial_by : (bits : Option ℕ) (x : Kind) (i : Input) → is_initial bits x ≡ true → Keeps r.Fore (Same r.Fore) r.Back (constant_by bits x) (IsFirst bits) i
+  initial_by None k.Number i e = absurd cc
+  initial_by (Some bits) k.Number i e = number_first bits i
+  initial_by None k.True i e = absurd cc
+  initial_by (Some bits) k.True i e = word_is (Some bits) (truth_of (Some bits) true) (truth_first bits true e) i
+  initial_by None k.False i e = absurd cc
+  initial_by (Some bits) k.False i e = word_is (Some bits) (truth_of (Some bits) false) (truth_first bits false e) i
+  initial_by None k.Null i e = word_is None c.Null (λ u. tt) i
+  initial_by (Some bits) k.Null i e = absurd cc
+  initial_by bits k.Undef i e = word_is bits (zero_of bits) (zero_first bits) i
+  initial_by bits k.Zeroinitializer i e = word_is bits (zero_of bits) (zero_first bits) i
+  initial_by bits _ i e = λ a o h f. absurd h
+
+  -- the first value of a global
+  pub initial_keeps : (bits : Option ℕ) (i : Input) → Keeps r.Fore (Same r.Fore) r.Back (initial bits) (IsFirst bits) i
+  unfolding initial constant
+  initial_keeps bits i x o h f =
+      let same = h.2.1 in
+      let is = ap (λ (j : Input). is_initial bits (kind j.cursor)) (sym same) ∙ h.2.0 in
+      let a = initial_by bits (kind h.1.cursor) h.1 is x o h.3 (subst r.Fore same f) in
+      (a.0, λ b. let ab = a.1 b in (subst r.Back (sym same) ab.0, ab.1))
+
+  -- ---- struct types
+
+  body_by_keeps : (x : Kind) (i : Input) → Keeps r.Fore (Same r.Fore) r.Back (body_by x) (λ n. (shape : Shape) × IsType m shape n × (is_struct_shape shape ≡ true)) i
+  body_by_keeps k.OpenBrace i = struct_body_keeps r i
+  body_by_keeps k.Less i = λ a o h f. absurd h
+  body_by_keeps _ i = λ a o h f. absurd h
+
+  pub body_keeps : (i : Input) → Keeps r.Fore (Same r.Fore) r.Back body (λ n. (shape : Shape) × IsType m shape n × (is_struct_shape shape ≡ true)) i
+  unfolding body
+  body_keeps i = body_by_keeps (kind i.cursor) i
+
+  -- ---- results
+
+  void_keeps : (i : Input) → Keeps r.Fore (Same r.Fore) r.Back void_result (IsVoid m) i
+  void_keeps i n o h f =
+      let t = h.2 in
+      let same = t.3.1 in
+      let a = skip_passes r i t.0 t.1 t.2 f in
+      let b = intern_goes r type.Void h.1 tt n o h.3 (subst r.Fore same a.0) in
+      (b.0, λ back. let bb = b.1 back in ((a.1 (subst r.Back (sym same) bb.0)).0, bb.1.0))
+
+  any_result : (i : Input) → Keeps r.Fore (Same r.Fore) r.Back (any_type >>= λ w. pure w.id) (IsAnyType m) i
+  any_result i n o h f =
+      let a = any_type_keeps r i h.0 h.1 h.2 f in
+      (subst r.Fore h.3.1 a.0, λ b. let ab = a.1 (subst r.Back (sym h.3.1) b) in (ab.0, subst (IsAnyType m) h.3.0 (ab.1.0, type_of m h.0 ab.1.0 ab.1.1)))
+
+  passed_result : (i : Input) → Keeps r.Fore (Same r.Fore) r.Back (passed_type >>= λ w. pure w.id) (IsPassed m) i
+  passed_result i n o h f =
+      let a = passed_keeps r i h.0 h.1 h.2 f in
+      (subst r.Fore h.3.1 a.0, λ b. let ab = a.1 (subst r.Back (sym h.3.1) b) in (ab.0, subst (IsPassed m) h.3.0 (passed_of m h.0 ab.1)))
+
+  declared_by : (x : Kind) (i : Input) → Keeps r.Fore (Same r.Fore) r.Back (declared_result_by x) (λ n. IsVoid m n ⊎ IsAnyType m n) i
+  declared_by k.Void i = λ n o h f. let a = void_keeps i n o h f in (a.0, λ b. let ab = a.1 b in (ab.0, inl ab.1))
+  declared_by _ i = λ n o h f. let a = any_result i n o h f in (a.0, λ b. let ab = a.1 b in (ab.0, inr ab.1))
+
+  pub declared_result_keeps : (i : Input) → Keeps r.Fore (Same r.Fore) r.Back declared_result (λ n. IsVoid m n ⊎ IsAnyType m n) i
+  unfolding declared_result
+  declared_result_keeps i n o h f =
+      let a = decorations_pass r spot.Result i h.0 h.1 h.2 f in
+      let b = declared_by (kind h.1.cursor) h.1 n o h.3 a.0 in
+      (b.0, λ back. let bb = b.1 back in ((a.1 bb.0).0, bb.1))
+
+  defined_by : (x : Kind) (i : Input) → Keeps r.Fore (Same r.Fore) r.Back (defined_result_by x) (λ n. IsVoid m n ⊎ IsPassed m n) i
+  defined_by k.Void i = λ n o h f. let a = void_keeps i n o h f in (a.0, λ b. let ab = a.1 b in (ab.0, inl ab.1))
+  defined_by _ i = λ n o h f. let a = passed_result i n o h f in (a.0, λ b. let ab = a.1 b in (ab.0, inr ab.1))
+
+  pub defined_result_keeps : (i : Input) → Keeps r.Fore (Same r.Fore) r.Back defined_result (λ n. IsVoid m n ⊎ IsPassed m n) i
+  unfolding defined_result
+  defined_result_keeps i n o h f =
+      let a = decorations_pass r spot.Result i h.0 h.1 h.2 f in
+      let b = defined_by (kind h.1.cursor) h.1 n o h.3 a.0 in
+      (b.0, λ back. let bb = b.1 back in ((a.1 bb.0).0, bb.1))

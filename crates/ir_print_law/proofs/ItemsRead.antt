@@ -1,0 +1,254 @@
+-- Struct types, globals and declared functions, as they are read.
+use Rattle.std.proofs.Common.{◌≡◌, ℕ, Bool, true, List, [], ◌∷◌, ◌++◌, length, Option, refl, sym, ap, subst, ◌∙◌, append_assoc}
+use Rattle.std.specs.Prelude.{nat_lt}
+use Rattle.std.specs.List.{AllByRecursion}
+use Rattle.std.proofs.lemmas.List.{append-nil}
+use Rattle.ir_ast.specs.declared.function.Function.{Function}
+use Rattle.ir_ast.specs.declared.items_of_module.Declare.{Declare}
+use Rattle.ir_ast.specs.declared.items_of_module.Global.{Global}
+use Rattle.ir_ast.specs.declared.items_of_module.StructType.{StructType}
+use Rattle.ir_ast.specs.declared.items_of_module.SymbolSort.TheVariants as symbol
+use Rattle.ir_ast.specs.declared.module.Module.{Module}
+use Rattle.ir_ast.specs.declared.operand.Constant.{Constant}
+use Rattle.ir_tokens.specs.declared.token.Kind.{Kind}
+use Rattle.ir_tokens.specs.declared.token.Kind.TheVariants as k
+use Rattle.ir_forms.specs.Cursor.{kind, spelled}
+use Rattle.ir_forms.specs.RuntimeNames.{runtime_of}
+use Rattle.ir_forms.specs.declared.input.Input.{Input}
+use Rattle.ir_forms.specs.declared.written.WrittenType.{WrittenType}
+use Rattle.ir_forms.specs.Input.{Form}
+use Rattle.ir_forms.specs.Names.{with_number_taken}
+use Rattle.ir_forms.specs.Written.{is_held, bits_of}
+use Rattle.ir_forms.specs.declared.decorating.Spot.TheVariants as spot
+use Rattle.ir_forms.specs.declared.decorating.Trail.TheVariants as trail
+use Rattle.ir_text.specs.ItemsOfText.{struct_type, with_struct_type, global, with_global, function_name_by, function_name, declaration, with_declare}
+use Rattle.ir_text.specs.Read.{module_of}
+use Rattle.ir_print_law.specs.Definitions.{defined_structs}
+use Rattle.ir_print_law.specs.Printable.{IsStructType, IsGlobal, IsDeclare, IsInitial}
+use Rattle.ir_print_law.proofs.Arguments.{bits_written}
+use Rattle.ir_print_law.proofs.Decorations.{trailing_passes}
+use Rattle.ir_print_law.proofs.Forms.{Keeps, Any}
+use Rattle.ir_print_law.proofs.FunctionsRead.{head_end_keeps}
+use Rattle.ir_print_law.proofs.ItemTypes.{IsFirst, body_keeps, initial_keeps, declared_result_keeps}
+use Rattle.ir_print_law.proofs.LinesRead.{is_constant_passes, declared_parameters_keep}
+use Rattle.ir_print_law.proofs.Looks.{bits_are, held_is}
+use Rattle.ir_print_law.proofs.ModuleItems.{struct_pending, global_pending, declare_pending, new_struct_keeps, new_global_keeps, new_declare_keeps, struct_added, global_added, declare_added}
+use Rattle.ir_print_law.proofs.ModuleState.{Pending, no_one, Stands, Kept, kept_of, Leads, leads_kept, reading_of, Made, between}
+use Rattle.ir_print_law.proofs.Operands.{AreBits}
+use Rattle.ir_print_law.proofs.Passes.{skip_passes, expect_passes}
+use Rattle.ir_print_law.proofs.TypesThat.{IsFit, held_keeps, type_of}
+
+-- ---- items that were made
+
+-- the second list is the first one with further ones that are good
+abbrev pub Grows : {A : Type 0} → (A → Type 0) → List A → List A → Type 0
+Grows {A = A} P xs ys = (more : List A) × (ys ≡ xs ++ more) × AllByRecursion P more
+
+-- nothing was added
+pub grows_not : {A : Type 0} (P : A → Type 0) (xs : List A) → Grows P xs xs
+grows_not P xs = ([], sym (append-nil xs), tt)
+
+-- one was added
+pub grows_by : {A : Type 0} (P : A → Type 0) (xs : List A) (x : A) → P x → Grows P xs (xs ++ x ∷ [])
+grows_by P xs x h = (x ∷ [], refl, (h, tt))
+
+all_further : {A : Type 0} (P : A → Type 0) (xs ys : List A) → AllByRecursion P xs → AllByRecursion P ys → AllByRecursion P (xs ++ ys)
+all_further P [] ys h g = g
+all_further P (x ∷ xs) ys h g = (h.0, all_further P xs ys h.1 g)
+
+-- more were added, and then more again
+pub grows_further : {A : Type 0} (P : A → Type 0) (xs ys zs : List A) → Grows P xs ys → Grows P ys zs → Grows P xs zs
+grows_further {A = A} P xs ys zs a b = (a.0 ++ b.0, b.1 ∙ ap (λ (l : List A). l ++ b.0) a.1 ∙ append_assoc xs a.0 b.0, all_further P a.0 b.0 a.2 b.2)
+
+-- a module has these items, and then those, of which the further ones are good
+pub record Grown (m : Module) (Good : Function → Type 0) (a b : Made) : Type 0 where
+  pub structs : Grows (IsStructType m) a.structs b.structs
+  pub globals : Grows (IsGlobal m) a.globals b.globals
+  pub declares : Grows (IsDeclare m) a.declares b.declares
+  pub functions : Grows Good a.functions b.functions
+
+-- no item was added
+pub grown_not : (m : Module) (Good : Function → Type 0) (a : Made) → Grown m Good a a
+grown_not m Good a = record {
+  structs = grows_not (IsStructType m) a.structs;
+  globals = grows_not (IsGlobal m) a.globals;
+  declares = grows_not (IsDeclare m) a.declares;
+  functions = grows_not Good a.functions;
+}
+
+-- items were added, and then more again
+pub grown_further : (m : Module) (Good : Function → Type 0) (a b c : Made) → Grown m Good a b → Grown m Good b c → Grown m Good a c
+grown_further m Good a b c x y = record {
+  structs = grows_further (IsStructType m) a.structs b.structs c.structs x.structs y.structs;
+  globals = grows_further (IsGlobal m) a.globals b.globals c.globals x.globals y.globals;
+  declares = grows_further (IsDeclare m) a.declares b.declares c.declares x.declares y.declares;
+  functions = grows_further Good a.functions b.functions c.functions x.functions y.functions;
+}
+
+-- no name is pending, no function is being read, and these items are made
+abbrev pub IsBetween : Made → Input → Type 0
+IsBetween made i = Stands no_one i × (kept_of i ≡ between made)
+
+-- an item leads from items that are made to further ones, which are good where reading leads on
+abbrev pub Goes : {A : Type 0} → (e : Input) (Good : Function → Type 0) → Form A → Type 0
+Goes {A = A} e Good form =
+    (i : Input) (made : Made) (a : A) (o : Input) → form.says i a o → IsBetween made i
+    → (later : Made) × IsBetween later o × (Leads e o → Leads e i × Grown (module_of e) Good made later)
+
+module _ (e : Input) (Good : Function → Type 0) where
+  -- ---- struct types
+
+  pub struct_type_goes : Goes e Good struct_type
+  unfolding struct_type
+  struct_type_goes i made a o h f =
+      let r = reading_of e (λ (x : Kept). x ≡ between made) (struct_pending h.0) in
+      let t1 = h.3 in
+      let t2 = t1.3 in
+      let t3 = t2.3 in
+      let s : StructType = record { name = h.0; body = t3.0 } in
+      let later : Made = record made { structs = made.structs ++ s ∷ [] } in
+      let b0 = new_struct_keeps e (λ (x : Kept). x ≡ between made) i h.0 h.1 h.2 f in
+      let b1 = expect_passes r k.Equals h.1 t1.0 t1.1 t1.2 b0.0 in
+      let b2 = expect_passes r k.Type t1.1 t2.0 t2.1 t2.2 b1.0 in
+      let b3 = body_keeps r t2.1 t3.0 t3.1 t3.2 b2.0 in
+      let there : IsBetween later (with_struct_type s t3.1) = (struct_added s t3.1 b3.0.0, ap (λ (x : Kept). record x { structs = x.structs ++ s ∷ [] }) b3.0.1) in (
+        later,
+        subst (IsBetween later) t3.3.1 there,
+        λ back.
+            let c3 = b3.1 (leads_kept e t3.1 (kept_of (with_struct_type s t3.1)) (subst (Leads e) (sym t3.3.1) back)) in
+            let c0 = b0.1 (b1.1 (b2.1 c3.0).0).0 in (
+              c0.0,
+              record {
+                structs = grows_by (IsStructType (module_of e)) made.structs s c3.1;
+                globals = grows_not (IsGlobal (module_of e)) made.globals;
+                declares = grows_not (IsDeclare (module_of e)) made.declares;
+                functions = grows_not Good made.functions;
+              },
+            ),
+      )
+
+  -- ---- globals
+
+  global_of : (symbol : ℕ) (is_constant : Bool) (w : WrittenType) (x : Constant) → IsFit (module_of e) is_held w → IsFirst (bits_of w) x
+      → IsGlobal (module_of e) (record { symbol = symbol; is_constant = is_constant; held = w.id; initial = x })
+  global_of symbol is_constant w x fit first =
+      let m = module_of e in
+      let shape = fit.0.0 in
+      let own = fit.0.1 in
+      let bits = bits_are m 64 w shape own in
+      let fits = subst AreBits (sym bits) (bits_written (defined_structs m) shape own.is_written) in
+      (shape, type_of m w shape own, sym (held_is m 64 w shape own) ∙ fit.1, subst (λ (b : Option ℕ). IsInitial b x) bits (first fits))
+
+  pub global_goes : Goes e Good global
+  unfolding global
+  global_goes i made a o h f =
+      let r = reading_of e (λ (x : Kept). x ≡ between made) (global_pending h.0) in
+      let named = h.2 in
+      let same = named.2.1 in
+      let few : nat_lt (length named.1.globals) 4096 ≡ true = ap (λ (j : Input). nat_lt (length j.globals) 4096) (sym same) ∙ named.2.0 in
+      let t1 = h.3 in
+      let t2 = t1.3 in
+      let t3 = t2.3 in
+      let t4 = t3.3 in
+      let t5 = t4.3 in
+      let g : Global = record { symbol = h.0; is_constant = t2.0; held = t3.0.id; initial = t4.0 } in
+      let later : Made = record made { globals = made.globals ++ g ∷ [] } in
+      let b0 = new_global_keeps e (λ (x : Kept). x ≡ between made) named.1 few h.0 h.1 named.3 (subst (IsBetween made) same f) in
+      let b1 = expect_passes r k.Equals h.1 t1.0 t1.1 t1.2 b0.0 in
+      let b2 = is_constant_passes r t1.1 t2.0 t2.1 t2.2 b1.0 in
+      let b3 = held_keeps r t2.1 t3.0 t3.1 t3.2 b2.0 in
+      let b4 = initial_keeps r (bits_of t3.0) t3.1 t4.0 t4.1 t4.2 b3.0 in
+      let b5 = trailing_passes r trail.Memory t4.1 t5.0 t5.1 t5.2 b4.0 in
+      let there : IsBetween later (with_global g t5.1) = (global_added g t5.1 b5.0.0, ap (λ (x : Kept). record x { globals = x.globals ++ g ∷ [] }) b5.0.1) in (
+        later,
+        subst (IsBetween later) t5.3.1 there,
+        λ back.
+            let c5 = b5.1 (leads_kept e t5.1 (kept_of (with_global g t5.1)) (subst (Leads e) (sym t5.3.1) back)) in
+            let c4 = b4.1 c5.0 in
+            let c3 = b3.1 c4.0 in
+            let c0 = b0.1 (b1.1 (b2.1 c3.0).0).0 in (
+              subst (Leads e) (sym same) c0.0,
+              record {
+                structs = grows_not (IsStructType (module_of e)) made.structs;
+                globals = grows_by (IsGlobal (module_of e)) made.globals g (global_of h.0 t2.0 t3.0 t4.0 c3.1 c4.1);
+                declares = grows_not (IsDeclare (module_of e)) made.declares;
+                functions = grows_not Good made.functions;
+              },
+            ),
+      )
+
+  -- ---- declared functions
+
+  -- no function is being read, but numbers of parameters are counted
+  abbrev IsCounting : Made → Kept → Type 0
+  IsCounting made x = record x { unnamed = 0 } ≡ between made
+
+  stands_taken : (p : Pending) (i : Input) → Stands p i → Stands p (with_number_taken i)
+  stands_taken p i h = record {
+    bytes = h.bytes;
+    spell = h.spell;
+    ordered = h.ordered;
+    structs = h.structs;
+    symbols = h.symbols;
+    few_globals = h.few_globals;
+    few_declares = h.few_declares;
+    few_functions = h.few_functions;
+  }
+
+  named_by : (made : Made) (number : ℕ) (x : Kind) (i : Input) → length made.declares ≡ number → nat_lt number 65535 ≡ true
+      → Keeps (λ i. Stands no_one i × IsCounting made (kept_of i)) (λ n o. Stands (declare_pending n) o × IsCounting made (kept_of o)) (Leads e)
+      (function_name_by (symbol.Declared number) x) Any i
+  named_by made number k.GlobalName i same few n o h f = new_declare_keeps e (IsCounting made) i number (ap (λ (x : Kept). length x.declares) f.1 ∙ same) few n o h f
+  named_by made number _ i same few n o h f = absurd h
+
+  declare_name_keeps : (made : Made) (number : ℕ) (i : Input) → length made.declares ≡ number → nat_lt number 65535 ≡ true
+      → Keeps (λ i. Stands no_one i × IsCounting made (kept_of i)) (λ n o. Stands (declare_pending n) o × IsCounting made (kept_of o)) (Leads e)
+      (function_name (symbol.Declared number)) Any i
+  unfolding function_name
+  declare_name_keeps made number i same few n o h f = named_by made number (kind i.cursor) i same few n o h f
+
+  pub declaration_goes : Goes e Good declaration
+  unfolding declaration
+  declaration_goes i made a o h f =
+      let m = module_of e in
+      let same = h.2.1 in
+      let number = length h.1.declares in
+      let few : nat_lt number 65535 ≡ true = ap (λ (j : Input). nat_lt (length j.declares) 65535) (sym same) ∙ h.2.0 in
+      let before : IsBetween made h.1 = subst (IsBetween made) same f in
+      let counted : length made.declares ≡ number = sym (ap (λ (x : Kept). length x.declares) before.1) in
+      let s1 = h.3 in
+      let s2 = s1.3 in
+      let s3 = s2.3 in
+      let s4 = s3.3 in
+      let s5 = s4.3 in
+      let s6 = s5.3 in
+      let s7 = s6.3 in
+      let d : Declare = record { symbol = s3.0; runtime = runtime_of (spelled s2.1.cursor); returned = s2.0; parameters = s5.0 } in
+      let later : Made = record made { declares = made.declares ++ d ∷ [] } in
+      let r = reading_of e (IsCounting made) no_one in
+      let q = reading_of e (IsCounting made) (declare_pending s3.0) in
+      let b1 = skip_passes r h.1 s1.0 s1.1 s1.2 (before.0, ap (λ (x : Kept). record x { unnamed = 0 }) before.1) in
+      let b2 = declared_result_keeps r s1.1 s2.0 s2.1 s2.2 b1.0 in
+      let b3 = declare_name_keeps made number s2.1 counted few s3.0 s3.1 s3.2 b2.0 in
+      let b4 = expect_passes q k.OpenRound s3.1 s4.0 s4.1 s4.2 b3.0 in
+      let b5 = declared_parameters_keep q (λ j g. (stands_taken (declare_pending s3.0) j g.0, g.1)) (λ j b. leads_kept e j (kept_of (with_number_taken j)) b)
+      s4.1 s5.0 s5.1 s5.2 b4.0 in
+      let b6 = expect_passes q k.CloseRound s5.1 s6.0 s6.1 s6.2 b5.0 in
+      let b7 = head_end_keeps q spot.Declared s6.1 s7.0 s7.1 s7.2 b6.0 in
+      let there : IsBetween later (with_declare d s7.1) = (declare_added d s7.1 b7.0.0, ap (λ (x : Kept). record x { declares = x.declares ++ d ∷ [] }) b7.0.1) in (
+        later,
+        subst (IsBetween later) s7.3.1 there,
+        λ back.
+            let c7 = b7.1 (leads_kept e s7.1 (kept_of (with_declare d s7.1)) (subst (Leads e) (sym s7.3.1) back)) in
+            let c5 = b5.1 (b6.1 c7.0).0 in
+            let c2 = b2.1 (b3.1 (b4.1 c5.0).0).0 in
+            let c1 = b1.1 c2.0 in (
+              subst (Leads e) (sym same) c1.0,
+              record {
+                structs = grows_not (IsStructType m) made.structs;
+                globals = grows_not (IsGlobal m) made.globals;
+                declares = grows_by (IsDeclare m) made.declares d (c2.1, c5.1);
+                functions = grows_not Good made.functions;
+              },
+            ),
+      )

@@ -1,0 +1,150 @@
+-- What a type that was read looks like, by its shape.
+use Rattle.std.proofs.Common.{◌≡◌, ℕ, zero, suc, ◌+◌, true, false, refl, ap, ◌∙◌, arith}
+use Rattle.std.specs.Prelude.{◌==◌, nat_lt}
+use Rattle.std.proofs.lemmas.Bool.Decides.{nat_tests}
+use Rattle.ir_ast.specs.declared.module.Module.{Module}
+use Rattle.ir_forms.specs.declared.written.Base.{Base}
+use Rattle.ir_forms.specs.declared.written.Base.TheVariants as base
+use Rattle.ir_forms.specs.declared.written.WrittenType.{WrittenType}
+use Rattle.ir_forms.specs.Written.{bits_of, is_scalar, is_passed, is_held}
+use Rattle.ir_print_law.specs.Definitions.{defined_structs}
+use Rattle.ir_print_law.specs.Shapes.{Shape, Integer, Pointer, Array, Empty, Struct, Named, HasShape, IsWritten, levels, bits_of_shape, is_scalar_shape, is_pointer_shape, is_passed_shape, is_held_shape}
+
+-- a type with so many stars behind it
+abbrev pub starred : ℕ → Shape → Shape
+starred zero shape = shape
+starred (suc count) shape = starred count (Pointer shape)
+
+-- what stands before the stars, and how many there are
+abbrev pub base_of : Shape → Base
+base_of (Integer bits) = base.Integer bits
+base_of (Pointer part) = base_of part
+base_of (Named name) = base.Named
+base_of _ = base.Aggregate
+
+abbrev pub stars_of : Shape → ℕ
+stars_of (Pointer part) = suc (stars_of part)
+stars_of _ = 0
+
+-- a type of this shape, where so many levels might be
+pub record IsTypeOf (m : Module) (most : ℕ) (w : WrittenType) (shape : Shape) : Type 0 where
+  pub has_shape : HasShape m.types m.struct_names shape w.id
+  pub fits : levels shape + w.room ≡ most
+  pub is_written : IsWritten (defined_structs m) shape
+  pub base_is : w.base ≡ base_of shape
+  pub stars_are : w.stars ≡ stars_of shape
+
+-- a type that has a shape
+abbrev pub IsShaped : Module → (most : ℕ) → WrittenType → Type 0
+IsShaped m most w = (shape : Shape) × IsTypeOf m most w shape
+
+-- ---- stars
+
+pub starred_levels : (count : ℕ) (shape : Shape) → levels (starred count shape) ≡ levels shape + count
+starred_levels zero shape = omega arith
+starred_levels (suc count) shape = let e = starred_levels count (Pointer shape) in omega (arith, e)
+
+pub starred_base : (count : ℕ) (shape : Shape) → base_of (starred count shape) ≡ base_of shape
+starred_base zero shape = refl
+starred_base (suc count) shape = starred_base count (Pointer shape)
+
+pub starred_stars : (count : ℕ) (shape : Shape) → stars_of (starred count shape) ≡ stars_of shape + count
+starred_stars zero shape = omega arith
+starred_stars (suc count) shape = let e = starred_stars count (Pointer shape) in omega (arith, e)
+
+pub starred_written : (structs : _) (count : ℕ) (shape : Shape) → IsWritten structs shape → IsWritten structs (starred count shape)
+starred_written structs zero shape h = h
+starred_written structs (suc count) shape h = starred_written structs count (Pointer shape) h
+
+-- ---- what kind of type it is
+
+suc_zero : (n : ℕ) → suc n == 0 ≡ false
+suc_zero n = grind (arith, nat_tests)
+
+suc_one : (n : ℕ) → suc (suc n) == 1 ≡ false
+suc_one n = grind (arith, nat_tests)
+
+zero_less : (n : ℕ) → nat_lt 0 (suc n) ≡ true
+zero_less n = grind (arith, nat_tests)
+
+abbrev looking : Base → ℕ → WrittenType
+looking b stars = record { base = b; stars = stars; id = 0; room = 0 }
+
+by_looks : {X : Type 0} (g : WrittenType → X) (m : Module) (most : ℕ) (w : WrittenType) (shape : Shape) → ((id room : ℕ) (b : Base) (stars : ℕ) → g (record { base = b; stars = stars; id = id; room = room }) ≡ g (looking b stars))
+    → IsTypeOf m most w shape → g w ≡ g (looking (base_of shape) (stars_of shape))
+by_looks g m most w shape same h = same w.id w.room w.base w.stars ∙ ap (λ b. g (looking b w.stars)) h.base_is ∙ ap (λ n. g (looking (base_of shape) n)) h.stars_are
+
+bits_looks : (shape : Shape) → bits_of (looking (base_of shape) (stars_of shape)) ≡ bits_of_shape shape
+bits_looks (Integer bits) = refl
+bits_looks (Pointer part) = let no_zero = suc_zero (stars_of part) in rw no_zero refl
+bits_looks (Array count part) = refl
+bits_looks Empty = refl
+bits_looks (Struct first rest) = refl
+bits_looks (Named name) = refl
+
+pub bits_are : (m : Module) (most : ℕ) (w : WrittenType) (shape : Shape) → IsTypeOf m most w shape → bits_of w ≡ bits_of_shape shape
+bits_are m most w shape h = by_looks bits_of m most w shape (λ id room b stars. refl) h ∙ bits_looks shape
+
+scalar_looks : (shape : Shape) → is_scalar (looking (base_of shape) (stars_of shape)) ≡ is_scalar_shape shape
+scalar_looks (Integer bits) = refl
+scalar_looks (Pointer part) = let some = zero_less (stars_of part) in rw some refl
+scalar_looks (Array count part) = refl
+scalar_looks Empty = refl
+scalar_looks (Struct first rest) = refl
+scalar_looks (Named name) = refl
+
+pub scalar_is : (m : Module) (most : ℕ) (w : WrittenType) (shape : Shape) → IsTypeOf m most w shape → is_scalar w ≡ is_scalar_shape shape
+scalar_is m most w shape h = by_looks is_scalar m most w shape (λ id room b stars. refl) h ∙ scalar_looks shape
+
+pointer_looks : (shape : Shape) → nat_lt 0 (stars_of shape) ≡ is_pointer_shape shape
+pointer_looks (Integer bits) = refl
+pointer_looks (Pointer part) = zero_less (stars_of part)
+pointer_looks (Array count part) = refl
+pointer_looks Empty = refl
+pointer_looks (Struct first rest) = refl
+pointer_looks (Named name) = refl
+
+pub pointer_is : (m : Module) (most : ℕ) (w : WrittenType) (shape : Shape) → IsTypeOf m most w shape → nat_lt 0 w.stars ≡ is_pointer_shape shape
+pointer_is m most w shape h = ap (nat_lt 0) h.stars_are ∙ pointer_looks shape
+
+passed_deep : (b : Base) (n : ℕ) → is_passed (looking b (suc (suc n))) ≡ false
+passed_deep (base.Integer bits) n = let a = suc_zero (suc n) in let c = suc_one n in rw (a, c) refl
+passed_deep base.Named n = suc_one n
+passed_deep base.Aggregate n = refl
+
+passed_looks : (shape : Shape) → is_passed (looking (base_of shape) (stars_of shape)) ≡ is_passed_shape shape
+passed_looks (Integer bits) = refl
+passed_looks (Pointer (Integer bits)) = refl
+passed_looks (Pointer (Named name)) = refl
+passed_looks (Pointer (Pointer part)) = passed_deep (base_of part) (stars_of part)
+passed_looks (Pointer (Array count part)) = refl
+passed_looks (Pointer Empty) = refl
+passed_looks (Pointer (Struct first rest)) = refl
+passed_looks (Array count part) = refl
+passed_looks Empty = refl
+passed_looks (Struct first rest) = refl
+passed_looks (Named name) = refl
+
+pub passed_is : (m : Module) (most : ℕ) (w : WrittenType) (shape : Shape) → IsTypeOf m most w shape → is_passed w ≡ is_passed_shape shape
+passed_is m most w shape h = by_looks is_passed m most w shape (λ id room b stars. refl) h ∙ passed_looks shape
+
+held_deep : (b : Base) (n : ℕ) → is_held (looking b (suc (suc n))) ≡ false
+held_deep (base.Integer bits) n = suc_zero (suc n)
+held_deep base.Named n = suc_one n
+held_deep base.Aggregate n = refl
+
+held_looks : (shape : Shape) → is_held (looking (base_of shape) (stars_of shape)) ≡ is_held_shape shape
+held_looks (Integer bits) = refl
+held_looks (Pointer (Integer bits)) = refl
+held_looks (Pointer (Named name)) = refl
+held_looks (Pointer (Pointer part)) = held_deep (base_of part) (stars_of part)
+held_looks (Pointer (Array count part)) = refl
+held_looks (Pointer Empty) = refl
+held_looks (Pointer (Struct first rest)) = refl
+held_looks (Array count part) = refl
+held_looks Empty = refl
+held_looks (Struct first rest) = refl
+held_looks (Named name) = refl
+
+pub held_is : (m : Module) (most : ℕ) (w : WrittenType) (shape : Shape) → IsTypeOf m most w shape → is_held w ≡ is_held_shape shape
+held_is m most w shape h = by_looks is_held m most w shape (λ id room b stars. refl) h ∙ held_looks shape

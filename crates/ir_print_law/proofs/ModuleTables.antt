@@ -1,0 +1,292 @@
+-- Tables of the names of a module while it is read: each name has one place, and each item has its name.
+use Rattle.std.proofs.Common.{◌≡◌, ℕ, zero, suc, ◌+◌, ◌<◌, Bool, true, false, List, [], ◌∷◌, ◌++◌, length, slice_get, if◌then◌else◌, is_some, unwrap_or, Option, None, Some, refl, sym, ap, subst, ◌∙◌, arith, length-append, inl, inr, ◌⊎◌}
+use Rattle.std.specs.Prelude.{nat_lt, slice_set}
+use Rattle.std.proofs.lemmas.Bool.Decides.{nat_tests}
+use Rattle.std.proofs.lemmas.Option.{slice_get_within}
+use Rattle.ir_ast.specs.Names.{place_of}
+use Rattle.ir_ast.specs.declared.items_of_module.SymbolSort.{SymbolSort}
+use Rattle.ir_ast.specs.declared.items_of_module.SymbolSort.TheVariants as symbol
+use Rattle.ir_forms.specs.Table.{mentioned, sorts_with, defined}
+use Rattle.ir_forms.specs.declared.table.Table.{Table}
+use Rattle.ir_forms.specs.Names.{is_struct, is_symbol}
+use Rattle.ir_tokens.specs.Bytes.{Text}
+use Rattle.name_text.specs.Readings.{AreBytes}
+use Rattle.ir_print_law.specs.Printable.{IsSymbol}
+use Rattle.ir_print_law.proofs.LocalNames.{set_length, set_there, set_was}
+use Rattle.ir_print_law.proofs.Tables.{begins_with, stays, at_end, at_end_or_before, place_there, place_stays}
+
+-- Each name is bytes and stands at its first place. A name that stands for something owns what it stands for, and what is owned stands there under a good name.
+pub record IsTable {S : Type 0} (nothing : S) (Owns : S → ℕ → Type 0) (Good : Text → Type 0) (t : Table S) : Type 0 where
+  pub same : length t.sorts ≡ length t.names
+  pub bytes : (n : ℕ) (name : Text) → slice_get t.names n ≡ Some name → AreBytes name
+  pub places : (n : ℕ) (name : Text) → slice_get t.names n ≡ Some name → place_of name t.names ≡ Some n
+  pub owned : (n : ℕ) (sort : S) → slice_get t.sorts n ≡ Some sort → (sort ≡ nothing) ⊎ Owns sort n
+  pub known : (n : ℕ) (sort : S) → Owns sort n → slice_get t.sorts n ≡ Some sort
+  pub good : (n : ℕ) (sort : S) (name : Text) → Owns sort n → slice_get t.names n ≡ Some name → Good name
+
+-- a mention of a name defines nothing
+pub table_mentions : {S : Type 0} (nothing : S) (Owns : S → ℕ → Type 0) (Good : Text → Type 0) (t : Table S) (name : Text) → AreBytes name → IsTable nothing Owns Good t
+    → IsTable nothing Owns Good (mentioned name nothing t)
+table_mentions {S = S} nothing Owns Good t name is h = by (place_of name t.names) refl where
+  more : List Text
+  more = t.names ++ name ∷ []
+
+  longer : length more ≡ length t.names + 1
+  longer = length-append t.names (name ∷ [])
+
+  fresh : place_of name t.names ≡ None → place_of name more ≡ Some (length t.names)
+  fresh e = subst (λ (o : Option ℕ). place_of name (if is_some o then t.names else more) ≡ Some (unwrap_or o (length t.names))) e (place_there name t.names)
+
+  by : (place : Option ℕ) → place_of name t.names ≡ place
+      → IsTable nothing Owns Good (record { names = if is_some place then t.names else more; sorts = sorts_with place nothing t.sorts })
+  by (Some n) e = record { same = h.same; bytes = h.bytes; places = h.places; owned = h.owned; known = h.known; good = h.good }
+  by None e = record {
+    same = let s = h.same in length-append t.sorts (nothing ∷ []) ∙ ap (λ n. n + 1) s ∙ sym longer;
+    bytes = λ n k there. elim (at_end_or_before t.names name n k there) [
+      | inl p ↦ h.bytes n k p
+      | inr p ↦ subst AreBytes p.1 is
+    ];
+    places = λ n k there. elim (at_end_or_before t.names name n k there) [
+      | inl p ↦ place_stays k t.names more n (begins_with t.names (name ∷ [])) (h.places n k p)
+      | inr p ↦ subst (λ (x : Text). place_of x more ≡ Some n) p.1 (fresh e ∙ ap Some (sym p.0))
+    ];
+    owned = λ n sort there. elim (at_end_or_before t.sorts nothing n sort there) [
+      | inl p ↦ h.owned n sort p
+      | inr p ↦ inl (sym p.1)
+    ];
+    known = λ n sort own. stays t.sorts (t.sorts ++ nothing ∷ []) n sort (begins_with t.sorts (nothing ∷ [])) (h.known n sort own);
+    good = λ n sort x own there. elim (at_end_or_before t.names name n x there) [
+      | inl p ↦ h.good n sort x own p
+      | inr p ↦ absurd (let less = slice_get_within t.sorts n sort (h.known n sort own) in let s = h.same in let at = p.0 in omega (arith, less, s, at))
+    ];
+  }
+
+-- another place keeps what it has
+set_or_here : {A : Type 0} (xs : List A) (n : ℕ) (y : A) (k : ℕ) (x : A) → slice_get xs k ≡ Some x → (slice_get (slice_set xs n y) k ≡ Some x) ⊎ (k ≡ n)
+set_or_here [] n y k x e = absurd cc
+set_or_here (z ∷ xs) zero y zero x e = inr refl
+set_or_here (z ∷ xs) zero y (suc k) x e = inl e
+set_or_here (z ∷ xs) (suc n) y zero x e = inl e
+set_or_here (z ∷ xs) (suc n) y (suc k) x e = elim (set_or_here xs n y k x e) [ inl h ↦ inl h | inr h ↦ inr (ap suc h) ]
+
+-- a name that stood for nothing so far stands for this from now on
+table_defines : {S : Type 0} (nothing : S) (Owns Later : S → ℕ → Type 0) (Good : Text → Type 0) (t : Table S) (n : ℕ) (sort : S) (name : Text)
+    → slice_get t.names n ≡ Some name → slice_get t.sorts n ≡ Some nothing → Good name → ((k : ℕ) → Owns nothing k → ⊥)
+    → ((k : ℕ) (x : S) → Owns x k → Later x k) → Later sort n → ((k : ℕ) (x : S) → Later x k → Owns x k ⊎ ((k ≡ n) × (x ≡ sort)))
+    → IsTable nothing Owns Good t → IsTable nothing Later Good (defined n sort t)
+table_defines {S = S} nothing Owns Later Good t n sort name at none is no_one up here down h =
+    subst (λ (b : Bool). IsTable nothing Later Good (record { names = t.names; sorts = if b then slice_set t.sorts n sort else t.sorts })) (sym there) (record {
+      same = set_length t.sorts n sort ∙ h.same;
+      bytes = h.bytes;
+      places = h.places;
+      owned = λ k x e. elim (set_was t.sorts n sort k x e) [
+        | inl p ↦ elim (h.owned k x p) [ inl q ↦ inl q | inr own ↦ inr (up k x own) ]
+        | inr p ↦ inr (subst (λ (j : ℕ). Later x j) (sym p.0) (subst (λ (y : S). Later y n) p.1 here))
+      ];
+      known = λ k x later. elim (down k x later) [
+        | inl own ↦ elim (set_or_here t.sorts n sort k x (h.known k x own)) [
+          | inl p ↦ p
+          | inr p ↦ absurd (no_one k (subst (λ (y : S). Owns y k) (same_sort x (sym (h.known k x own) ∙ ap (slice_get t.sorts) p)) own))
+        ]
+        | inr p ↦ ap (slice_get (slice_set t.sorts n sort)) p.0 ∙ set_there t.sorts n sort less ∙ ap Some (sym p.1)
+      ];
+      good = λ k x other later e. elim (down k x later) [
+        | inl own ↦ h.good k x other own e
+        | inr p ↦ subst Good (same_name other (sym at ∙ ap (slice_get t.names) (sym p.0) ∙ e)) is
+      ];
+    }) where
+      less : n < length t.sorts
+      less = slice_get_within t.sorts n nothing none
+
+      there : nat_lt n (length t.sorts) ≡ true
+      there = let l = less in grind (arith, nat_tests)
+
+      same_sort : (x : S) → Some x ≡ slice_get t.sorts n → x ≡ nothing
+      same_sort x e = cc
+
+      same_name : (other : Text) → Some name ≡ Some other → name ≡ other
+      same_name other e = cc
+
+-- ---- structs
+
+-- these names stand for structs, one after another
+abbrev pub OwnsStruct : List ℕ → Option ℕ → ℕ → Type 0
+OwnsStruct own None n = ⊥
+OwnsStruct own (Some layout) n = slice_get own layout ≡ Some n
+
+-- the names of structs, where these have one
+abbrev pub AreStructs : List ℕ → Table (Option ℕ) → Type 0
+AreStructs own t = IsTable None (OwnsStruct own) AreBytes t
+
+-- a name that is no struct so far stands for nothing
+no_struct : (sorts : List (Option ℕ)) (n : ℕ) → n < length sorts → is_struct (slice_get sorts n) ≡ false → slice_get sorts n ≡ Some None
+no_struct [] n less e = absurd (omega (arith, less))
+no_struct (None ∷ sorts) zero less e = refl
+no_struct (Some layout ∷ sorts) zero less e = absurd cc
+no_struct (x ∷ sorts) (suc n) less e = no_struct sorts n (omega (arith, less)) e
+
+-- a name that stands for nothing so far is that of the next struct
+pub struct_defines : (own : List ℕ) (t : Table (Option ℕ)) (n : ℕ) (name : Text) → slice_get t.names n ≡ Some name → is_struct (slice_get t.sorts n) ≡ false → AreBytes name
+    → AreStructs own t → AreStructs (own ++ n ∷ []) (defined n (Some (length own)) t)
+struct_defines own t n name at none is h =
+    let less = slice_get_within t.names n name at in
+    let within : n < length t.sorts = (let s = h.same in omega (arith, less, s)) in
+    table_defines None (OwnsStruct own) (OwnsStruct (own ++ n ∷ [])) AreBytes t n (Some (length own)) name at (no_struct t.sorts n within none) is (λ k o. o)
+    up (at_end own n) down h where
+      up : (k : ℕ) (x : Option ℕ) → OwnsStruct own x k → OwnsStruct (own ++ n ∷ []) x k
+      up k None o = o
+      up k (Some layout) o = stays own (own ++ n ∷ []) layout k (begins_with own (n ∷ [])) o
+
+      down : (k : ℕ) (x : Option ℕ) → OwnsStruct (own ++ n ∷ []) x k → OwnsStruct own x k ⊎ ((k ≡ n) × (x ≡ Some (length own)))
+      down k None o = inl o
+      down k (Some layout) o = elim (at_end_or_before own n layout k o) [ inl p ↦ inl p | inr p ↦ inr (sym p.1, ap Some p.0) ]
+
+-- ---- globals and functions
+
+-- which names stand for globals, for declared functions and for defined ones, one after another
+pub record Owned : Type 0 where
+  pub globals : List ℕ
+  pub declares : List ℕ
+  pub functions : List ℕ
+
+-- these names stand for globals, declared functions and defined ones, one after another
+abbrev pub OwnsSymbol : Owned → SymbolSort → ℕ → Type 0
+OwnsSymbol own symbol.Unknown n = ⊥
+OwnsSymbol own (symbol.Global g) n = slice_get own.globals g ≡ Some n
+OwnsSymbol own (symbol.Declared d) n = slice_get own.declares d ≡ Some n
+OwnsSymbol own (symbol.Defined f) n = slice_get own.functions f ≡ Some n
+
+-- the names of globals and functions, where these have one
+abbrev pub AreSymbols : Owned → Table SymbolSort → Type 0
+AreSymbols own t = IsTable symbol.Unknown (OwnsSymbol own) IsSymbol t
+
+-- a name that is no global and no function so far stands for nothing
+no_symbol : (sorts : List SymbolSort) (n : ℕ) → n < length sorts → is_symbol (slice_get sorts n) ≡ false → slice_get sorts n ≡ Some symbol.Unknown
+no_symbol [] n less e = absurd (omega (arith, less))
+no_symbol (symbol.Unknown ∷ sorts) zero less e = refl
+no_symbol (symbol.Global g ∷ sorts) zero less e = absurd cc
+no_symbol (symbol.Declared d ∷ sorts) zero less e = absurd cc
+no_symbol (symbol.Defined f ∷ sorts) zero less e = absurd cc
+no_symbol (x ∷ sorts) (suc n) less e = no_symbol sorts n (omega (arith, less)) e
+
+-- what is new is owned by the name with this number
+abbrev IsMore : Owned → Owned → SymbolSort → ℕ → Type 0
+IsMore own later sort n =
+    ((k : ℕ) (x : SymbolSort) → OwnsSymbol own x k → OwnsSymbol later x k) × OwnsSymbol later sort n
+    × ((k : ℕ) (x : SymbolSort) → OwnsSymbol later x k → OwnsSymbol own x k ⊎ ((k ≡ n) × (x ≡ sort)))
+
+-- the name stands for what is new
+symbol_defines : (own later : Owned) (t : Table SymbolSort) (n : ℕ) (sort : SymbolSort) (name : Text) → IsMore own later sort n → slice_get t.names n ≡ Some name
+    → is_symbol (slice_get t.sorts n) ≡ false → IsSymbol name → AreSymbols own t → AreSymbols later (defined n sort t)
+symbol_defines own later t n sort name more at none is h =
+    let less = slice_get_within t.names n name at in
+    let within : n < length t.sorts = (let s = h.same in omega (arith, less, s)) in
+    table_defines symbol.Unknown (OwnsSymbol own) (OwnsSymbol later) IsSymbol t n sort name at (no_symbol t.sorts n within none) is (λ k o. o) more.0 more.1 more.2 h
+
+-- what is owned is owned in a longer list
+longer : (own : List ℕ) (n g k : ℕ) → slice_get own g ≡ Some k → slice_get (own ++ n ∷ []) g ≡ Some k
+longer own n g k e = stays own (own ++ n ∷ []) g k (begins_with own (n ∷ [])) e
+
+-- one global more
+abbrev pub more_globals : Owned → ℕ → Owned
+more_globals own n = record own { globals = own.globals ++ n ∷ [] }
+
+-- one declared function more
+abbrev pub more_declares : Owned → ℕ → Owned
+more_declares own n = record own { declares = own.declares ++ n ∷ [] }
+
+-- one defined function more
+abbrev pub more_functions : Owned → ℕ → Owned
+more_functions own n = record own { functions = own.functions ++ n ∷ [] }
+
+-- one more of each sort
+global_more : (own : Owned) (n : ℕ) → IsMore own (more_globals own n) (symbol.Global (length own.globals)) n
+global_more own n = (up, at_end own.globals n, down) where
+  up : (k : ℕ) (x : SymbolSort) → OwnsSymbol own x k → OwnsSymbol (more_globals own n) x k
+  up k symbol.Unknown o = o
+  up k (symbol.Global g) o = longer own.globals n g k o
+  up k (symbol.Declared d) o = o
+  up k (symbol.Defined f) o = o
+
+  down : (k : ℕ) (x : SymbolSort) → OwnsSymbol (more_globals own n) x k → OwnsSymbol own x k ⊎ ((k ≡ n) × (x ≡ symbol.Global (length own.globals)))
+  down k symbol.Unknown o = inl o
+  down k (symbol.Global g) o = elim (at_end_or_before own.globals n g k o) [ inl p ↦ inl p | inr p ↦ inr (sym p.1, ap symbol.Global p.0) ]
+  down k (symbol.Declared d) o = inl o
+  down k (symbol.Defined f) o = inl o
+
+declared_more : (own : Owned) (n : ℕ) → IsMore own (more_declares own n) (symbol.Declared (length own.declares)) n
+declared_more own n = (up, at_end own.declares n, down) where
+  up : (k : ℕ) (x : SymbolSort) → OwnsSymbol own x k → OwnsSymbol (more_declares own n) x k
+  up k symbol.Unknown o = o
+  up k (symbol.Global g) o = o
+  up k (symbol.Declared d) o = longer own.declares n d k o
+  up k (symbol.Defined f) o = o
+
+  down : (k : ℕ) (x : SymbolSort) → OwnsSymbol (more_declares own n) x k → OwnsSymbol own x k ⊎ ((k ≡ n) × (x ≡ symbol.Declared (length own.declares)))
+  down k symbol.Unknown o = inl o
+  down k (symbol.Global g) o = inl o
+  down k (symbol.Declared d) o = elim (at_end_or_before own.declares n d k o) [ inl p ↦ inl p | inr p ↦ inr (sym p.1, ap symbol.Declared p.0) ]
+  down k (symbol.Defined f) o = inl o
+
+defined_more : (own : Owned) (n : ℕ) → IsMore own (more_functions own n) (symbol.Defined (length own.functions)) n
+defined_more own n = (up, at_end own.functions n, down) where
+  up : (k : ℕ) (x : SymbolSort) → OwnsSymbol own x k → OwnsSymbol (more_functions own n) x k
+  up k symbol.Unknown o = o
+  up k (symbol.Global g) o = o
+  up k (symbol.Declared d) o = o
+  up k (symbol.Defined f) o = longer own.functions n f k o
+
+  down : (k : ℕ) (x : SymbolSort) → OwnsSymbol (more_functions own n) x k → OwnsSymbol own x k ⊎ ((k ≡ n) × (x ≡ symbol.Defined (length own.functions)))
+  down k symbol.Unknown o = inl o
+  down k (symbol.Global g) o = inl o
+  down k (symbol.Declared d) o = inl o
+  down k (symbol.Defined f) o = elim (at_end_or_before own.functions n f k o) [ inl p ↦ inl p | inr p ↦ inr (sym p.1, ap symbol.Defined p.0) ]
+
+-- a name that stands for nothing so far is that of the next global
+pub global_defines : (own : Owned) (t : Table SymbolSort) (n : ℕ) (name : Text) → slice_get t.names n ≡ Some name → is_symbol (slice_get t.sorts n) ≡ false → IsSymbol name
+    → AreSymbols own t → AreSymbols (more_globals own n) (defined n (symbol.Global (length own.globals)) t)
+global_defines own t n name at none is h = symbol_defines own (more_globals own n) t n (symbol.Global (length own.globals)) name (global_more own n) at none is h
+
+-- the same of the next declared function
+pub declared_defines : (own : Owned) (t : Table SymbolSort) (n : ℕ) (name : Text) → slice_get t.names n ≡ Some name → is_symbol (slice_get t.sorts n) ≡ false → IsSymbol name
+    → AreSymbols own t → AreSymbols (more_declares own n) (defined n (symbol.Declared (length own.declares)) t)
+declared_defines own t n name at none is h = symbol_defines own (more_declares own n) t n (symbol.Declared (length own.declares)) name (declared_more own n) at none is h
+
+-- the same of the next defined function
+pub defined_defines : (own : Owned) (t : Table SymbolSort) (n : ℕ) (name : Text) → slice_get t.names n ≡ Some name → is_symbol (slice_get t.sorts n) ≡ false → IsSymbol name
+    → AreSymbols own t → AreSymbols (more_functions own n) (defined n (symbol.Defined (length own.functions)) t)
+defined_defines own t n name at none is h = symbol_defines own (more_functions own n) t n (symbol.Defined (length own.functions)) name (defined_more own n) at none is h
+
+-- before the first name
+pub no_structs : AreStructs [] (record { names = []; sorts = [] })
+no_structs = record {
+  same = refl;
+  bytes = λ n name e. absurd cc;
+  places = λ n name e. absurd cc;
+  owned = λ n sort e. absurd cc;
+  known = λ n sort own. none sort n own;
+  good = λ n sort name own e. absurd cc;
+} where
+  none : (sort : Option ℕ) (n : ℕ) → OwnsStruct [] sort n → slice_get [] n ≡ Some sort
+  none None n own = absurd own
+  none (Some layout) n own = absurd cc
+
+-- nothing is owned
+abbrev pub none_owned : Owned
+none_owned = record { globals = []; declares = []; functions = [] }
+
+-- before the first name of a global or a function
+pub no_symbols : AreSymbols none_owned (record { names = []; sorts = [] })
+no_symbols = record {
+  same = refl;
+  bytes = λ n name e. absurd cc;
+  places = λ n name e. absurd cc;
+  owned = λ n sort e. absurd cc;
+  known = λ n sort own. none sort n own;
+  good = λ n sort name own e. absurd cc;
+} where
+  none : (sort : SymbolSort) (n : ℕ) → OwnsSymbol none_owned sort n → slice_get [] n ≡ Some sort
+  none symbol.Unknown n own = absurd own
+  none (symbol.Global g) n own = absurd cc
+  none (symbol.Declared d) n own = absurd cc
+  none (symbol.Defined f) n own = absurd cc

@@ -1,0 +1,285 @@
+-- Constants, names and operands as they are read.
+use Rattle.std.proofs.Common.{◌≡◌, ℕ, zero, suc, ◌-◌, ◌*◌, ◌<◌, ◌≤◌, ◌^◌, Bool, true, false, not, List, [], ◌∷◌, slice_get, if◌then◌else◌, Option, None, Some, is_some, unwrap_or, refl, sym, ap, subst, ◌∙◌, arith}
+use Rattle.std.specs.Prelude.{nat_lt, nat_le, min, ◌==◌, option_and_then}
+use Rattle.std.proofs.Math.Nat.{pow-succ'}
+use Rattle.std.proofs.Math.Pow.{pow_pos}
+use Rattle.std.proofs.lemmas.Bool.Decides.{nat_tests}
+use Rattle.grammar.specs.Grammar.{pure, step, ◌>>=◌, ◌>>◌}
+use Rattle.ir_ast.specs.Names.{numbered}
+use Rattle.ir_ast.specs.declared.function.Function.{Function}
+use Rattle.ir_ast.specs.declared.module.Module.{Module}
+use Rattle.ir_ast.specs.declared.operand.Constant.{Constant}
+use Rattle.ir_ast.specs.declared.operand.Constant.TheVariants as c
+use Rattle.ir_ast.specs.declared.operand.Operand.{Operand}
+use Rattle.ir_ast.specs.declared.operand.Operand.TheVariants as operand
+use Rattle.ir_tokens.specs.declared.token.Kind.{Kind}
+use Rattle.ir_tokens.specs.declared.token.Kind.TheVariants as k
+use Rattle.ir_tokens.specs.Bytes.{Text}
+use Rattle.ir_forms.specs.Cursor.{kind, spelled, spelling, start, local_key}
+use Rattle.ir_forms.specs.Number as numbers
+use Rattle.ir_forms.specs.RuntimeNames.{is_intrinsic}
+use Rattle.ir_forms.specs.declared.fault.Fault.TheVariants.{OutOfRange}
+use Rattle.ir_forms.specs.declared.uses.Wanted.{Wanted}
+use Rattle.ir_forms.specs.declared.uses.Wanted.TheVariants as wants
+use Rattle.ir_forms.specs.declared.input.Input.{Input}
+use Rattle.ir_forms.specs.Input.{limit, advanced, advanced_falls, skip}
+use Rattle.ir_forms.specs.Names.{used_symbol, symbol_number, with_symbol_use, with_symbol_use_falls, callee, used_global, used_local, local_number, with_local_use, with_local_use_falls, used_label, used_label_by, target}
+use Rattle.ir_forms.specs.Operand as form
+use Rattle.ir_forms.specs.Operand.{zero_of, truth_of, number_at, number_or_zero, number, constant_by, constant, cast_operand, cast_operand_by, cast, operand_by}
+use Rattle.ir_print.specs.Fits.{FitsType}
+use Rattle.ir_print.specs.Names.{name_at}
+use Rattle.ir_print_law.specs.Definitions.{functions_of}
+use Rattle.ir_print_law.specs.Printable.{IsGlobalUse, IsOperand, IsTarget}
+use Rattle.ir_print_law.specs.Shapes.{IsIn}
+use Rattle.ir_print_law.proofs.Forms.{Keeps, Same, stepped, where_true}
+use Rattle.ir_print_law.proofs.Passes.{skip_passes, expect_passes}
+use Rattle.ir_print_law.proofs.Reading.{Reading, Within, used_keys, used_symbols}
+use Rattle.ir_print_law.proofs.Tables.{stays, name_there}
+use Rattle.ir_print_law.proofs.TypesThat.{pointer_type_keeps}
+
+-- so many bits as an integer type may have, or none
+abbrev pub AreBits : Option ℕ → Type 0
+AreBits None = Unit {0}
+AreBits (Some bits) = (1 ≤ bits) × (bits ≤ 64)
+
+-- a constant fits, where its type may be
+abbrev pub Fits : Option ℕ → Constant → Type 0
+Fits bits x = AreBits bits → FitsType bits x
+
+half_is : (bits : ℕ) → 1 ≤ bits → bits ≤ 64 → 2 * numbers.half_of bits ≡ 2 ^ bits
+half_is zero some most = absurd (omega (arith, some))
+half_is (suc p) some most =
+    let same : min (suc p) 64 - 1 ≡ p = omega (arith, most) in
+    ap (λ (n : ℕ). 2 * 2 ^ n) same ∙ sym (pow-succ' 2 p)
+
+half_some : (bits : ℕ) → 0 < numbers.half_of bits
+half_some bits = pow_pos (min bits 64 - 1)
+
+positive_less : (half : ℕ) (x : Option ℕ) → 0 < half → unwrap_or (option_and_then (numbers.positive half) x) 0 < 2 * half
+positive_less half None some = omega (arith, some)
+positive_less half (Some n) some = by (nat_lt n (2 * half)) refl where
+  by : (t : Bool) → nat_lt n (2 * half) ≡ t → unwrap_or (if t then Some n else None) 0 < 2 * half
+  by true e = grind (arith, nat_tests)
+  by false e = omega (arith, some)
+
+negative_less : (half : ℕ) (x : Option ℕ) → 0 < half → unwrap_or (option_and_then (numbers.negative half) x) 0 < 2 * half
+negative_less half None some = omega (arith, some)
+negative_less half (Some n) some = by (nat_le n half) where
+  inner : (t : Bool) → n == 0 ≡ t → (if t then 0 else 2 * half - n) < 2 * half
+  inner true e = omega (arith, some)
+  inner false e = let ne : 0 < n = grind (arith, nat_tests) in omega (arith, some, ne)
+
+  by : (t : Bool) → unwrap_or (if t then Some (if n == 0 then 0 else 2 * half - n) else None) 0 < 2 * half
+  by true = inner (n == 0) refl
+  by false = omega (arith, some)
+
+constant_less : (s : List ℕ) (bits : ℕ) → unwrap_or (numbers.constant s bits) 0 < 2 * numbers.half_of bits
+unfolding numbers.constant
+constant_less [] bits = positive_less (numbers.half_of bits) (numbers.small (numbers.decimal [])) (half_some bits)
+constant_less (byte ∷ digits) bits = by (byte == 45) where
+  by : (t : Bool) → unwrap_or (if t then option_and_then (numbers.negative (numbers.half_of bits)) (numbers.small (numbers.decimal digits)) else option_and_then (numbers.positive (numbers.half_of bits)) (numbers.small (numbers.decimal (byte ∷ digits)))) 0 < 2 * numbers.half_of bits
+  by true = negative_less (numbers.half_of bits) (numbers.small (numbers.decimal digits)) (half_some bits)
+  by false = positive_less (numbers.half_of bits) (numbers.small (numbers.decimal (byte ∷ digits))) (half_some bits)
+
+pub number_fits : (bits : Option ℕ) (i : Input) → Fits bits (number_or_zero bits i)
+unfolding number_at
+number_fits None i u = constant_less (spelling i.cursor) 64
+number_fits (Some bits) i u = (u.0, u.1, subst (λ (n : ℕ). unwrap_or (number_at (Some bits) i) 0 < n) (half_is bits u.0 u.1) (constant_less (spelling i.cursor) bits))
+
+pub zero_fits : (bits : Option ℕ) → Fits bits (zero_of bits)
+zero_fits None u = tt
+zero_fits (Some bits) u = (u.0, u.1, pow_pos bits)
+
+truth_fits : (bits : Option ℕ) (truth : Bool) → Fits bits (truth_of bits truth)
+truth_fits None truth u = refl
+truth_fits (Some bits) truth u = by (bits == 1) refl truth where
+  by : (t : Bool) → bits == 1 ≡ t → (truth : Bool) → FitsType (Some bits) (if t then c.Number (if truth then 1 else 0) else c.Truth truth)
+  by true e true = let one : bits ≡ 1 = grind (arith, nat_tests) in (u.0, u.1, rw one (omega arith))
+  by true e false = (u.0, u.1, pow_pos bits)
+  by false e truth = e
+
+null_fits : (bits : Option ℕ) → Fits bits c.Null
+null_fits None u = tt
+null_fits (Some bits) u = tt
+
+-- the name stands at its number
+named_at : (names : List Text) (n : ℕ) (name : Text) → slice_get names n ≡ Some name → name_at names n ≡ name
+named_at names n name e = ap (λ (x : Option Text). unwrap_or x []) e
+
+module _ {m : Module} (r : Reading m) where
+  -- ---- constants
+
+  word_gives : (bits : Option ℕ) (x : Constant) → Fits bits x → (i : Input) → Keeps r.Fore (Same r.Fore) r.Back (skip >> pure x) (Fits bits) i
+  word_gives bits x fits i a o h f =
+      let s = skip_passes r i h.0 h.1 h.2 f in
+      (subst r.Fore h.3.1 s.0, λ b. ((s.1 (subst r.Back (sym h.3.1) b)).0, subst (Fits bits) h.3.0 fits))
+
+  number_keeps : (bits : Option ℕ) (i : Input) → Keeps r.Fore (Same r.Fore) r.Back (number bits) (Fits bits) i
+  unfolding number
+  number_keeps bits i =
+      where_true r.Back r.Fore (Same r.Fore) (Fits bits) (λ i. is_some (number_at bits i)) (λ i. OutOfRange (start i.cursor)) (step (number_or_zero bits) advanced advanced_falls) i
+      (λ e. stepped r.Back r.Fore (Same r.Fore) (Fits bits) (number_or_zero bits) advanced advanced_falls i (λ f. (r.on_token i f, λ b. (r.from_token i b, number_fits bits i))))
+
+  constant_by_keeps : (bits : Option ℕ) (x : Kind) (i : Input) → Keeps r.Fore (Same r.Fore) r.Back (constant_by bits x) (Fits bits) i
+  constant_by_keeps bits k.Number i = number_keeps bits i
+  constant_by_keeps bits k.True i = word_gives bits (truth_of bits true) (truth_fits bits true) i
+  constant_by_keeps bits k.False i = word_gives bits (truth_of bits false) (truth_fits bits false) i
+  constant_by_keeps bits k.Null i = word_gives bits c.Null (null_fits bits) i
+  constant_by_keeps bits k.Undef i = word_gives bits (zero_of bits) (zero_fits bits) i
+  constant_by_keeps bits k.Zeroinitializer i = word_gives bits (zero_of bits) (zero_fits bits) i
+  constant_by_keeps bits _ i = λ a o h f. absurd h
+
+  pub constant_keeps : (bits : Option ℕ) (i : Input) → Keeps r.Fore (Same r.Fore) r.Back (constant bits) (Fits bits) i
+  unfolding constant
+  constant_keeps bits i = constant_by_keeps bits (kind i.cursor) i
+
+  -- ---- global names
+
+  symbol_there : (is_call : Bool) (i : Input) → r.Back (with_symbol_use is_call i) → name_at m.symbols (symbol_number i) ≡ spelled i.cursor
+  symbol_there is_call i b =
+      named_at m.symbols (symbol_number i) (spelled i.cursor)
+      (stays (numbered (spelled i.cursor) i.symbols.names) m.symbols (symbol_number i) (spelled i.cursor) (r.has_symbols (with_symbol_use is_call i) b) (name_there (spelled i.cursor) i.symbols.names))
+
+  used_symbol_keeps : (is_call : Bool) (i : Input)
+      → Keeps r.Fore (Same r.Fore) r.Back (used_symbol is_call) (λ n. IsIn (used_symbols m is_call) (name_at m.symbols n) × (name_at m.symbols n ≡ spelled i.cursor)) i
+  unfolding used_symbol
+  used_symbol_keeps is_call i =
+      let good = λ (n : ℕ). IsIn (used_symbols m is_call) (name_at m.symbols n) × (name_at m.symbols n ≡ spelled i.cursor) in
+      where_true r.Back r.Fore (Same r.Fore) good (λ i. nat_lt (symbol_number i) 4294967296) limit (step symbol_number (with_symbol_use is_call) (with_symbol_use_falls is_call)) i
+      (λ e. stepped r.Back r.Fore (Same r.Fore) good symbol_number (with_symbol_use is_call) (with_symbol_use_falls is_call) i
+      (λ f. (
+        r.on_symbol i is_call f,
+        λ b.
+            let there = symbol_there is_call i b in
+            (r.from_symbol i is_call b, (subst (IsIn (used_symbols m is_call)) (sym there) (r.symbol_is i is_call b), there)),
+      )))
+
+  pub callee_keeps : (i : Input) → Keeps r.Fore (Same r.Fore) r.Back callee (λ n. IsIn (functions_of m) (name_at m.symbols n)) i
+  unfolding callee
+  callee_keeps i n o h f =
+      let same = h.2.1 in
+      let x = used_symbol_keeps true h.1 n o h.3 (subst r.Fore same f) in
+      (x.0, λ b. let c = x.1 b in (subst r.Back (sym same) c.0, c.1.0))
+
+  pub used_global_keeps : (i : Input) → Keeps r.Fore (Same r.Fore) r.Back used_global (IsGlobalUse m) i
+  unfolding used_global
+  used_global_keeps i n o h f =
+      let rules = h.2 in
+      let same = rules.2.1 ∙ rules.3.1 in
+      let x = used_symbol_keeps false h.1 n o h.3 (subst r.Fore same f) in (
+        x.0,
+        λ b.
+            let c = x.1 b in
+            let plain = rules.2.0 in
+            (subst r.Back (sym same) c.0, (c.1.0, ap is_intrinsic (c.1.1 ∙ ap (λ (j : Input). spelled j.cursor) (sym same)) ∙ none (is_intrinsic (spelled i.cursor)) plain)),
+      )
+    where
+      none : (t : Bool) → not t ≡ true → t ≡ false
+      none true e = absurd cc
+      none false e = refl
+
+module _ {m : Module} {f : Function} (v : Within m f) where
+  -- ---- local names
+
+  pub used_local_keeps : (wanted : Wanted) (i : Input)
+      → Keeps v.reading.Fore (Same v.reading.Fore) v.reading.Back (used_local wanted) (λ n. IsIn (used_keys f wanted) (name_at f.locals n)) i
+  unfolding used_local
+  used_local_keeps wanted i =
+      let r = v.reading in
+      let good = λ (n : ℕ). IsIn (used_keys f wanted) (name_at f.locals n) in
+      where_true r.Back r.Fore (Same r.Fore) good (λ i. nat_lt (local_number i) 4294967296) limit (step local_number (with_local_use wanted) (with_local_use_falls wanted)) i
+      (λ e. stepped r.Back r.Fore (Same r.Fore) good local_number (with_local_use wanted) (with_local_use_falls wanted) i
+      (λ h. (
+        v.on_local i wanted h,
+        λ b.
+            let key = local_key i.cursor in
+            let there = named_at f.locals (local_number i) key
+            (stays (numbered key i.locals.names) f.locals (local_number i) key (v.has_locals (with_local_use wanted i) b) (name_there key i.locals.names)) in
+            (v.from_local i wanted b, subst (IsIn (used_keys f wanted)) (sym there) (v.local_is i wanted b)),
+      )))
+
+  label_by_keeps : (wanted : Wanted) (x : Kind) (i : Input)
+      → Keeps v.reading.Fore (Same v.reading.Fore) v.reading.Back (used_label_by wanted x) (λ n. IsIn (used_keys f wanted) (name_at f.locals n)) i
+  label_by_keeps wanted k.LocalName i = used_local_keeps wanted i
+  label_by_keeps wanted k.LocalNumber i = used_local_keeps wanted i
+  label_by_keeps wanted _ i = λ a o h f. absurd h
+
+  pub label_keeps : (wanted : Wanted) (i : Input)
+      → Keeps v.reading.Fore (Same v.reading.Fore) v.reading.Back (used_label wanted) (λ n. IsIn (used_keys f wanted) (name_at f.locals n)) i
+  unfolding used_label
+  label_keeps wanted i = label_by_keeps wanted (kind i.cursor) i
+
+  pub target_keeps : (i : Input) → Keeps v.reading.Fore (Same v.reading.Fore) v.reading.Back target (IsTarget f) i
+  unfolding target
+  target_keeps i n o h fore =
+      let a = expect_passes v.reading k.Label i h.0 h.1 h.2 fore in
+      let b = label_keeps wants.Target h.1 n o h.3 a.0 in
+      (b.0, λ back. let c = b.1 back in let d = a.1 c.0 in (d.0, c.1))
+
+  -- ---- operands
+
+  -- an operand, where its type may be
+  abbrev pub IsRead : Option ℕ → Operand → Type 0
+  IsRead bits x = AreBits bits → IsOperand m f bits x
+
+  local_operand : (bits : Option ℕ) (i : Input) → Keeps v.reading.Fore (Same v.reading.Fore) v.reading.Back (used_local wants.Value >>= λ value. pure (operand.Local value)) (IsRead bits) i
+  local_operand bits i x o h fore =
+      let r = v.reading in
+      let a = used_local_keeps wants.Value i h.0 h.1 h.2 fore in
+      (subst r.Fore h.3.1 a.0, λ b. let c = a.1 (subst r.Back (sym h.3.1) b) in (c.0, subst (IsRead bits) h.3.0 (λ u. c.1)))
+
+  global_operand : (bits : Option ℕ) (i : Input) → Keeps v.reading.Fore (Same v.reading.Fore) v.reading.Back (used_global >>= λ symbol. pure (operand.Global symbol)) (IsRead bits) i
+  global_operand bits i x o h fore =
+      let r = v.reading in
+      let a = used_global_keeps r i h.0 h.1 h.2 fore in
+      (subst r.Fore h.3.1 a.0, λ b. let c = a.1 (subst r.Back (sym h.3.1) b) in (c.0, subst (IsRead bits) h.3.0 (λ u. c.1)))
+
+  constant_operand : (bits : Option ℕ) (i : Input) → Keeps v.reading.Fore (Same v.reading.Fore) v.reading.Back (constant bits >>= λ x. pure (operand.Constant x)) (IsRead bits) i
+  constant_operand bits i x o h fore =
+      let r = v.reading in
+      let a = constant_keeps r bits i h.0 h.1 h.2 fore in
+      (subst r.Fore h.3.1 a.0, λ b. let c = a.1 (subst r.Back (sym h.3.1) b) in (c.0, subst (IsRead bits) h.3.0 c.1))
+
+  cast_name_keeps : (x : Kind) (i : Input) → Keeps v.reading.Fore (Same v.reading.Fore) v.reading.Back (cast_operand_by x) (IsGlobalUse m) i
+  cast_name_keeps k.GlobalName i = used_global_keeps v.reading i
+  cast_name_keeps _ i = λ a o h f. absurd h
+
+  cast_keeps : (bits : Option ℕ) (i : Input) → Keeps v.reading.Fore (Same v.reading.Fore) v.reading.Back cast (IsRead bits) i
+  unfolding cast cast_operand
+  cast_keeps bits i x o h fore =
+      let r = v.reading in
+      let t1 = h.3 in
+      let t2 = t1.3 in
+      let t3 = t2.3 in
+      let t4 = t3.3 in
+      let t5 = t4.3 in
+      let t6 = t5.3 in
+      let a0 = skip_passes r i h.0 h.1 h.2 fore in
+      let a1 = expect_passes r k.OpenRound h.1 t1.0 t1.1 t1.2 a0.0 in
+      let a2 = pointer_type_keeps r t1.1 t2.0 t2.1 t2.2 a1.0 in
+      let a3 = cast_name_keeps (kind t2.1.cursor) t2.1 t3.0 t3.1 t3.2 a2.0 in
+      let a4 = expect_passes r k.To t3.1 t4.0 t4.1 t4.2 a3.0 in
+      let a5 = pointer_type_keeps r t4.1 t5.0 t5.1 t5.2 a4.0 in
+      let a6 = expect_passes r k.CloseRound t5.1 t6.0 t6.1 t6.2 a5.0 in (
+        subst r.Fore t6.3.1 a6.0,
+        λ b.
+            let b6 = a6.1 (subst r.Back (sym t6.3.1) b) in
+            let b5 = a5.1 b6.0 in
+            let b4 = a4.1 b5.0 in
+            let b3 = a3.1 b4.0 in
+            let b2 = a2.1 b3.0 in
+            let b1 = a1.1 b2.0 in
+            let b0 = a0.1 b1.0 in
+            (b0.0, subst (IsRead bits) t6.3.0 (λ u. (b2.1, b3.1, b5.1))),
+      )
+
+  operand_by_keeps : (bits : Option ℕ) (x : Kind) (i : Input) → Keeps v.reading.Fore (Same v.reading.Fore) v.reading.Back (operand_by bits x) (IsRead bits) i
+  operand_by_keeps bits k.LocalName i = local_operand bits i
+  operand_by_keeps bits k.LocalNumber i = local_operand bits i
+  operand_by_keeps bits k.GlobalName i = global_operand bits i
+  operand_by_keeps bits k.Bitcast i = cast_keeps bits i
+  operand_by_keeps bits _ i = constant_operand bits i
+
+  pub operand_keeps : (bits : Option ℕ) (i : Input) → Keeps v.reading.Fore (Same v.reading.Fore) v.reading.Back (form.operand bits) (IsRead bits) i
+  unfolding form.operand
+  operand_keeps bits i = operand_by_keeps bits (kind i.cursor) i

@@ -1,0 +1,184 @@
+-- A type is printed as its shape is shown, and printed types are read where a type of some sort may stand.
+use Rattle.std.proofs.Common.{◌≡◌, ℕ, zero, suc, ◌<◌, ◌≤◌, Bool, true, false, List, [], ◌∷◌, ◌++◌, length, slice_get, Option, Some, unwrap_or, if◌then◌else◌, refl, ap, ◌∙◌, arith}
+use Rattle.std.specs.Prelude.{codes, nat_lt}
+use Rattle.std.specs.Fmt.{decimal}
+use Rattle.std.proofs.lemmas.Option.{slice_get_within}
+use Rattle.grammar.specs.Grammar.{pure, checked, ◌>>=◌, ◌>>◌}
+use Rattle.ir_ast.specs.declared.function.Function.{Function}
+use Rattle.ir_ast.specs.declared.ir_type.IrType.{IrType}
+use Rattle.ir_ast.specs.declared.module.Module.{Module}
+use Rattle.ir_tokens.specs.declared.token.Kind.TheVariants as k
+use Rattle.ir_tokens.specs.Bytes.{Text}
+use Rattle.ir_forms.specs.Cursor.{sees, left_out}
+use Rattle.ir_forms.specs.declared.input.Input.{Input}
+use Rattle.ir_forms.specs.declared.written.WrittenType.{WrittenType}
+use Rattle.ir_forms.specs.Input.{unexpected}
+use Rattle.ir_forms.specs.Written as w
+use Rattle.ir_forms.specs.Written.{is_scalar, is_passed, is_held, part}
+use Rattle.name_text.specs.Names.{name_text}
+use Rattle.name_text.specs.declared.blank.Blank.TheVariants as blank
+use Rattle.ir_print.specs.Types.{type_text, type_within, type_by, fields_text, further_field}
+use Rattle.ir_print.specs.Standing.{AreBlanks}
+use Rattle.ir_print_law.specs.Definitions.{defined_structs}
+use Rattle.ir_print_law.specs.Shapes.{Shape, Integer, Pointer, Array, Empty, Struct, Named, HasShape, IsWritten, levels, is_scalar_shape, is_pointer_shape, is_passed_shape, is_held_shape, is_struct_shape}
+use Rattle.ir_print_law.proofs.Tables.{place_holds}
+use Rattle.ir_print_law.proofs.State.{Invariant, Ready, IsLater, Reads}
+use Rattle.ir_print_law.proofs.Shown.{shown, IsTypeRead, shape_stays, some_level, scalar_read, pointer_read, passed_read, held_read}
+use Rattle.ir_print_law.proofs.Steps.{go_on, given, checked_then, looked}
+use Rattle.ir_print_law.proofs.Types.{EndsType}
+use Rattle.ir_print_law.proofs.WholeTypes.{claims, braced_reads}
+
+-- ---- a type is printed as its shape is shown
+
+module _ (n : Module) where
+  -- a type of this shape is printed so
+  abbrev PartShown : Shape → Type 0
+  PartShown shape = (room number : ℕ) → HasShape n.types n.struct_names shape number → levels shape ≤ room → type_within room n number ≡ shown false shape
+
+  -- further fields are printed so
+  abbrev FieldsShown : Shape → Type 0
+  FieldsShown shape = (room fuel number : ℕ) → HasShape n.types n.struct_names shape number → levels shape ≤ suc room → number < fuel → fields_text (type_within room n) n fuel number ≡ shown true shape
+
+  -- the type at this number is printed by what it is
+  at_type : (room number : ℕ) (x : IrType) → slice_get n.types number ≡ Some x → type_within (suc room) n number ≡ type_by (type_within room n) n (Some x)
+  unfolding type_within
+  at_type room number x e = ap (type_by (type_within room n) n) e
+
+  -- so are the fields
+  at_field : (room fuel number : ℕ) (x : IrType) → slice_get n.types number ≡ Some x → fields_text (type_within room n) n (suc fuel) number ≡ further_field (type_within room n) (fields_text (type_within room n) n fuel) (Some x)
+  unfolding fields_text
+  at_field room fuel number x e = ap (further_field (type_within room n) (fields_text (type_within room n) n fuel)) e
+
+  -- each type has a level
+  no_level : (shape : Shape) → levels shape ≤ 0 → ⊥
+  no_level shape le = let some = some_level shape in absurd (omega (arith, le, some))
+
+  -- each type is printed as its shape is shown
+  pub both_shown : (shape : Shape) → PartShown shape × FieldsShown shape
+  both_shown (Integer bits) = (part_shown, fields_shown) where
+    part_shown : PartShown (Integer bits)
+    part_shown zero number h le = absurd (no_level (Integer bits) le)
+    part_shown (suc room) number h le = at_type room number _ h
+
+    fields_shown : FieldsShown (Integer bits)
+    fields_shown room zero number h le less = absurd (omega (arith, less))
+    fields_shown room (suc fuel) number h le less = at_field room fuel number _ h
+  both_shown (Pointer shape) = (part_shown (both_shown shape).0, fields_shown) where
+    part_shown : PartShown shape → PartShown (Pointer shape)
+    part_shown inner zero number h le = absurd (no_level (Pointer shape) le)
+    part_shown inner (suc room) number h le = at_type room number _ h.1 ∙ ap (λ (x : Text). x ++ 42 ∷ []) (inner room h.0 h.2 (omega (arith, le)))
+
+    fields_shown : FieldsShown (Pointer shape)
+    fields_shown room zero number h le less = absurd (omega (arith, less))
+    fields_shown room (suc fuel) number h le less = at_field room fuel number _ h.1
+  both_shown (Array count shape) = (part_shown (both_shown shape).0, fields_shown) where
+    part_shown : PartShown shape → PartShown (Array count shape)
+    part_shown inner zero number h le = absurd (no_level (Array count shape) le)
+    part_shown inner (suc room) number h le = at_type room number _ h.1 ∙ ap (λ (x : Text). 91 ∷ decimal count ++ codes " x " ++ x ++ 93 ∷ []) (inner room h.0 h.2 (omega (arith, le)))
+
+    fields_shown : FieldsShown (Array count shape)
+    fields_shown room zero number h le less = absurd (omega (arith, less))
+    fields_shown room (suc fuel) number h le less = at_field room fuel number _ h.1
+  both_shown Empty = (part_shown, fields_shown) where
+    part_shown : PartShown Empty
+    part_shown zero number h le = absurd (no_level Empty le)
+    part_shown (suc room) number h le = at_type room number _ h
+
+    fields_shown : FieldsShown Empty
+    fields_shown room zero number h le less = absurd (omega (arith, less))
+    fields_shown room (suc fuel) number h le less = at_field room fuel number _ h
+  both_shown (Struct first others) = (part_shown (both_shown first).0 (both_shown others).1, fields_shown (both_shown first).0 (both_shown others).1) where
+    part_shown : PartShown first → FieldsShown others → PartShown (Struct first others)
+    part_shown inner further zero number h le = absurd (no_level (Struct first others) le)
+    part_shown inner further (suc room) number h le =
+        let within : number < length n.types = slice_get_within n.types number _ h.2 in
+        let before = h.3 in
+        at_type room number _ h.2
+        ∙ ap (λ (x : Text). codes "{ " ++ x ++ fields_text (type_within room n) n (length n.types) h.1 ++ codes " }") (inner room h.0 h.4 (omega (arith, le)))
+        ∙ ap (λ (x : Text). codes "{ " ++ shown false first ++ x ++ codes " }") (further room (length n.types) h.1 h.5 (omega (arith, le)) (omega (arith, within, before)))
+
+    fields_shown : PartShown first → FieldsShown others → FieldsShown (Struct first others)
+    fields_shown inner further room zero number h le less = absurd (omega (arith, less))
+    fields_shown inner further room (suc fuel) number h le less =
+        let before = h.3 in
+        at_field room fuel number _ h.2
+        ∙ ap (λ (x : Text). codes ", " ++ x ++ fields_text (type_within room n) n fuel h.1) (inner room h.0 h.4 (omega (arith, le)))
+        ∙ ap (λ (x : Text). codes ", " ++ shown false first ++ x) (further room fuel h.1 h.5 (omega (arith, le)) (omega (arith, less, before)))
+  both_shown (Named name) = (part_shown, fields_shown) where
+    part_shown : PartShown (Named name)
+    part_shown zero number h le = absurd (no_level (Named name) le)
+    part_shown (suc room) number h le =
+        at_type room number _ h.1 ∙ ap (λ (x : Option Text). 37 ∷ name_text blank.Kept (unwrap_or x [])) (place_holds name n.struct_names h.0 h.2)
+
+    fields_shown : FieldsShown (Named name)
+    fields_shown room zero number h le less = absurd (omega (arith, less))
+    fields_shown room (suc fuel) number h le less = at_field room fuel number _ h.1
+
+  -- a type of at most 64 levels is printed as its shape is shown
+  pub type_shown : (shape : Shape) (number : ℕ) → HasShape n.types n.struct_names shape number → levels shape ≤ 64 → type_text n number ≡ shown false shape
+  type_shown shape number h le = (both_shown shape).0 64 number h le
+
+-- what was read is printed as this shape later on
+pub read_shown : (shape : Shape) (number : ℕ) (o : Input) (n : Module) (others : List Text) → HasShape o.types o.struct_names.names shape number → levels shape ≤ 64 → IsLater o n others → type_text n number ≡ shown false shape
+read_shown shape number o n others h le later =
+    type_shown n shape number (shape_stays o.types n.types o.struct_names.names n.struct_names shape number later.types later.structs h) le
+
+module _ {m : Module} {f : Function} (v : Invariant m f) where
+  -- ---- types where they may stand
+
+  -- any type
+  pub any_type_reads : (shape : Shape) (i : Input) (gap rest : Text) (s : ℕ) → IsWritten (defined_structs m) shape → levels shape ≤ 64 → AreBlanks gap → EndsType rest
+      → Ready v s i (gap ++ (shown false shape ++ rest)) → Reads v s w.any_type i rest (IsTypeRead shape 64)
+  unfolding w.any_type w.type_within
+  any_type_reads shape i gap rest s own le blanks ends ready = (claims v shape).0 0 64 i gap rest s own (omega (arith, le)) blanks ends ready
+
+  -- a type that passes a test
+  pub type_that_reads : (may_stand : WrittenType → Bool) (shape : Shape) (i : Input) (gap rest : Text) (s : ℕ) → IsWritten (defined_structs m) shape → levels shape ≤ 64 → AreBlanks gap → EndsType rest
+      → ((p : WrittenType) (o : Input) → IsTypeRead shape 64 p o → may_stand p ≡ true) → Ready v s i (gap ++ (shown false shape ++ rest)) → Reads v s (w.type_that may_stand 63) i rest (IsTypeRead shape 64)
+  unfolding w.type_within
+  type_that_reads may_stand shape i gap rest s own le blanks ends may ready =
+      looked v (λ i. left_out i.cursor) (λ fault. w.type_within 63 >>= λ p. w.then_allowed may_stand p fault) i rest s (IsTypeRead shape 64) (left_out i.cursor) refl
+      (go_on v (w.type_within 63) (λ p. w.then_allowed may_stand p (left_out i.cursor)) i rest rest s s (IsTypeRead shape 64) (IsTypeRead shape 64)
+      ((claims v shape).0 0 64 i gap rest s own (omega (arith, le)) blanks ends ready)
+      (λ p o ready g read. checked_then v (λ i. may_stand p) (λ j. if sees k.End j.cursor then unexpected j else left_out i.cursor) (pure p) o rest s (IsTypeRead shape 64) (may p o read)
+      (given v p o rest s (IsTypeRead shape 64) ready read)))
+
+  -- a type that a word holds
+  pub scalar_reads : (shape : Shape) (i : Input) (gap rest : Text) (s : ℕ) → IsWritten (defined_structs m) shape → levels shape ≤ 64 → is_scalar_shape shape ≡ true → AreBlanks gap → EndsType rest
+      → Ready v s i (gap ++ (shown false shape ++ rest)) → Reads v s w.scalar i rest (IsTypeRead shape 64)
+  unfolding w.scalar w.scalar_within
+  scalar_reads shape i gap rest s own le word blanks ends ready =
+      type_that_reads is_scalar shape i gap rest s own le blanks ends (λ p o read. scalar_read shape 64 p o read ∙ word) ready
+
+  -- a type with a star behind it
+  pub pointer_type_reads : (shape : Shape) (i : Input) (gap rest : Text) (s : ℕ) → IsWritten (defined_structs m) shape → levels shape ≤ 64 → is_pointer_shape shape ≡ true → AreBlanks gap → EndsType rest
+      → Ready v s i (gap ++ (shown false shape ++ rest)) → Reads v s w.pointer_type i rest (IsTypeRead shape 64)
+  unfolding w.pointer_type
+  pointer_type_reads shape i gap rest s own le pointer blanks ends ready =
+      go_on v w.any_type (λ p. checked (λ _. nat_lt 0 p.stars) unexpected >> pure p) i rest rest s s (IsTypeRead shape 64) (IsTypeRead shape 64)
+      (any_type_reads shape i gap rest s own le blanks ends ready)
+      (λ p o ready g read. checked_then v (λ _. nat_lt 0 p.stars) unexpected (pure p) o rest s (IsTypeRead shape 64) (pointer_read shape 64 p o read ∙ pointer)
+      (given v p o rest s (IsTypeRead shape 64) ready read))
+
+  -- the type of a parameter or a result
+  pub passed_type_reads : (shape : Shape) (i : Input) (gap rest : Text) (s : ℕ) → IsWritten (defined_structs m) shape → levels shape ≤ 64 → is_passed_shape shape ≡ true → AreBlanks gap → EndsType rest
+      → Ready v s i (gap ++ (shown false shape ++ rest)) → Reads v s w.passed_type i rest (IsTypeRead shape 64)
+  unfolding w.passed_type
+  passed_type_reads shape i gap rest s own le is blanks ends ready =
+      type_that_reads is_passed shape i gap rest s own le blanks ends (λ p o read. passed_read shape 64 p o read ∙ is) ready
+
+  -- the type of a global
+  pub held_type_reads : (shape : Shape) (i : Input) (gap rest : Text) (s : ℕ) → IsWritten (defined_structs m) shape → levels shape ≤ 64 → is_held_shape shape ≡ true → AreBlanks gap → EndsType rest
+      → Ready v s i (gap ++ (shown false shape ++ rest)) → Reads v s w.held_type i rest (IsTypeRead shape 64)
+  unfolding w.held_type
+  held_type_reads shape i gap rest s own le is blanks ends ready =
+      type_that_reads is_held shape i gap rest s own le blanks ends (λ p o read. held_read shape 64 p o read ∙ is) ready
+
+  -- `{ T, .. }`, the type that a name stands for
+  pub struct_body_reads : (shape : Shape) (i : Input) (gap rest : Text) (s : ℕ) → IsWritten (defined_structs m) shape → levels shape ≤ 64 → is_struct_shape shape ≡ true → AreBlanks gap
+      → Ready v s i (gap ++ (shown false shape ++ rest)) → Reads v s w.struct_body i rest (λ n o. HasShape o.types o.struct_names.names shape n)
+  unfolding w.struct_body
+  struct_body_reads shape i gap rest s own le is blanks ready =
+      go_on v (w.braced 63 (w.firm 63)) (λ p. pure p.id) i rest rest s s (IsTypeRead shape 64) (λ n o. HasShape o.types o.struct_names.names shape n)
+      (braced_reads v shape i gap rest s is own le blanks ready)
+      (λ p o ready g read. given v p.id o rest s (λ n o. HasShape o.types o.struct_names.names shape n) ready read.has_shape)

@@ -1,0 +1,155 @@
+-- What is known of a state while a module is read: of what was read before it, and of where reading ends.
+use Rattle.std.specs.Prelude.{◌≡◌, ℕ, Bool, true, false, List, [], ◌∷◌, ◌++◌, length}
+use Rattle.ir_ast.specs.declared.function.Function.{Function}
+use Rattle.ir_ast.specs.declared.function.LocalSort.{LocalSort}
+use Rattle.ir_ast.specs.declared.function.LocalSort.TheVariants as local
+use Rattle.ir_ast.specs.declared.ir_type.IrType.{IrType}
+use Rattle.ir_ast.specs.declared.module.Module.{Module}
+use Rattle.ir_ast.specs.Types.{numbered_type}
+use Rattle.ir_tokens.specs.Bytes.{Text}
+use Rattle.ir_tokens.specs.declared.token.Kind.TheVariants as k
+use Rattle.ir_forms.specs.Cursor.{kind, spelled, local_key}
+use Rattle.ir_forms.specs.declared.uses.Wanted.{Wanted}
+use Rattle.ir_forms.specs.declared.uses.Wanted.TheVariants as wants
+use Rattle.ir_forms.specs.declared.input.Input.{Input}
+use Rattle.ir_forms.specs.Input.{advanced}
+use Rattle.ir_forms.specs.Names.{with_struct_use, with_symbol_use, with_local_use, with_sort, new_value, numbered_value, unnamed_value, new_label, numbered_label, unnamed_label}
+use Rattle.ir_forms.specs.Written.{with_type_interned}
+use Rattle.name_text.specs.Readings.{AreBytes}
+use Rattle.ir_print_law.specs.Definitions.{value_keys, label_keys, target_keys, defined_structs, defined_globals, functions_of}
+use Rattle.ir_print_law.specs.Shapes.{IsIn}
+use Rattle.ir_print_law.proofs.Forms.{Keeps, Any}
+use Rattle.ir_print_law.proofs.Tables.{Begins, AreOrdered}
+
+-- which keys may be used as what
+abbrev pub used_keys : Function → Wanted → List Text
+used_keys f wants.Value = value_keys f
+used_keys f wants.Block = label_keys f
+used_keys f wants.Target = target_keys f
+
+abbrev pub used_symbols : Module → (is_call : Bool) → List Text
+used_symbols m true = functions_of m
+used_symbols m false = defined_globals m
+
+-- What holds before a form that names nothing new, and behind it; and that reading leads on to this module, where it does so behind the form.
+pub record Reading (m : Module) : Type 1 where
+  pub Fore : Input → Type 0
+  pub Back : Input → Type 0
+  pub ordered : (i : Input) → Fore i → AreOrdered i.types
+  pub bytes : (i : Input) → Fore i → AreBytes (spelled i.cursor)
+  pub has_types : (i : Input) → Back i → Begins i.types m.types
+  pub has_structs : (i : Input) → Back i → Begins i.struct_names.names m.struct_names
+  pub has_symbols : (i : Input) → Back i → Begins i.symbols.names m.symbols
+  pub on_token : (i : Input) → Fore i → Fore (advanced i)
+  pub from_token : (i : Input) → Back (advanced i) → Back i
+  pub on_type : (i : Input) (t : IrType) → AreOrdered (numbered_type t i.types) → Fore i → Fore (with_type_interned t i)
+  pub from_type : (i : Input) (t : IrType) → Back (with_type_interned t i) → Back i
+  pub on_struct : (i : Input) → Fore i → Fore (with_struct_use i)
+  pub from_struct : (i : Input) → Back (with_struct_use i) → Back i
+  pub struct_is : (i : Input) → Back (with_struct_use i) → IsIn (defined_structs m) (spelled i.cursor)
+  pub on_symbol : (i : Input) (is_call : Bool) → Fore i → Fore (with_symbol_use is_call i)
+  pub from_symbol : (i : Input) (is_call : Bool) → Back (with_symbol_use is_call i) → Back i
+  pub symbol_is : (i : Input) (is_call : Bool) → Back (with_symbol_use is_call i) → IsIn (used_symbols m is_call) (spelled i.cursor)
+
+-- The same within a function.
+pub record Within (m : Module) (f : Function) : Type 1 where
+  pub reading : Reading m
+  pub has_locals : (i : Input) → reading.Back i → Begins i.locals.names f.locals
+  pub on_local : (i : Input) (wanted : Wanted) → reading.Fore i → reading.Fore (with_local_use wanted i)
+  pub from_local : (i : Input) (wanted : Wanted) → reading.Back (with_local_use wanted i) → reading.Back i
+  pub local_is : (i : Input) (wanted : Wanted) → reading.Back (with_local_use wanted i) → IsIn (used_keys f wanted) (local_key i.cursor)
+
+-- what a name stands for that is a value
+abbrev pub IsValueSort : LocalSort → Type 0
+IsValueSort (local.Value t) = Unit {0}
+IsValueSort (local.Element block place) = Unit {0}
+IsValueSort _ = ⊥
+
+-- The same while a value with this number is named that has no type yet, and behind where it has one.
+pub record Naming (m : Module) (f : Function) (value : ℕ) : Type 1 where
+  pub within : Within m f
+  pub After : Input → Type 0
+  pub on_value : (i : Input) (sort : LocalSort) → IsValueSort sort → within.reading.Fore i → After (with_sort value sort i)
+  pub from_value : (i : Input) (sort : LocalSort) → within.reading.Back (with_sort value sort i) → within.reading.Back i
+
+-- The same for what holds before, and for what is known from behind.
+pub record Kit (m : Module) (f : Function) (Fore Back : Input → Type 0) : Type 0 where
+  pub ordered : (i : Input) → Fore i → AreOrdered i.types
+  pub bytes : (i : Input) → Fore i → AreBytes (spelled i.cursor)
+  pub has_types : (i : Input) → Back i → Begins i.types m.types
+  pub has_structs : (i : Input) → Back i → Begins i.struct_names.names m.struct_names
+  pub has_symbols : (i : Input) → Back i → Begins i.symbols.names m.symbols
+  pub has_locals : (i : Input) → Back i → Begins i.locals.names f.locals
+  pub on_token : (i : Input) → Fore i → Fore (advanced i)
+  pub from_token : (i : Input) → Back (advanced i) → Back i
+  pub on_type : (i : Input) (t : IrType) → AreOrdered (numbered_type t i.types) → Fore i → Fore (with_type_interned t i)
+  pub from_type : (i : Input) (t : IrType) → Back (with_type_interned t i) → Back i
+  pub on_struct : (i : Input) → Fore i → Fore (with_struct_use i)
+  pub from_struct : (i : Input) → Back (with_struct_use i) → Back i
+  pub struct_is : (i : Input) → Back (with_struct_use i) → IsIn (defined_structs m) (spelled i.cursor)
+  pub on_symbol : (i : Input) (is_call : Bool) → Fore i → Fore (with_symbol_use is_call i)
+  pub from_symbol : (i : Input) (is_call : Bool) → Back (with_symbol_use is_call i) → Back i
+  pub symbol_is : (i : Input) (is_call : Bool) → Back (with_symbol_use is_call i) → IsIn (used_symbols m is_call) (spelled i.cursor)
+  pub on_local : (i : Input) (wanted : Wanted) → Fore i → Fore (with_local_use wanted i)
+  pub from_local : (i : Input) (wanted : Wanted) → Back (with_local_use wanted i) → Back i
+  pub local_is : (i : Input) (wanted : Wanted) → Back (with_local_use wanted i) → IsIn (used_keys f wanted) (local_key i.cursor)
+
+abbrev pub within_of : {m : Module} {f : Function} {Fore Back : Input → Type 0} → Kit m f Fore Back → Within m f
+within_of {Fore = Fore} {Back = Back} kit = record {
+  reading = record {
+    Fore = Fore;
+    Back = Back;
+    ordered = kit.ordered;
+    bytes = kit.bytes;
+    has_types = kit.has_types;
+    has_structs = kit.has_structs;
+    has_symbols = kit.has_symbols;
+    on_token = kit.on_token;
+    from_token = kit.from_token;
+    on_type = kit.on_type;
+    from_type = kit.from_type;
+    on_struct = kit.on_struct;
+    from_struct = kit.from_struct;
+    struct_is = kit.struct_is;
+    on_symbol = kit.on_symbol;
+    from_symbol = kit.from_symbol;
+    symbol_is = kit.symbol_is;
+  };
+  has_locals = kit.has_locals;
+  on_local = kit.on_local;
+  from_local = kit.from_local;
+  local_is = kit.local_is;
+}
+
+-- what a function defined so far, by the numbers of its names: all of them, its values, and its blocks
+pub record Progress : Type 0 where
+  pub names : List ℕ
+  pub values : List ℕ
+  pub labels : List ℕ
+
+abbrev pub with_named_value : Progress → ℕ → Progress
+with_named_value g n = record { names = g.names ++ n ∷ []; values = g.values ++ n ∷ []; labels = g.labels }
+
+abbrev pub with_named_label : Progress → ℕ → Progress
+with_named_label g n = record { names = g.names ++ n ∷ []; values = g.values; labels = g.labels ++ n ∷ [] }
+
+-- What holds while the blocks of a function are read, where it defined so much, and while one value more has no type yet.
+pub record Builder (m : Module) (f : Function) (Back : Input → Type 0) (Fore : Progress → Input → Type 0) (Open : Progress → ℕ → Input → Type 0) : Type 0 where
+  pub kit : (g : Progress) → Kit m f (Fore g) Back
+  pub open_kit : (g : Progress) (n : ℕ) → Kit m f (Open g n) Back
+  pub on_sort : (g : Progress) (n : ℕ) (i : Input) (sort : LocalSort) → IsValueSort sort → Open g n i → Fore (with_named_value g n) (with_sort n sort i)
+  pub from_sort : (n : ℕ) (i : Input) (sort : LocalSort) → Back (with_sort n sort i) → Back i
+  pub named : (g : Progress) (i : Input) → kind i.cursor ≡ k.LocalName → Keeps (Fore g) (Open g) Back new_value Any i
+  pub numbered : (g : Progress) (i : Input) → kind i.cursor ≡ k.LocalNumber → Keeps (Fore g) (Open g) Back numbered_value Any i
+  pub unnamed : (g : Progress) (i : Input) → Keeps (Fore g) (Open g) Back unnamed_value Any i
+  pub named_label : (g : Progress) (i : Input) → kind i.cursor ≡ k.LabelName → Keeps (Fore g) (λ n. Fore (with_named_label g n)) Back (new_label (length g.labels)) Any i
+  pub numbered_label_is : (g : Progress) (i : Input) → kind i.cursor ≡ k.LabelNumber → Keeps (Fore g) (λ n. Fore (with_named_label g n)) Back (numbered_label (length g.labels)) Any i
+  pub unnamed_label_is : (g : Progress) (i : Input) → Keeps (Fore g) (λ n. Fore (with_named_label g n)) Back (unnamed_label (length g.labels)) Any i
+
+abbrev pub naming_of : {m : Module} {f : Function} {Back : Input → Type 0} {Fore : Progress → Input → Type 0} {Open : Progress → ℕ → Input → Type 0} → Builder m f Back Fore Open → (g : Progress) (n : ℕ) → Naming m f n
+naming_of {Fore = Fore} b g n = record {
+  within = within_of (b.open_kit g n);
+  After = Fore (with_named_value g n);
+  on_value = λ i sort is h. b.on_sort g n i sort is h;
+  from_value = λ i sort h. b.from_sort n i sort h;
+}

@@ -1,0 +1,223 @@
+-- Types by their shapes: how they are printed, and what a reader knows of one.
+use Rattle.std.proofs.Common.{◌≡◌, ℕ, zero, suc, ◌+◌, ◌≤◌, Bool, true, false, List, [], ◌∷◌, ◌++◌, refl, sym, ap, ◌∙◌, arith}
+use Rattle.std.specs.Prelude.{codes, ◌==◌, nat_lt}
+use Rattle.std.specs.Fmt.{decimal}
+use Rattle.std.proofs.lemmas.Bool.Decides.{nat_tests}
+use Rattle.ir_ast.specs.declared.ir_type.IrType.{IrType}
+use Rattle.ir_tokens.specs.Bytes.{Text}
+use Rattle.ir_forms.specs.declared.input.Input.{Input}
+use Rattle.ir_forms.specs.declared.written.Base.{Base}
+use Rattle.ir_forms.specs.declared.written.Base.TheVariants as base
+use Rattle.ir_forms.specs.declared.written.WrittenType.{WrittenType}
+use Rattle.ir_forms.specs.Written.{bits_of, is_scalar, is_passed, is_held}
+use Rattle.name_text.specs.Names.{name_text}
+use Rattle.name_text.specs.declared.blank.Blank.TheVariants as blank
+use Rattle.ir_print_law.specs.Shapes.{Shape, Integer, Pointer, Array, Empty, Struct, Named, HasShape, levels, bits_of_shape, is_scalar_shape, is_pointer_shape, is_passed_shape, is_held_shape}
+use Rattle.ir_print_law.proofs.Tables.{Begins, stays, place_stays}
+use Rattle.ir_print_law.proofs.State.{Grows}
+
+-- a type by its shape, or the fields of a struct behind others
+abbrev pub shown : (is_rest : Bool) → Shape → Text
+shown false (Integer bits) = 105 ∷ decimal bits
+shown false (Pointer part) = shown false part ++ 42 ∷ []
+shown false (Array count part) = 91 ∷ decimal count ++ codes " x " ++ shown false part ++ 93 ∷ []
+shown false Empty = codes "{}"
+shown false (Struct first rest) = codes "{ " ++ shown false first ++ shown true rest ++ codes " }"
+shown false (Named name) = 37 ∷ name_text blank.Kept name
+shown true (Struct first rest) = codes ", " ++ shown false first ++ shown true rest
+shown true _ = []
+
+-- how many fields a struct has
+abbrev pub field_count : Shape → ℕ
+field_count (Struct first rest) = field_count rest + 1
+field_count _ = 0
+
+-- a type with so many stars behind it
+abbrev pub starred : ℕ → Shape → Shape
+starred zero shape = shape
+starred (suc count) shape = starred count (Pointer shape)
+
+-- what stands before the stars, and how many there are
+abbrev pub base_of : Shape → Base
+base_of (Integer bits) = base.Integer bits
+base_of (Pointer part) = base_of part
+base_of (Named name) = base.Named
+base_of _ = base.Aggregate
+
+-- how many stars stand behind it
+abbrev pub stars_of : Shape → ℕ
+stars_of (Pointer part) = suc (stars_of part)
+stars_of _ = 0
+
+-- a type of this shape was read, where so many levels might be
+pub record IsTypeRead (shape : Shape) (most : ℕ) (w : WrittenType) (o : Input) : Type 0 where
+  pub has_shape : HasShape o.types o.struct_names.names shape w.id
+  pub fits : levels shape + w.room ≡ most
+  pub base_is : w.base ≡ base_of shape
+  pub stars_are : w.stars ≡ stars_of shape
+
+-- ---- a shape stays as the tables grow
+
+-- a shape stays as the tables grow
+pub shape_stays : (types more : List IrType) (names others : List Text) (shape : Shape) (n : ℕ) → Begins types more → Begins names others → HasShape types names shape n → HasShape more others shape n
+shape_stays types more names others (Integer bits) n a b h = stays types more n _ a h
+shape_stays types more names others (Pointer part) n a b h = (h.0, stays types more n _ a h.1, shape_stays types more names others part h.0 a b h.2)
+shape_stays types more names others (Array count part) n a b h = (h.0, stays types more n _ a h.1, shape_stays types more names others part h.0 a b h.2)
+shape_stays types more names others Empty n a b h = stays types more n _ a h
+shape_stays types more names others (Struct first rest) n a b h =
+    (h.0, h.1, stays types more n _ a h.2, h.3, shape_stays types more names others first h.0 a b h.4, shape_stays types more names others rest h.1 a b h.5)
+shape_stays types more names others (Named name) n a b h = (h.0, stays types more n _ a h.1, place_stays name names others h.0 b h.2)
+
+-- what was read stays
+pub read_stays : (shape : Shape) (most : ℕ) (w : WrittenType) (i o : Input) → Grows i o → IsTypeRead shape most w i → IsTypeRead shape most w o
+read_stays shape most w i o g h = record {
+  has_shape = shape_stays i.types o.types i.struct_names.names o.struct_names.names shape w.id g.types g.structs h.has_shape;
+  fits = h.fits;
+  base_is = h.base_is;
+  stars_are = h.stars_are;
+}
+
+-- ---- stars
+
+-- each star is a level
+pub starred_levels : (count : ℕ) (shape : Shape) → levels (starred count shape) ≡ levels shape + count
+starred_levels zero shape = omega arith
+starred_levels (suc count) shape = let e = starred_levels count (Pointer shape) in omega (arith, e)
+
+-- stars leave the base
+pub starred_base : (count : ℕ) (shape : Shape) → base_of (starred count shape) ≡ base_of shape
+starred_base zero shape = refl
+starred_base (suc count) shape = starred_base count (Pointer shape)
+
+-- the stars are counted
+pub starred_stars : (count : ℕ) (shape : Shape) → stars_of (starred count shape) ≡ stars_of shape + count
+starred_stars zero shape = omega arith
+starred_stars (suc count) shape = let e = starred_stars count (Pointer shape) in omega (arith, e)
+
+-- each type has a level
+pub some_level : (shape : Shape) → 1 ≤ levels shape
+some_level (Integer bits) = omega arith
+some_level (Pointer part) = omega arith
+some_level (Array count part) = omega arith
+some_level Empty = omega arith
+some_level (Struct first rest) = omega arith
+some_level (Named name) = omega arith
+
+-- ---- what kind of type was read
+
+-- no number behind another is 0
+suc_zero : (n : ℕ) → suc n == 0 ≡ false
+suc_zero n = grind (arith, nat_tests)
+
+-- 0 is less than a number behind another
+zero_less : (n : ℕ) → nat_lt 0 (suc n) ≡ true
+zero_less n = grind (arith, nat_tests)
+
+-- a type of this base with so many stars
+abbrev looking : Base → ℕ → WrittenType
+looking b stars = record { base = b; stars = stars; id = 0; room = 0 }
+
+-- what depends on the base and the stars alone
+by_looks : {X : Type 0} (g : WrittenType → X) (shape : Shape) (most : ℕ) (w : WrittenType) (o : Input) → ((id room : ℕ) (b : Base) (stars : ℕ) → g (record { base = b; stars = stars; id = id; room = room }) ≡ g (looking b stars))
+    → IsTypeRead shape most w o → g w ≡ g (looking (base_of shape) (stars_of shape))
+by_looks g shape most w o same h = same w.id w.room w.base w.stars ∙ ap (λ b. g (looking b w.stars)) h.base_is ∙ ap (λ n. g (looking (base_of shape) n)) h.stars_are
+
+-- how many bits, by the shape
+bits_looks : (shape : Shape) → bits_of (looking (base_of shape) (stars_of shape)) ≡ bits_of_shape shape
+bits_looks (Integer bits) = refl
+bits_looks (Pointer part) = let no_zero = suc_zero (stars_of part) in rw no_zero refl
+bits_looks (Array count part) = refl
+bits_looks Empty = refl
+bits_looks (Struct first rest) = refl
+bits_looks (Named name) = refl
+
+-- how many bits the type has that was read
+pub bits_read : (shape : Shape) (most : ℕ) (w : WrittenType) (o : Input) → IsTypeRead shape most w o → bits_of w ≡ bits_of_shape shape
+bits_read shape most w o h = by_looks bits_of shape most w o (λ id room b stars. refl) h ∙ bits_looks shape
+
+-- whether a word holds it, by the shape
+scalar_looks : (shape : Shape) → is_scalar (looking (base_of shape) (stars_of shape)) ≡ is_scalar_shape shape
+scalar_looks (Integer bits) = refl
+scalar_looks (Pointer part) = let some = zero_less (stars_of part) in rw some refl
+scalar_looks (Array count part) = refl
+scalar_looks Empty = refl
+scalar_looks (Struct first rest) = refl
+scalar_looks (Named name) = refl
+
+-- whether a word holds the type that was read
+pub scalar_read : (shape : Shape) (most : ℕ) (w : WrittenType) (o : Input) → IsTypeRead shape most w o → is_scalar w ≡ is_scalar_shape shape
+scalar_read shape most w o h = by_looks is_scalar shape most w o (λ id room b stars. refl) h ∙ scalar_looks shape
+
+-- whether it is a pointer, by the shape
+pointer_looks : (shape : Shape) → nat_lt 0 (stars_of shape) ≡ is_pointer_shape shape
+pointer_looks (Integer bits) = refl
+pointer_looks (Pointer part) = zero_less (stars_of part)
+pointer_looks (Array count part) = refl
+pointer_looks Empty = refl
+pointer_looks (Struct first rest) = refl
+pointer_looks (Named name) = refl
+
+-- whether the type that was read is a pointer
+pub pointer_read : (shape : Shape) (most : ℕ) (w : WrittenType) (o : Input) → IsTypeRead shape most w o → nat_lt 0 w.stars ≡ is_pointer_shape shape
+pointer_read shape most w o h = ap (nat_lt 0) h.stars_are ∙ pointer_looks shape
+
+-- two and more is not 1
+eight : (n : ℕ) → suc (suc n) == 1 ≡ false
+eight n = grind (arith, nat_tests)
+
+-- one behind a number is 1 where the number is 0
+one_star : (n : ℕ) → suc n == 1 ≡ n == 0
+one_star zero = refl
+one_star (suc n) = eight n ∙ sym (suc_zero n)
+
+-- whether a function may take it, by the shape
+passed_looks : (shape : Shape) → is_passed (looking (base_of shape) (stars_of shape)) ≡ is_passed_shape shape
+passed_looks (Integer bits) = refl
+passed_looks (Pointer (Integer bits)) = refl
+passed_looks (Pointer (Pointer part)) = deep (base_of part) (stars_of part) where
+  deep : (b : Base) (n : ℕ) → is_passed (looking b (suc (suc n))) ≡ false
+  deep (base.Integer bits) n = rw (suc_zero (suc n), eight n) refl
+  deep base.Named n = eight n
+  deep base.Aggregate n = refl
+passed_looks (Pointer (Array count part)) = refl
+passed_looks (Pointer Empty) = refl
+passed_looks (Pointer (Struct first rest)) = refl
+passed_looks (Pointer (Named name)) = refl
+passed_looks (Array count part) = refl
+passed_looks Empty = refl
+passed_looks (Struct first rest) = refl
+passed_looks (Named name) = refl
+
+-- whether a function may take the type that was read
+pub passed_read : (shape : Shape) (most : ℕ) (w : WrittenType) (o : Input) → IsTypeRead shape most w o → is_passed w ≡ is_passed_shape shape
+passed_read shape most w o h = by_looks is_passed shape most w o (λ id room b stars. same b stars id room) h ∙ passed_looks shape where
+  same : (b : Base) (stars id room : ℕ) → is_passed (record { base = b; stars = stars; id = id; room = room }) ≡ is_passed (looking b stars)
+  same (base.Integer bits) stars id room = refl
+  same base.Named stars id room = refl
+  same base.Aggregate stars id room = refl
+
+-- whether a global may hold it, by the shape
+held_looks : (shape : Shape) → is_held (looking (base_of shape) (stars_of shape)) ≡ is_held_shape shape
+held_looks (Integer bits) = refl
+held_looks (Pointer (Integer bits)) = refl
+held_looks (Pointer (Pointer part)) = deep (base_of part) (stars_of part) where
+  deep : (b : Base) (n : ℕ) → is_held (looking b (suc (suc n))) ≡ false
+  deep (base.Integer bits) n = suc_zero (suc n)
+  deep base.Named n = eight n
+  deep base.Aggregate n = refl
+held_looks (Pointer (Array count part)) = refl
+held_looks (Pointer Empty) = refl
+held_looks (Pointer (Struct first rest)) = refl
+held_looks (Pointer (Named name)) = refl
+held_looks (Array count part) = refl
+held_looks Empty = refl
+held_looks (Struct first rest) = refl
+held_looks (Named name) = refl
+
+-- whether a global may hold the type that was read
+pub held_read : (shape : Shape) (most : ℕ) (w : WrittenType) (o : Input) → IsTypeRead shape most w o → is_held w ≡ is_held_shape shape
+held_read shape most w o h = by_looks is_held shape most w o (λ id room b stars. same b stars id room) h ∙ held_looks shape where
+  same : (b : Base) (stars id room : ℕ) → is_held (record { base = b; stars = stars; id = id; room = room }) ≡ is_held (looking b stars)
+  same (base.Integer bits) stars id room = refl
+  same base.Named stars id room = refl
+  same base.Aggregate stars id room = refl

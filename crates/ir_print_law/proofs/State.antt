@@ -1,0 +1,93 @@
+-- The state of reading a printed module again, and how one form follows another.
+use Rattle.std.specs.Prelude.{◌≡◌, ℕ, ◌+◌, ◌≤◌, Bool, true, false, List, length, slice_get, option_and_then}
+use Rattle.ir_ast.specs.Names.{place_of}
+use Rattle.ir_ast.specs.declared.function.Function.{Function}
+use Rattle.ir_ast.specs.declared.ir_type.IrType.{IrType}
+use Rattle.ir_ast.specs.declared.module.Module.{Module}
+use Rattle.ir_tokens.specs.Bytes.{Text}
+use Rattle.ir_forms.specs.Cursor.{spelled, local_key}
+use Rattle.ir_forms.specs.declared.uses.Wanted.{Wanted}
+use Rattle.ir_forms.specs.declared.uses.Wanted.TheVariants as wants
+use Rattle.ir_forms.specs.declared.input.Input.{Input}
+use Rattle.ir_forms.specs.Input.{Form, advanced}
+use Rattle.ir_forms.specs.Names.{is_function, with_struct_use, with_symbol_use, with_local_use}
+use Rattle.ir_forms.specs.Written.{with_type_interned}
+use Rattle.ir_forms.specs.RuntimeNames.{is_left_out}
+use Rattle.name_text.specs.Readings.{AreBytes}
+use Rattle.ir_print.specs.Readings.{IsKey}
+use Rattle.ir_print.specs.Standing.{Stands}
+use Rattle.ir_print_law.specs.Definitions.{value_keys, label_keys, target_keys, defined_structs, defined_globals, functions_of}
+use Rattle.ir_print_law.specs.Shapes.{IsIn}
+use Rattle.ir_print_law.proofs.Tables.{Begins, AreOrdered}
+
+-- which keys may be used as what
+abbrev pub used_keys : Function → Wanted → List Text
+used_keys f wants.Value = value_keys f
+used_keys f wants.Block = label_keys f
+used_keys f wants.Target = target_keys f
+
+-- which global names may be called, and which may be operands
+abbrev pub used_symbols : Module → (is_call : Bool) → List Text
+used_symbols m true = functions_of m
+used_symbols m false = defined_globals m
+
+-- What holds of the names of the state all along, which no form of a type, an operand or an operation breaks.
+pub record Invariant (m : Module) (f : Function) : Type 1 where
+  pub Holds : Input → Type 0
+  -- what is used is named as it is read
+  pub is_key : (wanted : Wanted) (key : Text) → IsIn (used_keys f wanted) key → IsKey key
+  pub is_symbol : (is_call : Bool) (name : Text) → IsIn (used_symbols m is_call) name → AreBytes name × (is_left_out name ≡ false)
+  pub on_token : (i : Input) → Holds i → Holds (advanced i)
+  pub on_type : (i : Input) (t : IrType) → Holds i → Holds (with_type_interned t i)
+  pub on_struct : (i : Input) → IsIn (defined_structs m) (spelled i.cursor) → Holds i → Holds (with_struct_use i)
+  pub on_symbol : (i : Input) (is_call : Bool) → IsIn (used_symbols m is_call) (spelled i.cursor) → Holds i → Holds (with_symbol_use is_call i)
+  pub on_local : (i : Input) (wanted : Wanted) → IsIn (used_keys f wanted) (local_key i.cursor) → Holds i → Holds (with_local_use wanted i)
+  pub no_function : (i : Input) (name : Text) → IsIn (defined_globals m) name → Holds i
+      → is_function (option_and_then (slice_get i.symbols.sorts) (place_of name i.symbols.names)) ≡ false
+
+-- so much room is left that each byte that is left may bring a new type or name
+pub record HasRoom (i : Input) (bytes : ℕ) : Type 0 where
+  pub types : length i.types + bytes ≤ 16777216
+  pub structs : length i.struct_names.names + bytes ≤ 16777216
+  pub symbols : length i.symbols.names + bytes ≤ 16777216
+  pub locals : length i.locals.names + bytes ≤ 16777216
+
+-- reading stands before these bytes, and so many new types and names may come besides
+pub record Ready {m : Module} {f : Function} (v : Invariant m f) (spare : ℕ) (i : Input) (bytes : Text) : Type 0 where
+  pub stands : Stands i.cursor bytes
+  pub ordered : AreOrdered i.types
+  pub room : HasRoom i (length bytes + spare)
+  pub holds : v.Holds i
+
+-- what was read stays, and further types and names come behind it
+pub record Grows (i o : Input) : Type 0 where
+  pub types : Begins i.types o.types
+  pub structs : Begins i.struct_names.names o.struct_names.names
+  pub symbols : Begins i.symbols.names o.symbols.names
+  pub locals : Begins i.locals.names o.locals.names
+  pub same_structs : o.structs ≡ i.structs
+  pub same_globals : o.globals ≡ i.globals
+  pub same_declares : o.declares ≡ i.declares
+  pub same_functions : o.functions ≡ i.functions
+  pub same_missing : o.missing ≡ i.missing
+  pub same_values : o.values ≡ i.values
+  pub same_unnamed : o.unnamed ≡ i.unnamed
+
+-- a module, with the names of a function in it, whose tables begin with those that were read so far
+pub record IsLater (i : Input) (n : Module) (others : List Text) : Type 0 where
+  pub types : Begins i.types n.types
+  pub structs : Begins i.struct_names.names n.struct_names
+  pub symbols : Begins i.symbols.names n.symbols
+  pub locals : Begins i.locals.names others
+
+-- The form reads the bytes up to these, and what it gives is good then.
+abbrev pub Reads : {m : Module} {f : Function} (v : Invariant m f) (spare : ℕ) {A : Type 0} → Form A → Input → (rest : Text) → (Good : A → Input → Type 0) → Type 0
+Reads v spare {A = A} form i rest Good = (a : A) × (o : Input) × form.says i a o × Ready v spare o rest × Grows i o × Good a o
+
+-- nothing more is asked
+abbrev pub Any : {A : Type 0} → A → Input → Type 0
+Any a o = Unit {0}
+
+-- what is printed of it is this text, in each module later on
+abbrev pub Prints : {A : Type 0} → (shown : Module → List Text → A → Text) → (text : Text) → A → Input → Type 0
+Prints shown text a o = (n : Module) (locals : List Text) → IsLater o n locals → shown n locals a ≡ text

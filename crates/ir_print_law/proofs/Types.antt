@@ -1,0 +1,245 @@
+-- A printed type is read as a type of the same shape.
+use Rattle.std.proofs.Common.{◌≡◌, ℕ, zero, suc, ◌+◌, ◌<◌, ◌≤◌, ◌^◌, Bool, true, false, not, [], ◌∷◌, ◌++◌, length, slice_get, if◌then◌else◌, Some, is_some, unwrap_or, refl, sym, ap, subst, ◌∙◌, arith, length-append}
+use Rattle.std.specs.Prelude.{◌==◌, nat_lt, nat_le}
+use Rattle.std.specs.List.{list_all}
+use Rattle.std.specs.Fmt as text
+use Rattle.std.proofs.lemmas.Bool.Decides.{nat_tests}
+use Rattle.grammar.specs.Grammar.{pure, refuse, ◌>>=◌, ◌>>◌}
+use Rattle.ir_ast.specs.Names.{number_of, numbered, place_of}
+use Rattle.ir_ast.specs.declared.function.Function.{Function}
+use Rattle.ir_ast.specs.declared.ir_type.IrType.{IrType}
+use Rattle.ir_ast.specs.declared.ir_type.IrType.TheVariants as type
+use Rattle.ir_ast.specs.declared.module.Module.{Module}
+use Rattle.ir_tokens.specs.declared.token.Kind.{Kind}
+use Rattle.ir_tokens.specs.declared.token.Kind.TheVariants as k
+use Rattle.ir_tokens.specs.Bytes.{Text, class_of, is_digit}
+use Rattle.ir_forms.specs.Cursor.{kind, sees, spelled, spelling, left_out}
+use Rattle.ir_forms.specs.Number as numbers
+use Rattle.ir_forms.specs.declared.input.Input.{Input}
+use Rattle.ir_forms.specs.declared.written.Base.{Base}
+use Rattle.ir_forms.specs.declared.written.Base.TheVariants as base
+use Rattle.ir_forms.specs.declared.written.WrittenType.{WrittenType}
+use Rattle.ir_forms.specs.Input.{limit, advanced, skip}
+use Rattle.ir_forms.specs.Names.{struct_name, with_struct_use}
+use Rattle.ir_forms.specs.Written as w
+use Rattle.ir_forms.specs.Written.{intern, integer, pointers, star_or, at_star, starred as with_starred, with_stars, no_parameters, part_of, interned, part, firm, over, type_within}
+use Rattle.name_text.specs.Names.{name_text, is_plain, quoted_text}
+use Rattle.name_text.specs.Readings.{AreBytes}
+use Rattle.name_text.specs.declared.blank.Blank.TheVariants as blank
+use Rattle.ir_print.specs.Standing.{Stands, IsSeam, AreBlanks, AreDigits}
+use Rattle.ir_print.specs.Stars.{stars}
+use Rattle.name_text.proofs.Spelled.{number_is}
+use Rattle.ir_print.proofs.Constants.{integer_types_are_read, are_digits}
+use Rattle.ir_print.proofs.NamesRead.{struct_names_are_read}
+use Rattle.name_text.proofs.Seams.{both}
+use Rattle.ir_print.proofs.Words.{local_comes, seen}
+use Rattle.ir_print_law.specs.Definitions.{defined_structs}
+use Rattle.ir_print_law.specs.Shapes.{IsIn, Shape, Integer, Pointer, Named, HasShape, levels}
+use Rattle.ir_print_law.proofs.Tables.{AreOrdered, IsRestBefore, begins_itself, name_begins, name_length, place_there, place_stays, number_within}
+use Rattle.ir_print_law.proofs.State.{Invariant, Ready, Grows, Reads}
+use Rattle.ir_print_law.proofs.Shown.{shown, starred, base_of, stars_of, IsTypeRead, shape_stays, starred_levels, starred_base, starred_stars}
+use Rattle.ir_print_law.proofs.Steps.{go_on, so, given, token_then, shorter, checked_then, looked, sign_skipped, sign_kind, intern_reads, unlike}
+
+-- ---- what stands behind a type
+
+-- a token of this kind ends a type
+abbrev pub ends_type : Kind → Bool
+ends_type k.Star = false
+ends_type k.OpenRound = false
+ends_type _ = true
+
+-- the token that comes where reading stands before these bytes is of such a kind
+abbrev pub Comes : (Kind → Bool) → Text → Type 0
+Comes test rest = (i : Input) → Stands i.cursor rest → test (kind i.cursor) ≡ true
+
+-- a type ends before these bytes
+abbrev pub EndsType : Text → Type 0
+EndsType rest = IsSeam rest × Comes ends_type rest
+
+-- a printed name is not empty
+name_text_some : (name : Text) → 1 ≤ length (name_text blank.Kept name)
+name_text_some name = by name (is_plain name) refl where
+  by : (name : Text) (t : Bool) → is_plain name ≡ t → 1 ≤ length (if t then name else quoted_text blank.Kept name)
+  by name false e = omega arith
+  by [] true e = absurd cc
+  by (b ∷ name) true e = omega arith
+
+-- a digit is no minus
+no_minus : (b : ℕ) → is_digit b ≡ true → b == 45 ≡ false
+no_minus b e = let low : nat_le 48 b ≡ true = (both (nat_le 48 b) (nat_le b 57) e).0 in grind (arith, nat_tests)
+
+-- digits spell their number
+natural_of : (digits : Text) (n : ℕ) → AreDigits digits → numbers.decimal digits ≡ n → n < 2 ^ 64 → numbers.natural digits ≡ Some n
+unfolding numbers.natural
+natural_of [] n own is less = absurd (let h = own.0 in omega (arith, h))
+natural_of (b ∷ digits) n own is less =
+    let minus = no_minus b (both (is_digit b) (list_all is_digit digits) own.1).0 in
+    let small : nat_lt n 18446744073709551616 ≡ true = grind (arith, nat_tests) in
+    rw (minus, is, small) refl
+
+-- a printed length spells that length
+natural_is : (n : ℕ) → n < 2 ^ 64 → numbers.natural (text.decimal n) ≡ Some n
+natural_is n less = natural_of (text.decimal n) n (are_digits n less) (number_is n less) less
+
+module _ {m : Module} {f : Function} (v : Invariant m f) where
+  -- ---- stars
+
+  -- so many stars were read
+  abbrev StarsRead : (count room : ℕ) → Shape → ℕ × ℕ → Input → Type 0
+  StarsRead count room shape found o = (found.0 + count ≡ room) × HasShape o.types o.struct_names.names (starred count shape) found.1
+
+  -- no star comes
+  star_free : (i : Input) (rest : Text) (s : ℕ) → EndsType rest → Ready v s i rest → at_star i ≡ false
+  star_free i rest s ends ready = unlike k.Star ends_type i refl (ends.1 i ready.stands)
+
+  -- stars are read as pointer types
+  stars_read : (count room number : ℕ) (shape : Shape) (i : Input) (rest : Text) (s : ℕ) → count ≤ room → HasShape i.types i.struct_names.names shape number → EndsType rest
+      → Ready v s i (stars count ++ rest) → Reads v s (pointers room number) i rest (StarsRead count room shape)
+  unfolding pointers class_of
+  stars_read zero zero number shape i rest s le has ends ready =
+      looked v at_star (star_or (refuse limit) (pure (0, number))) i rest s (StarsRead 0 0 shape) false (star_free i rest s ends ready)
+      (given v (0, number) i rest s (StarsRead 0 0 shape) ready (refl, has))
+  stars_read zero (suc room) number shape i rest s le has ends ready =
+      looked v at_star (star_or (skip >> intern (type.Pointer number) >>= pointers room) (pure (suc room, number))) i rest s (StarsRead 0 (suc room) shape) false (star_free i rest s ends ready)
+      (given v (suc room, number) i rest s (StarsRead 0 (suc room) shape) ready (omega arith, has))
+  stars_read (suc count) zero number shape i rest s le has ends ready = absurd (omega (arith, le))
+  stars_read (suc count) (suc room) number shape i rest s le has ends ready =
+      let behind = stars count ++ rest in
+      let good = StarsRead (suc count) (suc room) shape in
+      let star = skip >> intern (type.Pointer number) in
+      looked v at_star (star_or (skip >> intern (type.Pointer number) >>= pointers room) (pure (suc room, number))) i rest s good true
+      (seen k.Star i (sign_kind v 42 k.Star i [] behind s refl refl refl ready))
+      (go_on v star (pointers room) i behind rest s s (λ n o. HasShape o.types o.struct_names.names (Pointer shape) n) good
+      (go_on v skip (λ _. intern (type.Pointer number)) i behind behind (s + 1) s (λ _ o. advanced i ≡ o) (λ n o. HasShape o.types o.struct_names.names (Pointer shape) n)
+      (sign_skipped v 42 k.Star i [] behind s (s + 1) refl refl refl (omega arith) ready)
+      (λ _ o ready g e. so v (intern (type.Pointer number)) o behind s (λ n p. slice_get p.types n ≡ Some (type.Pointer number)) (λ n p. HasShape p.types p.struct_names.names (Pointer shape) n)
+      (intern_reads v (type.Pointer number) o behind s tt ready)
+      (λ n p h there. (
+        number,
+        there,
+        shape_stays o.types p.types o.struct_names.names p.struct_names.names shape number h.types h.structs
+            (shape_stays i.types o.types i.struct_names.names o.struct_names.names shape number g.types g.structs has),
+      ))))
+      (λ n o ready g has. so v (pointers room n) o rest s (StarsRead count room (Pointer shape)) good
+      (stars_read count room n (Pointer shape) o rest s (omega (arith, le)) has ends ready)
+      (λ found p h read. let e = read.0 in (omega (arith, e), read.1))))
+
+  -- the stars behind what was read
+  starred_read : (count room : ℕ) (shape : Shape) (p : WrittenType) (i : Input) (rest : Text) (s : ℕ) → stars_of shape ≡ 0 → levels shape + count ≤ suc room → EndsType rest
+      → IsTypeRead shape (suc room) p i → Ready v s i (stars count ++ rest) → Reads v s (with_starred p) i rest (IsTypeRead (starred count shape) (suc room))
+  unfolding with_starred
+  starred_read count room shape p i rest s none le ends read ready =
+      let good = IsTypeRead (starred count shape) (suc room) in
+      let fits = read.fits in
+      go_on v (pointers p.room p.id) (λ found. no_parameters >> pure (with_stars p found)) i rest rest s s (StarsRead count p.room shape) good
+      (stars_read count p.room p.id shape i rest s (omega (arith, fits, le)) read.has_shape ends ready)
+      (λ found o ready g stars.
+      let plain = unlike k.OpenRound ends_type o refl (ends.1 o ready.stands) in
+      let e = stars.0 in
+      let levels_e = starred_levels count shape in
+      let stars_e = starred_stars count shape in
+      checked_then v (λ i. not (sees k.OpenRound i.cursor)) (λ i. left_out i.cursor) (pure (with_stars p found)) o rest s good (ap not plain)
+      (given v (with_stars p found) o rest s good ready (record {
+        has_shape = stars.1;
+        fits = omega (arith, fits, e, levels_e);
+        base_is = read.base_is ∙ sym (starred_base count shape);
+        stars_are = omega (arith, e, stars_e, none);
+      })))
+
+  -- a type before its stars, and then the stars
+  pub over_read : (count room : ℕ) (shape : Shape) (i : Input) (rest : Text) (s : ℕ) → stars_of shape ≡ 0 → levels shape + count ≤ suc room → EndsType rest
+      → Reads v s (w.base room (firm room)) i (stars count ++ rest) (IsTypeRead shape (suc room)) → Reads v s (part (suc room)) i rest (IsTypeRead (starred count shape) (suc room))
+  unfolding firm
+  over_read count room shape i rest s none le ends h =
+      go_on v (w.base room (firm room)) with_starred i (stars count ++ rest) rest s s (IsTypeRead shape (suc room)) (IsTypeRead (starred count shape) (suc room)) h
+      (λ p o ready g read. starred_read count room shape p o rest s none le ends read ready)
+
+  -- ---- types before their stars
+
+  -- a type that comes into the table
+  pub interned_read : (b : Base) (room most : ℕ) (t : IrType) (shape : Shape) (i : Input) (bytes : Text) (s : ℕ) → IsRestBefore (length i.types) t → b ≡ base_of shape → stars_of shape ≡ 0 → levels shape + room ≡ most
+      → ((n : ℕ) (o : Input) → Grows i o → AreOrdered o.types → slice_get o.types n ≡ Some t → HasShape o.types o.struct_names.names shape n)
+      → Ready v (s + 1) i bytes → Reads v s (interned b room t) i bytes (IsTypeRead shape most)
+  interned_read b room most t shape i bytes s last base_is none fits has ready =
+      go_on v (intern t) (λ id. pure (part_of b room id)) i bytes bytes s s (λ n o. slice_get o.types n ≡ Some t) (IsTypeRead shape most)
+      (intern_reads v t i bytes s last ready)
+      (λ n o ready g there. given v (part_of b room n) o bytes s (IsTypeRead shape most) ready
+      (record { has_shape = has n o g ready.ordered there; fits = fits; base_is = base_is; stars_are = sym none }))
+
+  -- an integer type is read
+  pub integer_read : (bits room : ℕ) (i : Input) (gap behind : Text) (s : ℕ) → 1 ≤ bits → bits ≤ 64 → AreBlanks gap → IsSeam behind → Ready v s i (gap ++ (shown false (Integer bits) ++ behind))
+      → Reads v s (w.base room (firm room)) i behind (IsTypeRead (Integer bits) (suc room))
+  integer_read bits room i gap behind s some most blanks seam ready =
+      let r = integer_types_are_read bits i gap behind some most blanks seam ready.stands in
+      let good = IsTypeRead (Integer bits) (suc room) in
+      looked v (λ i. kind i.cursor) (w.base_by room (firm room)) i behind s good k.IntegerType r.0
+      (token_then v integer (λ n. interned (base.Integer n) room (type.Integer n)) i bits (gap ++ (shown false (Integer bits) ++ behind)) behind behind s (s + 1) s good r.1 ready r.2
+      (shorter v gap (shown false (Integer bits)) behind s (s + 1) (omega arith))
+      (λ ready. interned_read (base.Integer bits) room (suc room) (type.Integer bits) (Integer bits) (advanced i) behind s tt refl refl (omega arith) (λ n o g ordered there. there) ready))
+
+  -- the name of a struct
+  pub struct_read : (name : Text) (i : Input) (gap behind : Text) (s : ℕ) → AreBytes name → IsIn (defined_structs m) name → AreBlanks gap → IsSeam behind
+      → Ready v s i (gap ++ 37 ∷ (name_text blank.Kept name ++ behind)) → Reads v (s + 1) struct_name i behind (λ n o. place_of name o.struct_names.names ≡ Some n)
+  struct_read name i gap behind s own there blanks seam ready =
+      let room = ready.room in
+      let names = i.struct_names.names in
+      let a = length-append gap (37 ∷ (name_text blank.Kept name ++ behind)) in
+      let b = length-append (name_text blank.Kept name) behind in
+      let some = name_text_some name in
+      let types = room.types in
+      let structs = room.structs in
+      let symbols = room.symbols in
+      let locals = room.locals in
+      let within = number_within name names in
+      let few : number_of name i.struct_names.names < 2 ^ 32 = omega (arith, within, structs) in
+      let r = struct_names_are_read name i gap behind own few blanks seam ready.stands in
+      let longer = name_length (spelled i.cursor) names in (
+        number_of name names,
+        with_struct_use i,
+        r.0,
+        record {
+          stands = r.2;
+          ordered = ready.ordered;
+          room = record {
+            types = omega (arith, types, a, b, some);
+            structs = omega (arith, structs, a, b, some, longer);
+            symbols = omega (arith, symbols, a, b, some);
+            locals = omega (arith, locals, a, b, some);
+          };
+          holds = v.on_struct i (subst (λ (x : Text). IsIn (defined_structs m) x) (sym r.1) there) ready.holds;
+        },
+        record {
+          types = begins_itself i.types;
+          structs = name_begins (spelled i.cursor) names;
+          symbols = begins_itself i.symbols.names;
+          locals = begins_itself i.locals.names;
+          same_structs = refl;
+          same_globals = refl;
+          same_declares = refl;
+          same_functions = refl;
+          same_missing = refl;
+          same_values = refl;
+          same_unnamed = refl;
+        },
+        subst (λ (x : Text). place_of name (numbered x names) ≡ Some (number_of name names)) (sym r.1) (place_there name names),
+      )
+
+  -- the name of a struct is read as a type
+  pub named_read : (name : Text) (room : ℕ) (i : Input) (gap behind : Text) (s : ℕ) → AreBytes name → IsIn (defined_structs m) name → AreBlanks gap → IsSeam behind
+      → Ready v s i (gap ++ (shown false (Named name) ++ behind)) → Reads v s (w.base room (firm room)) i behind (IsTypeRead (Named name) (suc room))
+  named_read name room i gap behind s own there blanks seam ready =
+      let good = IsTypeRead (Named name) (suc room) in
+      looked v (λ i. kind i.cursor) (w.base_by room (firm room)) i behind s good k.LocalName (local_comes i.cursor gap name behind blanks own seam ready.stands).0
+      (go_on v struct_name (λ n. interned base.Named room (type.Named n)) i behind behind (s + 1) s (λ n o. place_of name o.struct_names.names ≡ Some n) good
+      (struct_read name i gap behind s own there blanks seam ready)
+      (λ n o ready g is. interned_read base.Named room (suc room) (type.Named n) (Named name) o behind s tt refl refl (omega arith)
+      (λ k p h ordered found. (n, found, place_stays name o.struct_names.names p.struct_names.names n h.structs is)) ready))
+
+  -- ---- arrays
+
+  -- the length of an array is read
+  pub length_said : (count : ℕ) (i : Input) → count < 2 ^ 64 → kind i.cursor ≡ k.Number → spelling i.cursor ≡ text.decimal count → w.array_length.says i count (advanced i)
+  unfolding w.array_length w.length_at
+  length_said count i less is spelled_so =
+      let e : w.length_at i ≡ Some count = ap numbers.natural spelled_so ∙ natural_is count less in
+      (tt, i, (tt, i, (seen k.Number i is, refl), (ap is_some e, refl)), (ap (λ x. unwrap_or x 0) e, refl))

@@ -1,0 +1,325 @@
+-- A type that is read has a shape.
+use Rattle.std.proofs.Common.{◌≡◌, ℕ, zero, suc, ◌+◌, ◌<◌, ◌≤◌, ◌^◌, Bool, true, false, List, [], ◌∷◌, if◌then◌else◌, Option, None, Some, unwrap_or, refl, sym, ap, subst, ◌∙◌, arith}
+use Rattle.std.specs.Prelude.{nat_lt, nat_le, max, min, ◌&&◌, ◌==◌, option_and_then}
+use Rattle.std.specs.List.{AllByRecursion}
+use Rattle.std.proofs.lemmas.Bool.Decides.{nat_tests}
+use Rattle.grammar.specs.Grammar.{pure, refuse, step, ◌>>=◌, ◌>>◌}
+use Rattle.ir_ast.specs.declared.ir_type.IrType.{IrType}
+use Rattle.ir_ast.specs.declared.ir_type.IrType.TheVariants as type
+use Rattle.ir_ast.specs.declared.module.Module.{Module}
+use Rattle.ir_tokens.specs.declared.token.Kind.{Kind}
+use Rattle.ir_tokens.specs.declared.token.Kind.TheVariants as k
+use Rattle.ir_forms.specs.declared.fault.Fault.TheVariants.{OutOfRange}
+use Rattle.ir_forms.specs.Cursor.{start, kind, spelling}
+use Rattle.ir_forms.specs.Number as numbers
+use Rattle.ir_forms.specs.declared.input.Input.{Input}
+use Rattle.ir_forms.specs.declared.written.Base.{Base}
+use Rattle.ir_forms.specs.declared.written.Base.TheVariants as base
+use Rattle.ir_forms.specs.declared.written.WrittenType.{WrittenType}
+use Rattle.ir_forms.specs.Input.{limit, advanced, advanced_falls, skip}
+use Rattle.ir_forms.specs.Names.{struct_name}
+use Rattle.ir_forms.specs.Written as w
+use Rattle.ir_forms.specs.Written.{intern, integer, bits_at, has_bits, length_at, has_length, array_length, pointers, star_or, at_star, at_brace, comma_or, behind_field, field, field_takes, before, struct_of, starred as with_starred, with_stars, no_parameters, part_of, interned, part, firm, Firm, over, no_type, type_within}
+use Rattle.ir_print_law.specs.Definitions.{defined_structs}
+use Rattle.ir_print_law.specs.Shapes.{Shape, Integer, Pointer, Array, Empty, Struct, Named, HasShape, IsWritten, IsStruct, levels}
+use Rattle.ir_print_law.proofs.Forms.{Keeps, Same, Any, stepped, where_true, all}
+use Rattle.ir_print_law.proofs.Looks.{starred, base_of, stars_of, IsTypeOf, IsShaped, starred_levels, starred_base, starred_stars, starred_written}
+use Rattle.ir_print_law.proofs.Reading.{Reading}
+use Rattle.ir_print_law.proofs.Tokens.{IsAt, IsInterned, Has, skip_keeps, expect_keeps, intern_goes, interned_keeps, struct_name_keeps}
+
+both : (a b : Bool) → (a && b) ≡ true → (a ≡ true) × (b ≡ true)
+both true true e = (refl, refl)
+both true false e = absurd cc
+both false b e = absurd cc
+
+-- so many bits as an integer type may have
+abbrev AreBits : ℕ → Type 0
+AreBits bits = (1 ≤ bits) × (bits ≤ 64)
+
+-- what stars make of a type
+abbrev IsStarred : Module → (room pointee : ℕ) → ℕ × ℕ → Type 0
+IsStarred m room pointee found = (shape : Shape) → HasShape m.types m.struct_names shape pointee → (count : ℕ) × (found.0 + count ≡ room) × HasShape m.types m.struct_names (starred count shape) found.1
+
+-- a type without stars
+abbrev pub IsBare : Module → (most : ℕ) → WrittenType → Type 0
+IsBare m most p = (shape : Shape) × IsTypeOf m most p shape × (p.stars ≡ 0)
+
+-- a struct, which has so many levels in all
+abbrev pub IsWhole : Module → (most : ℕ) → WrittenType → Type 0
+IsWhole m most p = (shape : Shape) × IsTypeOf m most p shape × (p.stars ≡ 0) × IsStruct shape
+
+module _ {m : Module} (r : Reading m) where
+  -- ---- stars
+
+  star_keeps : (room pointee : ℕ) (i : Input) → Keeps r.Fore (Same r.Fore) r.Back (pointers room pointee) (IsStarred m room pointee) i
+  unfolding pointers
+  star_keeps zero pointee i = by (at_star i) where
+    by : (t : Bool) → Keeps r.Fore (Same r.Fore) r.Back (star_or (refuse limit) (pure (0, pointee)) t) (IsStarred m 0 pointee) i
+    by true = λ a o h f. absurd h
+    by false = λ a o h f. (subst r.Fore h.1 f, λ b. (subst r.Back (sym h.1) b, subst (IsStarred m 0 pointee) h.0 (λ shape has. (0, refl, has))))
+  star_keeps (suc room) pointee i = by (at_star i) (λ n j. star_keeps room n j) where
+    by : (t : Bool) → ((n : ℕ) (j : Input) → Keeps r.Fore (Same r.Fore) r.Back (pointers room n) (IsStarred m room n) j) → Keeps r.Fore (Same r.Fore) r.Back (star_or (skip >> intern (type.Pointer pointee) >>= pointers room) (pure (suc room, pointee)) t) (IsStarred m (suc room) pointee) i
+    by true further = λ a o h f.
+        let x = skip_keeps r i h.2.0 h.2.1 h.2.2 f in
+        let y = intern_goes r (type.Pointer pointee) h.2.1 tt h.0 h.1 h.2.3 x.0 in
+        let z = further h.0 h.1 a o h.3 y.0 in (
+          z.0,
+          λ b.
+              let c = z.1 b in
+              let d = y.1 c.0 in
+              let e = x.1 d.0 in (
+                e.0,
+                λ shape has.
+                    let u = c.1 (Pointer shape) (pointee, d.1.0, has) in
+                    let n = u.1 in
+                    (suc u.0, omega (arith, n), u.2),
+              ),
+        )
+    by false further = λ a o h f. (subst r.Fore h.1 f, λ b. (subst r.Back (sym h.1) b, subst (IsStarred m (suc room) pointee) h.0 (λ shape has. (0, omega arith, has))))
+
+  starred_type : (most : ℕ) (p : WrittenType) (found : ℕ × ℕ) → IsBare m most p → IsStarred m p.room p.id found → IsShaped m most (with_stars p found)
+  starred_type most p found bare stars =
+      let shape = bare.0 in
+      let own = bare.1 in
+      let u = stars shape own.has_shape in
+      let fits = own.fits in
+      let none = bare.2 ∙ refl in
+      let flat = own.stars_are in
+      let n = u.1 in
+      let levels_e = starred_levels u.0 shape in
+      let stars_e = starred_stars u.0 shape in (
+        starred u.0 shape,
+        record {
+          has_shape = u.2;
+          fits = omega (arith, fits, n, levels_e);
+          is_written = starred_written (defined_structs m) u.0 shape own.is_written;
+          base_is = own.base_is ∙ sym (starred_base u.0 shape);
+          stars_are = omega (arith, n, stars_e, none, flat);
+        },
+      )
+
+  starred_keeps : (most : ℕ) (p : WrittenType) (i : Input) → Keeps r.Fore (Same r.Fore) r.Back (with_starred p) (λ w. IsBare m most p → IsShaped m most w) i
+  unfolding with_starred
+  starred_keeps most p i w o h f =
+      let x = star_keeps p.room p.id i h.0 h.1 h.2 f in
+      let rule = h.3.2 in
+      let end = h.3.3 in
+      let same = rule.1 ∙ end.1 in (
+        subst r.Fore same x.0,
+        λ b.
+            let c = x.1 (subst r.Back (sym same) b) in
+            (c.0, λ bare. subst (IsShaped m most) end.0 (starred_type most p h.0 bare c.1)),
+      )
+
+  -- ---- types before their stars
+
+  integer_keeps : (i : Input) → Keeps r.Fore (Same r.Fore) r.Back integer AreBits i
+  unfolding integer
+  integer_keeps i =
+      where_true r.Back r.Fore (Same r.Fore) AreBits (λ i. nat_le 1 (bits_at i) && nat_le (bits_at i) 64) (λ i. OutOfRange (start i.cursor)) (step bits_at advanced advanced_falls) i
+      (λ e. stepped r.Back r.Fore (Same r.Fore) AreBits bits_at advanced advanced_falls i
+      (λ f. (
+        r.on_token i f,
+        λ b.
+            let t = both (nat_le 1 (bits_at i)) (nat_le (bits_at i) 64) e in
+            let low = t.0 in
+            let high = t.1 in
+            (r.from_token i b, (grind (arith, nat_tests), grind (arith, nat_tests))),
+      )))
+
+  bare_of : (b : Base) (room most : ℕ) (t : IrType) (shape : Shape) (p : WrittenType) → b ≡ base_of shape → stars_of shape ≡ 0 → levels shape + room ≡ most → IsWritten (defined_structs m) shape
+      → IsInterned m b room t p → (IsAt m t p.id → HasShape m.types m.struct_names shape p.id) → IsBare m most p
+  bare_of b room most t shape p base_is flat fits written own has =
+      let e = own.3 in (
+        shape,
+        record {
+          has_shape = has own.0;
+          fits = ap (λ n. levels shape + n) e ∙ fits;
+          is_written = written;
+          base_is = own.1 ∙ base_is;
+          stars_are = own.2 ∙ sym flat;
+        },
+        own.2,
+      )
+
+  integer_type_keeps : (room : ℕ) (i : Input) → Keeps r.Fore (Same r.Fore) r.Back (integer >>= λ bits. interned (base.Integer bits) room (type.Integer bits)) (IsBare m (suc room)) i
+  integer_type_keeps room i p o h f =
+      let x = integer_keeps i h.0 h.1 h.2 f in
+      let y = interned_keeps r (base.Integer h.0) room (type.Integer h.0) h.1 tt p o h.3 x.0 in (
+        y.0.0,
+        λ b.
+            let c = y.1 b in
+            let d = x.1 c.0 in
+            (d.0, bare_of (base.Integer h.0) room (suc room) (type.Integer h.0) (Integer h.0) p refl refl (omega arith) d.1 c.1 (λ at. at.0)),
+      )
+
+  named_type_keeps : (room : ℕ) (i : Input) → Keeps r.Fore (Same r.Fore) r.Back (struct_name >>= λ name. interned base.Named room (type.Named name)) (IsBare m (suc room)) i
+  named_type_keeps room i p o h f =
+      let x = struct_name_keeps r i h.0 h.1 h.2 f in
+      let y = interned_keeps r base.Named room (type.Named h.0) h.1 tt p o h.3 x.0 in (
+        y.0.0,
+        λ b.
+            let c = y.1 b in
+            let d = x.1 c.0 in
+            (d.0, bare_of base.Named room (suc room) (type.Named h.0) (Named d.1.0) p refl refl (omega arith) (d.1.2, d.1.3) c.1 (λ at. (h.0, at.0, d.1.1))),
+      )
+
+  -- ---- arrays
+
+  small_less : (n : ℕ) → unwrap_or (numbers.small n) 0 < 2 ^ 64
+  small_less n = by (nat_lt n 18446744073709551616) refl where
+    by : (t : Bool) → nat_lt n 18446744073709551616 ≡ t → unwrap_or (if t then Some n else None) 0 < 2 ^ 64
+    by true less = grind (arith, nat_tests)
+    by false less = omega arith
+
+  opposite_less : (x : Option ℕ) → unwrap_or (option_and_then numbers.not_below_zero x) 0 < 2 ^ 64
+  opposite_less None = omega arith
+  opposite_less (Some n) = by (n == 0) where
+    by : (t : Bool) → unwrap_or (if t then Some 0 else None) 0 < 2 ^ 64
+    by true = omega arith
+    by false = omega arith
+
+  natural_less : (s : List ℕ) → unwrap_or (numbers.natural s) 0 < 2 ^ 64
+  unfolding numbers.natural
+  natural_less [] = small_less (numbers.decimal [])
+  natural_less (byte ∷ digits) = by (byte == 45) where
+    by : (t : Bool) → unwrap_or (if t then option_and_then numbers.not_below_zero (numbers.small (numbers.decimal digits)) else numbers.small (numbers.decimal (byte ∷ digits))) 0 < 2 ^ 64
+    by true = opposite_less (numbers.small (numbers.decimal digits))
+    by false = small_less (numbers.decimal (byte ∷ digits))
+
+  length_keeps : (i : Input) → Keeps r.Fore (Same r.Fore) r.Back array_length (λ n. n < 2 ^ 64) i
+  unfolding array_length length_at
+  length_keeps i n o h f =
+      let same = h.2.2.1 ∙ h.2.3.1 in
+      let x = stepped r.Back r.Fore (Same r.Fore) (λ n. n < 2 ^ 64) (λ i. unwrap_or (length_at i) 0) advanced advanced_falls h.1
+      (λ f. (r.on_token h.1 f, λ b. (r.from_token h.1 b, natural_less (spelling h.1.cursor)))) n o h.3 (subst r.Fore same f) in
+      (x.0, λ b. let c = x.1 b in (subst r.Back (sym same) c.0, c.1))
+
+  array_keeps : (room : ℕ) (inner : Firm) → ((i : Input) → Keeps r.Fore (Same r.Fore) r.Back inner.form (IsShaped m room) i) → (i : Input)
+      → Keeps r.Fore (Same r.Fore) r.Back (w.array inner) (IsBare m (suc room)) i
+  array_keeps room inner part i p o h f =
+      let t = h.3 in
+      let u = t.3 in
+      let v = u.3 in
+      let z = v.3 in
+      let a = skip_keeps r i h.0 h.1 h.2 f in
+      let b = length_keeps h.1 t.0 t.1 t.2 a.0 in
+      let c = expect_keeps r k.X t.1 u.0 u.1 u.2 b.0 in
+      let d = part u.1 v.0 v.1 v.2 c.0 in
+      let e = expect_keeps r k.CloseSquare v.1 z.0 z.1 z.2 d.0 in
+      let g = interned_keeps r base.Aggregate v.0.room (type.Array t.0 v.0.id) z.1 tt p o z.3 e.0 in (
+        g.0.0,
+        λ back.
+            let gb = g.1 back in
+            let eb = e.1 gb.0 in
+            let db = d.1 eb.0 in
+            let cb = c.1 db.0 in
+            let bb = b.1 cb.0 in
+            let ab = a.1 bb.0 in
+            let own = db.1.1 in
+            let shape = db.1.0 in
+            let fits = own.fits in
+            (ab.0, bare_of base.Aggregate v.0.room (suc room) (type.Array t.0 v.0.id) (Array t.0 shape) p refl refl (omega (arith, fits)) (bb.1, own.is_written) gb.1 (λ at. (v.0.id, at.0, own.has_shape))),
+      )
+
+  -- ---- structs
+
+  behind_field_keeps : (i : Input) → Keeps r.Fore (Same r.Fore) r.Back behind_field Any i
+  unfolding behind_field
+  behind_field_keeps i = by (at_brace i) where
+    by : (t : Bool) → Keeps r.Fore (Same r.Fore) r.Back (comma_or t) Any i
+    by true = λ a o h f. (subst r.Fore h.1 f, λ b. (subst r.Back (sym h.1) b, tt))
+    by false = λ a o h f.
+        let x = expect_keeps r k.Comma i h.0 h.1 h.2 f in
+        (subst r.Fore h.3.1 x.0, λ b. let c = x.1 (subst r.Back (sym h.3.1) b) in (c.0, tt))
+
+  field_keeps : (room : ℕ) (inner : Firm) → ((i : Input) → Keeps r.Fore (Same r.Fore) r.Back inner.form (IsShaped m room) i) → (i : Input)
+      → Keeps r.Fore (Same r.Fore) r.Back (field inner) (IsShaped m room) i
+  field_keeps room inner part i p o h f =
+      let t = h.3 in
+      let a = part i h.0 h.1 h.2 f in
+      let b = behind_field_keeps h.1 t.0 t.1 t.2 a.0 in (
+        subst r.Fore t.3.1 b.0,
+        λ back.
+            let c = b.1 (subst r.Back (sym t.3.1) back) in
+            let d = a.1 c.0 in
+            (d.0, subst (IsShaped m room) t.3.0 d.1),
+      )
+
+  fits_struct : (p whole room a b : ℕ) → a + p ≡ room → b + whole ≡ suc room → max (suc a) b + min p whole ≡ suc room
+  fits_struct p whole room a b e g = omega (arith, e, g)
+
+  whole_of : (room : ℕ) (p whole w : WrittenType) → IsInterned m base.Aggregate (min p.room whole.room) (type.Struct p.id whole.id) w → IsShaped m room p → IsWhole m (suc room) whole → IsWhole m (suc room) w
+  whole_of room p whole w own field rest =
+      let e = own.3 in
+      let first_fits = field.1.fits in
+      let rest_fits = rest.1.fits in (
+        Struct field.0 rest.0,
+        record {
+          has_shape = (p.id, whole.id, own.0.0, own.0.1, field.1.has_shape, rest.1.has_shape);
+          fits = ap (λ n. levels (Struct field.0 rest.0) + n) e ∙ fits_struct p.room whole.room room (levels field.0) (levels rest.0) first_fits rest_fits;
+          is_written = (rest.3, field.1.is_written, rest.1.is_written);
+          base_is = own.1;
+          stars_are = own.2;
+        },
+        own.2,
+        tt,
+      )
+
+  before_keeps : (room : ℕ) (parts : List WrittenType) (whole : WrittenType) (i : Input)
+      → Keeps (Has r.Fore whole.id) (λ w o. Has r.Fore w.id o) r.Back (before parts whole) (λ w. AllByRecursion (IsShaped m room) parts → IsWhole m (suc room) whole → IsWhole m (suc room) w) i
+  unfolding before
+  before_keeps room [] whole i w o h f = (
+    subst (λ (y : WrittenType). Has r.Fore y.id o) h.0 (subst (Has r.Fore whole.id) h.1 f),
+    λ b. (subst r.Back (sym h.1) b, λ fields is_whole. subst (IsWhole m (suc room)) h.0 is_whole),
+  )
+  before_keeps room (p ∷ parts) whole i w o h f =
+      let a = before_keeps room parts whole i h.0 h.1 h.2 f in
+      let b = interned_keeps r base.Aggregate (min p.room h.0.room) (type.Struct p.id h.0.id) h.1 a.0.1 w o h.3 a.0.0 in (
+        b.0,
+        λ back.
+            let c = b.1 back in
+            let d = a.1 c.0 in
+            (d.0, λ fields is_whole. whole_of room p h.0 w c.1 fields.0 (d.1 fields.1 is_whole)),
+      )
+
+  pub struct_keeps : (room : ℕ) (inner : Firm) → ((i : Input) → Keeps r.Fore (Same r.Fore) r.Back inner.form (IsShaped m room) i) → (i : Input)
+      → Keeps r.Fore (Same r.Fore) r.Back (w.braced room inner) (IsWhole m (suc room)) i
+  unfolding struct_of
+  struct_keeps room inner part i p o h f =
+      let t = h.3 in
+      let u = t.3 in
+      let v = u.3 in
+      let a = skip_keeps r i h.0 h.1 h.2 f in
+      let b = all r.Back r.Fore (IsShaped m room) at_brace (field inner) (field_takes inner) (λ j. field_keeps room inner part j) h.1 t.0 t.1 t.2 a.0 in
+      let c = expect_keeps r k.CloseBrace t.1 u.0 u.1 u.2 b.0 in
+      let d = interned_keeps r base.Aggregate room type.EmptyStruct u.1 tt v.0 v.1 v.2 c.0 in
+      let e = before_keeps room t.0 v.0 v.1 p o v.3 d.0 in (
+        e.0.0,
+        λ back.
+            let eb = e.1 back in
+            let db = d.1 eb.0 in
+            let cb = c.1 db.0 in
+            let bb = b.1 cb.0 in
+            let ab = a.1 bb.0 in
+            let empty = bare_of base.Aggregate room (suc room) type.EmptyStruct Empty v.0 refl refl (omega arith) tt db.1 (λ at. at.0) in
+            (ab.0, eb.1 bb.1 (Empty, record { has_shape = db.1.0.0; fits = let e = db.1.3 in omega (arith, e); is_written = tt; base_is = db.1.1; stars_are = db.1.2 }, db.1.2, tt)),
+      )
+
+  -- ---- a type
+
+  base_keeps : (room : ℕ) (inner : Firm) → ((i : Input) → Keeps r.Fore (Same r.Fore) r.Back inner.form (IsShaped m room) i) → (x : Kind) (i : Input)
+      → Keeps r.Fore (Same r.Fore) r.Back (w.base_by room inner x) (IsBare m (suc room)) i
+  base_keeps room inner part k.IntegerType i = integer_type_keeps room i
+  base_keeps room inner part k.LocalName i = named_type_keeps room i
+  base_keeps room inner part k.OpenSquare i = array_keeps room inner part i
+  base_keeps room inner part k.OpenBrace i = λ p o h f. let x = struct_keeps room inner part i p o h f in (x.0, λ b. let c = x.1 b in (c.0, (c.1.0, c.1.1, c.1.2)))
+  base_keeps room inner part _ i = λ p o h f. absurd h
+
+  pub part_keeps : (levels : ℕ) (i : Input) → Keeps r.Fore (Same r.Fore) r.Back (part levels) (IsShaped m levels) i
+  unfolding firm no_type
+  part_keeps zero i p o h f = absurd h
+  part_keeps (suc room) i p o h f =
+      let a = base_keeps room (firm room) (part_keeps room) (kind i.cursor) i h.0 h.1 h.2 f in
+      let b = starred_keeps (suc room) h.0 h.1 p o h.3 a.0 in
+      (b.0, λ back. let c = b.1 back in let d = a.1 c.0 in (d.0, c.1 d.1))

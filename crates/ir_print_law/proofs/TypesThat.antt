@@ -1,0 +1,114 @@
+-- Types that may stand somewhere, and pointers to them.
+use Rattle.std.proofs.Common.{◌≡◌, ℕ, ◌<◌, Bool, true, refl, sym, subst, ◌∙◌, arith}
+use Rattle.std.specs.Prelude.{nat_lt}
+use Rattle.std.proofs.lemmas.Bool.Decides.{nat_tests}
+use Rattle.ir_ast.specs.declared.ir_type.IrType.TheVariants as type
+use Rattle.ir_ast.specs.declared.module.Module.{Module}
+use Rattle.ir_forms.specs.declared.input.Input.{Input}
+use Rattle.ir_forms.specs.declared.written.WrittenType.{WrittenType}
+use Rattle.ir_forms.specs.Written.{firm, struct_body, type_within, type_that, any_type, scalar_within, scalar, passed_type, held_type, pointer_type, is_scalar, is_passed, is_held, pointer_again}
+use Rattle.ir_print_law.specs.Shapes.{Shape, IsStruct, Integer, Pointer, Array, Empty, Struct, Named, is_struct_shape}
+use Rattle.ir_print_law.specs.Printable.{IsType, IsScalar, IsPointer, IsPlaceType, IsPassed}
+use Rattle.ir_print_law.proofs.Forms.{Keeps, Same}
+use Rattle.ir_print_law.proofs.Looks.{IsTypeOf, IsShaped, scalar_is, passed_is, pointer_is}
+use Rattle.ir_print_law.proofs.Passes.{again_passes, skip_passes}
+use Rattle.ir_print_law.proofs.Reading.{Reading}
+use Rattle.ir_print_law.proofs.Tokens.{intern_goes}
+use Rattle.ir_print_law.proofs.TypesRead.{part_keeps, struct_keeps}
+
+-- a type that may stand somewhere
+abbrev pub IsFit : Module → (WrittenType → Bool) → WrittenType → Type 0
+IsFit m may_stand w = IsShaped m 64 w × (may_stand w ≡ true)
+
+pub type_of : (m : Module) (w : WrittenType) (shape : Shape) → IsTypeOf m 64 w shape → IsType m shape w.id
+type_of m w shape h = (h.has_shape, (let e = h.fits in omega (arith, e)), h.is_written)
+
+pub scalar_of : (m : Module) (w : WrittenType) → (h : IsFit m is_scalar w) → IsScalar m h.0.0 w.id
+scalar_of m w h = (type_of m w h.0.0 h.0.1, sym (scalar_is m 64 w h.0.0 h.0.1) ∙ h.1)
+
+pub passed_of : (m : Module) (w : WrittenType) → IsFit m is_passed w → IsPassed m w.id
+passed_of m w h = (h.0.0, type_of m w h.0.0 h.0.1, sym (passed_is m 64 w h.0.0 h.0.1) ∙ h.1)
+
+is_struct_of : (shape : Shape) → IsStruct shape → is_struct_shape shape ≡ true
+is_struct_of Empty h = refl
+is_struct_of (Struct first rest) h = refl
+is_struct_of (Integer bits) h = absurd h
+is_struct_of (Pointer part) h = absurd h
+is_struct_of (Array count part) h = absurd h
+is_struct_of (Named name) h = absurd h
+
+module _ {m : Module} (r : Reading m) where
+  pub any_type_keeps : (i : Input) → Keeps r.Fore (Same r.Fore) r.Back any_type (IsShaped m 64) i
+  unfolding any_type type_within
+  any_type_keeps i = part_keeps r 64 i
+
+  that_keeps : (may_stand : WrittenType → Bool) (i : Input) → Keeps r.Fore (Same r.Fore) r.Back (type_that may_stand 63) (IsFit m may_stand) i
+  unfolding type_within
+  that_keeps may_stand i w o h f =
+      let x = part_keeps r 64 i h.0 h.1 h.2 f in
+      let t = h.3 in
+      let same = t.2.1 ∙ t.3.1 in (
+        subst r.Fore same x.0,
+        λ b.
+            let c = x.1 (subst r.Back (sym same) b) in
+            (c.0, subst (IsFit m may_stand) t.3.0 (c.1, t.2.0)),
+      )
+
+  pub scalar_keeps : (i : Input) → Keeps r.Fore (Same r.Fore) r.Back scalar (IsFit m is_scalar) i
+  unfolding scalar scalar_within
+  scalar_keeps i = that_keeps is_scalar i
+
+  pub passed_keeps : (i : Input) → Keeps r.Fore (Same r.Fore) r.Back passed_type (IsFit m is_passed) i
+  unfolding passed_type
+  passed_keeps i = that_keeps is_passed i
+
+  pub held_keeps : (i : Input) → Keeps r.Fore (Same r.Fore) r.Back held_type (IsFit m is_held) i
+  unfolding held_type
+  held_keeps i = that_keeps is_held i
+
+  pub pointer_type_keeps : (i : Input) → Keeps r.Fore (Same r.Fore) r.Back pointer_type (λ w. IsPointer m w.id) i
+  unfolding pointer_type
+  pointer_type_keeps i w o h f =
+      let x = any_type_keeps i h.0 h.1 h.2 f in
+      let t = h.3 in
+      let same = t.2.1 ∙ t.3.1 in (
+        subst r.Fore same x.0,
+        λ b.
+            let c = x.1 (subst r.Back (sym same) b) in
+            (c.0, subst (λ (y : WrittenType). IsPointer m y.id) t.3.0 (c.1.0, type_of m h.0 c.1.0 c.1.1, sym (pointer_is m 64 h.0 c.1.0 c.1.1) ∙ t.2.0)),
+      )
+
+  -- `{ T, .. }` as the type that a name stands for
+  pub struct_body_keeps : (i : Input) → Keeps r.Fore (Same r.Fore) r.Back struct_body (λ n. (shape : Shape) × IsType m shape n × (is_struct_shape shape ≡ true)) i
+  unfolding struct_body
+  struct_body_keeps i n o h f =
+      let x = struct_keeps r 63 (firm 63) (part_keeps r 63) i h.0 h.1 h.2 f in
+      let t = h.3 in (
+        subst r.Fore t.1 x.0,
+        λ b.
+            let c = x.1 (subst r.Back (sym t.1) b) in
+            (c.0, (c.1.0, subst (λ (y : ℕ). IsType m c.1.0 y) t.0 (type_of m h.0 c.1.0 c.1.1), is_struct_of c.1.0 c.1.3)),
+      )
+
+  -- a pointer to the same type
+  pub place_type_keeps : (w : WrittenType) (i : Input) → Keeps r.Fore (Same r.Fore) r.Back (pointer_again w) (λ n. (shape : Shape) → IsTypeOf m 64 w shape → IsPlaceType m shape w.id n) i
+  unfolding pointer_again
+  place_type_keeps w i n o h f =
+      let star = h.2.3 in
+      let a = again_passes r w i h.2.0 h.2.1 h.2.2 f in
+      let same = star.2.2.1 ∙ star.2.3.1 in
+      let b = skip_passes r star.1 h.0 h.1 star.3 (subst r.Fore same a.0) in
+      let c = intern_goes r (type.Pointer w.id) h.1 tt n o h.3 b.0 in (
+        c.0,
+        λ back.
+            let cb = c.1 back in
+            let bb = b.1 cb.0 in
+            let ab = a.1 (subst r.Back (sym same) bb.0) in (
+              ab.0,
+              λ shape own.
+                  let room : nat_lt 0 w.room ≡ true = star.2.3.0 in
+                  let fits = own.fits in
+                  let some : 0 < w.room = grind (arith, nat_tests) in
+                  (cb.1.0, omega (arith, fits, some)),
+            ),
+      )

@@ -1,0 +1,128 @@
+-- Where a text begins and where it ends: no name is used that is not defined; and modules that are alike have one text.
+use Rattle.std.proofs.Common.{◌≡◌, ℕ, zero, suc, Bool, true, false, not, ◌&&◌, List, [], ◌∷◌, ◌++◌, length, Option, None, Some, Ok, refl, sym, ap, subst, ◌∙◌, arith}
+use Rattle.std.specs.Prelude.{option_map, codes}
+use Rattle.std.specs.List.{flat_map}
+use Rattle.ir_ast.specs.declared.block.Block.{Block}
+use Rattle.ir_ast.specs.declared.function.Function.{Function}
+use Rattle.ir_ast.specs.declared.items_of_module.SymbolSort.{SymbolSort}
+use Rattle.ir_ast.specs.declared.items_of_module.SymbolSort.TheVariants as symbol
+use Rattle.ir_ast.specs.declared.module.Module.{Module}
+use Rattle.ir_tokens.specs.declared.token.Kind.TheVariants as k
+use Rattle.ir_tokens.specs.Bytes.{Text}
+use Rattle.ir_tokens.specs.Tokens.{IsLexed, lexed_of, lex_from, past_gap}
+use Rattle.ir_tokens.proofs.Laws.{found}
+use Rattle.ir_forms.specs.Cursor.{kind, kind_first}
+use Rattle.ir_forms.specs.Place.{Place}
+use Rattle.ir_forms.specs.declared.uses.StructUse.{StructUse}
+use Rattle.ir_forms.specs.declared.uses.SymbolUse.{SymbolUse}
+use Rattle.ir_forms.specs.declared.input.Input.{Input}
+use Rattle.ir_text.specs.Late as late
+use Rattle.ir_text.specs.Late.{late_fault, first_of_faults, earliest, operand_fault}
+use Rattle.ir_text.specs.Read.{start}
+use Rattle.ir_print.specs.Blocks.{block_text}
+use Rattle.ir_print.specs.Instructions.{instruction_line}
+use Rattle.ir_print.specs.Items.{struct_line, global_line, declare_line, head_line, function_text, text_of}
+use Rattle.ir_print.specs.Names.{name_at, key_text}
+use Rattle.ir_print.specs.Standing.{Stands}
+use Rattle.ir_print_law.specs.Definitions.{defined_structs, defined_globals, functions_of}
+use Rattle.ir_print_law.specs.Shapes.{IsIn}
+use Rattle.ir_print_law.specs.Again.{AreAlike, IsLineAgain, IsBlockAgain, IsFunctionAgain, IsAgain}
+use Rattle.ir_print_law.proofs.State.{used_symbols}
+use Rattle.ir_print_law.proofs.WholeFunctionEnds.{none_found, nobody}
+use Rattle.ir_print_law.proofs.Known.{Far, Holds, IsStructUse, IsSymbolUse, StructsKnown, SymbolsKnown}
+use Rattle.ir_print_law.proofs.Named.{sort_by_place, sort_at}
+
+-- ---- the end of a text
+
+right_use : (is_call : Bool) (s : Option SymbolSort) → late.is_right is_call s ≡ true → not is_call && late.is_right true s ≡ false
+right_use true s e = refl
+right_use false None e = refl
+right_use false (Some symbol.Unknown) e = refl
+right_use false (Some (symbol.Global g)) e = refl
+right_use false (Some (symbol.Declared d)) e = absurd cc
+right_use false (Some (symbol.Defined f)) e = absurd cc
+
+-- what a use wants is there
+use_right : (m : Module) (far : Far) (i : Input) (u : SymbolUse) → SymbolsKnown m far.symbols far.globals far.functions i.symbols i.symbol_uses → far.globals ≡ defined_globals m → far.functions ≡ functions_of m
+    → IsSymbolUse m i.symbols.names u → late.is_right_symbol i u ≡ true
+use_right m far i u h globals functions used =
+    ap (late.is_right u.is_call) (sym (sort_by_place i.symbols used.0 u.symbol used.2)) ∙ by u.is_call used.1 where
+      by : (is_call : Bool) → IsIn (used_symbols m is_call) used.0 → late.is_right is_call (sort_at i.symbols used.0) ≡ true
+      by true is = h.are_functions used.0 (subst (λ (x : List Text). IsIn x used.0) (sym functions) is)
+      by false is = h.are_globals used.0 (subst (λ (x : List Text). IsIn x used.0) (sym globals) is)
+
+struct_right : (m : Module) (far : Far) (i : Input) (u : StructUse) → StructsKnown m far.structs i.struct_names i.struct_uses → far.structs ≡ defined_structs m
+    → IsStructUse m i.struct_names.names u → late.is_right_struct i u ≡ true
+struct_right m far i u h structs used =
+    ap late.is_struct (sym (sort_by_place i.struct_names used.0 u.name used.2)) ∙ h.known used.0 (subst (λ (x : List Text). IsIn x used.0) (sym structs) used.1)
+
+-- where all names are defined, there is no fault
+pub no_fault : (m : Module) (far : Far) (i : Input) → Holds m nobody far i → far.structs ≡ defined_structs m → far.globals ≡ defined_globals m → far.functions ≡ functions_of m → late_fault i ≡ None
+no_fault m far i h structs globals functions =
+    let no_operand = none_found (IsSymbolUse m i.symbols.names) (late.is_function_operand i) i.symbol_uses
+    (λ u used. right_use u.is_call (late.sort_of i u) (use_right m far i u h.1 globals functions used)) h.1.uses_so in
+    let no_symbol = none_found (IsSymbolUse m i.symbols.names) (λ (u : SymbolUse). not (late.is_right_symbol i u)) i.symbol_uses
+    (λ u used. ap not (use_right m far i u h.1 globals functions used)) h.1.uses_so in
+    let no_struct = none_found (IsStructUse m i.struct_names.names) (λ (u : StructUse). not (late.is_right_struct i u)) i.struct_uses
+    (λ u used. ap not (struct_right m far i u h.0 structs used)) h.0.uses_so in
+    ap (λ (x : Option SymbolUse). first_of_faults (option_map operand_fault x) (earliest (earliest i.missing (late.wrong_symbol i)) (late.wrong_struct i))) no_operand
+    ∙ ap (λ (x : Option ℕ). first_of_faults None (earliest (earliest x (late.wrong_symbol i)) (late.wrong_struct i))) h.3.none_missing
+    ∙ ap (λ (x : Option SymbolUse). first_of_faults None (earliest (earliest None (option_map (λ (u : SymbolUse). u.start) x)) (late.wrong_struct i))) no_symbol
+    ∙ ap (λ (x : Option StructUse). first_of_faults None (option_map (λ (u : StructUse). u.start) x)) no_struct
+
+-- ---- the beginning of a text
+
+pub text_is_lexed : (bytes : Text) → IsLexed bytes (lexed_of bytes)
+text_is_lexed bytes = found bytes (Ok (lexed_of bytes)) refl
+
+pub start_stands : (bytes : Text) → Stands (start bytes (lexed_of bytes)).cursor bytes
+start_stands bytes = ([], length bytes, true, refl, omega arith, refl, refl)
+
+end_by : (n total : ℕ) (first : Bool) (gap : Text) → past_gap false gap ≡ [] → ((lex_from n total first [] gap).tokens ≡ []) × ((lex_from n total first [] gap).bad ≡ None)
+unfolding lex_from
+end_by zero total first gap e = rw e (refl, refl)
+end_by (suc n) total first gap e = rw e (refl, refl)
+
+pub past_end : (past_gap false (10 ∷ []) ≡ []) × (past_gap false [] ≡ [])
+unfolding past_gap
+past_end = (refl, refl)
+
+-- behind the last line the text ends
+pub ends_there : (c : Place) (gap : Text) → past_gap false gap ≡ [] → Stands c gap → (kind c ≡ k.End) × (c.bad ≡ None)
+unfolding kind
+ends_there c gap e at =
+    let l = end_by at.1 (length c.text) at.2 gap e in
+    (ap kind_first (at.5 ∙ l.0), at.6 ∙ l.1)
+
+-- ---- modules that are alike have one text
+
+lines_same : {A B : Type 0} (Alike : A → B → Type 0) (line : A → Text) (other : B → Text) (xs : List A) (ys : List B) → ((x : A) (y : B) → Alike x y → line x ≡ other y) → AreAlike Alike xs ys
+    → flat_map line xs ≡ flat_map other ys
+lines_same Alike line other [] [] f h = refl
+lines_same Alike line other [] (y ∷ ys) f h = absurd h
+lines_same Alike line other (x ∷ xs) [] f h = absurd h
+lines_same Alike line other (x ∷ xs) (y ∷ ys) f h = ap (λ (t : Text). t ++ flat_map line xs) (f x y h.0) ∙ ap (λ (t : Text). other y ++ t) (lines_same Alike line other xs ys f h.1)
+
+block_same : (m n : Module) (locals others : List Text) (x y : Block) → IsBlockAgain m n locals others x y → block_text m locals x ≡ block_text n others y
+block_same m n locals others x y h =
+    ap (λ (t : Text). t ++ codes ":\n" ++ flat_map (instruction_line m locals) x.instructions) h.0
+    ∙ ap (λ (t : Text). key_text (name_at others y.label) ++ codes ":\n" ++ t)
+    (lines_same (IsLineAgain m n locals others) (instruction_line m locals) (instruction_line n others) x.instructions y.instructions (λ a b e. e) h.1)
+
+function_same : (m n : Module) (f g : Function) → IsFunctionAgain m n f g → function_text m f ≡ function_text n g
+function_same m n f g h =
+    ap (λ (t : Text). t ++ flat_map (block_text m f.locals) f.blocks ++ codes "}\n") h.0
+    ∙ ap (λ (t : Text). head_line n g ++ t ++ codes "}\n")
+    (lines_same (IsBlockAgain m n f.locals g.locals) (block_text m f.locals) (block_text n g.locals) f.blocks g.blocks (λ a b e. block_same m n f.locals g.locals a b e) h.1)
+
+-- a module that is another one again has its text
+pub same_text : (m n : Module) → IsAgain m n → text_of m ≡ text_of n
+same_text m n h =
+    let structs = lines_same (λ x y. struct_line m x ≡ struct_line n y) (struct_line m) (struct_line n) m.structs n.structs (λ a b e. e) h.structs in
+    let globals = lines_same (λ x y. global_line m x ≡ global_line n y) (global_line m) (global_line n) m.globals n.globals (λ a b e. e) h.globals in
+    let declares = lines_same (λ x y. declare_line m x ≡ declare_line n y) (declare_line m) (declare_line n) m.declares n.declares (λ a b e. e) h.declares in
+    let functions = lines_same (IsFunctionAgain m n) (function_text m) (function_text n) m.functions n.functions (λ a b e. function_same m n a b e) h.functions in
+    ap (λ (t : Text). t ++ flat_map (global_line m) m.globals ++ flat_map (declare_line m) m.declares ++ flat_map (function_text m) m.functions) structs
+    ∙ ap (λ (t : Text). flat_map (struct_line n) n.structs ++ t ++ flat_map (declare_line m) m.declares ++ flat_map (function_text m) m.functions) globals
+    ∙ ap (λ (t : Text). flat_map (struct_line n) n.structs ++ flat_map (global_line n) n.globals ++ t ++ flat_map (function_text m) m.functions) declares
+    ∙ ap (λ (t : Text). flat_map (struct_line n) n.structs ++ flat_map (global_line n) n.globals ++ flat_map (declare_line n) n.declares ++ t) functions

@@ -1,0 +1,223 @@
+-- Modules whose printed texts are read again.
+use Rattle.std.specs.Prelude.{◌≡◌, ℕ, ◌<◌, ◌≤◌, Bool, true, false, not, ◌&&◌, List, [], ◌∷◌, ◌++◌, length, Option, Some, None, is_some, ◌⊎◌, slice_get}
+use Rattle.std.specs.List.{AllByRecursion}
+use Rattle.ir_ast.specs.declared.block.Block.{Block}
+use Rattle.ir_ast.specs.declared.function.Function.{Function}
+use Rattle.ir_ast.specs.declared.function.Parameter.{Parameter}
+use Rattle.ir_ast.specs.declared.instr.Instr.{Instr}
+use Rattle.ir_ast.specs.declared.ir_type.IrType.{IrType}
+use Rattle.ir_ast.specs.declared.ir_type.IrType.TheVariants as type
+use Rattle.ir_ast.specs.declared.items_of_module.Declare.{Declare}
+use Rattle.ir_ast.specs.declared.items_of_module.Global.{Global}
+use Rattle.ir_ast.specs.declared.items_of_module.StructType.{StructType}
+use Rattle.ir_ast.specs.declared.module.Module.{Module}
+use Rattle.ir_ast.specs.declared.op.Argument.{Argument}
+use Rattle.ir_ast.specs.declared.op.Case.{Case}
+use Rattle.ir_ast.specs.declared.op.Incoming.{Incoming}
+use Rattle.ir_ast.specs.declared.op.Op.{Op}
+use Rattle.ir_ast.specs.declared.op.Op.TheVariants as op
+use Rattle.ir_ast.specs.declared.operand.Constant.{Constant}
+use Rattle.ir_ast.specs.declared.operand.Constant.TheVariants as constant
+use Rattle.ir_ast.specs.declared.operand.Operand.{Operand}
+use Rattle.ir_ast.specs.declared.operand.Operand.TheVariants as operand
+use Rattle.ir_tokens.specs.Bytes.{Text}
+use Rattle.ir_forms.specs.RuntimeNames.{is_intrinsic, is_left_out}
+use Rattle.ir_forms.specs.CaseValues.{value_of, is_among, with_value}
+use Rattle.ir_forms.specs.Sites.{is_phi}
+use Rattle.ir_forms.specs.declared.case_values.CaseValue.{CaseValue}
+use Rattle.name_text.specs.Readings.{AreBytes}
+use Rattle.ir_print.specs.Fits.{FitsType}
+use Rattle.ir_print.specs.Instructions.{ends_block}
+use Rattle.ir_print.specs.Names.{name_at}
+use Rattle.ir_print_law.specs.Definitions.{AreDefined, AreNew, defined_keys, value_keys, label_keys, target_keys, defined_structs, defined_globals, functions_of}
+use Rattle.ir_print_law.specs.Shapes.{IsIn, Shape, HasShape, IsWritten, levels, bits_of_shape, is_scalar_shape, is_pointer_shape, is_struct_shape, is_passed_shape, is_held_shape}
+
+-- ---- types
+
+-- a type of this shape, which has at most 64 levels
+abbrev pub IsType : Module → Shape → (written : ℕ) → Type 0
+IsType m shape written = HasShape m.types m.struct_names shape written × (levels shape ≤ 64) × IsWritten (defined_structs m) shape
+
+-- a type that a word holds
+abbrev pub IsScalar : Module → Shape → (written : ℕ) → Type 0
+IsScalar m shape written = IsType m shape written × (is_scalar_shape shape ≡ true)
+
+-- a type of which a constant bitcast speaks
+abbrev pub IsPointer : Module → (written : ℕ) → Type 0
+IsPointer m written = (shape : Shape) × IsType m shape written × (is_pointer_shape shape ≡ true)
+
+-- the type `void`
+abbrev pub IsVoid : Module → (written : ℕ) → Type 0
+IsVoid m written = slice_get m.types written ≡ Some type.Void
+
+-- the type of a place of a value of this shape, whose type has this number
+abbrev pub IsPlaceType : Module → Shape → (held place_type : ℕ) → Type 0
+IsPlaceType m shape held place_type = (slice_get m.types place_type ≡ Some (type.Pointer held)) × (levels shape < 64)
+
+-- ---- operands
+
+-- a global that is an operand: it is no function, and no intrinsic has its name
+abbrev pub IsGlobalUse : Module → (symbol : ℕ) → Type 0
+IsGlobalUse m symbol = IsIn (defined_globals m) (name_at m.symbols symbol) × (is_intrinsic (name_at m.symbols symbol) ≡ false)
+
+-- what an instruction of this function reads, at an integer type of so many bits or else at a pointer type
+abbrev pub IsOperand : Module → Function → Option ℕ → Operand → Type 0
+IsOperand m f bits (operand.Constant x) = FitsType bits x
+IsOperand m f bits (operand.Local value) = IsIn (value_keys f) (name_at f.locals value)
+IsOperand m f bits (operand.Global symbol) = IsGlobalUse m symbol
+IsOperand m f bits (operand.CastGlobal from symbol to) = IsPointer m from × IsGlobalUse m symbol × IsPointer m to
+
+-- an operand with its type, which a word holds
+abbrev pub IsArgument : Module → Function → Argument → Type 0
+IsArgument m f x = (shape : Shape) × IsScalar m shape x.written × IsOperand m f (bits_of_shape shape) x.operand
+
+-- a block that may be gone on with
+abbrev pub IsTarget : Function → (label : ℕ) → Type 0
+IsTarget f label = IsIn (target_keys f) (name_at f.locals label)
+
+-- ---- instructions
+
+-- an entry of a phi of this type
+abbrev pub IsIncoming : Module → Function → Option ℕ → Incoming → Type 0
+IsIncoming m f bits x = IsOperand m f bits x.operand × IsIn (label_keys f) (name_at f.locals x.from)
+
+-- the cases of a switch, behind cases of these values
+abbrev pub AreCases : Function → Option ℕ → (seen : List CaseValue) → List Case → Type 0
+AreCases f bits seen [] = Unit {0}
+AreCases f bits seen (x ∷ xs) =
+    FitsType bits x.constant × (is_among (value_of x.constant) seen ≡ false) × IsTarget f x.target × AreCases f bits (with_value (value_of x.constant) seen) xs
+
+-- a condition has the type i1
+abbrev pub IsCondition : Module → Function → (written : ℕ) → Operand → Type 0
+IsCondition m f written x = (slice_get m.types written ≡ Some (type.Integer 1)) × IsOperand m f (Some 1) x
+
+-- two operands of one type
+abbrev pub ArePair : Module → Function → (written : ℕ) → (first second : Operand) → Type 0
+ArePair m f written first second =
+    (shape : Shape) × IsScalar m shape written × IsOperand m f (bits_of_shape shape) first × IsOperand m f (bits_of_shape shape) second
+
+-- an operand and another type for it
+abbrev pub IsConverted : Module → Function → (from : ℕ) → Operand → (to : ℕ) → Type 0
+IsConverted m f from x to = IsArgument m f (record { written = from; operand = x }) × ((shape : Shape) × IsScalar m shape to)
+
+-- what a call gives: nothing, or a value that a word holds
+abbrev pub IsReturned : Module → (returned : ℕ) → Type 0
+IsReturned m returned = IsVoid m returned ⊎ ((shape : Shape) × IsScalar m shape returned)
+
+-- an instruction of this function
+abbrev pub IsOp : Module → Function → Op → Type 0
+IsOp m f (op.Alloca held) = (shape : Shape) × IsScalar m shape held
+IsOp m f (op.Bitcast from x to) = IsConverted m f from x to
+IsOp m f (op.Load loaded place_type place) = (shape : Shape) × IsScalar m shape loaded × IsPlaceType m shape loaded place_type × IsOperand m f None place
+IsOp m f (op.Store stored value place_type place) =
+    (shape : Shape) × IsScalar m shape stored × IsOperand m f (bits_of_shape shape) value × IsPlaceType m shape stored place_type × IsOperand m f None place
+IsOp m f (op.Element source base_type base indices) =
+    (shape : Shape) × IsType m shape source × IsPlaceType m shape source base_type × IsOperand m f None base × (0 < length indices) × AllByRecursion (IsArgument m f) indices
+IsOp m f (op.Arithmetic kind written first second) = ArePair m f written first second
+IsOp m f (op.Resize kind from x to) = IsConverted m f from x to
+IsOp m f (op.Compare kind written first second) = ArePair m f written first second
+IsOp m f (op.Select condition_type condition written chosen other) = IsCondition m f condition_type condition × ArePair m f written chosen other
+IsOp m f (op.Phi written incoming) =
+    (shape : Shape) × IsScalar m shape written × (0 < length incoming) × AllByRecursion (IsIncoming m f (bits_of_shape shape)) incoming
+IsOp m f (op.Call returned callee arguments) = IsReturned m returned × IsIn (functions_of m) (name_at m.symbols callee) × AllByRecursion (IsArgument m f) arguments
+IsOp m f (op.Jump target) = IsTarget f target
+IsOp m f (op.Branch condition_type condition taken other) = IsCondition m f condition_type condition × IsTarget f taken × IsTarget f other
+IsOp m f (op.Switch written value otherwise cases) =
+    (shape : Shape) × IsScalar m shape written × IsOperand m f (bits_of_shape shape) value × IsTarget f otherwise × AreCases f (bits_of_shape shape) [] cases
+IsOp m f op.Unreachable = Unit {0}
+IsOp m f op.ReturnVoid = Unit {0}
+IsOp m f (op.Return x) = IsArgument m f x
+
+-- whether this is the type `void`
+abbrev pub is_void : Option IrType → Bool
+is_void (Some type.Void) = true
+is_void _ = false
+
+-- the instruction gives a value, and so a name is written before it
+abbrev pub gives_value : Module → Op → Bool
+gives_value m (op.Store stored value place_type place) = false
+gives_value m (op.Call returned callee arguments) = not (is_void (slice_get m.types returned))
+gives_value m x = not (ends_block x)
+
+-- an instruction that ends no block, which stands behind phis alone or not
+abbrev pub IsInner : Module → Function → (behind_phis : Bool) → Instr → Type 0
+IsInner m f behind_phis x =
+    IsOp m f x.op × (ends_block x.op ≡ false) × (is_some x.result ≡ gives_value m x.op) × (is_phi x.op ≡ true → behind_phis ≡ true)
+
+-- instructions that end no block, of which the phis come first
+abbrev pub AreInner : Module → Function → (behind_phis : Bool) → List Instr → Type 0
+AreInner m f behind_phis [] = Unit {0}
+AreInner m f behind_phis (x ∷ xs) = IsInner m f behind_phis x × AreInner m f (behind_phis && is_phi x.op) xs
+
+-- an instruction that ends its block
+abbrev pub IsLast : Module → Function → Instr → Type 0
+IsLast m f x = IsOp m f x.op × (ends_block x.op ≡ true) × (x.result ≡ None)
+
+-- the instructions of a block, of which the last ends it, and no other
+abbrev pub IsBlock : Module → Function → Block → Type 0
+IsBlock m f block = (xs : List Instr) × (last : Instr) × (block.instructions ≡ xs ++ last ∷ []) × AreInner m f true xs × IsLast m f last
+
+-- ---- items
+
+-- a type that a function takes or gives
+abbrev pub IsPassed : Module → (written : ℕ) → Type 0
+IsPassed m written = (shape : Shape) × IsType m shape written × (is_passed_shape shape ≡ true)
+
+-- a parameter of a defined function
+abbrev pub IsParameter : Module → Parameter → Type 0
+IsParameter m parameter = IsPassed m parameter.written
+
+-- the name of a collector
+abbrev pub IsCollector : Option Text → Type 0
+IsCollector None = Unit {0}
+IsCollector (Some name) = AreBytes name
+
+-- a function with its names, numbers, types and blocks
+pub record IsFunction (m : Module) (f : Function) : Type 0 where
+  pub returned : IsVoid m f.returned ⊎ IsPassed m f.returned
+  pub parameters : AllByRecursion (IsParameter m) f.parameters
+  pub collector : IsCollector f.collector
+  -- each local name is defined once, and numbers come in order
+  pub definitions : AreDefined [] 0 (defined_keys f)
+  pub values : length (value_keys f) ≤ 1000000
+  pub has_block : 0 < length f.blocks
+  pub few_blocks : length f.blocks ≤ 65535
+  pub blocks : AllByRecursion (IsBlock m f) f.blocks
+
+-- a struct type
+abbrev pub IsStructType : Module → StructType → Type 0
+IsStructType m struct = (shape : Shape) × IsType m shape struct.body × (is_struct_shape shape ≡ true)
+
+-- the first value of a global: a number, or null at a pointer type
+abbrev pub IsInitial : Option ℕ → Constant → Type 0
+IsInitial (Some bits) (constant.Number number) = FitsType (Some bits) (constant.Number number)
+IsInitial None constant.Null = Unit {0}
+IsInitial _ _ = ⊥
+
+-- a global
+abbrev pub IsGlobal : Module → Global → Type 0
+IsGlobal m global = (shape : Shape) × IsType m shape global.held × (is_held_shape shape ≡ true) × IsInitial (bits_of_shape shape) global.initial
+
+-- a type of some shape
+abbrev pub IsAnyType : Module → (written : ℕ) → Type 0
+IsAnyType m written = (shape : Shape) × IsType m shape written
+
+-- a declared function
+abbrev pub IsDeclare : Module → Declare → Type 0
+IsDeclare m declared = (IsVoid m declared.returned ⊎ IsAnyType m declared.returned) × AllByRecursion (IsAnyType m) declared.parameters
+
+-- a global name is bytes, and no intrinsic's that is left out
+abbrev pub IsSymbol : Text → Type 0
+IsSymbol name = AreBytes name × (is_left_out name ≡ false)
+
+-- A module whose names are defined once, whose numbers and counts are within bounds, and whose instructions are those that are read.
+pub record IsPrintable (m : Module) : Type 0 where
+  pub struct_names : AllByRecursion AreBytes (defined_structs m) × AreNew [] (defined_structs m)
+  pub symbols : AllByRecursion IsSymbol (defined_globals m ++ functions_of m) × AreNew [] (defined_globals m ++ functions_of m)
+  pub structs : AllByRecursion (IsStructType m) m.structs
+  pub globals : AllByRecursion (IsGlobal m) m.globals
+  pub few_globals : length m.globals ≤ 4096
+  pub declares : AllByRecursion (IsDeclare m) m.declares
+  pub few_declares : length m.declares ≤ 65535
+  pub functions : AllByRecursion (IsFunction m) m.functions
+  pub few_functions : length m.functions ≤ 65535

@@ -1,0 +1,8 @@
+//! Law of printing: a module that was read can be printed, and its printed text is read as that module again.
+#![tactic(auto)]
+
+mod print_laws;
+mod printable_laws;
+
+pub use print_laws::{print_law, printed_again_law};
+pub use printable_laws::{named_law, printable_law};

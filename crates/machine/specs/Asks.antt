@@ -1,0 +1,394 @@
+-- What an instruction asks for.
+use Rattle.std.specs.Prelude.{ℕ, ◌==◌, nat_lt, Bool, true, false, ◌&&◌, ◌||◌, if◌then◌else◌, List, [], ◌∷◌, length, slice_get, Option, Some, None, is_some}
+use Rattle.std.specs.List.{list_all}
+use Rattle.ir_ast.specs.declared.function.Function.{Function}
+use Rattle.ir_ast.specs.declared.function.Parameter.{Parameter}
+use Rattle.ir_ast.specs.declared.items_of_module.Declare.{Declare}
+use Rattle.ir_ast.specs.declared.items_of_module.SymbolSort.{SymbolSort}
+use Rattle.ir_ast.specs.declared.items_of_module.SymbolSort.TheVariants as symbol
+use Rattle.ir_ast.specs.declared.module.Module.{Module}
+use Rattle.ir_ast.specs.declared.op.Argument.{Argument}
+use Rattle.ir_ast.specs.declared.op.Comparison.{Comparison}
+use Rattle.ir_ast.specs.declared.op.Op.{Op}
+use Rattle.ir_ast.specs.declared.op.Op.TheVariants.{Alloca, Bitcast, Load, Store, Element, Arithmetic, Resize, Compare, Select, Phi, Call, Jump, Branch, Switch, Unreachable, ReturnVoid, Return}
+use Rattle.ir_ast.specs.declared.operand.Constant.TheVariants as constant
+use Rattle.ir_ast.specs.declared.operand.Operand.{Operand}
+use Rattle.ir_ast.specs.declared.operand.Operand.TheVariants as operand
+use Rattle.ir_ast.specs.declared.runtime.Runtime.{Runtime}
+use Rattle.ir_ast.specs.declared.runtime.Runtime.TheVariants as runtime
+use Rattle.pools.specs.Layouts.{kind_of_word}
+use Rattle.layout.specs.Layouts.{LaidOut}
+use Rattle.types.specs.Elements.{element_type}
+use Rattle.types.specs.References.{pointee, referenced_layout}
+use Rattle.types.specs.RuntimeCall.{runtime_called}
+use Rattle.types.specs.ValueTypes.{target_of}
+use Rattle.shadow_stack.specs.Slots.{SlotTable, operand_slot, held_type, is_reference_held}
+use Rattle.machine.specs.declared.value.Place.{Place}
+use Rattle.machine.specs.declared.value.Place.TheVariants as place
+use Rattle.machine.specs.declared.value.Value.{Value}
+use Rattle.machine.specs.declared.value.Value.TheVariants as value
+use Rattle.machine.specs.declared.action.Action.{Action}
+use Rattle.machine.specs.declared.action.Action.TheVariants.{Local, Read, Write, StorePlain, Alloc, Safepoint, End, Wrong}
+use Rattle.machine.specs.Kinds.{is_integer, is_integer_of, is_void, is_byte_pointer, is_place_of_bytes, leads_to, may_refer, may_lead, refers_to, may_cast_word, bits_at, is_set, is_reference, fits_layout_of, are_of_one_layout, number_in, value_of, is_typed, is_usable, is_usable_number, is_local_of, slot_at_place, address_at_place}
+use Rattle.machine.specs.Integers.{may_resize, is_equality}
+use Rattle.machine.specs.Elements.{element_offset, element_place, globals_cell, global_kind, is_read_as, takes_value}
+use Rattle.machine.specs.Jumps.{phis_of, phis_fit, switch_way, cases_fit}
+
+-- where a condition fails, an instruction has no meaning
+abbrev pub only_if : Bool → Action → Action
+only_if b action = if b then action else Wrong
+
+-- ---- slots
+
+-- a value of this type may be loaded from a slot, or stored in it: the slot's own type, or i8* where it is a reference
+abbrev pub is_slot_type : Module → (held written : ℕ) → Bool
+is_slot_type m held written = (held == written) || (is_some (referenced_layout m held) && is_byte_pointer m written)
+
+-- the same of the type that a slot holds
+abbrev pub is_held_as : Module → (held : Option ℕ) → (written : ℕ) → Bool
+is_held_as m None written = false
+is_held_as m (Some held) written = is_slot_type m held written
+
+-- a value fits a type: where the type is a reference, it is of its layout
+abbrev pub fits_type : Module → (written : ℕ) → Value → Bool
+fits_type m written v = fits_layout_of (referenced_layout m written) v
+
+-- the same of the type that a slot holds
+abbrev pub fits_held : Module → (held : Option ℕ) → Value → Bool
+fits_held m None v = false
+fits_held m (Some held) v = fits_type m held v
+
+-- ---- bitcasts
+
+-- an address may be cast to this type as its word may, or where it leads to no word to each type of places of references
+abbrev pub may_cast_place : LaidOut → (to : ℕ) → Place → Bool
+may_cast_place p to place.OfNull = may_lead p.of_module to
+may_cast_place p to (place.Word layout at word) = may_cast_word p.of_module to (kind_of_word p.layouts layout word)
+may_cast_place p to (place.Global g) = may_cast_word p.of_module to (global_kind p.of_module g)
+
+-- a value may be cast to another type: a reference to i8* or to a reference of its layout, null also from place to place, an address as above
+abbrev pub may_cast_value : LaidOut → (from to : ℕ) → Value → Bool
+may_cast_value p from to value.Unset = false
+may_cast_value p from to (value.Number n) = false
+may_cast_value p from to value.Null = may_refer p.of_module to || (may_lead p.of_module from && may_lead p.of_module to)
+may_cast_value p from to (value.Cell layout at) = refers_to p.of_module layout to
+may_cast_value p from to (value.Address at) = may_cast_place p to at
+
+-- a bitcast of a value
+abbrev pub may_cast : LaidOut → (from to : ℕ) → Value → Bool
+may_cast p from to v = is_set v && ((from == to) || may_cast_value p from to v)
+
+-- a slot that holds references may stand as a place of this type
+abbrev pub is_slot_under : Module → (held : Option ℕ) → (part : ℕ) → Bool
+is_slot_under m None part = false
+is_slot_under m (Some layout) part = refers_to m layout part
+
+-- the layout of the references that a slot holds
+abbrev pub held_layout : Module → (held : Option ℕ) → Option ℕ
+held_layout m None = None
+held_layout m (Some held) = referenced_layout m held
+
+-- a bitcast of a slot: to its own type, or where it holds references to i8** or to a place of references of its layout
+abbrev pub may_cast_slot : Module → (held : Option ℕ) → (from to : ℕ) → Bool
+may_cast_slot m held from to = (from == to) || leads_to (is_slot_under m (held_layout m held)) (pointee m to)
+
+-- by the slot that the operand names, if it names one
+abbrev pub cast_action : LaidOut → Function → SlotTable → List Value → (from : ℕ) → Operand → (to : ℕ) → Option ℕ → Action
+cast_action p f slots registers from o to (Some slot) = only_if (is_local_of p.of_module f from o && may_cast_slot p.of_module (held_type slots slot) from to) Local
+cast_action p f slots registers from o to None =
+    only_if (is_typed p.of_module f slots from o && may_cast p from to (value_of p.of_module registers from o)) Local
+
+-- ---- loads and stores
+
+-- a read of the word to which an address leads
+abbrev pub read_action : LaidOut → (loaded : ℕ) → Option Place → Action
+read_action p loaded None = Wrong
+read_action p loaded (Some place.OfNull) = Wrong
+read_action p loaded (Some (place.Word layout at word)) = only_if (is_read_as p.of_module loaded (kind_of_word p.layouts layout word)) (Read at word)
+read_action p loaded (Some (place.Global g)) = only_if (is_read_as p.of_module loaded (global_kind p.of_module g)) (Read globals_cell g)
+
+-- a load from a slot under its type, or from an address
+abbrev pub load_action : LaidOut → SlotTable → (loaded : ℕ) → Option ℕ → Option Place → Action
+load_action p slots loaded (Some slot) address = only_if (is_held_as p.of_module (held_type slots slot) loaded) Local
+load_action p slots loaded None address = read_action p loaded address
+
+-- a store of a value under its type to the word to which an address leads, without the barrier
+abbrev pub plain_action : LaidOut → (stored : ℕ) → Value → Option Place → Action
+plain_action p stored v None = Wrong
+plain_action p stored v (Some place.OfNull) = Wrong
+plain_action p stored v (Some (place.Word layout at word)) = only_if (takes_value p.of_module stored (kind_of_word p.layouts layout word) v) (StorePlain at word v)
+plain_action p stored v (Some (place.Global g)) = only_if (takes_value p.of_module stored (global_kind p.of_module g) v) (StorePlain globals_cell g v)
+
+-- the same behind the barrier
+abbrev pub barrier_action : LaidOut → (stored : ℕ) → Value → Option Place → Action
+barrier_action p stored v None = Wrong
+barrier_action p stored v (Some place.OfNull) = Wrong
+barrier_action p stored v (Some (place.Word layout at word)) = only_if (takes_value p.of_module stored (kind_of_word p.layouts layout word) v) (Write at word v)
+barrier_action p stored v (Some (place.Global g)) = only_if (takes_value p.of_module stored (global_kind p.of_module g) v) (Write globals_cell g v)
+
+-- a store to a slot of a value that fits what the slot holds, or to an address
+abbrev pub store_action : LaidOut → SlotTable → (stored : ℕ) → (usable : Bool) → Value → Option ℕ → Option Place → Action
+store_action p slots stored usable v (Some slot) address =
+    only_if (usable && (is_held_as p.of_module (held_type slots slot) stored && fits_held p.of_module (held_type slots slot) v)) Local
+store_action p slots stored usable v None address = if usable then plain_action p stored v address else Wrong
+
+-- ---- getelementptr, integers and references
+
+-- each index is an integer
+abbrev pub are_indices : Module → Function → SlotTable → List Value → List Argument → Bool
+are_indices m f slots registers indices = list_all (λ index. is_usable_number m f slots registers index.written index.operand) indices
+
+-- a getelementptr leads to a part of the type, and to a word of the cell
+abbrev pub element_action : LaidOut → Function → SlotTable → List Value → (source base_type : ℕ) → Operand → List Argument → Action
+element_action p f slots registers source base_type base indices =
+    only_if (is_typed p.of_module f slots base_type base
+    && (are_indices p.of_module f slots registers indices
+    && (is_some (element_type p.of_module source indices)
+    && is_some (element_place p (element_offset p registers source indices) (value_of p.of_module registers base_type base))))) Local
+
+-- two operands of a type are integers
+abbrev pub are_numbers : Module → Function → SlotTable → List Value → (written : ℕ) → (first second : Operand) → Bool
+are_numbers m f slots registers written first second =
+    is_usable_number m f slots registers written first && is_usable_number m f slots registers written second
+
+-- two operands of a type are references
+abbrev pub are_references : Module → Function → SlotTable → List Value → (written : ℕ) → (first second : Operand) → Bool
+are_references m f slots registers written first second =
+    may_refer m written
+    && ((is_typed m f slots written first && is_reference (value_of m registers written first))
+    && (is_typed m f slots written second && is_reference (value_of m registers written second)))
+
+-- an icmp of two integers, or of two references, which are only compared for equality
+abbrev pub may_compare : Module → Function → SlotTable → List Value → Comparison → (written : ℕ) → (first second : Operand) → Bool
+may_compare m f slots registers kind written first second =
+    are_numbers m f slots registers written first second || (is_equality kind && are_references m f slots registers written first second)
+
+-- a select of one of two integers, or of two references of one layout
+abbrev pub may_select : Module → Function → SlotTable → List Value → (written : ℕ) → (chosen other : Operand) → Bool
+may_select m f slots registers written chosen other =
+    are_numbers m f slots registers written chosen other
+    || (are_references m f slots registers written chosen other && are_of_one_layout (value_of m registers written chosen) (value_of m registers written other))
+
+-- a condition is an i1
+abbrev pub is_condition : Module → Function → SlotTable → List Value → (written : ℕ) → Operand → Bool
+is_condition m f slots registers written o = is_integer_of 1 (slice_get m.types written) && is_usable_number m f slots registers written o
+
+-- ---- calls of the runtime
+
+-- the types of gcroot: void (i8**, i8*)
+abbrev pub are_gcroot_types : Module → (returned : ℕ) → List ℕ → Bool
+are_gcroot_types m returned (place ∷ metadata ∷ []) = is_void (slice_get m.types returned) && (is_place_of_bytes m place && is_byte_pointer m metadata)
+are_gcroot_types m returned parameters = false
+
+-- the types of gcread: i8* (i8*, i8**)
+abbrev pub are_gcread_types : Module → (returned : ℕ) → List ℕ → Bool
+are_gcread_types m returned (object ∷ place ∷ []) = is_byte_pointer m returned && (is_byte_pointer m object && is_place_of_bytes m place)
+are_gcread_types m returned parameters = false
+
+-- the types of gcwrite: void (i8*, i8*, i8**)
+abbrev pub are_gcwrite_types : Module → (returned : ℕ) → List ℕ → Bool
+are_gcwrite_types m returned (v ∷ object ∷ place ∷ []) =
+    is_void (slice_get m.types returned) && (is_byte_pointer m v && (is_byte_pointer m object && is_place_of_bytes m place))
+are_gcwrite_types m returned parameters = false
+
+-- the types of dg_alloc: i8* (i32)
+abbrev pub are_alloc_types : Module → (returned : ℕ) → List ℕ → Bool
+are_alloc_types m returned (layout ∷ []) = is_byte_pointer m returned && is_integer_of 32 (slice_get m.types layout)
+are_alloc_types m returned parameters = false
+
+-- the types of dg_safepoint: void ()
+abbrev pub are_safepoint_types : Module → (returned : ℕ) → List ℕ → Bool
+are_safepoint_types m returned [] = is_void (slice_get m.types returned)
+are_safepoint_types m returned parameters = false
+
+-- whether a name is declared with types that pass a test
+abbrev pub declared_with : (ℕ → List ℕ → Bool) → Option Declare → Bool
+declared_with test None = false
+declared_with test (Some declare) = test declare.returned declare.parameters
+
+-- the declaration of a name of this sort
+abbrev pub declare_of_sort : Module → Option SymbolSort → Option Declare
+declare_of_sort m (Some (symbol.Declared d)) = slice_get m.declares d
+declare_of_sort m _ = None
+
+-- the declaration of a global name
+abbrev pub declare_of : Module → (callee : ℕ) → Option Declare
+declare_of m callee = declare_of_sort m (slice_get m.sorts callee)
+
+-- the slot that a gcroot call names, where it is of reference type
+abbrev pub is_root_place : Module → SlotTable → Option ℕ → Bool
+is_root_place m slots None = false
+is_root_place m slots (Some slot) = is_reference_held m (held_type slots slot)
+
+-- gcroot stores null in a slot of reference type
+abbrev pub gcroot_action : Module → Function → SlotTable → List Value → (returned : ℕ) → List Argument → Action
+gcroot_action m f slots registers returned (place ∷ metadata ∷ []) =
+    only_if (are_gcroot_types m returned (place.written ∷ metadata.written ∷ [])
+    && (is_root_place m slots (slot_at_place m f slots place.written place.operand) && is_usable m f slots registers metadata.written metadata.operand)) Local
+gcroot_action m f slots registers returned arguments = Wrong
+
+-- gcread reads a place, for an object
+abbrev pub gcread_action : LaidOut → Function → SlotTable → List Value → (returned : ℕ) → List Argument → Action
+gcread_action p f slots registers returned (object ∷ place ∷ []) =
+    only_if (are_gcread_types p.of_module returned (object.written ∷ place.written ∷ []) && is_usable p.of_module f slots registers object.written object.operand)
+    (read_action p returned (address_at_place p.of_module f slots registers place.written place.operand))
+gcread_action p f slots registers returned arguments = Wrong
+
+-- gcwrite puts a value at a place behind the barrier, for an object
+abbrev pub gcwrite_action : LaidOut → Function → SlotTable → List Value → (returned : ℕ) → List Argument → Action
+gcwrite_action p f slots registers returned (v ∷ object ∷ place ∷ []) =
+    only_if (are_gcwrite_types p.of_module returned (v.written ∷ object.written ∷ place.written ∷ [])
+    && (is_usable p.of_module f slots registers v.written v.operand && is_usable p.of_module f slots registers object.written object.operand))
+    (barrier_action p v.written (value_of p.of_module registers v.written v.operand) (address_at_place p.of_module f slots registers place.written place.operand))
+gcwrite_action p f slots registers returned arguments = Wrong
+
+-- the layout that a number stands for
+abbrev pub layout_numbered : Module → (n : ℕ) → Option ℕ
+layout_numbered m n = if nat_lt n (length m.structs) && nat_lt n 4294967296 then Some n else None
+
+-- the number of a layout is a constant of 32 bits
+abbrev pub layout_named : Module → Operand → Option ℕ
+layout_named m (operand.Constant (constant.Number n)) = layout_numbered m n
+layout_named m _ = None
+
+-- an alloc of a layout, if there is one
+abbrev pub alloc_of : Option ℕ → Action
+alloc_of None = Wrong
+alloc_of (Some layout) = Alloc layout
+
+-- dg_alloc asks for a cell of the layout that its argument numbers
+abbrev pub alloc_action : Module → (returned : ℕ) → List Argument → Action
+alloc_action m returned (layout ∷ []) = only_if (are_alloc_types m returned (layout.written ∷ [])) (alloc_of (layout_named m layout.operand))
+alloc_action m returned arguments = Wrong
+
+-- dg_safepoint asks whether a stage was posted
+abbrev pub safepoint_action : Module → (returned : ℕ) → List Argument → Action
+safepoint_action m returned [] = only_if (are_safepoint_types m returned []) Safepoint
+safepoint_action m returned arguments = Wrong
+
+-- ---- calls of defined functions
+
+-- the number of the defined function that a name of this sort is
+abbrev pub number_of_sort : Option SymbolSort → Option ℕ
+number_of_sort (Some (symbol.Defined function)) = Some function
+number_of_sort _ = None
+
+-- the number of the defined function that a global name names
+abbrev pub number_called : Module → (callee : ℕ) → Option ℕ
+number_called m callee = number_of_sort (slice_get m.sorts callee)
+
+-- the function with a number, if there is one
+abbrev pub function_numbered : Module → (function : Option ℕ) → Option Function
+function_numbered m None = None
+function_numbered m (Some function) = slice_get m.functions function
+
+-- there is one argument for each parameter, of its type and usable
+abbrev pub arguments_pass : Module → Function → SlotTable → List Value → List Parameter → List Argument → Bool
+arguments_pass m f slots registers [] [] = true
+arguments_pass m f slots registers (parameter ∷ parameters) (argument ∷ arguments) =
+    (argument.written == parameter.written) && (is_usable m f slots registers argument.written argument.operand && arguments_pass m f slots registers parameters arguments)
+arguments_pass m f slots registers _ _ = false
+
+-- a call of a defined function is one step, if it is called with its types
+abbrev pub defined_action : Module → Function → SlotTable → List Value → (returned : ℕ) → List Argument → (callee : Option Function) → Action
+defined_action m f slots registers returned arguments None = Wrong
+defined_action m f slots registers returned arguments (Some callee) =
+    only_if ((returned == callee.returned) && arguments_pass m f slots registers callee.parameters arguments) Local
+
+-- a call of a function of the runtime, declared and called with its types, or of a defined function; no other callee is known
+abbrev pub call_action : LaidOut → Function → SlotTable → List Value → (returned : ℕ) → List Argument → Option Declare → (callee : Option Function) → Option Runtime → Action
+call_action p f slots registers returned arguments declare callee (Some runtime.Alloc) =
+    only_if (declared_with (are_alloc_types p.of_module) declare) (alloc_action p.of_module returned arguments)
+call_action p f slots registers returned arguments declare callee (Some runtime.GcRoot) =
+    only_if (declared_with (are_gcroot_types p.of_module) declare) (gcroot_action p.of_module f slots registers returned arguments)
+call_action p f slots registers returned arguments declare callee (Some runtime.GcRead) =
+    only_if (declared_with (are_gcread_types p.of_module) declare) (gcread_action p f slots registers returned arguments)
+call_action p f slots registers returned arguments declare callee (Some runtime.GcWrite) =
+    only_if (declared_with (are_gcwrite_types p.of_module) declare) (gcwrite_action p f slots registers returned arguments)
+call_action p f slots registers returned arguments declare callee (Some runtime.Safepoint) =
+    only_if (declared_with (are_safepoint_types p.of_module) declare) (safepoint_action p.of_module returned arguments)
+call_action p f slots registers returned arguments declare callee None = defined_action p.of_module f slots registers returned arguments callee
+
+-- ---- the end of a block
+
+-- a way to a block whose phis may take their entries for this block; to a label of no block there is none
+abbrev pub enter_action : Module → Function → SlotTable → (from : ℕ) → (target : Option ℕ) → Action
+enter_action m f slots from None = End
+enter_action m f slots from (Some block) = only_if (phis_fit m f slots from (phis_of (slice_get f.blocks block))) Local
+
+-- the label to which a br with a condition goes on
+abbrev pub branch_way : (condition : Value) → (taken other : ℕ) → ℕ
+branch_way condition taken other = if number_in condition == 0 then other else taken
+
+-- the label to which an instruction goes on, if it is a br or a switch
+abbrev pub way_of : Module → List Value → Op → Option ℕ
+way_of m registers (Jump label) = Some label
+way_of m registers (Branch condition_type condition taken other) = Some (branch_way (value_of m registers condition_type condition) taken other)
+way_of m registers (Switch written v otherwise cases) = Some (switch_way m written (number_in (value_of m registers written v)) otherwise cases)
+way_of m registers _ = None
+
+-- the block to which that leads
+abbrev pub target_at : Function → (way : Option ℕ) → Option ℕ
+target_at f None = None
+target_at f (Some label) = target_of f label
+
+-- what a br or a switch asks for
+abbrev pub way_action : Module → Function → SlotTable → (from : ℕ) → List Value → Op → Action
+way_action m f slots from registers op = enter_action m f slots from (target_at f (way_of m registers op))
+
+-- ---- instructions
+
+-- what an instruction asks for that computes a value of others
+abbrev pub value_action : Module → Function → SlotTable → List Value → Op → Action
+value_action m f slots registers (Arithmetic kind written first second) = only_if (are_numbers m f slots registers written first second) Local
+value_action m f slots registers (Resize kind written o to) =
+    only_if (is_usable_number m f slots registers written o && (is_integer (slice_get m.types to) && may_resize kind (bits_at m written) (bits_at m to))) Local
+value_action m f slots registers (Compare kind written first second) = only_if (may_compare m f slots registers kind written first second) Local
+value_action m f slots registers (Select condition_type condition written chosen other) =
+    only_if (is_condition m f slots registers condition_type condition && may_select m f slots registers written chosen other) Local
+value_action m f slots registers _ = Wrong
+
+-- what an instruction asks for that has to do with a place
+abbrev pub place_action : LaidOut → Function → SlotTable → List Value → Op → Action
+place_action p f slots registers (Bitcast written o to) = cast_action p f slots registers written o to (operand_slot slots.names o)
+place_action p f slots registers (Load loaded place_type place) =
+    load_action p slots loaded (slot_at_place p.of_module f slots place_type place) (address_at_place p.of_module f slots registers place_type place)
+place_action p f slots registers (Store stored v place_type place) =
+    store_action p slots stored (is_usable p.of_module f slots registers stored v) (value_of p.of_module registers stored v)
+    (slot_at_place p.of_module f slots place_type place) (address_at_place p.of_module f slots registers place_type place)
+place_action p f slots registers (Element source base_type base indices) = element_action p f slots registers source base_type base indices
+place_action p f slots registers _ = Wrong
+
+-- what an instruction asks for that ends the block with this number
+abbrev pub end_action : Module → Function → SlotTable → (from : ℕ) → List Value → Op → Action
+end_action m f slots from registers (Jump label) = way_action m f slots from registers (Jump label)
+end_action m f slots from registers (Branch condition_type condition taken other) =
+    if is_condition m f slots registers condition_type condition then way_action m f slots from registers (Branch condition_type condition taken other) else Wrong
+end_action m f slots from registers (Switch written v otherwise cases) =
+    if is_usable_number m f slots registers written v && cases_fit m written cases then way_action m f slots from registers (Switch written v otherwise cases) else Wrong
+end_action m f slots from registers Unreachable = End
+end_action m f slots from registers ReturnVoid = only_if (is_void (slice_get m.types f.returned)) End
+end_action m f slots from registers (Return argument) =
+    only_if ((argument.written == f.returned) && is_usable m f slots registers argument.written argument.operand) End
+end_action m f slots from registers _ = Wrong
+
+-- what an instruction asks for, in the block with this number
+abbrev pub op_action : LaidOut → Function → SlotTable → (from : ℕ) → List Value → Op → Action
+op_action p f slots from registers (Alloca held) = Local
+op_action p f slots from registers (Bitcast written o to) = place_action p f slots registers (Bitcast written o to)
+op_action p f slots from registers (Load loaded place_type place) = place_action p f slots registers (Load loaded place_type place)
+op_action p f slots from registers (Store stored v place_type place) = place_action p f slots registers (Store stored v place_type place)
+op_action p f slots from registers (Element source base_type base indices) = place_action p f slots registers (Element source base_type base indices)
+op_action p f slots from registers (Arithmetic kind written first second) = value_action p.of_module f slots registers (Arithmetic kind written first second)
+op_action p f slots from registers (Resize kind written o to) = value_action p.of_module f slots registers (Resize kind written o to)
+op_action p f slots from registers (Compare kind written first second) = value_action p.of_module f slots registers (Compare kind written first second)
+op_action p f slots from registers (Select condition_type condition written chosen other) = value_action p.of_module f slots registers (Select condition_type condition written chosen other)
+op_action p f slots from registers (Phi written incoming) = Local
+op_action p f slots from registers (Call returned callee arguments) =
+    call_action p f slots registers returned arguments (declare_of p.of_module callee) (function_numbered p.of_module (number_called p.of_module callee)) (runtime_called p.of_module callee)
+op_action p f slots from registers (Jump label) = end_action p.of_module f slots from registers (Jump label)
+op_action p f slots from registers (Branch condition_type condition taken other) = end_action p.of_module f slots from registers (Branch condition_type condition taken other)
+op_action p f slots from registers (Switch written v otherwise cases) = end_action p.of_module f slots from registers (Switch written v otherwise cases)
+op_action p f slots from registers Unreachable = end_action p.of_module f slots from registers Unreachable
+op_action p f slots from registers ReturnVoid = end_action p.of_module f slots from registers ReturnVoid
+op_action p f slots from registers (Return argument) = end_action p.of_module f slots from registers (Return argument)

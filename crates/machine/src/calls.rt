@@ -1,0 +1,361 @@
+//! What calls ask for.
+ghost use Rattle.std.specs.Prelude.{◌≡◌, slice_get};
+ghost use Rattle.std.specs.Option.{option_copied};
+ghost use Rattle.types.specs.RuntimeCall.{runtime_called};
+ghost use Rattle.machine.specs.Asks.{are_gcroot_types, are_gcread_types, are_gcwrite_types, are_alloc_types, are_safepoint_types, declare_of, declared_with, is_root_place, gcroot_action, gcread_action, gcwrite_action, layout_numbered, layout_named, alloc_of, alloc_action, safepoint_action, number_called, function_numbered, arguments_pass, defined_action, call_action};
+
+use crate::accesses::{barrier_action, read_action};
+use crate::action::{Action, only_if};
+use crate::kinds::{is_byte_pointer, is_integer_of, is_place_of_bytes, is_void};
+use crate::operands::{address_at_place, is_usable, slot_at_place, value_of};
+use crate::scene::Scene;
+use ir_ast::{
+    Argument, Constant, Declare, FuncId, Function, Module, Operand, Parameter, Runtime, SymbolId,
+    SymbolSort, TypeId,
+};
+use pools::LayoutId;
+use shadow_stack::SlotId;
+use types::runtime_called;
+
+fn are_gcroot_types(of_module: &Module, returned: TypeId, parameters: &[TypeId]) -> bool
+    ensures { result ≡ are_gcroot_types of_module.now returned parameters.now }
+{
+    match parameters {
+        [place, metadata] => {
+            is_void(of_module, returned)
+                && (is_place_of_bytes(of_module, *place) && is_byte_pointer(of_module, *metadata))
+        }
+        _ => false,
+    }
+}
+
+fn are_gcread_types(of_module: &Module, returned: TypeId, parameters: &[TypeId]) -> bool
+    ensures { result ≡ are_gcread_types of_module.now returned parameters.now }
+{
+    match parameters {
+        [object, place] => {
+            is_byte_pointer(of_module, returned)
+                && (is_byte_pointer(of_module, *object) && is_place_of_bytes(of_module, *place))
+        }
+        _ => false,
+    }
+}
+
+fn are_gcwrite_types(of_module: &Module, returned: TypeId, parameters: &[TypeId]) -> bool
+    ensures { result ≡ are_gcwrite_types of_module.now returned parameters.now }
+{
+    match parameters {
+        [value, object, place] => {
+            is_void(of_module, returned)
+                && (is_byte_pointer(of_module, *value)
+                    && (is_byte_pointer(of_module, *object)
+                        && is_place_of_bytes(of_module, *place)))
+        }
+        _ => false,
+    }
+}
+
+fn are_alloc_types(of_module: &Module, returned: TypeId, parameters: &[TypeId]) -> bool
+    ensures { result ≡ are_alloc_types of_module.now returned parameters.now }
+{
+    match parameters {
+        [layout] => {
+            is_byte_pointer(of_module, returned) && is_integer_of(of_module, 32, *layout)
+        }
+        _ => false,
+    }
+}
+
+fn are_safepoint_types(of_module: &Module, returned: TypeId, parameters: &[TypeId]) -> bool
+    ensures { result ≡ are_safepoint_types of_module.now returned parameters.now }
+{
+    parameters.is_empty() && is_void(of_module, returned)
+}
+
+/// The declaration of a global name.
+fn declare_of(of_module: &Module, callee: SymbolId) -> Option<&Declare>
+    ensures { option_copied result ≡ declare_of of_module.now callee }
+{
+    match of_module.sorts.get(callee.number() as usize) {
+        Some(SymbolSort::Declared(number)) => of_module.declares.get(number.number() as usize),
+        _ => None,
+    }
+}
+
+fn is_root_place(scene: &Scene<'_>, slot: Option<SlotId>) -> bool
+    ensures { result ≡ is_root_place scene.now.program.now.of_module scene.now.slots.now slot }
+{
+    match slot {
+        Some(slot) => scene.slots.is_reference(scene.of_module(), slot),
+        None => false,
+    }
+}
+
+fn gcroot_action(scene: &Scene<'_>, returned: TypeId, arguments: &[Argument]) -> Action
+    ensures { result ≡ gcroot_action scene.now.program.now.of_module scene.now.function.now scene.now.slots.now scene.now.registers.now returned arguments.now }
+{
+    match arguments {
+        [place, metadata] => only_if(
+            are_gcroot_types(
+                scene.of_module(),
+                returned,
+                &[place.written, metadata.written],
+            ) && (is_root_place(scene, slot_at_place(scene, place.written, &place.operand))
+                && is_usable(scene, metadata.written, &metadata.operand)),
+            Action::Local,
+        ),
+        _ => Action::Wrong,
+    }
+}
+
+fn gcread_action(scene: &Scene<'_>, returned: TypeId, arguments: &[Argument]) -> Action
+    ensures { result ≡ gcread_action scene.now.program.now scene.now.function.now scene.now.slots.now scene.now.registers.now returned arguments.now }
+{
+    match arguments {
+        [object, place] => only_if(
+            are_gcread_types(
+                scene.of_module(),
+                returned,
+                &[object.written, place.written],
+            ) && is_usable(scene, object.written, &object.operand),
+            read_action(
+                scene.program,
+                returned,
+                address_at_place(scene, place.written, &place.operand),
+            ),
+        ),
+        _ => Action::Wrong,
+    }
+}
+
+fn gcwrite_action(scene: &Scene<'_>, returned: TypeId, arguments: &[Argument]) -> Action
+    ensures { result ≡ gcwrite_action scene.now.program.now scene.now.function.now scene.now.slots.now scene.now.registers.now returned arguments.now }
+{
+    match arguments {
+        [value, object, place] => only_if(
+            are_gcwrite_types(
+                scene.of_module(),
+                returned,
+                &[value.written, object.written, place.written],
+            ) && (is_usable(scene, value.written, &value.operand)
+                && is_usable(scene, object.written, &object.operand)),
+            barrier_action(
+                scene.program,
+                value.written,
+                value_of(scene, value.written, &value.operand),
+                address_at_place(scene, place.written, &place.operand),
+            ),
+        ),
+        _ => Action::Wrong,
+    }
+}
+
+/// The layout that an operand numbers: a constant of 32 bits.
+pub fn layout_named(of_module: &Module, operand: &Operand) -> Option<LayoutId>
+    ensures { result ≡ layout_named of_module.now operand.now }
+{
+    match operand {
+        Operand::Constant(Constant::Number(number)) => layout_numbered(of_module, *number),
+        _ => None,
+    }
+}
+
+fn layout_numbered(of_module: &Module, number: u64) -> Option<LayoutId>
+    ensures { result ≡ layout_numbered of_module.now number }
+{
+    if number < of_module.structs.len() as u64 && number < 4_294_967_296 {
+        Some(LayoutId::new(number as u32))
+    } else {
+        None
+    }
+}
+
+fn alloc_of(layout: Option<LayoutId>) -> Action
+    ensures { result ≡ alloc_of layout }
+{
+    match layout {
+        Some(layout) => Action::Alloc(layout),
+        None => Action::Wrong,
+    }
+}
+
+fn alloc_action(of_module: &Module, returned: TypeId, arguments: &[Argument]) -> Action
+    ensures { result ≡ alloc_action of_module.now returned arguments.now }
+{
+    match arguments {
+        [layout] => only_if(
+            are_alloc_types(of_module, returned, &[layout.written]),
+            alloc_of(layout_named(of_module, &layout.operand)),
+        ),
+        _ => Action::Wrong,
+    }
+}
+
+/// Whether a name is declared as gcroot has to be.
+fn declares_gcroot(of_module: &Module, declare: Option<&Declare>) -> bool
+    ensures { result ≡ declared_with (are_gcroot_types of_module.now) (option_copied declare.entry) }
+{
+    match declare {
+        Some(declare) => {
+            are_gcroot_types(of_module, declare.returned, declare.parameters.as_slice())
+        }
+        None => false,
+    }
+}
+
+/// Whether a name is declared as gcread has to be.
+fn declares_gcread(of_module: &Module, declare: Option<&Declare>) -> bool
+    ensures { result ≡ declared_with (are_gcread_types of_module.now) (option_copied declare.entry) }
+{
+    match declare {
+        Some(declare) => {
+            are_gcread_types(of_module, declare.returned, declare.parameters.as_slice())
+        }
+        None => false,
+    }
+}
+
+/// Whether a name is declared as gcwrite has to be.
+fn declares_gcwrite(of_module: &Module, declare: Option<&Declare>) -> bool
+    ensures { result ≡ declared_with (are_gcwrite_types of_module.now) (option_copied declare.entry) }
+{
+    match declare {
+        Some(declare) => {
+            are_gcwrite_types(of_module, declare.returned, declare.parameters.as_slice())
+        }
+        None => false,
+    }
+}
+
+/// Whether a name is declared as dg_alloc has to be.
+fn declares_alloc(of_module: &Module, declare: Option<&Declare>) -> bool
+    ensures { result ≡ declared_with (are_alloc_types of_module.now) (option_copied declare.entry) }
+{
+    match declare {
+        Some(declare) => {
+            are_alloc_types(of_module, declare.returned, declare.parameters.as_slice())
+        }
+        None => false,
+    }
+}
+
+/// Whether a name is declared as dg_safepoint has to be.
+fn declares_safepoint(of_module: &Module, declare: Option<&Declare>) -> bool
+    ensures { result ≡ declared_with (are_safepoint_types of_module.now) (option_copied declare.entry) }
+{
+    match declare {
+        Some(declare) => {
+            are_safepoint_types(of_module, declare.returned, declare.parameters.as_slice())
+        }
+        None => false,
+    }
+}
+
+fn safepoint_action(of_module: &Module, returned: TypeId, arguments: &[Argument]) -> Action
+    ensures { result ≡ safepoint_action of_module.now returned arguments.now }
+{
+    match arguments {
+        [] => only_if(
+            are_safepoint_types(of_module, returned, &[]),
+            Action::Safepoint,
+        ),
+        _ => Action::Wrong,
+    }
+}
+
+/// The number of the defined function that a global name names.
+pub fn number_called(of_module: &Module, callee: SymbolId) -> Option<FuncId>
+    ensures { result ≡ number_called of_module.now callee }
+{
+    match of_module.sorts.get(callee.number() as usize) {
+        Some(SymbolSort::Defined(number)) => Some(*number),
+        _ => None,
+    }
+}
+
+/// The defined function that a global name names.
+fn function_called(of_module: &Module, callee: SymbolId) -> Option<&Function>
+    ensures { option_copied result ≡ function_numbered of_module.now (number_called of_module.now callee) }
+{
+    match number_called(of_module, callee) {
+        Some(number) => of_module.functions.get(number.number() as usize),
+        None => None,
+    }
+}
+
+/// Whether there is one argument for each parameter, of its type and usable.
+#[tactic(auto, using(crate::proofs::AsksArguments::other_count))]
+fn arguments_pass(scene: &Scene<'_>, parameters: &[Parameter], arguments: &[Argument]) -> bool
+    ensures { result ≡ arguments_pass scene.now.program.now.of_module scene.now.function.now scene.now.slots.now scene.now.registers.now parameters.now arguments.now }
+{
+    if parameters.len() != arguments.len() {
+        return false;
+    }
+    for (parameter, argument) in parameters.iter().zip(arguments.iter()) {
+        if argument.written != parameter.written
+            || !is_usable(scene, argument.written, &argument.operand)
+        {
+            return false;
+        }
+    }
+    true
+}
+
+fn defined_action(
+    scene: &Scene<'_>,
+    returned: TypeId,
+    arguments: &[Argument],
+    callee: Option<&Function>,
+) -> Action
+    ensures { result ≡ defined_action scene.now.program.now.of_module scene.now.function.now scene.now.slots.now scene.now.registers.now returned arguments.now (option_copied callee.entry) }
+{
+    match callee {
+        Some(callee) => only_if(
+            returned == callee.returned
+                && arguments_pass(scene, callee.parameters.as_slice(), arguments),
+            Action::Local,
+        ),
+        None => Action::Wrong,
+    }
+}
+
+/// What a call asks for; no callee is known but the runtime's, declared and called with its types, and defined functions.
+pub fn call_action(
+    scene: &Scene<'_>,
+    returned: TypeId,
+    callee: SymbolId,
+    arguments: &[Argument],
+) -> Action
+    ensures { let m = scene.now.program.now.of_module in result ≡ call_action scene.now.program.now scene.now.function.now scene.now.slots.now scene.now.registers.now returned arguments.now (declare_of m callee) (function_numbered m (number_called m callee)) (runtime_called m callee) }
+{
+    let of_module = scene.of_module();
+    let declare = declare_of(of_module, callee);
+    match runtime_called(of_module, callee) {
+        Some(Runtime::Alloc) => only_if(
+            declares_alloc(of_module, declare),
+            alloc_action(of_module, returned, arguments),
+        ),
+        Some(Runtime::GcRoot) => only_if(
+            declares_gcroot(of_module, declare),
+            gcroot_action(scene, returned, arguments),
+        ),
+        Some(Runtime::Safepoint) => only_if(
+            declares_safepoint(of_module, declare),
+            safepoint_action(of_module, returned, arguments),
+        ),
+        Some(Runtime::GcRead) => only_if(
+            declares_gcread(of_module, declare),
+            gcread_action(scene, returned, arguments),
+        ),
+        Some(Runtime::GcWrite) => only_if(
+            declares_gcwrite(of_module, declare),
+            gcwrite_action(scene, returned, arguments),
+        ),
+        None => defined_action(
+            scene,
+            returned,
+            arguments,
+            function_called(of_module, callee),
+        ),
+    }
+}

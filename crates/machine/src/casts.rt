@@ -1,0 +1,98 @@
+//! What may be named anew under another type.
+ghost use Rattle.std.specs.Prelude.{◌≡◌};
+ghost use Rattle.pools.specs.Layouts.{kind_of_word};
+ghost use Rattle.shadow_stack.specs.Slots.{operand_slot};
+ghost use Rattle.machine.specs.Elements.{global_kind};
+ghost use Rattle.machine.specs.Asks.{may_cast_place, may_cast_value, may_cast, is_slot_under, held_layout, may_cast_slot, cast_action};
+
+use crate::action::{Action, only_if};
+use crate::elements::{global_kind, kind_of_word};
+use crate::kinds::{is_set, may_cast_word, may_lead, may_refer, refers_to};
+use crate::operands::{is_local_of, is_typed, operand_slot, value_of};
+use crate::scene::Scene;
+use crate::value::{Place, Value};
+use ir_ast::{Module, Operand, TypeId};
+use layout::Program;
+use pools::LayoutId;
+use types::{is_reference, pointee};
+
+fn may_cast_place(program: &Program, to: TypeId, place: &Place) -> bool
+    ensures { result ≡ may_cast_place program.now to place.now }
+{
+    match place {
+        Place::OfNull => may_lead(program.module(), to),
+        Place::Word { layout, word, .. } => {
+            may_cast_word(program.module(), to, kind_of_word(program, *layout, *word))
+        }
+        Place::Global(global) => {
+            may_cast_word(program.module(), to, global_kind(program.module(), *global))
+        }
+    }
+}
+
+fn may_cast_value(program: &Program, from: TypeId, to: TypeId, value: &Value) -> bool
+    ensures { result ≡ may_cast_value program.now from to value.now }
+{
+    match value {
+        Value::Unset | Value::Number(_) => false,
+        Value::Null => {
+            may_refer(program.module(), to)
+                || (may_lead(program.module(), from) && may_lead(program.module(), to))
+        }
+        Value::Cell(layout, _) => refers_to(program.module(), *layout, to),
+        Value::Address(place) => may_cast_place(program, to, place),
+    }
+}
+
+fn may_cast(program: &Program, from: TypeId, to: TypeId, value: &Value) -> bool
+    ensures { result ≡ may_cast program.now from to value.now }
+{
+    is_set(value) && (from == to || may_cast_value(program, from, to, value))
+}
+
+/// The layout of the references that a slot of this type holds.
+fn held_layout(of_module: &Module, held: Option<TypeId>) -> Option<LayoutId>
+    ensures { result ≡ held_layout of_module.now held }
+{
+    is_reference(of_module, held?)
+}
+
+fn is_slot_under(of_module: &Module, held: Option<LayoutId>, part: TypeId) -> bool
+    ensures { result ≡ is_slot_under of_module.now held part }
+{
+    match held {
+        Some(layout) => refers_to(of_module, layout, part),
+        None => false,
+    }
+}
+
+fn may_cast_slot(of_module: &Module, held: Option<TypeId>, from: TypeId, to: TypeId) -> bool
+    ensures { result ≡ may_cast_slot of_module.now held from to }
+{
+    if from == to {
+        return true;
+    }
+    match pointee(of_module, to) {
+        Some(part) => is_slot_under(of_module, held_layout(of_module, held), part),
+        None => false,
+    }
+}
+
+/// What a bitcast asks for.
+pub fn cast_action(scene: &Scene<'_>, from: TypeId, operand: &Operand, to: TypeId) -> Action
+    ensures { result ≡ cast_action scene.now.program.now scene.now.function.now scene.now.slots.now scene.now.registers.now from operand.now to (operand_slot scene.now.slots.now.names operand.now) }
+{
+    let of_module = scene.of_module();
+    match operand_slot(scene.slots, operand) {
+        Some(slot) => only_if(
+            is_local_of(scene, from, operand)
+                && may_cast_slot(of_module, scene.slots.held_type(slot), from, to),
+            Action::Local,
+        ),
+        None => only_if(
+            is_typed(scene, from, operand)
+                && may_cast(scene.program, from, to, &value_of(scene, from, operand)),
+            Action::Local,
+        ),
+    }
+}

@@ -1,0 +1,232 @@
+//! Places in cells: the word to which a getelementptr leads, and what may be read and written there.
+ghost use Rattle.std.specs.Prelude.{◌≡◌, ◌+◌, ◌*◌, Some};
+ghost use Rattle.pools.specs.Layouts.{kind_of_word};
+ghost use Rattle.machine.specs.Kinds.{wrapped};
+ghost use Rattle.machine.specs.Elements.{index_value, stepped, offset_behind, first_place, element_offset, word_in, word_behind, global_behind, element_place, globals_cell, global_kind, is_read_as, takes_value, read_value};
+
+use crate::answer::Answer;
+use crate::integers::{read_signed, wrapped_wide};
+use crate::kinds::{bits_at, fits_layout, is_integer_of, is_number, number_in, refers_to};
+use crate::operands::operand_value;
+use crate::value::{Place, Reference, Value};
+use ir_ast::{Argument, GlobalId, Module, TypeId};
+use layout::{Program, Step, word_of};
+use pools::{LayoutId, WordKind};
+
+/// What a word of a layout holds, if the layout has it.
+pub fn kind_of_word(program: &Program, layout: LayoutId, word: u32) -> Option<WordKind>
+    ensures { result ≡ kind_of_word program.now.layouts layout word }
+{
+    program.layouts().words(layout).get(word as usize).copied()
+}
+
+/// What the word of a global holds.
+pub fn global_kind(of_module: &Module, global: GlobalId) -> Option<WordKind>
+    ensures { result ≡ global_kind of_module.now global }
+{
+    match of_module.globals.get(global.number() as usize) {
+        Some(global) => word_of(of_module, global.held),
+        None => None,
+    }
+}
+
+/// The cell of the globals, whose birth is the first.
+pub fn globals_cell() -> Reference
+    ensures { result ≡ globals_cell }
+{
+    Reference { cell: 0, birth: 0 }
+}
+
+/// The number of an index, read with its sign and modulo 2 to the 64.
+fn index_value(of_module: &Module, registers: &[Value], index: &Argument) -> u64
+    ensures { result ≡ index_value of_module.now registers.now index.now }
+{
+    let value = operand_value(of_module, registers, index.written, &index.operand);
+    read_signed(bits_at(of_module, index.written), number_in(&value))
+}
+
+/// So many words further, modulo 2 to the 64.
+fn behind(offset: u64, words: u64) -> u64
+    ensures { result ≡ wrapped 64 (offset + words) }
+{
+    wrapped_wide(64, u128::from(offset) + u128::from(words))
+}
+
+/// So many times so many words further, modulo 2 to the 64.
+fn further(offset: u64, count: u64, words: u32) -> u64
+    ensures { result ≡ wrapped 64 (offset + count * words) }
+{
+    wrapped_wide(
+        64,
+        u128::from(offset) + u128::from(count) * u128::from(words),
+    )
+}
+
+/// How many words some indices pass from behind so many words of a type.
+fn offset_behind(
+    program: &Program,
+    registers: &[Value],
+    offset: u64,
+    written: TypeId,
+    indices: &[Argument],
+) -> Option<u64>
+    ensures { result ≡ offset_behind program.now registers.now (Some (offset, written)) indices.now }
+{
+    let mut offset = offset;
+    let mut written = written;
+    for index in indices {
+        let number = index_value(program.module(), registers, index);
+        match program.step(written, *index)? {
+            Step::Field { words, part } => {
+                offset = behind(offset, u64::from(words));
+                written = part;
+            }
+            Step::Elements { words, part, .. } => {
+                offset = further(offset, number, words);
+                written = part;
+            }
+        }
+    }
+    Some(offset)
+}
+
+/// How many words the indices of a getelementptr pass.
+fn element_offset(
+    program: &Program,
+    registers: &[Value],
+    source: TypeId,
+    indices: &[Argument],
+) -> Option<u64>
+    ensures { result ≡ element_offset program.now registers.now source indices.now }
+{
+    match indices {
+        [] => None,
+        [first, parts @ ..] => {
+            let count = index_value(program.module(), registers, first);
+            let offset = if count == 0 {
+                0
+            } else {
+                further(0, count, program.size_of(source)?)
+            };
+            offset_behind(program, registers, offset, source, parts)
+        }
+    }
+}
+
+#[tactic(auto, using(crate::proofs::Few::small_word))]
+fn word_in(program: &Program, layout: LayoutId, at: Reference, word: u64) -> Option<Place>
+    ensures { result ≡ word_in program.now layout at word }
+{
+    if word < program.layouts().words(layout).len() as u64 {
+        Some(Place::Word {
+            layout,
+            at,
+            word: word as u32,
+        })
+    } else {
+        None
+    }
+}
+
+fn word_behind(
+    program: &Program,
+    layout: LayoutId,
+    at: Reference,
+    word: u32,
+    offset: Option<u64>,
+) -> Option<Place>
+    ensures { result ≡ word_behind program.now layout at word offset }
+{
+    word_in(program, layout, at, behind(u64::from(word), offset?))
+}
+
+/// A global has one word: its place is the only one to which it leads.
+fn global_behind(global: GlobalId, offset: Option<u64>) -> Option<Place>
+    ensures { result ≡ global_behind global offset }
+{
+    if offset? == 0 {
+        Some(Place::Global(global))
+    } else {
+        None
+    }
+}
+
+fn element_place(program: &Program, offset: Option<u64>, base: &Value) -> Option<Place>
+    ensures { result ≡ element_place program.now offset base.now }
+{
+    match base {
+        Value::Null | Value::Address(Place::OfNull) => Some(Place::OfNull),
+        Value::Cell(layout, at) => word_behind(program, *layout, *at, 0, offset),
+        Value::Address(Place::Word { layout, at, word }) => {
+            word_behind(program, *layout, *at, *word, offset)
+        }
+        Value::Address(Place::Global(global)) => global_behind(*global, offset),
+        Value::Unset | Value::Number(_) => None,
+    }
+}
+
+/// The place to which a getelementptr leads.
+pub fn element_place_of(
+    program: &Program,
+    registers: &[Value],
+    source: TypeId,
+    base: &Value,
+    indices: &[Argument],
+) -> Option<Place>
+    ensures { result ≡ element_place program.now (element_offset program.now registers.now source indices.now) base.now }
+{
+    element_place(
+        program,
+        element_offset(program, registers, source, indices),
+        base,
+    )
+}
+
+/// Whether a word of this kind may be read under this type.
+pub fn is_read_as(of_module: &Module, written: TypeId, kind: Option<WordKind>) -> bool
+    ensures { result ≡ is_read_as of_module.now written kind }
+{
+    match &kind {
+        Some(WordKind::Integer(bits)) => is_integer_of(of_module, *bits, written),
+        Some(WordKind::Reference(layout)) => refers_to(of_module, *layout, written),
+        None => false,
+    }
+}
+
+/// Whether a word of this kind takes a value of this type.
+pub fn takes_value(
+    of_module: &Module,
+    written: TypeId,
+    kind: Option<WordKind>,
+    value: &Value,
+) -> bool
+    ensures { result ≡ takes_value of_module.now written kind value.now }
+{
+    match &kind {
+        Some(WordKind::Integer(bits)) => {
+            is_integer_of(of_module, *bits, written) && is_number(value)
+        }
+        Some(WordKind::Reference(layout)) => {
+            refers_to(of_module, *layout, written) && fits_layout(*layout, value)
+        }
+        None => false,
+    }
+}
+
+/// The value of a word of this kind, by the answer to its read.
+pub fn read_value(kind: Option<WordKind>, answer: Answer) -> Value
+    ensures { result ≡ read_value kind answer }
+{
+    match &kind {
+        Some(WordKind::Integer(_)) => match answer {
+            Answer::Number(number) => Value::Number(number),
+            _ => Value::Unset,
+        },
+        Some(WordKind::Reference(layout)) => match answer {
+            Answer::Null => Value::Null,
+            Answer::Cell(at) => Value::Cell(*layout, at),
+            _ => Value::Unset,
+        },
+        None => Value::Unset,
+    }
+}

@@ -1,0 +1,165 @@
+//! Ways from block to block, and the values that phis take on them.
+ghost use Rattle.std.specs.Prelude.{◌≡◌, Some, length, slice_get};
+ghost use Rattle.std.specs.List.{take_while};
+ghost use Rattle.machine.specs.Jumps.{is_block, is_phi_op, is_phi, phis_of, entry_for, entry_fits, phi_fits, phis_fit, entry_value, phi_value, switch_way, cases_fit};
+
+use crate::kinds::{is_scalar, number_in};
+use crate::operands::{constant_fits, constant_value, is_no_global, is_typed, operand_value};
+use crate::scene::Scene;
+use crate::value::Value;
+use ir_ast::{
+    Block, BlockId, Case, Function, Incoming, Instr, Module, Op, Operand, TypeId, ValueId,
+};
+use types::target_of;
+
+fn is_phi_op(op: &Op) -> bool
+    ensures { result ≡ is_phi_op op.now }
+{
+    matches!(op, Op::Phi { .. })
+}
+
+fn phi_count(instructions: &[Instr]) -> usize
+    ensures { result ≡ length (take_while is_phi instructions.now) }
+{
+    for (place, instr) in instructions.iter().enumerate() {
+        if !is_phi_op(&instr.op) {
+            return place;
+        }
+    }
+    instructions.len()
+}
+
+/// The phis in front of a block.
+#[tactic(auto, using(crate::proofs::AsksPhis::as_far))]
+pub fn phis_in(block: &Block) -> &[Instr]
+    ensures { result.now ≡ phis_of (Some block.now) }
+{
+    let instructions = block.instructions.as_slice();
+    let count = phi_count(instructions);
+    &instructions[..count]
+}
+
+/// The phis in front of the block with this number.
+pub fn phis_of(function: &Function, block: BlockId) -> &[Instr]
+    ensures { result.now ≡ phis_of (slice_get function.now.blocks block) }
+{
+    match function.blocks.get(block.number() as usize) {
+        Some(block) => phis_in(block),
+        None => &[],
+    }
+}
+
+fn is_block(block: usize, other: Option<BlockId>) -> bool
+    ensures { result ≡ is_block block other }
+{
+    match other {
+        Some(other) => other.number() as usize == block,
+        None => false,
+    }
+}
+
+/// The entry of a phi for this block: the first that there is.
+fn entry_for(function: &Function, from: usize, incoming: &[Incoming]) -> Option<Operand>
+    ensures { result ≡ entry_for function.now from incoming.now }
+{
+    for entry in incoming {
+        if is_block(from, target_of(function, entry.from)) {
+            return Some(entry.operand);
+        }
+    }
+    None
+}
+
+fn entry_fits(scene: &Scene<'_>, written: TypeId, entry: Option<Operand>) -> bool
+    ensures { result ≡ entry_fits scene.now.program.now.of_module scene.now.function.now scene.now.slots.now written entry }
+{
+    match entry {
+        Some(operand) => is_no_global(&operand) && is_typed(scene, written, &operand),
+        None => true,
+    }
+}
+
+fn phi_fits(scene: &Scene<'_>, from: usize, op: &Op) -> bool
+    ensures { result ≡ phi_fits scene.now.program.now.of_module scene.now.function.now scene.now.slots.now from op.now }
+{
+    match op {
+        Op::Phi { written, incoming } => {
+            is_scalar(scene.of_module(), *written)
+                && entry_fits(
+                    scene,
+                    *written,
+                    entry_for(scene.function, from, incoming.as_slice()),
+                )
+        }
+        _ => true,
+    }
+}
+
+/// Whether each of these phis may take its entry for this block.
+pub fn phis_fit(scene: &Scene<'_>, from: usize, phis: &[Instr]) -> bool
+    ensures { result ≡ phis_fit scene.now.program.now.of_module scene.now.function.now scene.now.slots.now from phis.now }
+{
+    phis.iter().all(|phi| phi_fits(scene, from, &phi.op))
+}
+
+fn entry_value(
+    of_module: &Module,
+    registers: &[Value],
+    written: TypeId,
+    entry: Option<Operand>,
+) -> Value
+    ensures { result ≡ entry_value of_module.now registers.now written entry }
+{
+    match entry {
+        Some(operand) => operand_value(of_module, registers, written, &operand),
+        None => Value::Unset,
+    }
+}
+
+/// The value that a phi takes behind this block.
+pub fn phi_value(
+    of_module: &Module,
+    function: &Function,
+    registers: &[Value],
+    from: usize,
+    op: &Op,
+) -> Value
+    ensures { result ≡ phi_value of_module.now function.now registers.now from op.now }
+{
+    match op {
+        Op::Phi { written, incoming } => entry_value(
+            of_module,
+            registers,
+            *written,
+            entry_for(function, from, incoming.as_slice()),
+        ),
+        _ => Value::Unset,
+    }
+}
+
+/// The label to which a switch goes on at this number.
+pub fn switch_way(
+    of_module: &Module,
+    written: TypeId,
+    number: u64,
+    otherwise: ValueId,
+    cases: &[Case],
+) -> ValueId
+    ensures { result ≡ switch_way of_module.now written number otherwise cases.now }
+{
+    for case in cases {
+        if number_in(&constant_value(of_module, written, case.constant)) == number {
+            return case.target;
+        }
+    }
+    otherwise
+}
+
+/// Whether each case of a switch is of its type.
+pub fn cases_fit(of_module: &Module, written: TypeId, cases: &[Case]) -> bool
+    ensures { result ≡ cases_fit of_module.now written cases.now }
+{
+    cases
+        .iter()
+        .all(|case| constant_fits(of_module, written, case.constant))
+}

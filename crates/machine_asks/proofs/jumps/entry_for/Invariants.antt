@@ -1,6 +1,0 @@
-use Rattle.std.proofs.Common.{◌≡◌, drop}
-use Rattle.machine_asks.specs.Jumps.{entry_for}
-use Rattle.machine_asks.proofs.jumps.entry_for.Given as goal
-
-abbrev pub invariant-loop-entry : goal.invariant-loop-entry
-invariant-loop-entry l = entry_for l.function l.from (drop l.entry-index l.incoming) ≡ entry_for l.function l.from l.incoming

@@ -1,2 +1,0 @@
-mod Few
-pub mod WrappedFits

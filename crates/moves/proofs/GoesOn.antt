@@ -1,0 +1,91 @@
+-- A thread of the code behind a move is the thread of the run behind it.
+use Rattle.std.proofs.Common.{◌≡◌, ℕ, true, false, List, refl, sym, ap, ◌∙◌}
+use Rattle.pools.specs.Heap.{Setup}
+use Rattle.colours.specs.Mutator as order
+use Rattle.colours.specs.Mutator.{Phase}
+use Rattle.runs.specs.Machine as machine
+use Rattle.runs.specs.Machine.{Reference, Action, Answer, Machine}
+use Rattle.runs.specs.Moves.{step_of, phase_behind, ends_call, answer_of}
+use Rattle.runs.specs.Ends.{moved, stage_behind, old_by}
+use Rattle.moves.specs.declared.call.Call.{Call}
+use Rattle.moves.specs.declared.call.Call.TheVariants as call
+use Rattle.moves.specs.declared.moves.Move.{Move}
+use Rattle.moves.specs.declared.moves.Move.TheVariants as made
+use Rattle.moves.specs.declared.stand.Stance.{Stance}
+use Rattle.moves.specs.declared.stand.Stance.TheVariants as stance
+use Rattle.moves.specs.declared.stand.Stand.{Stand}
+use Rattle.moves.specs.Calls.{action_of, move_in}
+use Rattle.moves.specs.Stands.{phase_at, standing}
+
+-- the call of an action
+call_of : Action → Call
+call_of machine.Local = call.Local
+call_of (machine.Read base word) = call.Read base word
+call_of (machine.StorePlain base word value) = call.StorePlain base word value
+call_of (machine.Write base word value) = call.Write base word value
+call_of (machine.Alloc layout) = call.Alloc layout
+call_of machine.Safepoint = call.Safepoint
+call_of machine.End = call.End
+call_of machine.Wrong = call.Wrong
+
+-- it leads back
+call_of-action_of : (c : Call) → call_of (action_of c) ≡ c
+unfolding call_of
+call_of-action_of call.Local = refl
+call_of-action_of (call.Read base word) = refl
+call_of-action_of (call.StorePlain base word value) = refl
+call_of-action_of (call.Write base word value) = refl
+call_of-action_of (call.Alloc layout) = refl
+call_of-action_of call.Safepoint = refl
+call_of-action_of call.End = refl
+call_of-action_of call.Wrong = refl
+
+-- calls of one action are one
+pub same-call : (a b : Call) → action_of a ≡ action_of b → a ≡ b
+same-call a b e = sym (call_of-action_of a) ∙ ap call_of e ∙ call_of-action_of b
+
+-- a call is over where none is under way
+pub ends-between : (roots : List Reference) (m : Move) (phase : Phase) → ends_call (move_in roots m) phase ≡ order.is_between phase
+ends-between roots made.Works phase = refl
+ends-between roots made.GoesWrong phase = refl
+ends-between roots (made.ReadsWord base word value) phase = refl
+ends-between roots (made.ReadsOldValue base word value) phase = refl
+ends-between roots (made.Marks r) phase = refl
+ends-between roots (made.StoresBehindBarrier base word value) phase = refl
+ends-between roots (made.StoresPlain base word value) phase = refl
+ends-between roots (made.Claims r won) phase = refl
+ends-between roots (made.ReadsPosted stage) phase = refl
+ends-between roots (made.Answers stage) phase = refl
+ends-between roots made.Ends phase = refl
+
+-- between two calls the roots do not matter
+pub between-phase : (roots others : List Reference) (at : Stance) → order.is_between (phase_at roots at) ≡ true → phase_at others at ≡ phase_at roots at
+between-phase roots others stance.Ready e = refl
+between-phase roots others stance.Ended e = refl
+between-phase roots others (stance.MarkingOld c w o) e = absurd cc
+between-phase roots others (stance.MarkingNew c w o) e = absurd cc
+between-phase roots others (stance.Writing c w o n) e = absurd cc
+between-phase roots others (stance.Trying f n) e = absurd cc
+between-phase roots others (stance.Answering p n) e = absurd cc
+
+-- the thread behind a move, where its call ends ..
+pub moved-between : (s : Setup) (m : Machine) (stand : Stand m.State) (move : Move) (state : m.State) (stage : ℕ) (at : Stance) (replaced : Reference) (answer : Answer)
+    → phase_at (m.roots stand.state) at ≡ phase_behind s stand.stage (phase_at (m.roots stand.state) stand.stance) (step_of (move_in (m.roots stand.state) move))
+    → order.is_between (phase_at (m.roots stand.state) at) ≡ true
+    → state ≡ m.after_answer stand.state answer → answer ≡ answer_of (m.action stand.state) (move_in (m.roots stand.state) move)
+    → stage ≡ stage_behind stand.stage (move_in (m.roots stand.state) move) → replaced ≡ old_by (move_in (m.roots stand.state) move)
+    → standing m.roots (record { state = state; stage = stage; stance = at; replaced = replaced }) ≡ moved s m (standing m.roots stand) (move_in (m.roots stand.state) move)
+moved-between s m stand move state stage at replaced answer phase between after given is_stage is_old =
+    let ends = ends-between (m.roots stand.state) move (phase_behind s stand.stage (phase_at (m.roots stand.state) stand.stance) (step_of (move_in (m.roots stand.state) move))) ∙ ap order.is_between (sym phase) ∙ between in
+    let same = between-phase (m.roots stand.state) (m.roots state) at between ∙ phase in
+    rw (ends, same, after, given, is_stage, is_old) refl
+
+-- .. and where it does not
+pub moved-within : (s : Setup) (m : Machine) (stand : Stand m.State) (move : Move) (stage : ℕ) (at : Stance) (replaced : Reference)
+    → phase_at (m.roots stand.state) at ≡ phase_behind s stand.stage (phase_at (m.roots stand.state) stand.stance) (step_of (move_in (m.roots stand.state) move))
+    → order.is_between (phase_at (m.roots stand.state) at) ≡ false
+    → stage ≡ stage_behind stand.stage (move_in (m.roots stand.state) move) → replaced ≡ old_by (move_in (m.roots stand.state) move)
+    → standing m.roots (record { state = stand.state; stage = stage; stance = at; replaced = replaced }) ≡ moved s m (standing m.roots stand) (move_in (m.roots stand.state) move)
+moved-within s m stand move stage at replaced phase within is_stage is_old =
+    let ends = ends-between (m.roots stand.state) move (phase_behind s stand.stage (phase_at (m.roots stand.state) stand.stance) (step_of (move_in (m.roots stand.state) move))) ∙ ap order.is_between (sym phase) ∙ within in
+    rw (ends, phase, is_stage, is_old) refl

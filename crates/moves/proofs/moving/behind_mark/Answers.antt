@@ -1,0 +1,6 @@
+-- Behind the mark of its next root a thread has marked one more.
+use Rattle.moves.proofs.Marked.{answering-mark}
+use Rattle.moves.proofs.moving.behind_mark.Goals as goal
+
+pub returns-in-Answering : goal.returns-in-Answering
+returns-in-Answering c s stage roots next = answering-mark s stage roots c.args.stance c.in-Answering.stage c.in-Answering.marked c.args.cell c.in-Answering.is next

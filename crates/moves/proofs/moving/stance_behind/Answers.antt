@@ -1,0 +1,28 @@
+-- A mark and a lost try go by where the thread stands.
+use Rattle.std.proofs.Common.{◌≡◌, Bool, false, Some, rules, subst, sym, ap, ◌∙◌}
+use Rattle.colours.specs.Steps as steps
+use Rattle.runs.specs.Machine.{Reference}
+use Rattle.runs.specs.Moves.{phase_behind}
+use Rattle.moves.specs.declared.moves.Move.{Move}
+use Rattle.moves.specs.declared.moves.Move.TheVariants.{Claims}
+use Rattle.moves.specs.Moving.{MayMake, MarksNext, LosesNext}
+use Rattle.moves.specs.Stands.{phase_at}
+use Rattle.moves.proofs.moving.stance_behind.Goals as goal
+
+pub returns-in-Marks : goal.returns-in-Marks
+returns-in-Marks c s roots e may =
+    let here = subst (λ (v : Move). MayMake s roots c.args.call.now c.args.stance v) c.in-Marks.is may in
+    let same = ap (λ (r : Reference). r.cell) c.marked.view_is in
+    rw c.in-Marks.is
+    (subst (λ n. phase_at roots c.behind_mark.result ≡ phase_behind s c.args.stage (phase_at roots c.args.stance) (Some (steps.Mark n))) same
+    (c.behind_mark.ensures s c.args.stage roots (subst (λ n. MarksNext roots c.args.stance n) (sym same) here)))
+
+pub returns-in-Claims : goal.returns-in-Claims
+returns-in-Claims c s roots e may =
+    let lost : c.in-Claims.won ≡ false = search rules in
+    let is = c.in-Claims.is ∙ ap (λ (b : Bool). Claims c.in-Claims.claimed b) lost in
+    let here = subst (λ (v : Move). MayMake s roots c.args.call.now c.args.stance v) is may in
+    let same = ap (λ (r : Reference). r.cell) c.claimed.view_is in
+    rw is
+    (subst (λ n. phase_at roots c.behind_loss.result ≡ phase_behind s c.args.stage (phase_at roots c.args.stance) (Some (steps.Claim n false))) same
+    (c.behind_loss.ensures s c.args.stage roots e (subst (λ n. LosesNext s c.args.call.now c.args.stance n) (sym same) here)))

@@ -1,0 +1,44 @@
+ghost use Rattle.moves.specs.Causes.{Breaks, IsTouch};
+
+use crate::moves::Move;
+use crate::reference::Reference;
+use crate::shared::Shared;
+
+/// How a move itself breaks a run.
+#[derive(Clone, Copy, PartialEq, Eq)]
+pub enum Cause {
+    /// The thread is at an instruction that has no meaning.
+    Wrong,
+    /// The move uses this cell, which is free.
+    TouchBlue(u64),
+    /// The move uses this cell, which was claimed again since the reference was made.
+    TouchBirth(u64),
+}
+
+/// The cause by which a move itself breaks a run, by the words and births as they stand before it.
+pub fn broken_by(shared: &Shared, made: &Move) -> Option<Cause>
+    ensures { Breaks shared.now made.now result }
+{
+    match made {
+        Move::GoesWrong => Some(Cause::Wrong),
+        Move::ReadsWord { base, .. }
+        | Move::ReadsOldValue { base, .. }
+        | Move::StoresBehindBarrier { base, .. }
+        | Move::StoresPlain { base, .. } => touched(shared, *base),
+        Move::Marks(marked) => touched(shared, *marked),
+        _ => None,
+    }
+}
+
+/// The cause by which a reference is gone that a step uses.
+fn touched(shared: &Shared, used: Reference) -> Option<Cause>
+    ensures { IsTouch shared.now used result }
+{
+    if shared.colour(used.cell) == 0 {
+        return Some(Cause::TouchBlue(used.cell));
+    }
+    if shared.birth(used.cell) != used.birth {
+        return Some(Cause::TouchBirth(used.cell));
+    }
+    None
+}

@@ -1,0 +1,82 @@
+ghost use Rattle.std.specs.Prelude.{◌≡◌, false, List, IfOk, OnOk, OnErr};
+ghost use Rattle.pools.specs.Heap.{Setup};
+ghost use Rattle.runs.specs.Machine.{Reference as AReference, machine_of};
+ghost use Rattle.runs.specs.Moves.{answer_of};
+ghost use Rattle.runs.specs.Ends.{moved, stage_behind, old_by};
+ghost use Rattle.moves.specs.Calls.{action_of, answer_in, move_in};
+ghost use Rattle.moves.specs.declared.call.Call.{Call as ACall};
+ghost use Rattle.moves.specs.Kinds.{MayAnswer};
+ghost use Rattle.moves.specs.Moving.{HasRoom, MayMake};
+ghost use Rattle.moves.specs.Stands.{standing};
+
+use crate::call::Answer;
+use crate::moves::Move;
+use crate::moving::{answer_of, is_between, stance_behind};
+use crate::reference::{NULL, Reference};
+use crate::runner::Runner;
+use crate::stand::Stand;
+use colours::DONE;
+use pools::Pools;
+use std::alloc::AllocError;
+
+/// The thread behind its move. Whether its roots change is told. Without memory it stays as it was.
+pub fn go_on<M: Runner>(
+    pools: &Pools,
+    stand: &mut Stand<M>,
+    made: &Move,
+) -> Result<bool, AllocError>
+    requires room { HasRoom stand.old.stance made.now }
+    requires answer { (s : Setup) × MayAnswer s (M.fits s) M.action stand.old.state (answer_of (M.action stand.old.state) (move_in (M.roots stand.old.state) made.now)) }
+    ensures ok { (s : Setup) (call : ACall) → s.pools ≡ pools.now → action_of call ≡ M.action stand.old.state → MayMake s (M.roots stand.old.state) call stand.old.stance made.now
+        → OnOk result (standing M.roots stand.new ≡ moved s (machine_of M.action M.after_answer M.roots) (standing M.roots stand.old) (move_in (M.roots stand.old.state) made.now)) }
+    ensures roots { IfOk result (λ change. change ≡ false → M.roots stand.new.state ≡ M.roots stand.old.state) }
+    ensures err { OnErr result (stand.new ≡ stand.old) }
+{
+    let call = stand.state.call();
+    let stance = stance_behind(pools, &call, stand.stage, stand.stance, made);
+    let roots_change = if is_between(stance) {
+        end_call(&mut stand.state, answer_of(&call, made))?
+    } else {
+        false
+    };
+    stand.stage = stage_behind(stand.stage, made);
+    stand.stance = stance;
+    stand.replaced = old_by(made);
+    Ok(roots_change)
+}
+
+/// A call ends with this answer. Whether the roots change is told: where no memory is left to look, they may.
+fn end_call<M: Runner>(state: &mut M, answer: Answer) -> Result<bool, AllocError>
+    requires { (s : Setup) × MayAnswer s (M.fits s) M.action state.old (answer_in answer) }
+    ensures ok { OnOk result (state.new ≡ M.after_answer state.old (answer_in answer)) }
+    ensures roots { IfOk result (λ change. change ≡ false → M.roots state.new ≡ M.roots state.old) }
+    ensures err { OnErr result (state.new ≡ state.old) }
+{
+    let before = state.root_references()?;
+    state.answer(answer)?;
+    match state.root_references() {
+        Ok(after) => Ok(after.as_slice() != before.as_slice()),
+        Err(_) => Ok(true),
+    }
+}
+
+/// The stage behind a move.
+fn stage_behind(stage: u64, made: &Move) -> u64
+    ensures { (roots : List AReference) → result ≡ stage_behind stage (move_in roots made.now) }
+{
+    match made {
+        Move::Answers(next) => *next,
+        Move::Ends => DONE,
+        _ => stage,
+    }
+}
+
+/// What a write under way has read, if this was its move.
+fn old_by(made: &Move) -> Reference
+    ensures { (roots : List AReference) → result ≡ old_by (move_in roots made.now) }
+{
+    match made {
+        Move::ReadsOldValue { value, .. } => *value,
+        _ => NULL,
+    }
+}

@@ -1,0 +1,128 @@
+ghost use Rattle.std.specs.Prelude.{ℕ, ◌≡◌, false, Some, List};
+ghost use Rattle.pools.specs.Heap.{Setup};
+ghost use Rattle.colours.specs.Mutator as order;
+ghost use Rattle.runs.specs.Machine.{Reference as AReference};
+ghost use Rattle.runs.specs.Moves.{step_of, phase_behind};
+ghost use Rattle.runs.specs.Moves as moves;
+ghost use Rattle.moves.specs.Calls.{action_of, answer_in, move_in};
+ghost use Rattle.colours.specs.Steps as steps;
+ghost use Rattle.moves.specs.Moving.{MayMake, LosesNext, MarksNext, CountsTry, CountsMark, HasRoom, phase_left};
+ghost use Rattle.moves.specs.Stands.{phase_at};
+
+use crate::call::{Answer, Call};
+use crate::moves::Move;
+use crate::reference::NULL;
+use crate::stand::Stance;
+use colours::DONE;
+use pools::Pools;
+
+/// Where a thread stands behind a move of its call.
+pub(crate) fn stance_behind(
+    pools: &Pools,
+    call: &Call,
+    stage: u64,
+    stance: Stance,
+    made: &Move,
+) -> Stance
+    requires { HasRoom stance made.now }
+    ensures { (s : Setup) (roots : List AReference) → s.pools ≡ pools.now → MayMake s roots call.now stance made.now
+        → phase_at roots result ≡ phase_behind s stage (phase_at roots stance) (step_of (move_in roots made.now)) }
+{
+    match made {
+        Move::Works => stance,
+        Move::GoesWrong => stance,
+        Move::ReadsOldValue { base, word, value } if value.cell == 0 => Stance::MarkingNew {
+            cell: base.cell,
+            word: *word,
+            old: value.cell,
+        },
+        Move::ReadsOldValue { base, word, value } => Stance::MarkingOld {
+            cell: base.cell,
+            word: *word,
+            old: value.cell,
+        },
+        Move::Marks(marked) => behind_mark(stance, marked.cell),
+        Move::Claims { claimed, won } if !*won => behind_loss(pools, call, stance, claimed.cell),
+        Move::ReadsPosted(posted) if *posted != stage => Stance::Answering {
+            stage: *posted,
+            marked: 0,
+        },
+        Move::Ends => Stance::Ended,
+        Move::Answers(answered) if *answered == DONE => Stance::Ended,
+        _ => Stance::Ready,
+    }
+}
+
+/// Behind a mark.
+fn behind_mark(stance: Stance, cell: u64) -> Stance
+    requires { CountsMark stance }
+    ensures { (s : Setup) (stage : ℕ) (roots : List AReference) → MarksNext roots stance cell
+        → phase_at roots result ≡ phase_behind s stage (phase_at roots stance) (Some (steps.Mark cell)) }
+{
+    match stance {
+        Stance::MarkingOld { cell, word, old } => Stance::MarkingNew { cell, word, old },
+        Stance::MarkingNew {
+            cell: written,
+            word,
+            old,
+        } => Stance::Writing {
+            cell: written,
+            word,
+            old,
+            new: cell,
+        },
+        Stance::Answering { stage, marked } => Stance::Answering {
+            stage,
+            marked: marked + 1,
+        },
+        _ => Stance::Ready,
+    }
+}
+
+/// Behind the try of a cell that was not free: the next one, if one is left.
+fn behind_loss(pools: &Pools, call: &Call, stance: Stance, cell: u64) -> Stance
+    requires { CountsTry stance }
+    ensures { (s : Setup) (stage : ℕ) (roots : List AReference) → s.pools ≡ pools.now → LosesNext s call.now stance cell
+        → phase_at roots result ≡ phase_behind s stage (phase_at roots stance) (Some (steps.Claim cell false)) }
+{
+    match stance {
+        Stance::Trying { first, tried } => tries_left(pools, call, first, tried + 1),
+        _ => tries_left(pools, call, cell, 1),
+    }
+}
+
+/// The next try behind so many, if a cell is left.
+fn tries_left(pools: &Pools, call: &Call, first: u64, tried: u64) -> Stance
+    ensures { (roots : List AReference) → phase_at roots result ≡ phase_left pools.now (action_of call.now) first tried }
+{
+    match call {
+        Call::Alloc(layout) if tried < u64::from(pools.count(*layout)) => Stance::Trying {
+            first,
+            tried,
+        },
+        _ => Stance::Ready,
+    }
+}
+
+/// Whether no call is under way.
+pub(crate) fn is_between(stance: Stance) -> bool
+    ensures { (roots : List AReference) → result ≡ order.is_between (phase_at roots stance) }
+{
+    matches!(stance, Stance::Ready | Stance::Ended)
+}
+
+/// What the last move of a call answers.
+pub(crate) fn answer_of(call: &Call, made: &Move) -> Answer
+    ensures { (roots : List AReference) → answer_in result ≡ moves.answer_of (action_of call.now) (move_in roots made.now) }
+{
+    match made {
+        Move::ReadsWord { value, .. } => Answer::Got(*value),
+        Move::Claims { claimed, won } if *won => Answer::Got(*claimed),
+        Move::Claims { .. } => Answer::Got(NULL),
+        Move::Works if matches!(call, Call::Alloc(_)) => Answer::Got(NULL),
+        Move::ReadsPosted(_) => Answer::Answered(None),
+        Move::Answers(stage) => Answer::Answered(Some(*stage)),
+        Move::Ends => Answer::Answered(Some(DONE)),
+        _ => Answer::Done,
+    }
+}

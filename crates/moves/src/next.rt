@@ -1,0 +1,210 @@
+ghost use Rattle.std.specs.Prelude.{ℕ, ◌≡◌, ◌<◌, ◌^◌, ◌==◌, not, List, Some, filter, length, slice_get, slice_index, IfOk, OnSome};
+ghost use Rattle.pools.specs.Heap.{Setup};
+ghost use Rattle.colours.specs.Mutator as order;
+ghost use Rattle.runs.specs.Machine.{Reference as AReference, machine_of};
+ghost use Rattle.runs.specs.Moves.{null};
+ghost use Rattle.runs.specs.Machine.{Alloc, Safepoint};
+ghost use Rattle.runs.specs.NextMoves.{Sight, next_move, mark_or_answer, try_of};
+ghost use Rattle.runs.specs.Ends.{next_move_of};
+ghost use Rattle.moves.specs.Calls.{action_of, move_in, made_by};
+ghost use Rattle.moves.specs.declared.stand.Stance.{Stance as AStance};
+ghost use Rattle.moves.specs.declared.stand.Stance.TheVariants.{Trying, Answering};
+ghost use Rattle.moves.specs.Moving.{CountsMark, HasRoom, HasRoomForNext};
+ghost use Rattle.moves.specs.Stands.{MayTryMore, HasTryLeft, marked_of, phase_at, standing, sight_in};
+
+use crate::call::Call;
+use crate::moves::Move;
+use crate::reference::Reference;
+use crate::runner::Runner;
+use crate::shared::Shared;
+use crate::stand::{Stance, Stand};
+use colours::is_async;
+use pools::{LayoutId, Pools};
+use std::alloc::AllocError;
+
+/// The next move of a thread; None where it has ended.
+pub fn next_move<M: Runner>(
+    shared: &Shared,
+    pools: &Pools,
+    stand: &Stand<M>,
+) -> Result<Option<Move>, AllocError>
+    requires births { (cell : ℕ) → slice_index shared.now.births cell < 2 ^ 62 }
+    requires room { HasTryLeft pools.now (M.action stand.now.state) stand.now.stance }
+    ensures next { (s : Setup) → s.pools ≡ pools.now → IfOk result (λ made.
+        next_move_of s (machine_of M.action M.after_answer M.roots) (sight_in s shared.now) (standing M.roots stand.now) ≡ made_by (M.roots stand.now.state) made) }
+    // What the move adds may be counted: so many roots are in a list, and so many cells in a pool.
+    ensures room { IfOk result (HasRoomForNext stand.now.stance) }
+{
+    let call = stand.state.call();
+    match stand.stance {
+        Stance::Ready => Ok(Some(first_move(shared, pools, &call))),
+        Stance::Answering { stage, marked } => match &call {
+            Call::Safepoint => Ok(Some(answering_move(&stand.state, stage, marked)?)),
+            _ => Ok(None),
+        },
+        Stance::MarkingOld { .. } => Ok(mark_of_old(&call, stand.replaced)),
+        Stance::MarkingNew { .. } => Ok(mark_or_store(&call, stand.stage)),
+        Stance::Writing { .. } => Ok(store_of_new(&call)),
+        Stance::Trying { tried, .. } => Ok(next_try(shared, pools, &call, tried)),
+        Stance::Ended => Ok(None),
+    }
+}
+
+/// The move of a thread that answers a stage, behind so many marks of roots.
+fn answering_move<M: Runner>(state: &M, stage: u64, marked: usize) -> Result<Move, AllocError>
+    ensures next { (s : Setup) (h : Sight) (own : ℕ) (old : AReference) → let roots = M.roots state.now in IfOk result (λ made.
+        next_move s h own roots old Safepoint (order.Answering stage (marked_of roots marked)) ≡ Some (move_in roots made)) }
+    ensures room { IfOk result (HasRoom (Answering stage marked)) }
+{
+    if !is_async(stage) {
+        return Ok(Move::Answers(stage));
+    }
+    let roots = state.root_references()?;
+    Ok(mark_or_answer(stage, root_behind(roots.as_slice(), marked)))
+}
+
+/// The first move of a call.
+fn first_move(shared: &Shared, pools: &Pools, call: &Call) -> Move
+    requires { (cell : ℕ) → slice_index shared.now.births cell < 2 ^ 62 }
+    ensures { (s : Setup) (stage : ℕ) (roots : List AReference) (old : AReference) → s.pools ≡ pools.now
+        → next_move s (sight_in s shared.now) stage roots old (action_of call.now) order.Ready ≡ Some (move_in roots result) }
+{
+    match call {
+        Call::Local => Move::Works,
+        Call::Wrong => Move::GoesWrong,
+        Call::Read { base, word } => Move::ReadsWord {
+            base: *base,
+            word: *word,
+            value: shared.words.word(base.cell, *word),
+        },
+        Call::StorePlain { base, word, value } => Move::StoresPlain {
+            base: *base,
+            word: *word,
+            value: *value,
+        },
+        Call::Write { base, word, .. } => Move::ReadsOldValue {
+            base: *base,
+            word: *word,
+            value: shared.words.word(base.cell, *word),
+        },
+        Call::Alloc(layout) => alloc_move(shared, pools, *layout),
+        Call::Safepoint => Move::ReadsPosted(shared.posted),
+        Call::End => Move::Ends,
+    }
+}
+
+/// The first move of an alloc: a local one where the layout has no cell.
+fn alloc_move(shared: &Shared, pools: &Pools, layout: LayoutId) -> Move
+    requires { (cell : ℕ) → slice_index shared.now.births cell < 2 ^ 62 }
+    ensures { (s : Setup) (stage : ℕ) (roots : List AReference) (old : AReference) → s.pools ≡ pools.now
+        → next_move s (sight_in s shared.now) stage roots old (Alloc layout) order.Ready ≡ Some (move_in roots result) }
+{
+    if pools.count(layout) == 0 {
+        return Move::Works;
+    }
+    claim_of(shared, pools, layout, 0)
+}
+
+/// The mark of the value that a barriered store replaces.
+fn mark_of_old(call: &Call, old: Reference) -> Option<Move>
+    ensures { (s : Setup) (h : Sight) (stage : ℕ) (roots : List AReference) (cell word replaced : ℕ)
+        → next_move s h stage roots old (action_of call.now) (order.MarkingOld cell word replaced) ≡ made_by roots result }
+{
+    match call {
+        Call::Write { .. } => Some(Move::Marks(old)),
+        _ => None,
+    }
+}
+
+/// The mark of the value that a barriered store stores, at a sync stage; else the store.
+fn mark_or_store(call: &Call, stage: u64) -> Option<Move>
+    ensures { (s : Setup) (h : Sight) (roots : List AReference) (old : AReference) (cell word replaced : ℕ)
+        → next_move s h stage roots old (action_of call.now) (order.MarkingNew cell word replaced) ≡ made_by roots result }
+{
+    match call {
+        Call::Write { value, .. } if !is_async(stage) && value.cell != 0 => Some(Move::Marks(
+            *value,
+        )),
+        Call::Write { base, word, value } => Some(Move::StoresBehindBarrier {
+            base: *base,
+            word: *word,
+            value: *value,
+        }),
+        _ => None,
+    }
+}
+
+/// The store behind the barrier.
+fn store_of_new(call: &Call) -> Option<Move>
+    ensures { (s : Setup) (h : Sight) (stage : ℕ) (roots : List AReference) (old : AReference) (cell word replaced new : ℕ)
+        → next_move s h stage roots old (action_of call.now) (order.Writing cell word replaced new) ≡ made_by roots result }
+{
+    match call {
+        Call::Write { base, word, value } => Some(Move::StoresBehindBarrier {
+            base: *base,
+            word: *word,
+            value: *value,
+        }),
+        _ => None,
+    }
+}
+
+/// The next try of an alloc, behind so many.
+fn next_try(shared: &Shared, pools: &Pools, call: &Call, tried: u64) -> Option<Move>
+    requires births { (cell : ℕ) → slice_index shared.now.births cell < 2 ^ 62 }
+    requires room { MayTryMore pools.now (action_of call.now) tried }
+    ensures next { (s : Setup) (stage : ℕ) (roots : List AReference) (old : AReference) (before : List ℕ) → s.pools ≡ pools.now → length before ≡ tried
+        → next_move s (sight_in s shared.now) stage roots old (action_of call.now) (order.Trying before) ≡ made_by roots result }
+    ensures room { (first : ℕ) → HasRoomForNext (Trying first tried) result }
+{
+    match call {
+        Call::Alloc(layout) => Some(claim_of(shared, pools, *layout, tried)),
+        _ => None,
+    }
+}
+
+/// The try of a layout's next cell, behind so many of its pool.
+fn claim_of(shared: &Shared, pools: &Pools, layout: LayoutId, tried: u64) -> Move
+    requires births { (cell : ℕ) → slice_index shared.now.births cell < 2 ^ 62 }
+    requires is_layout { layout < length pools.now }
+    requires few { tried < 2 ^ 32 }
+    ensures { (s : Setup) (roots : List AReference) (before : List ℕ) → s.pools ≡ pools.now → length before ≡ tried
+        → try_of (sight_in s shared.now) ((sight_in s shared.now).claim layout before) ≡ move_in roots result }
+{
+    let cell = u64::from(pools.first_cell(layout)) + tried;
+    Move::Claims {
+        claimed: Reference {
+            cell,
+            birth: shared.birth(cell) + 1,
+        },
+        won: shared.colour(cell) == 0,
+    }
+}
+
+/// The mark of the next root, or the answer where none is left.
+fn mark_or_answer(stage: u64, root: Option<Reference>) -> Move
+    ensures next { (roots : List AReference) → move_in roots result ≡ mark_or_answer stage roots root }
+    ensures room { (stance : AStance) → OnSome root (CountsMark stance) → HasRoom stance result }
+{
+    match root {
+        Some(root) => Move::Marks(root),
+        None => Move::Answers(stage),
+    }
+}
+
+/// The root behind so many that are not null, of those that are not null.
+fn root_behind(roots: &[Reference], marked: usize) -> Option<Reference>
+    ensures root { result ≡ slice_get (filter (λ r. not (r.cell == 0)) roots.now) marked }
+    ensures few { OnSome result (marked < 2 ^ 63) }
+{
+    let mut left = marked;
+    for root in roots {
+        if root.cell != 0 {
+            if left == 0 {
+                return Some(*root);
+            }
+            left -= 1;
+        }
+    }
+    None
+}

@@ -1,0 +1,32 @@
+ghost use Rattle.std.specs.Prelude.{◌≡◌, IfOk, OnOk, OnErr};
+ghost use Rattle.pools.specs.Heap.{Setup};
+ghost use Rattle.moves.specs.Calls.{action_of, answer_in};
+ghost use Rattle.moves.specs.Kinds.{KeepsKinds, MayAnswer};
+
+use crate::call::{Answer, Call};
+use crate::reference::Reference;
+use runs::Machine;
+use std::alloc::AllocError;
+
+/// A thread's machine that runs. Over a heap whose words it fits it asks for words that are there, and puts into each what fits
+/// its kind.
+pub trait Runner: Machine {
+    /// Each reference that the state holds is to a cell of its layout.
+    ghost fits: { Setup → Self → Type 0 };
+
+    /// What the thread asks for.
+    fn call(&self) -> Call
+        ensures { action_of result ≡ Self.action self.now };
+
+    /// What the root slots of all frames hold, the oldest frame's first.
+    fn root_references(&self) -> Result<Vec<Reference>, AllocError>
+        ensures { IfOk result (λ roots. roots.items ≡ Self.roots self.now) };
+
+    /// The thread goes on with the answer, which fits what it asked for. Without memory it stays as it was.
+    fn answer(&mut self, answer: Answer) -> Result<(), AllocError>
+        requires { (s : Setup) × MayAnswer s (Self.fits s) Self.action self.old (answer_in answer) }
+        ensures ok { OnOk result (self.new ≡ Self.after_answer self.old (answer_in answer)) }
+        ensures err { OnErr result (self.new ≡ self.old) };
+
+    ghost keeps_kinds: { (s : Setup) (state : Self) → fits s state → KeepsKinds s Self.action Self.after_answer Self.roots (fits s) state };
+}

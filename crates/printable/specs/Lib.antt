@@ -1,6 +1,0 @@
-pub mod Shapes
-pub mod Definitions
-pub mod Printable
-pub mod FunctionNames
-pub mod ModuleNames
-pub mod ReadModules

@@ -1,5 +1,0 @@
-pub mod Plans
-pub mod Meetings
-pub mod Wholes
-pub mod Exact
-pub mod Losses

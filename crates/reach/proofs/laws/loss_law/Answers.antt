@@ -1,7 +1,0 @@
--- The law is that of every machine.
-use Rattle.schedules.specs.Machine.{machine_of}
-use Rattle.reach.proofs.Losses.{nothing-lost}
-use Rattle.reach.proofs.laws.loss_law.Goals as goal
-
-pub returns : goal.returns
-returns g c = λ s starts run happening is_run loses none. nothing-lost s (machine_of g.M.Machine.action g.M.Machine.after_answer g.M.Machine.roots) starts run happening is_run loses none

@@ -1,7 +1,0 @@
--- So many words of the cell.
-use Rattle.std.proofs.Common.{◌≡◌}
-use Rattle.reach.specs.Walks.{looking}
-use Rattle.reach.proofs.walk.Walk.look_into.Given as goal
-
-abbrev pub invariant-loop-word : goal.invariant-loop-word
-invariant-loop-word l = l.self ≡ looking l.shared l.kind-items l.row l.initial.self l.word

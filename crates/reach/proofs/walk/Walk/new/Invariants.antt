@@ -1,6 +1,0 @@
--- So many cells of the row.
-use Rattle.std.proofs.Common.{◌≡◌, false, replicate}
-use Rattle.reach.proofs.walk.Walk.new.Given as goal
-
-abbrev pub invariant-loop-cell : goal.invariant-loop-cell
-invariant-loop-cell l = l.met ≡ replicate l._cell false

@@ -1,0 +1,185 @@
+-- How the threads of a run have ended, kept from step to step.
+use Rattle.std.proofs.Common.{◌≡◌, ◌≢◌, ◌<◌, ◌⊎◌, inl, inr, ◌==◌, Bool, true, false, ℕ, zero, suc, Option, Some, None, List, [], ◌∷◌, length, slice_get, slice_set, unwrap_or, refl, sym, ap, ◌∙◌, subst, arith}
+use Rattle.std.proofs.lemmas.List.{length-set}
+use Rattle.pools.specs.Heap.{Setup, is_late}
+use Rattle.colours.specs.Runs.{turns_of, word_after}
+use Rattle.colours.specs.Mutator as order
+use Rattle.colours.specs.Mutator.{phase_of}
+use Rattle.colours.proofs.Tests.{test_true, test_false, test_yes}
+use Rattle.runs.specs.Machine.{Reference, Machine}
+use Rattle.runs.specs.Machine as machine
+use Rattle.runs.specs.Moves.{Move, steps_of}
+use Rattle.runs.specs.ModuleRuns.{Happening, OfThread, share_of, heap_of}
+use Rattle.runs.specs.Ends.{StandsBehind, next_move_of}
+use Rattle.runs.specs.NextMoves.{Sight, next_move}
+use Rattle.moves.specs.declared.actor.Actor.{Actor}
+use Rattle.moves.specs.declared.actor.Actor.TheVariants.{Thread, Collector}
+use Rattle.moves.specs.declared.shared.Shared.{Shared}
+use Rattle.moves.specs.declared.stand.Stance.{Stance}
+use Rattle.moves.specs.declared.stand.Stance.TheVariants.{Ready, MarkingOld, MarkingNew, Writing, Trying, Answering, Ended}
+use Rattle.moves.specs.declared.stand.Stand.{Stand}
+use Rattle.moves.specs.Runs.{run_by, by_thread, by_collector, next_by, next_turn, collector_behind, with_next}
+use Rattle.moves.specs.Stands.{standing, phase_at, sight_in}
+use Rattle.moves.proofs.Sights.{next_in_words}
+use Rattle.trace_sweep.specs.Collecting.{Collecting}
+use Rattle.colours.specs.declared.turn.Turn.{Turn}
+use Rattle.stepping.specs.Ends as stepping
+use Rattle.layout.specs.Layouts.{LaidOut}
+use Rattle.replay.specs.declared.thread_end.ThreadEnd.{ThreadEnd}
+use Rattle.replay.specs.declared.thread_end.ThreadEnd.TheVariants as thread
+use Rattle.program_runner.specs.Threads.{ProgramThread, program_machine, names}
+use Rattle.program_runner.specs.Heaps as heaps
+use Rattle.program_runner.specs.Kinds.{FitsThread}
+use Rattle.trace_text.specs.declared.trace.Setup as traced
+use Rattle.replay.specs.Keeping.{ending_in, ending_behind}
+use Rattle.replay.specs.Setups.{starts_of}
+use Rattle.replay.specs.Worlds.{AreEndings, ending_at, ending_of, run_of}
+
+-- ---- lists
+
+-- what was put at a place stands there
+set_same : {A : Type 0} (xs : List A) (i : ℕ) (x : A) → i < length xs → slice_get (slice_set xs i x) i ≡ Some x
+set_same [] i x within = absurd (omega arith)
+set_same (y ∷ xs) zero x within = refl
+set_same (y ∷ xs) (suc i) x within = set_same xs i x (omega arith)
+
+-- and what stood at another place still does
+set_other : {A : Type 0} (xs : List A) (i j : ℕ) (x : A) → i ≢ j → slice_get (slice_set xs i x) j ≡ slice_get xs j
+set_other [] i j x other = refl
+set_other (y ∷ xs) zero zero x other = absurd (other refl)
+set_other (y ∷ xs) zero (suc j) x other = refl
+set_other (y ∷ xs) (suc i) zero x other = refl
+set_other (y ∷ xs) (suc i) (suc j) x other = set_other xs i j x (λ e. other (ap suc e))
+
+-- something stands at each place of a list
+pub there : {A : Type 0} (xs : List A) (i : ℕ) → i < length xs → (x : A) × (slice_get xs i ≡ Some x)
+there [] i within = absurd (omega arith)
+there (x ∷ xs) zero within = (x, refl)
+there (x ∷ xs) (suc i) within = there xs i (omega arith)
+
+-- ---- one thread
+
+-- a thread has ended, or says how it ends
+by_stance : (roots : List Reference) (stance : Stance) (t : ProgramThread) (kept : Option ThreadEnd)
+    → ((ending_in stance t kept ≡ unwrap_or kept thread.Ended) × (phase_at roots stance ≡ order.Ended)) ⊎ ((ending_in stance t kept ≡ ending_at t) × (phase_at roots stance ≢ order.Ended))
+by_stance roots Ready t kept = inr (refl, λ e. absurd cc)
+by_stance roots (MarkingOld cell word old) t kept = inr (refl, λ e. absurd cc)
+by_stance roots (MarkingNew cell word old) t kept = inr (refl, λ e. absurd cc)
+by_stance roots (Writing cell word old new) t kept = inr (refl, λ e. absurd cc)
+by_stance roots (Trying first tried) t kept = inr (refl, λ e. absurd cc)
+by_stance roots (Answering stage marked) t kept = inr (refl, λ e. absurd cc)
+by_stance roots Ended t kept = inl (refl, refl)
+
+-- one that has ended has no next move
+none_next : (s : Setup) (h : Sight) (stage : ℕ) (roots : List Reference) (old : Reference) (action : machine.Action) (phase : order.Phase) → phase ≡ order.Ended
+    → next_move s h stage roots old action phase ≡ None
+none_next s h stage roots old action phase e = rw e refl
+
+-- a thread that stands so behind this run, and the endings that were kept so far
+module _ (p : LaidOut) (setup : traced.Setup) (run : List Happening) (t : ℕ) (stand : Stand ProgramThread) (endings : List ThreadEnd) where
+  abbrev Stands : Type 0
+  Stands = StandsBehind (heaps.heap_of p setup) program_machine (starts_of p setup) run t (standing names stand)
+
+  abbrev Behind : List Happening → ThreadEnd → Type 0
+  Behind longer ending = AreEndings p setup longer (slice_set endings t ending)
+
+  -- the endings where the share of another thread stays, and this one has ended so if it has
+  put : (ending : ThreadEnd) (longer : List Happening) → AreEndings p setup run endings → t < length setup.starts → ((u : ℕ) → (t == u) ≡ false → share_of u longer ≡ share_of u run)
+      → (phase_of (heaps.heap_of p setup) t (steps_of (share_of t longer)) ≡ order.Ended → ending ≡ ending_of (heaps.heap_of p setup) t (starts_of p setup t) (share_of t longer)) → Behind longer ending
+  put ending longer are is_thread others own = record {
+    one_each = length-set endings t ending ∙ are.one_each;
+    each = λ u few ended. each u few (t == u) refl ended;
+  }
+    where
+      each : (u : ℕ) → u < length setup.starts → (b : Bool) → (t == u) ≡ b → phase_of (heaps.heap_of p setup) u (steps_of (share_of u longer)) ≡ order.Ended
+          → slice_get (slice_set endings t ending) u ≡ Some (ending_of (heaps.heap_of p setup) u (starts_of p setup u) (share_of u longer))
+      each u few true e ended =
+          let same : t ≡ u = test_true t u e in
+          let within : t < length endings = subst (λ (n : ℕ). t < n) (sym are.one_each) is_thread in
+          let at : phase_of (heaps.heap_of p setup) t (steps_of (share_of t longer)) ≡ order.Ended = subst (λ (v : ℕ). phase_of (heaps.heap_of p setup) v (steps_of (share_of v longer)) ≡ order.Ended) (sym same) ended in
+          subst (λ (v : ℕ). slice_get (slice_set endings t ending) v ≡ Some (ending_of (heaps.heap_of p setup) v (starts_of p setup v) (share_of v longer))) same
+          (set_same endings t ending within ∙ ap (λ (x : ThreadEnd). Some x) (own at))
+      each u few false e ended =
+          let share = others u e in
+          let before : phase_of (heaps.heap_of p setup) u (steps_of (share_of u run)) ≡ order.Ended = subst (λ (moves : List Move). phase_of (heaps.heap_of p setup) u (steps_of moves) ≡ order.Ended) share ended in
+          set_other endings t u ending (test_false t u e)
+          ∙ are.each u few before
+          ∙ ap (λ (moves : List Move). Some (ending_of (heaps.heap_of p setup) u (starts_of p setup u) moves)) (sym share)
+
+  -- behind a step of the thread, or none
+  either : (next : Option Move) → (phase_at (names stand.state) stand.stance ≡ order.Ended → next ≡ None) → Stands → t < length setup.starts → AreEndings p setup run endings
+      → Behind (with_next (by_thread t next) run) (ending_in stand.stance stand.state (slice_get endings t))
+  either None none stands is_thread are = put (ending_in stand.stance stand.state (slice_get endings t)) run are is_thread (λ u e. refl) (λ ended. own ended (by_stance (names stand.state) stand.stance stand.state (slice_get endings t)))
+    where
+      own : phase_of (heaps.heap_of p setup) t (steps_of (share_of t run)) ≡ order.Ended
+          → ((ending_in stand.stance stand.state (slice_get endings t) ≡ unwrap_or (slice_get endings t) thread.Ended) × (phase_at (names stand.state) stand.stance ≡ order.Ended))
+          ⊎ ((ending_in stand.stance stand.state (slice_get endings t) ≡ ending_at stand.state) × (phase_at (names stand.state) stand.stance ≢ order.Ended))
+          → ending_in stand.stance stand.state (slice_get endings t) ≡ ending_of (heaps.heap_of p setup) t (starts_of p setup t) (share_of t run)
+      own ended (inl q) = q.0 ∙ ap (λ (o : Option ThreadEnd). unwrap_or o thread.Ended) (are.each t is_thread ended)
+      own ended (inr q) = absurd (q.1 (stands.phase ∙ ended))
+  either (Some move) none stands is_thread are =
+      put (ending_in stand.stance stand.state (slice_get endings t)) (OfThread t move ∷ run) are is_thread others (λ ended. own (by_stance (names stand.state) stand.stance stand.state (slice_get endings t)))
+    where
+      others : (u : ℕ) → (t == u) ≡ false → share_of u (OfThread t move ∷ run) ≡ share_of u run
+      others u e = rw e refl
+
+      shares : share_of t (OfThread t move ∷ run) ≡ move ∷ share_of t run
+      shares = rw (test_yes t t refl) refl
+
+      own : ((ending_in stand.stance stand.state (slice_get endings t) ≡ unwrap_or (slice_get endings t) thread.Ended) × (phase_at (names stand.state) stand.stance ≡ order.Ended))
+          ⊎ ((ending_in stand.stance stand.state (slice_get endings t) ≡ ending_at stand.state) × (phase_at (names stand.state) stand.stance ≢ order.Ended))
+          → ending_in stand.stance stand.state (slice_get endings t) ≡ ending_of (heaps.heap_of p setup) t (starts_of p setup t) (share_of t (OfThread t move ∷ run))
+      own (inl q) = let e : Some move ≡ None = none q.1 in absurd cc
+      own (inr q) = q.0 ∙ ap ending_at stands.state ∙ ap (ending_of (heaps.heap_of p setup) t (starts_of p setup t)) (sym shares)
+
+-- ---- one step
+
+-- behind the next step of a thread, what it said before it is how it ended, if it did
+pub kept : (p : LaidOut) (setup : traced.Setup) (before : List Actor) (threads : List (Stand ProgramThread)) (shared : Shared) (c : Collecting) (endings : List ThreadEnd) (t : ℕ)
+    → stepping.IsEnd (heaps.heap_of p setup) program_machine (FitsThread (heaps.heap_of p setup)) (starts_of p setup) (run_of p setup before) threads shared c
+    → t < length setup.starts → AreEndings p setup (run_of p setup before) endings
+    → AreEndings p setup (run_of p setup (Thread t ∷ before)) (slice_set endings t (ending_behind (slice_get threads t) (slice_get endings t)))
+unfolding run_by
+kept p setup before threads shared c endings t end is_thread are =
+    let s = heaps.heap_of p setup in
+    let run = run_of p setup before in
+    let found = there threads t (subst (λ (n : ℕ). t < n) (sym end.count) is_thread) in
+    let stands = end.stands t found.0 found.1 in
+    let next = next_move_of s program_machine (sight_in s shared) (standing names found.0) in
+    let by = next_in_words s program_machine (starts_of p setup) run t (standing names found.0) shared end.words.behind stands in
+    let none : phase_at (names found.0.state) found.0.stance ≡ order.Ended → next ≡ None =
+    λ e. none_next s (sight_in s shared) found.0.stage (names found.0.state) found.0.replaced (program_machine.action found.0.state) (phase_at (names found.0.state) found.0.stance) e in
+    let one = either p setup run t found.0 endings next none stands is_thread are in
+    let said = subst (λ (x : Option (Stand ProgramThread)). AreEndings p setup (with_next (by_thread t next) run) (slice_set endings t (ending_behind x (slice_get endings t)))) (sym found.1) one in
+    subst (λ (o : Option Happening). AreEndings p setup (with_next o run) (slice_set endings t (ending_behind (slice_get threads t) (slice_get endings t)))) (sym by) said
+
+-- a step of the collector ends no thread
+pub kept_by_collector : (p : LaidOut) (setup : traced.Setup) (before : List Actor) (endings : List ThreadEnd) → AreEndings p setup (run_of p setup before) endings
+    → AreEndings p setup (run_of p setup (Collector ∷ before)) endings
+unfolding run_by
+kept_by_collector p setup before endings are = go (next_by (heaps.heap_of p setup) program_machine (starts_of p setup) (run_of p setup before) Collector) is_turn
+  where
+    -- none, or a step of the collector
+    go : (o : Option Happening) → ((t : ℕ) → share_of t (with_next o (run_of p setup before)) ≡ share_of t (run_of p setup before)) → AreEndings p setup (with_next o (run_of p setup before)) endings
+    go o same = record {
+      one_each = are.one_each;
+      each = λ t few ended. subst (λ (share : List Move). slice_get endings t ≡ Some (ending_of (heaps.heap_of p setup) t (starts_of p setup t) share)) (sym (same t))
+          (are.each t few (subst (λ (share : List Move). phase_of (heaps.heap_of p setup) t (steps_of share) ≡ order.Ended) (same t) ended));
+    }
+
+    by_turn : (o : Option Turn) → (t : ℕ) → share_of t (with_next (by_collector o) (run_of p setup before)) ≡ share_of t (run_of p setup before)
+    by_turn None t = refl
+    by_turn (Some turn) t = refl
+
+    is_turn : (t : ℕ) → share_of t (with_next (next_by (heaps.heap_of p setup) program_machine (starts_of p setup) (run_of p setup before) Collector) (run_of p setup before)) ≡ share_of t (run_of p setup before)
+    is_turn t = by_turn (next_turn (collector_behind (heaps.heap_of p setup) (turns_of (heap_of (run_of p setup before)))) (word_after (heaps.heap_of p setup) (heap_of (run_of p setup before)))) t
+
+-- a thread that has made no step has not ended
+not_at_once : (p : LaidOut) (setup : traced.Setup) (t : ℕ) → phase_of (heaps.heap_of p setup) t [] ≢ order.Ended
+unfolding is_late
+not_at_once p setup t e = let q : order.Ready ≡ order.Ended = e in absurd cc
+
+-- before the first step no thread has ended
+pub none_ended : (p : LaidOut) (setup : traced.Setup) (endings : List ThreadEnd) → length endings ≡ length setup.starts → AreEndings p setup (run_of p setup []) endings
+unfolding run_by
+none_ended p setup endings one_each = record { one_each = one_each; each = λ t few ended. absurd (not_at_once p setup t ended) }

@@ -1,0 +1,92 @@
+-- The actors behind some steps, as the end of a run of schedules.
+use Rattle.std.proofs.Common.{◌≡◌, ℕ, zero, suc, Some, List, [], ◌∷◌, length, map, slice_get, slice_index_or, refl, sym, ap, ◌∙◌, subst}
+use Rattle.std.proofs.lemmas.Option.{get_or_from_slice_get}
+use Rattle.colours.specs.declared.place.Place.TheVariants.{Posted, Stage, Colour, Word}
+use Rattle.colours.specs.Runs.{turns_of}
+use Rattle.pools.specs.Heap as heap
+use Rattle.trace_sweep.specs.Collecting.{Collecting}
+use Rattle.trace_sweep.specs.Stands as collector
+use Rattle.runs.specs.Machine.{Reference, Machine}
+use Rattle.runs.specs.Moves.{null}
+use Rattle.runs.specs.ModuleRuns.{Happening, heap_of}
+use Rattle.runs.specs.Ends.{Standing, StandsBehind, IsEndOf}
+use Rattle.moves.specs.declared.actor.Actor.{Actor}
+use Rattle.moves.specs.declared.shared.Shared.{Shared}
+use Rattle.moves.specs.declared.stand.Stand.{Stand}
+use Rattle.moves.specs.Rows.{word_at}
+use Rattle.moves.specs.Stands.{standing}
+use Rattle.moves.proofs.Drawn.{drawn}
+use Rattle.stepping.specs.Ends as stepping
+use Rattle.program_runner.specs.Threads.{program_machine}
+use Rattle.program_runner.specs.Heaps as heaps
+use Rattle.program_runner.specs.Kinds.{FitsThread}
+use Rattle.replay.specs.Setups.{starts_of}
+use Rattle.replay.specs.Worlds.{World, AreEndings, IsBehind, run_of}
+
+-- ---- the words
+
+-- what stands at a place of a list that was made by a function comes from what stood there
+pub from_map : {A B : Type 0} (f : A → B) (xs : List A) (k : ℕ) (b : B) → slice_get (map f xs) k ≡ Some b → (a : A) × (slice_get xs k ≡ Some a) × (f a ≡ b)
+from_map f [] k b at = absurd cc
+from_map f (x ∷ xs) zero b at = (x, refl, cc)
+from_map f (x ∷ xs) (suc k) b at = from_map f xs k b at
+
+-- and a list that was made so is as long
+pub length_of_map : {A B : Type 0} (f : A → B) (xs : List A) → length (map f xs) ≡ length xs
+length_of_map f [] = refl
+length_of_map f (x ∷ xs) = ap suc (length_of_map f xs)
+
+-- a word of the rows is what stands in its row
+in_row : (rows : List (List Reference)) (c i : ℕ) (r : Reference) (row : List Reference) → slice_get rows c ≡ Some row → slice_get row i ≡ Some r → word_at rows c i ≡ r
+in_row rows c i r row at within =
+    ap (λ (found : List Reference). slice_index_or found i null) (get_or_from_slice_get rows c row [] at) ∙ get_or_from_slice_get row i r null within
+
+-- ---- the end
+
+-- where the actors stand at the end of a run, behind which the collector stands so
+pub is_end_of : (s : heap.Setup) (m : Machine) (Fits : m.State → Type 0) (starts : ℕ → m.State) (run : List Happening) (threads : List (Stand m.State)) (shared : Shared) (c : Collecting)
+    → stepping.IsEnd s m Fits starts run threads shared c → (stands : collector.StandsBehind s (turns_of (heap_of run)) c)
+    → IsEndOf s m starts run (record {
+      threads = map (standing m.roots) threads;
+      stages = shared.stages;
+      posted = shared.posted;
+      colours = shared.colours;
+      births = shared.births;
+      words = shared.words;
+      collector = stands.place;
+    })
+is_end_of s m Fits starts run threads shared c e stands = record {
+  count = length_of_map (standing m.roots) threads ∙ e.count;
+  threads = λ t stand at. let found = from_map (standing m.roots) threads t stand at in subst (λ (x : Standing m.State). StandsBehind s m starts run t x) found.2 (e.stands t found.0 found.1);
+  stages = λ t. e.words.behind.words (Stage t);
+  posted = e.words.behind.words Posted;
+  colours = λ c. e.words.behind.words (Colour c);
+  births = e.words.behind.births;
+  words = λ c i r row at within. let same = in_row shared.words c i r row at within in record {
+    cell_is = ap (λ (x : Reference). x.cell) (sym same) ∙ e.words.behind.words (Word c i);
+    birth_is = ap (λ (x : Reference). x.birth) (sym same) ∙ e.words.behind.word_births c i;
+  };
+  collector = stands.collects;
+}
+
+-- the world of some actors behind their steps, with these endings
+pub behind : (w : World) (before : List Actor)
+    → stepping.IsBehind (heaps.heap_of w.program w.setup) program_machine (FitsThread (heaps.heap_of w.program w.setup)) (starts_of w.program w.setup) before w.threads w.shared w.collector
+    → AreEndings w.program w.setup (run_of w.program w.setup before) w.endings → IsBehind w before
+behind w before b endings =
+    let s = heaps.heap_of w.program w.setup in
+    let starts = starts_of w.program w.setup in
+    let is = drawn s program_machine starts before b.are_actors in
+    let stands = subst (λ (c : Collecting). collector.StandsBehind s (turns_of (heap_of (run_of w.program w.setup before))) c) (sym b.is_end.collects) is.stands in
+    record {
+      are_actors = b.are_actors;
+      ends = record {
+        is_run = is.is_run;
+        tries = is.tries;
+        place = stands.place;
+        in_order = stands.at;
+        ends = is_end_of s program_machine (FitsThread s) starts (run_of w.program w.setup before) w.threads w.shared w.collector b.is_end stands;
+        is_end = b.is_end;
+        endings = endings;
+      };
+    }

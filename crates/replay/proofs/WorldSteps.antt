@@ -1,0 +1,152 @@
+-- A world behind one more step.
+use Rattle.std.proofs.Common.{◌≡◌, ◌<◌, ℕ, Option, Some, List, [], ◌∷◌, length, slice_get, refl, sym, ap, ◌∙◌, subst}
+use Rattle.layout.specs.Layouts.{LaidOut}
+use Rattle.certs.specs.declared.section.Section.{Section}
+use Rattle.replay.specs.declared.thread_end.ThreadEnd.{ThreadEnd}
+use Rattle.machine.specs.Machine.{start}
+use Rattle.machine.specs.Start.{argument_values, StartsByReference, StartsWrongly}
+use Rattle.moves.specs.declared.actor.Actor as run
+use Rattle.moves.specs.Runs.{IsActor}
+use Rattle.stepping.specs.declared.acting.Actors.{Actors}
+use Rattle.stepping.specs.declared.happening.Step.{Step}
+use Rattle.stepping.specs.Ends as stepping
+use Rattle.program_runner.specs.Threads.{CertifiedIsSafe, ProgramThread, program_machine}
+use Rattle.program_runner.specs.Heaps.{heap_of}
+use Rattle.program_runner.specs.Kinds.{FitsThread}
+use Rattle.trace_text.specs.Traces.{IsActorOf}
+use Rattle.trace_text.specs.declared.trace.Actor.{Actor}
+use Rattle.trace_text.specs.declared.trace.Actor.TheVariants.{Thread, Collector}
+use Rattle.trace_text.specs.declared.trace.Setup.{Setup}
+use Rattle.trace_text.specs.declared.trace.Start.{Start}
+use Rattle.replay.specs.declared.world.World.TheInside.{Inside}
+use Rattle.replay.specs.Keeping.{endings_behind}
+use Rattle.replay.specs.Setups.{HasNoFault, IsCertifiedSetup, AreBegun, begun_at, starts_of}
+use Rattle.replay.specs.Worlds.{World, AreEndings, IsBehind, IsStepBehind, IsBrokenWorld, actor_in, run_of}
+use Rattle.replay.specs.WorldView.{world_seen, IsKept}
+use Rattle.replay.proofs.Endings.{kept, kept_by_collector, none_ended}
+use Rattle.replay.proofs.Ends.{behind, from_map, length_of_map}
+use Rattle.replay.proofs.Safe.{certified_setup, each_may_begin}
+use Rattle.replay.proofs.Setups.{is_setup}
+
+-- the actors of a world are behind the steps that led to it
+pub are_behind : (i : Inside) (w : World) (before : List run.Actor) → world_seen i ≡ w → IsKept i → IsBehind w before
+    → stepping.AreBehindSteps (heap_of w.program w.setup) program_machine (FitsThread (heap_of w.program w.setup)) (starts_of w.program w.setup) before i.actors
+are_behind i w before seen kept b =
+    subst (λ (v : World). IsBehind v before → stepping.AreBehindSteps (heap_of v.program v.setup) program_machine (FitsThread (heap_of v.program v.setup)) (starts_of v.program v.setup) before i.actors)
+    seen
+    (λ b. record {
+      plan = kept.plan;
+      setup = is_setup i.program.now i.setup.now;
+      is_behind = record { are_actors = b.are_actors; is_end = b.ends.is_end };
+    })
+    b
+
+-- an actor of the trace is one of the run
+pub is_actor : (threads : ℕ) (actor : Actor) → IsActorOf threads actor → IsActor threads (actor_in actor)
+is_actor threads (Thread t) is = is
+is_actor threads Collector is = tt
+
+-- the endings behind a step
+are_endings : (p : LaidOut) (setup : Setup) (before : List run.Actor) (actors : Actors ProgramThread) (endings : List ThreadEnd) (actor : Actor)
+    → stepping.AreBehindSteps (heap_of p setup) program_machine (FitsThread (heap_of p setup)) (starts_of p setup) before actors → IsActorOf (length setup.starts) actor
+    → AreEndings p setup (run_of p setup before) endings
+    → AreEndings p setup (run_of p setup (actor_in actor ∷ before)) (endings_behind actor actors.threads.items endings)
+are_endings p setup before actors endings (Thread t) b is are = kept p setup before actors.threads.items actors.shared actors.collector endings t b.is_behind.is_end is are
+are_endings p setup before actors endings Collector b is are = kept_by_collector p setup before endings are
+
+-- the fields of a world behind a step
+abbrev pub stepped : Inside → (actor : Actor) → Actors ProgramThread → Inside
+stepped i actor actors = record i { actors = actors; endings = endings_behind actor i.actors.threads.items i.endings }
+
+-- what a step of the actor tells, and where it leads
+abbrev pub IsStepOf : Inside → (before : List run.Actor) → Actor → Option Step → Actors ProgramThread → Type 0
+IsStepOf i before actor made actors =
+    stepping.IsOneStep (heap_of i.program.now i.setup.now) program_machine (FitsThread (heap_of i.program.now i.setup.now)) (starts_of i.program.now i.setup.now) before (actor_in actor) made actors
+
+-- the world behind a step
+pub is_behind : (i : Inside) (actor : Actor) (before : List run.Actor) (made : Option Step) (actors : Actors ProgramThread) → IsKept i → IsBehind (world_seen i) before
+    → IsActorOf (length i.setup.now.starts) actor → IsStepOf i before actor made actors → IsBehind (world_seen (stepped i actor actors)) (actor_in actor ∷ before)
+is_behind i actor before made actors kept b is step =
+    behind (world_seen (stepped i actor actors)) (actor_in actor ∷ before) step.behind.is_behind
+    (are_endings i.program.now i.setup.now before i.actors i.endings actor (are_behind i (world_seen i) before refl kept b) is b.ends.endings)
+
+-- keeps what a world keeps
+pub is_kept : (i : Inside) (actor : Actor) (made : Option Step) (actors : Actors ProgramThread) → (kept : IsKept i) → IsActorOf (length i.setup.now.starts) actor
+    → IsStepOf i kept.made.0 actor made actors → IsKept (stepped i actor actors)
+is_kept i actor made actors kept is step = record {
+  plan = step.behind.plan;
+  setup = kept.setup;
+  no_fault = kept.no_fault;
+  made = (actor_in actor ∷ kept.made.0, is_behind i actor kept.made.0 made actors kept kept.made.1 is step);
+}
+
+-- where the program is certified, no world is broken
+pub is_safe : CertifiedIsSafe → (i : Inside) (certs : List Section) (before : List run.Actor) → IsKept i → IsCertifiedSetup i.program.now i.setup.now certs → IsBehind (world_seen i) before
+    → ¬ IsBrokenWorld (world_seen i) before
+is_safe law i certs before kept certified b = certified_setup law i.program.now i.setup.now certs kept.setup kept.no_fault certified (run_of i.program.now i.setup.now before) b.ends.is_run
+
+-- a step of an actor, as the code made it: which actor it was, the actors behind it and the endings that are kept
+pub record IsMadeBy (i : Inside) (actor : Actor) (made : Option Step) (actors : Actors ProgramThread) (endings : List ThreadEnd) : Type 0 where
+  pub is_actor : IsActorOf (length i.setup.now.starts) actor
+  pub endings_are : endings ≡ endings_behind actor i.actors.threads.items i.endings
+  pub makes : (before : List run.Actor)
+      → stepping.AreBehindSteps (heap_of i.program.now i.setup.now) program_machine (FitsThread (heap_of i.program.now i.setup.now)) (starts_of i.program.now i.setup.now) before i.actors
+      → IsStepOf i before actor made actors
+
+-- the actor is a thread of the world
+pub is_thread : (i : Inside) (w : World) (actor : Actor) (t : ℕ) → world_seen i ≡ w → actor ≡ Thread t → IsActorOf (length w.setup.starts) actor → t < length i.setup.now.starts
+is_thread i w actor t seen is of =
+    let q : t < length w.setup.starts = subst (IsActorOf (length w.setup.starts)) is of in
+    subst (λ (v : World). t < length v.setup.starts) (sym seen) q
+
+-- the world behind it keeps what a world keeps
+pub keeps : (i : Inside) (actor : Actor) (made : Option Step) (actors : Actors ProgramThread) (endings : List ThreadEnd) → IsKept i → IsMadeBy i actor made actors endings
+    → IsKept (record i { actors = actors; endings = endings })
+keeps i actor made actors endings kept by =
+    subst (λ (e : List ThreadEnd). IsKept (record i { actors = actors; endings = e })) (sym by.endings_are)
+    (is_kept i actor made actors kept by.is_actor (by.makes kept.made.0 (are_behind i (world_seen i) kept.made.0 refl kept kept.made.1)))
+
+-- the step is told, and the world is behind it
+pub tells : (i : Inside) (w : World) (given actor : Actor) (made : Option Step) (actors : Actors ProgramThread) (endings : List ThreadEnd) → world_seen i ≡ w → given ≡ actor → IsKept i
+    → IsMadeBy i actor made actors endings → (before : List run.Actor) → IsBehind w before
+    → IsStepBehind w before given made × IsBehind (world_seen (record i { actors = actors; endings = endings })) (actor_in given ∷ before)
+tells i w given actor made actors endings seen is kept by before b =
+    let here : IsBehind (world_seen i) before = subst (λ (v : World). IsBehind v before) (sym seen) b in
+    let step = by.makes before (are_behind i (world_seen i) before refl kept here) in
+    let told : IsStepBehind (world_seen i) before actor made = step.made_is in
+    let there : IsStepBehind w before actor made = subst (λ (v : World). IsStepBehind v before actor made) seen told in
+    let leads : IsBehind (world_seen (record i { actors = actors; endings = endings })) (actor_in actor ∷ before) =
+    subst (λ (e : List ThreadEnd). IsBehind (world_seen (record i { actors = actors; endings = e })) (actor_in actor ∷ before)) (sym by.endings_are) (is_behind i actor before made actors kept here by.is_actor step) in
+    (subst (λ (a : Actor). IsStepBehind w before a made) (sym is) there, subst (λ (a : Actor). IsBehind (world_seen (record i { actors = actors; endings = endings })) (actor_in a ∷ before)) (sym is) leads)
+
+-- and it is not broken where the program is certified
+pub stays_safe : CertifiedIsSafe → (i : Inside) (w : World) (given actor : Actor) (made : Option Step) (actors : Actors ProgramThread) (endings : List ThreadEnd) → world_seen i ≡ w → given ≡ actor → IsKept i
+    → IsMadeBy i actor made actors endings → (certs : List Section) (before : List run.Actor) → IsCertifiedSetup w.program w.setup certs → IsBehind w before
+    → ¬ IsBrokenWorld (world_seen (record i { actors = actors; endings = endings })) (actor_in given ∷ before)
+stays_safe law i w given actor made actors endings seen is kept by certs before certified b =
+    is_safe law (record i { actors = actors; endings = endings }) certs (actor_in given ∷ before) (keeps i actor made actors endings kept by)
+    (subst (λ (v : World). IsCertifiedSetup v.program v.setup certs) (sym seen) certified) (tells i w given actor made actors endings seen is kept by before b).1
+
+-- ---- the start
+
+-- what is known of threads that may begin
+abbrev pub BegunFits : Type 0
+BegunFits = (p : LaidOut) (setup : Setup) (function : ℕ) (arguments : List ℕ) → (StartsByReference p function → ⊥) → (StartsWrongly p function arguments → ⊥)
+    → FitsThread (heap_of p setup) (record { heap = heap_of p setup; program = p; state = start p.of_module (slice_get p.of_module.functions function) function (argument_values arguments) })
+
+-- the threads of a setup stand as they begin, and fit its heap
+pub each_begun : BegunFits → (p : LaidOut) (setup : Setup) (threads : List ProgramThread) → HasNoFault p setup → AreBegun p setup threads → (t : ℕ) (thread : ProgramThread) → slice_get threads t ≡ Some thread
+    → (starts_of p setup t ≡ thread) × FitsThread (heap_of p setup) thread
+each_begun law p setup threads none are t thread at =
+    let found = from_map (λ (begun : Start). begun_at p setup (Some begun)) setup.starts t thread (subst (λ (all : List ProgramThread). slice_get all t ≡ Some thread) are at) in
+    let may = each_may_begin p setup none t found.0 found.1 in
+    (ap (begun_at p setup) found.1 ∙ found.2, subst (FitsThread (heap_of p setup)) found.2 (law p setup found.0.function found.0.arguments may.takes_integers may.takes_these))
+
+-- so there is one for each start
+pub as_many : (p : LaidOut) (setup : Setup) (threads : List ProgramThread) → AreBegun p setup threads → length threads ≡ length setup.starts
+as_many p setup threads are = ap length are ∙ length_of_map (λ (begun : Start). begun_at p setup (Some begun)) setup.starts
+
+-- the world before its first step
+pub is_first : (i : Inside) → stepping.AreBehindSteps (heap_of i.program.now i.setup.now) program_machine (FitsThread (heap_of i.program.now i.setup.now)) (starts_of i.program.now i.setup.now) [] i.actors
+    → length i.endings ≡ length i.setup.now.starts → IsBehind (world_seen i) []
+is_first i b one_each = behind (world_seen i) [] b.is_behind (none_ended i.program.now i.setup.now i.endings one_each)

@@ -1,0 +1,36 @@
+-- What a world keeps of the ends of its threads.
+use Rattle.std.specs.Prelude.{ℕ, Option, Some, None, List, slice_get, slice_set, unwrap_or}
+use Rattle.program_runner.specs.Threads.{ProgramThread}
+use Rattle.trace_text.specs.declared.trace.Actor.{Actor}
+use Rattle.trace_text.specs.declared.trace.Actor.TheVariants.{Thread, Collector}
+use Rattle.moves.specs.declared.stand.Stance.{Stance}
+use Rattle.moves.specs.declared.stand.Stance.TheVariants.{Ended}
+use Rattle.moves.specs.declared.stand.Stand.{Stand}
+use Rattle.replay.specs.declared.thread_end.ThreadEnd.{ThreadEnd}
+use Rattle.replay.specs.declared.thread_end.ThreadEnd.TheVariants as thread
+use Rattle.replay.specs.Worlds.{ending_at}
+
+-- how a thread that stands so has ended, if its next step is its last one: so it says, unless it has ended so already
+abbrev pub ending_in : Stance → ProgramThread → (kept : Option ThreadEnd) → ThreadEnd
+ending_in Ended t kept = unwrap_or kept thread.Ended
+ending_in stance t kept = ending_at t
+
+-- so of a thread of a list, if it is there
+abbrev pub ending_behind : Option (Stand ProgramThread) → (kept : Option ThreadEnd) → ThreadEnd
+ending_behind None kept = unwrap_or kept thread.Ended
+ending_behind (Some stand) kept = ending_in stand.stance stand.state kept
+
+-- the endings behind a step of an actor; the collector ends no thread
+abbrev pub endings_behind : Actor → List (Stand ProgramThread) → List ThreadEnd → List ThreadEnd
+endings_behind (Thread t) threads endings = slice_set endings t (ending_behind (slice_get threads t) (slice_get endings t))
+endings_behind Collector threads endings = endings
+
+-- where a thread in this stance stands, at this stage; it ended so if it has
+abbrev pub end_at : Stance → (stage : ℕ) → (ending : ThreadEnd) → ThreadEnd
+end_at Ended stage ending = ending
+end_at stance stage ending = thread.Running stage
+
+-- so of a thread of a list, if it is there
+abbrev pub end_told : Option (Stand ProgramThread) → Option ThreadEnd → ThreadEnd
+end_told None ending = thread.Ended
+end_told (Some stand) ending = end_at stand.stance stand.stage (unwrap_or ending thread.Ended)

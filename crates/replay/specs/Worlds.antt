@@ -1,0 +1,118 @@
+-- A world of a program's threads and the collector, as the end of the run that a list of actors makes from its setup.
+use Rattle.std.specs.Prelude.{ℕ, ◌≡◌, ◌<◌, Option, Some, List, [], ◌∷◌, length, map, slice_get}
+use Rattle.pools.specs.Heap as heap
+use Rattle.colours.specs.Collector.{Collection}
+use Rattle.colours.specs.Mutator.{Ended, phase_of}
+use Rattle.trace_sweep.specs.Collecting.{Collecting, in_order}
+use Rattle.runs.specs.Moves.{Move, steps_of, state_after}
+use Rattle.runs.specs.ModuleRuns.{Happening, share_of, IsModuleRun}
+use Rattle.runs.specs.Ends.{WorldState, IsEndOf}
+use Rattle.runs.specs.Tries.{TriesLowest}
+use Rattle.runs.specs.Broken.{IsBroken}
+use Rattle.layout.specs.Layouts.{LaidOut}
+use Rattle.machine.specs.declared.ending.Ending.{Ending}
+use Rattle.machine.specs.declared.ending.Ending.TheVariants.{Returned, Over}
+use Rattle.machine.specs.Endings.{ending}
+use Rattle.program_runner.specs.Threads.{ProgramThread, program_machine, names}
+use Rattle.program_runner.specs.Heaps.{heap_of}
+use Rattle.program_runner.specs.Kinds.{FitsThread}
+use Rattle.trace_text.specs.declared.trace.Actor as traced
+use Rattle.trace_text.specs.declared.trace.Actor.TheVariants as traced_actor
+use Rattle.trace_text.specs.declared.trace.Setup.{Setup}
+use Rattle.moves.specs.declared.actor.Actor.{Actor}
+use Rattle.moves.specs.declared.actor.Actor.TheVariants.{Thread, Collector}
+use Rattle.moves.specs.declared.stand.Stand.{Stand}
+use Rattle.moves.specs.declared.shared.Shared.{Shared}
+use Rattle.moves.specs.Runs.{run_by, AreActors}
+use Rattle.moves.specs.Stands.{standing}
+use Rattle.stepping.specs.declared.gone.Gone.{Gone}
+use Rattle.stepping.specs.Reach.{IsFirstGone}
+use Rattle.stepping.specs.declared.happening.Step.{Step}
+use Rattle.stepping.specs.Ends.{IsEnd, IsStepOrNone}
+use Rattle.replay.specs.declared.thread_end.ThreadEnd.{ThreadEnd}
+use Rattle.replay.specs.declared.thread_end.ThreadEnd.TheVariants as thread
+use Rattle.replay.specs.Setups.{starts_of}
+
+-- a world: the program, the setup from which it began, where its actors and words stand, and how the threads that have ended did so
+pub record World : Type 0 where
+  pub program : LaidOut
+  pub setup : Setup
+  pub threads : List (Stand ProgramThread)
+  pub shared : Shared
+  pub collector : Collecting
+  pub endings : List ThreadEnd
+
+-- the run that these actors make from the setup, the newest first
+abbrev pub run_of : LaidOut → Setup → List Actor → List Happening
+run_of p setup actors = run_by (heap_of p setup) program_machine (starts_of p setup) actors
+
+-- the actors and the words, where the collector stands at this place
+abbrev pub state_of : World → (place : Collection) → WorldState ProgramThread
+state_of w place = record {
+  threads = map (standing names) w.threads;
+  stages = w.shared.stages;
+  posted = w.shared.posted;
+  colours = w.shared.colours;
+  births = w.shared.births;
+  words = w.shared.words;
+  collector = place;
+}
+
+-- where a thread stands that ended so
+abbrev pub ended_by : Ending → ThreadEnd
+ended_by (Returned result) = thread.Returned result
+ended_by Over = thread.Ended
+
+-- how a thread says that it ends, at the instruction at which it stands
+abbrev pub ending_at : ProgramThread → ThreadEnd
+ending_at t = ended_by (ending t.program t.state)
+
+-- how a thread with this share ended, if it has: what it said before its newest move
+abbrev pub ending_of : (s : heap.Setup) (thread : ℕ) → ProgramThread → List Move → ThreadEnd
+ending_of s t start [] = thread.Ended
+ending_of s t start (move ∷ share) = ending_at (state_after s program_machine t start share)
+
+-- these are the endings of the threads of a run that have ended
+pub record AreEndings (p : LaidOut) (setup : Setup) (run : List Happening) (endings : List ThreadEnd) : Type 0 where
+  pub one_each : length endings ≡ length setup.starts
+  pub each : (t : ℕ) → t < length setup.starts → phase_of (heap_of p setup) t (steps_of (share_of t run)) ≡ Ended
+      → slice_get endings t ≡ Some (ending_of (heap_of p setup) t (starts_of p setup t) (share_of t run))
+
+-- the world is the end of this run
+pub record EndsIn (w : World) (run : List Happening) : Type 0 where
+  pub is_run : IsModuleRun (heap_of w.program w.setup) program_machine (starts_of w.program w.setup) run
+  pub tries : (t : ℕ) → t < length w.setup.starts → TriesLowest (heap_of w.program w.setup) program_machine t (starts_of w.program w.setup t) (share_of t run)
+  pub place : Collection
+  pub in_order : w.collector.at ≡ in_order place
+  pub ends : IsEndOf (heap_of w.program w.setup) program_machine (starts_of w.program w.setup) run (state_of w place)
+  pub is_end : IsEnd (heap_of w.program w.setup) program_machine (FitsThread (heap_of w.program w.setup)) (starts_of w.program w.setup) run w.threads w.shared w.collector
+  pub endings : AreEndings w.program w.setup run w.endings
+
+-- the world is what these actors, the newest first, make of its setup
+pub record IsBehind (w : World) (actors : List Actor) : Type 0 where
+  pub are_actors : AreActors (length w.setup.starts) actors
+  pub ends : EndsIn w (run_of w.program w.setup actors)
+
+-- each world is what some actors make
+abbrev pub IsMade : World → Type 0
+IsMade w = (actors : List Actor) × IsBehind w actors
+
+-- ---- what is said of its steps
+
+-- an actor of a trace as one of a run
+abbrev pub actor_in : traced.Actor → Actor
+actor_in (traced_actor.Thread t) = Thread t
+actor_in traced_actor.Collector = Collector
+
+-- the step, or none, is that of the actor behind these, and says how it breaks the run
+abbrev pub IsStepBehind : World → (before : List Actor) → traced.Actor → Option Step → Type 0
+IsStepBehind w before actor made =
+    IsStepOrNone (heap_of w.program w.setup) program_machine (starts_of w.program w.setup) (run_of w.program w.setup before) (actor_in actor) made
+
+-- the first thing that is gone in the world behind these and can be reached, if there is one
+abbrev pub IsFirstGoneOf : World → (before : List Actor) → Option Gone → Type 0
+IsFirstGoneOf w before gone = IsFirstGone (heap_of w.program w.setup) program_machine (starts_of w.program w.setup) (run_of w.program w.setup before) gone
+
+-- the world behind these is broken
+abbrev pub IsBrokenWorld : World → (before : List Actor) → Type 0
+IsBrokenWorld w before = IsBroken (heap_of w.program w.setup) program_machine (starts_of w.program w.setup) (run_of w.program w.setup before)

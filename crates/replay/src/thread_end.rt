@@ -1,0 +1,12 @@
+use machine::Value;
+
+/// Where a thread stands behind a run.
+#[derive(Clone, Copy, PartialEq, Eq)]
+pub enum ThreadEnd {
+    /// Its first function returned, with this result if it has one.
+    Returned(Option<Value>),
+    /// It ended otherwise.
+    Ended,
+    /// It is under way, and this is the stage that it stored last.
+    Running(u64),
+}

@@ -1,0 +1,196 @@
+ghost use Rattle.std.specs.Prelude.{◌≡◌, ◌≢◌, ◌<◌, List, [], ◌∷◌, length, slice_get, unwrap_or, IfOk, IfErr, OnErr};
+ghost use Rattle.certs.specs.declared.section.Section.{Section};
+ghost use Rattle.moves.specs.declared.actor.Actor.{Actor as AnActor};
+ghost use Rattle.trace_text.specs.Traces.{IsActorOf};
+ghost use Rattle.replay.specs.Setups.{IsSetupOf, IsSetupFault, HasNoFault, IsCertifiedSetup};
+ghost use Rattle.replay.specs.Worlds.{IsBehind, actor_in, ended_by, IsStepBehind, IsBrokenWorld, IsFirstGoneOf};
+ghost use Rattle.replay.specs.Keeping.{ending_behind, end_told};
+ghost use Rattle.replay.specs.ThreadEnds.{AreEndsOf};
+ghost use Rattle.replay.specs.declared.setup_fault.SetupFault.TheVariants as fault;
+ghost use Rattle.replay.specs.declared.thread_end.ThreadEnd.TheVariants as end;
+
+use crate::globals::values_at_start;
+use crate::setup_fault::SetupFault;
+use crate::starts::begun_threads;
+use crate::thread_end::ThreadEnd;
+use items::Items;
+use layout::Program;
+use machine::Ending;
+use moves::{Stance, Stand};
+use program_runner::{ProgramThread, begun_law, program_law};
+use std::alloc::{AllocError, Global};
+use std::marker::Model;
+use stepping::{Actors, Gone, Plan, Step};
+use trace_text::{Actor, Setup};
+
+/// The threads of a program and the collector, behind some steps from their setup.
+#[derive(Drop)]
+pub struct World<'a> {
+    alloc: Global,
+    program: &'a Program,
+    setup: &'a Setup,
+    actors: Actors<'a, ProgramThread<'a>>,
+    /// How each thread that has ended did so.
+    endings: Items<ThreadEnd>,
+}
+
+impl<'a> Model for World<'a> {
+    ghost use Rattle.replay.specs.Worlds.{World};
+
+    ghost Value = { World };
+
+    ghost use Rattle.replay.specs.WorldView.{world_seen, IsKept};
+
+    ghost view = { world_seen };
+
+    ghost invariant = { IsKept };
+}
+
+impl<'a> World<'a> {
+    /// A world before its first step.
+    pub fn new(alloc: Global, program: &'a Program, setup: &'a Setup) -> Result<Self, SetupFault>
+        requires { IsSetupOf program.now setup.now }
+        ensures ok { IfOk result (λ world. (world.program ≡ program.now) × (world.setup ≡ setup.now) × IsBehind world []) }
+        ensures no_fault { IfOk result (λ _. HasNoFault program.now setup.now) }
+        ensures fault { IfErr result (λ e. e ≢ fault.Memory → IsSetupFault program.now setup.now e) }
+    {
+        begun_law();
+        let globals = program.globals();
+        if u32::try_from(globals.len()).is_err() {
+            return Err(SetupFault::Memory);
+        }
+        let endings = no_endings(alloc, setup.starts.len())?;
+        let threads = begun_threads(alloc, program, setup)?;
+        let values = values_at_start(alloc, program.module())?;
+        let plan = Plan {
+            pools: &setup.pools,
+            layouts: program.layouts(),
+            globals,
+        };
+        let actors = Actors::new(alloc, plan, values.as_slice(), threads)?;
+        Ok(World {
+            alloc,
+            program,
+            setup,
+            actors,
+            endings,
+        })
+    }
+
+    /// The actor makes its one next step, if it has one. Without memory nothing changes.
+    pub fn step(&mut self, actor: Actor) -> Result<Option<Step>, AllocError>
+        requires { IsActorOf (length self.old.setup.starts) actor }
+        // The step is the actor's one next step behind the run that led here, and the world is the end of the longer run.
+        ensures ok { (before : List AnActor) → IsBehind self.old before → IfOk result (λ made. IsStepBehind self.old before actor made × IsBehind self.new (actor_in actor ∷ before)) }
+        ensures plan { (self.new.program ≡ self.old.program) × (self.new.setup ≡ self.old.setup) }
+        ensures err { OnErr result (self.new ≡ self.old) }
+        // Where the program is certified with some certificates, and the threads began with what these promise, the world behind the step is not broken.
+        ensures safe { (certs : List Section) (before : List AnActor) → IsCertifiedSetup self.old.program self.old.setup certs → IsBehind self.old before
+            → IfOk result (λ _. ¬ IsBrokenWorld self.new (actor_in actor ∷ before)) }
+    {
+        program_law();
+        match actor {
+            Actor::Collector => {
+                let made = self.actors.step(moves::Actor::Collector)?;
+                Ok(made)
+            }
+            Actor::Thread(thread) => {
+                let ending = ending_behind(&self.actors, self.endings.as_slice(), thread as usize);
+                let made = self.actors.step(moves::Actor::Thread(thread))?;
+                self.endings.set(thread as usize, ending);
+                Ok(made)
+            }
+        }
+    }
+
+    /// The first thing that is gone and can be reached, if there is one.
+    pub fn first_gone(&self) -> Result<Option<Gone>, AllocError>
+        ensures { (before : List AnActor) → IsBehind self.now before → IfOk result (IsFirstGoneOf self.now before) }
+    {
+        self.actors.first_gone(self.alloc)
+    }
+
+    /// The stage that was posted last.
+    pub fn posted(&self) -> u64
+        ensures { result ≡ self.now.shared.posted }
+    {
+        self.actors.posted()
+    }
+
+    /// Where each thread stands.
+    pub fn ends(&self) -> Result<Items<ThreadEnd>, AllocError>
+        ensures { (before : List AnActor) → IsBehind self.now before → IfOk result (AreEndsOf self.now before) }
+    {
+        let mut ends = Items::new(self.alloc);
+        for thread in 0..self.actors.threads() {
+            ends.push(end_told(&self.actors, self.endings.as_slice(), thread))?;
+        }
+        Ok(ends)
+    }
+}
+
+/// What is kept of so many threads before their first steps: that none has returned.
+fn no_endings(alloc: Global, threads: usize) -> Result<Items<ThreadEnd>, AllocError>
+    ensures { IfOk result (λ endings. length endings ≡ threads) }
+{
+    let mut endings = Items::new(alloc);
+    for thread in 0..threads {
+        let end = kept_end(endings.as_slice(), thread);
+        endings.push(end)?;
+    }
+    Ok(endings)
+}
+
+/// What is kept of how a thread ended; of one of which nothing is kept, that it has not returned.
+fn kept_end(endings: &[ThreadEnd], thread: usize) -> ThreadEnd
+    ensures { result ≡ unwrap_or (slice_get endings.now thread) end.Ended }
+{
+    endings.get(thread).copied().unwrap_or(ThreadEnd::Ended)
+}
+
+/// Where a thread stands that ended so.
+fn ended_by(ending: &Ending) -> ThreadEnd
+    ensures { result ≡ ended_by ending.now }
+{
+    match ending {
+        Ending::Returned(result) => ThreadEnd::Returned(*result),
+        Ending::Over => ThreadEnd::Ended,
+    }
+}
+
+/// How a thread has ended, if its next step is its last one.
+fn ending_behind(
+    actors: &Actors<'_, ProgramThread<'_>>,
+    endings: &[ThreadEnd],
+    thread: usize,
+) -> ThreadEnd
+    ensures { result ≡ ending_behind (slice_get actors.now.threads.items thread) (slice_get endings.now thread) }
+{
+    match actors.thread(thread) {
+        None
+        | Some(
+            Stand {
+                stance: Stance::Ended,
+                ..
+            },
+        ) => kept_end(endings, thread),
+        Some(stand) => ended_by(&stand.state.ending()),
+    }
+}
+
+/// Where a thread stands; so it ended if it has.
+fn end_told(
+    actors: &Actors<'_, ProgramThread<'_>>,
+    endings: &[ThreadEnd],
+    thread: usize,
+) -> ThreadEnd
+    ensures { result ≡ end_told (slice_get actors.now.threads.items thread) (slice_get endings.now thread) }
+{
+    match actors.thread(thread) {
+        Some(stand) => match stand.stance {
+            Stance::Ended => kept_end(endings, thread),
+            _ => ThreadEnd::Running(stand.stage),
+        },
+        None => ThreadEnd::Ended,
+    }
+}

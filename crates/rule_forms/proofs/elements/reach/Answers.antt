@@ -1,7 +1,0 @@
-use Rattle.std.proofs.Common.{rules}
-use Rattle.rule_forms.proofs.Strides.{stride_fits}
-use Rattle.rule_forms.proofs.elements.reach.Goals as goal
-
-pub loop-number-preserved : goal.loop-number-preserved
-loop-number-preserved c =
-    stride_fits c.args.stride.now c.args.word c.loop-number.number _ c.loop-number.words c.add.new.self _ c.loop-number-test.true (search rules) c.if-reached.false c.add.ensures c.loop-number.invariant

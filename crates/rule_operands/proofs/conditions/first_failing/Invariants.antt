@@ -1,6 +1,0 @@
-use Rattle.std.proofs.Common.{◌≡◌, drop}
-use Rattle.rule_operands.specs.FirstFailing.{first_failing}
-use Rattle.rule_operands.proofs.conditions.first_failing.Given as goal
-
-abbrev pub invariant-loop-rule : goal.invariant-loop-rule
-invariant-loop-rule l = first_failing l.fn.conditions ≡ first_failing (drop l.rule-index l.fn.conditions)

@@ -1,3 +1,0 @@
-pub mod Frees
-pub mod Births
-pub mod Stages

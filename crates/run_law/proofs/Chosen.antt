@@ -1,0 +1,120 @@
+-- What the next move of a thread is, by what its action asks for and where it stands in the call.
+use Rattle.std.proofs.Common.{◌≡◌, ◌<◌, ◌⊎◌, ◌+◌, inl, inr, ℕ, zero, suc, ◌==◌, ◌||◌, not, Bool, true, false, Option, Some, None, List, [], ◌∷◌, length, filter, slice_index, if◌then◌else◌, refl, sym, ap, ◌∙◌, subst, IsTrue, MatchOption, arith}
+use Rattle.pools.specs.Heap.{Setup, cells, kind_of, IsOfLayout}
+use Rattle.pools.specs.declared.word_kind.WordKind.{WordKind}
+use Rattle.pools.specs.declared.word_kind.WordKind.TheVariants as kind
+use Rattle.pools.specs.Layouts.{is_reference_kind}
+use Rattle.pools.specs.Pools.{first_cell}
+use Rattle.colours.specs.Colours.{is_async}
+use Rattle.colours.proofs.Tests.{test_false}
+use Rattle.runs.specs.Machine.{Reference, Action, Read, StorePlain, Write, Alloc, Safepoint}
+use Rattle.runs.specs.Moves.{Move, Works, ReadsWord, ReadsOldValue, Marks, StoresBehindBarrier, StoresPlain, Claims, StoresStage, IsIn, next_root}
+use Rattle.runs.specs.NextMoves.{next_move, try_of, mark_or_answer}
+use Rattle.runs.specs.Tries.{lowest}
+use Rattle.runs.proofs.Calls.{get_in}
+use Rattle.moves.specs.declared.call.Call.TheVariants as call
+use Rattle.moves.specs.declared.shared.Shared.{Shared}
+use Rattle.moves.specs.declared.stand.Stance.{Stance}
+use Rattle.moves.specs.declared.stand.Stance.TheVariants as stance
+use Rattle.moves.specs.Kinds.{MayHold, AsksByKind}
+use Rattle.moves.specs.Moving.{IsNextTry, LosesNext, MarksNext}
+use Rattle.moves.specs.Rows.{word_at}
+use Rattle.moves.specs.Stands.{falling, marked_of, phase_at, sight_in}
+use Rattle.moves.proofs.Marked.{next_root-marked}
+use Rattle.moves.proofs.Nexts.{falling-length}
+use Rattle.run_law.proofs.Tries.{of-place, TriesFrom, TriedFrom}
+
+-- the move reads, marks, stores or claims what the action asks for there
+abbrev pub IsChosen : Setup → Shared → (roots : List Reference) → Action → Stance → Move → Type 0
+IsChosen s h roots action at (ReadsWord base word value) = (action ≡ Read base word) × (value ≡ word_at h.words base.cell word)
+IsChosen s h roots action at (ReadsOldValue base word value) = (next : Reference) × (action ≡ Write base word next) × (value ≡ word_at h.words base.cell word)
+IsChosen s h roots action at (Marks r) = (r.cell < cells s) × MarksNext roots at r.cell
+IsChosen s h roots action at (StoresBehindBarrier base word value) = action ≡ Write base word value
+IsChosen s h roots action at (StoresPlain base word value) = action ≡ StorePlain base word value
+IsChosen s h roots action at (Claims r won) =
+    (layout : ℕ) × (action ≡ Alloc layout) × IsOfLayout s layout r.cell × (won ≡ (slice_index h.colours r.cell == 0)) × (r.birth ≡ suc (slice_index h.births r.cell)) × LosesNext s (call.Alloc layout) at r.cell
+IsChosen s h roots action at move = Unit {0}
+
+-- ---- references
+
+-- what a reference word may hold is a cell
+pub cell-held : (s : Setup) (k : Option WordKind) (value : Reference) → IsTrue (is_reference_kind k) → MayHold s k value → value.cell < cells s
+cell-held s None value is may = absurd may
+cell-held s (Some (kind.Integer bits)) value is may = absurd cc
+cell-held s (Some (kind.Reference layout)) value is (inl z) = omega (arith, z)
+cell-held s (Some (kind.Reference layout)) value is (inr o) = o.1
+
+-- what a filter leaves was there
+in-filter : (p : Reference → Bool) (roots : List Reference) (r : Reference) → IsIn r (filter p roots) → IsIn r roots
+in-filter p [] r x = x
+in-filter p (root ∷ roots) r x = go (p root) (in-filter p roots r) x
+  where
+    go : (b : Bool) → (IsIn r (filter p roots) → IsIn r roots) → IsIn r (if b then root ∷ filter p roots else filter p roots) → (r ≡ root) ⊎ IsIn r roots
+    go true rest (inl e) = inl e
+    go true rest (inr y) = inr (rest y)
+    go false rest y = inr (rest y)
+
+-- ---- tries
+
+-- the first of some cells that fall by one
+first-is : (first other count : ℕ) → 0 < count → falling first count ≡ falling other count → first ≡ other
+first-is first other zero some e = absurd (omega (arith, some))
+first-is first other (suc count) some e = let same : first + count ≡ other + count = cc in omega (arith, same)
+
+-- the try behind those so far
+try-next : (s : Setup) (layout first tried : ℕ) → TriedFrom s layout (falling first tried) → IsNextTry s layout first tried (lowest s layout (falling first tried))
+try-next s layout first tried f =
+    let count = falling-length first tried in
+    let begins = first-is first (first_cell s.pools layout) tried (omega (arith, f.some, count)) (f.are ∙ ap (falling (first_cell s.pools layout)) count) in
+    record {
+      is_next = omega (arith, begins, count);
+      of_layout = (of-place s layout (length (falling first tried)) f.few).2;
+      left = omega (arith, f.few, count);
+    }
+
+-- ---- the next move
+
+-- of each action, at each place of its call
+chosen : (s : Setup) (h : Shared) (stage : ℕ) (roots : List Reference) (old : Reference) (action : Action) (at : Stance) → AsksByKind s action → ((r : Reference) → IsIn r roots → r.cell < cells s)
+    → old.cell < cells s → TriesFrom s action (phase_at roots at)
+    → MatchOption (next_move s (sight_in s h) stage roots old action (phase_at roots at)) (Unit {0}) (IsChosen s h roots action at)
+chosen s h stage roots old action stance.Ended a r o f = tt
+chosen s h stage roots old (Read base word) stance.Ready a r o f = (refl, refl)
+chosen s h stage roots old (StorePlain base word value) stance.Ready a r o f = refl
+chosen s h stage roots old (Write base word value) stance.Ready a r o f = (value, refl, refl)
+chosen s h stage roots old (Write base word value) (stance.MarkingOld c i x) a r o f = (o, tt)
+chosen s h stage roots old (Write base word value) (stance.MarkingNew c i x) a r o f = go (is_async stage || (value.cell == 0))
+  where
+    go : (b : Bool) → IsChosen s h roots (Write base word value) (stance.MarkingNew c i x) (if b then StoresBehindBarrier base word value else Marks value)
+    go true = refl
+    go false = (cell-held s (kind_of s base.cell word) value a.1 a.2, tt)
+chosen s h stage roots old (Write base word value) (stance.Writing c i x n) a r o f = refl
+chosen s h stage roots old (Alloc layout) stance.Ready a r o f = go (slice_index s.pools layout == 0) refl
+  where
+    go : (b : Bool) → (slice_index s.pools layout == 0) ≡ b → IsChosen s h roots (Alloc layout) stance.Ready (if b then Works else try_of (sight_in s h) ((sight_in s h).claim layout []))
+    go true e = tt
+    go false e =
+        let some = test_false (slice_index s.pools layout) 0 e in
+        let left : 0 < slice_index s.pools layout = omega (arith, some) in
+        let place = of-place s layout 0 left in
+        (layout, refl, place, refl, refl, record { is_next = omega arith; of_layout = place.2; left = left })
+chosen s h stage roots old (Alloc layout) (stance.Trying first tried) a r o f =
+    (layout, refl, of-place s layout (length (falling first tried)) f.few, refl, refl, try-next s layout first tried f)
+chosen s h stage roots old Safepoint (stance.Answering next marked) a r o f = go (is_async next)
+  where
+    go : (b : Bool) → IsChosen s h roots Safepoint (stance.Answering next marked) (if b then mark_or_answer next roots (next_root roots (marked_of roots marked)) else StoresStage next roots)
+    go false = tt
+    go true = of-root (next_root roots (marked_of roots marked)) refl
+      where
+        of-root : (q : Option Reference) → next_root roots (marked_of roots marked) ≡ q → IsChosen s h roots Safepoint (stance.Answering next marked) (mark_or_answer next roots q)
+        of-root None e = tt
+        of-root (Some q) e =
+            let p : Reference → Bool = λ x. not (x.cell == 0) in
+            (r q (in-filter p roots q (get_in (filter p roots) (length (marked_of roots marked)) q e)), (q, sym (next_root-marked roots marked) ∙ e, refl))
+chosen s h stage roots old action at a r o f = tt
+
+-- so of the move that is made
+pub is-chosen : (s : Setup) (h : Shared) (stage : ℕ) (roots : List Reference) (old : Reference) (action : Action) (at : Stance) (move : Move) → AsksByKind s action → ((r : Reference) → IsIn r roots → r.cell < cells s)
+    → old.cell < cells s → TriesFrom s action (phase_at roots at) → next_move s (sight_in s h) stage roots old action (phase_at roots at) ≡ Some move → IsChosen s h roots action at move
+is-chosen s h stage roots old action at move a r o f e =
+    subst (λ (m : Option Move). MatchOption m (Unit {0}) (IsChosen s h roots action at)) e (chosen s h stage roots old action at a r o f)

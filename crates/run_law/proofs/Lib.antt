@@ -1,0 +1,13 @@
+pub mod Frees
+pub mod Births
+pub mod Stages
+pub mod Rows
+pub mod Places
+pub mod Shapes
+pub mod Words
+pub mod Tries
+pub mod Chosen
+pub mod Moves
+pub mod Threads
+pub mod Turns
+pub mod Motions

@@ -1,0 +1,223 @@
+-- The next move of a thread may be made on the words as they stand, and leaves a state that fits.
+use Rattle.std.proofs.Common.{◌≡◌, ◌≢◌, ◌<◌, ◌^◌, inl, inr, ℕ, Bool, true, false, Option, Some, None, List, length, if◌then◌else◌, refl, sym, ◌∙◌, subst, IsTrue, arith}
+use Rattle.std.proofs.lemmas.Option.{slice_get_within}
+use Rattle.pools.specs.Heap.{Setup, cells, kind_of, words_of_cell}
+use Rattle.pools.specs.declared.word_kind.WordKind.{WordKind}
+use Rattle.pools.specs.Layouts.{is_reference_kind}
+use Rattle.colours.specs.declared.place.Place.TheVariants.{Word}
+use Rattle.runs.specs.Machine.{Reference, Action, Local, Read, StorePlain, Write, Alloc, Safepoint, End, Wrong, Got, Machine}
+use Rattle.runs.specs.Moves.{answer_of}
+use Rattle.runs.specs.Ends.{moved, old_by}
+use Rattle.moves.specs.declared.call.Call.{Call}
+use Rattle.moves.specs.declared.call.Call.TheVariants as call
+use Rattle.moves.specs.declared.moves.Move.{Move}
+use Rattle.moves.specs.declared.moves.Move.TheVariants as made
+use Rattle.moves.specs.declared.shared.Shared.{Shared}
+use Rattle.moves.specs.declared.stand.Stance.{Stance}
+use Rattle.moves.specs.declared.stand.Stand.{Stand}
+use Rattle.moves.specs.Calls.{action_of, move_in}
+use Rattle.moves.specs.Kinds.{MayHold, AsksByKind, AnswersByKind, KeepsKinds}
+use Rattle.moves.specs.Moving.{MayMake, LosesNext}
+use Rattle.moves.specs.Rows.{word_at}
+use Rattle.moves.specs.Shared.{HasShape, CanHold, CanTake}
+use Rattle.moves.specs.Stands.{standing}
+use Rattle.moves.proofs.GoesOn.{same-call}
+use Rattle.run_law.proofs.Places.{SeesCell}
+use Rattle.run_law.proofs.Shapes.{PutsByKind}
+use Rattle.run_law.proofs.Chosen.{IsChosen, cell-held}
+
+-- ---- words that are there
+
+-- a word that holds something is one of its cell
+word-within : (s : Setup) (cell word : ℕ) (kind : WordKind) → kind_of s cell word ≡ Some kind → word < length (words_of_cell s cell)
+unfolding kind_of
+word-within s cell word kind e = slice_get_within (words_of_cell s cell) word kind e
+
+-- so there is a place for it
+pub word-there : (s : Setup) (h : Shared) (cell word : ℕ) → HasShape s h → cell < cells s → word < length (words_of_cell s cell) → CanHold h (Word cell word)
+word-there s h cell word shape is_cell is_word =
+    let rows = shape.rows in
+    let row = shape.row cell is_cell in
+    (omega (arith, rows, is_cell), omega (arith, row, is_word))
+
+-- a word that is there holds what fits its kind
+pub word-fits : (s : Setup) (h : Shared) (cell word : ℕ) → HasShape s h → cell < cells s → kind_of s cell word ≢ None → MayHold s (kind_of s cell word) (word_at h.words cell word)
+word-fits s h cell word shape is_cell is_word = go (kind_of s cell word) refl
+  where
+    go : (k : Option WordKind) → kind_of s cell word ≡ k → MayHold s k (word_at h.words cell word)
+    go None e = absurd (is_word e)
+    go (Some kind) e = shape.kinds cell word kind is_cell e
+
+-- a reference word is there
+pub reference-there : (k : Option WordKind) → IsTrue (is_reference_kind k) → k ≢ None
+reference-there None is = absurd cc
+reference-there (Some kind) is = λ e. absurd cc
+
+-- and so is one that may hold a value
+holds-there : (s : Setup) (h : Shared) (cell word : ℕ) (value : Reference) → HasShape s h → cell < cells s → MayHold s (kind_of s cell word) value → CanHold h (Word cell word)
+holds-there s h cell word value shape is_cell may = go (kind_of s cell word) refl may
+  where
+    go : (k : Option WordKind) → kind_of s cell word ≡ k → MayHold s k value → CanHold h (Word cell word)
+    go None e x = absurd x
+    go (Some kind) e x = word-there s h cell word shape is_cell (word-within s cell word kind e)
+
+-- ---- the move may be made
+
+-- what it puts fits
+pub puts : (s : Setup) (h : Shared) (roots : List Reference) (action : Action) (at : Stance) (move : Move) → AsksByKind s action → IsChosen s h roots action at (move_in roots move) → PutsByKind s move
+puts s h roots action at (made.StoresBehindBarrier base word value) a c = let asks : AsksByKind s (Write base word value) = subst (λ (x : Action). AsksByKind s x) c a in asks.2
+puts s h roots action at (made.StoresPlain base word value) a c = let asks : AsksByKind s (StorePlain base word value) = subst (λ (x : Action). AsksByKind s x) c a in asks.1
+puts s h roots action at made.Works a c = tt
+puts s h roots action at made.GoesWrong a c = tt
+puts s h roots action at (made.ReadsWord base word value) a c = tt
+puts s h roots action at (made.ReadsOldValue base word value) a c = tt
+puts s h roots action at (made.Marks r) a c = tt
+puts s h roots action at (made.Claims r won) a c = tt
+puts s h roots action at (made.ReadsPosted stage) a c = tt
+puts s h roots action at (made.Answers stage) a c = tt
+puts s h roots action at made.Ends a c = tt
+
+-- a claim is as its cell stands
+pub sees : (s : Setup) (h : Shared) (roots : List Reference) (action : Action) (at : Stance) (move : Move) → IsChosen s h roots action at (move_in roots move) → SeesCell h move
+sees s h roots action at (made.Claims r won) c = (c.3, c.4)
+sees s h roots action at made.Works c = tt
+sees s h roots action at made.GoesWrong c = tt
+sees s h roots action at (made.ReadsWord base word value) c = tt
+sees s h roots action at (made.ReadsOldValue base word value) c = tt
+sees s h roots action at (made.Marks r) c = tt
+sees s h roots action at (made.StoresBehindBarrier base word value) c = tt
+sees s h roots action at (made.StoresPlain base word value) c = tt
+sees s h roots action at (made.ReadsPosted stage) c = tt
+sees s h roots action at (made.Answers stage) c = tt
+sees s h roots action at made.Ends c = tt
+
+-- its places are there
+pub takes : (s : Setup) (h : Shared) (roots : List Reference) (action : Action) (at : Stance) (t stage : ℕ) (move : Move) → HasShape s h → AsksByKind s action → t < s.threads → stage < 2 ^ 62
+    → IsChosen s h roots action at (move_in roots move) → CanTake h t stage move
+takes s h roots action at t stage (made.StoresBehindBarrier base word value) shape a lt few c =
+    let asks : AsksByKind s (Write base word value) = subst (λ (x : Action). AsksByKind s x) c a in
+    holds-there s h base.cell word value shape asks.0 asks.2
+takes s h roots action at t stage (made.StoresPlain base word value) shape a lt few c =
+    let asks : AsksByKind s (StorePlain base word value) = subst (λ (x : Action). AsksByKind s x) c a in
+    holds-there s h base.cell word value shape asks.0 asks.1
+takes s h roots action at t stage (made.Marks r) shape a lt few c = let is_cell = c.0 in let count = shape.colours in (omega (arith, is_cell, count), few)
+takes s h roots action at t stage (made.Claims r won) shape a lt few c =
+    let is_cell : r.cell < cells s = c.2.1 in
+    let colours = shape.colours in
+    let births = shape.births in
+    (omega (arith, is_cell, colours), omega (arith, is_cell, births), few)
+takes s h roots action at t stage (made.Answers next) shape a lt few c = let count = shape.stages in omega (arith, lt, count)
+takes s h roots action at t stage made.Ends shape a lt few c = let count = shape.stages in omega (arith, lt, count)
+takes s h roots action at t stage made.Works shape a lt few c = tt
+takes s h roots action at t stage made.GoesWrong shape a lt few c = tt
+takes s h roots action at t stage (made.ReadsWord base word value) shape a lt few c = tt
+takes s h roots action at t stage (made.ReadsOldValue base word value) shape a lt few c = tt
+takes s h roots action at t stage (made.ReadsPosted posted) shape a lt few c = tt
+
+-- it is the next one of its call
+pub may-make : (s : Setup) (h : Shared) (roots : List Reference) (action : Action) (at : Stance) (move : Move) (asked : Call) → action_of asked ≡ action → IsChosen s h roots action at (move_in roots move)
+    → MayMake s roots asked at move
+may-make s h roots action at (made.Marks r) asked e c = c.1
+may-make s h roots action at (made.Claims r true) asked e c = tt
+may-make s h roots action at (made.Claims r false) asked e c =
+    subst (λ (x : Call). LosesNext s x at r.cell) (sym (same-call asked (call.Alloc c.0) (e ∙ c.1))) c.5
+may-make s h roots action at made.Works asked e c = tt
+may-make s h roots action at made.GoesWrong asked e c = tt
+may-make s h roots action at (made.ReadsWord base word value) asked e c = tt
+may-make s h roots action at (made.ReadsOldValue base word value) asked e c = tt
+may-make s h roots action at (made.StoresBehindBarrier base word value) asked e c = tt
+may-make s h roots action at (made.StoresPlain base word value) asked e c = tt
+may-make s h roots action at (made.ReadsPosted stage) asked e c = tt
+may-make s h roots action at (made.Answers stage) asked e c = tt
+may-make s h roots action at made.Ends asked e c = tt
+
+-- ---- the thread behind it
+
+-- the move brings no reference
+abbrev BringsNothing : Move → Type 0
+BringsNothing (made.ReadsWord base word value) = ⊥
+BringsNothing (made.Claims r won) = ⊥
+BringsNothing move = Unit {0}
+
+-- such a move answers with none but null
+nothing-fits : (s : Setup) (roots : List Reference) (action : Action) (move : Move) → BringsNothing move → AnswersByKind s action (answer_of action (move_in roots move))
+nothing-fits s roots Local move q = tt
+nothing-fits s roots (StorePlain base word value) move q = tt
+nothing-fits s roots (Write base word value) move q = tt
+nothing-fits s roots Safepoint move q = tt
+nothing-fits s roots End move q = tt
+nothing-fits s roots Wrong move q = tt
+nothing-fits s roots action (made.ReadsWord b w v) q = absurd q
+nothing-fits s roots action (made.Claims r won) q = absurd q
+nothing-fits s roots (Read base word) made.Works q = tt
+nothing-fits s roots (Read base word) made.GoesWrong q = tt
+nothing-fits s roots (Read base word) (made.ReadsOldValue b w v) q = tt
+nothing-fits s roots (Read base word) (made.Marks r) q = tt
+nothing-fits s roots (Read base word) (made.StoresBehindBarrier b w v) q = tt
+nothing-fits s roots (Read base word) (made.StoresPlain b w v) q = tt
+nothing-fits s roots (Read base word) (made.ReadsPosted stage) q = tt
+nothing-fits s roots (Read base word) (made.Answers stage) q = tt
+nothing-fits s roots (Read base word) made.Ends q = tt
+nothing-fits s roots (Alloc layout) made.Works q = inl refl
+nothing-fits s roots (Alloc layout) made.GoesWrong q = tt
+nothing-fits s roots (Alloc layout) (made.ReadsOldValue b w v) q = tt
+nothing-fits s roots (Alloc layout) (made.Marks r) q = tt
+nothing-fits s roots (Alloc layout) (made.StoresBehindBarrier b w v) q = tt
+nothing-fits s roots (Alloc layout) (made.StoresPlain b w v) q = tt
+nothing-fits s roots (Alloc layout) (made.ReadsPosted stage) q = tt
+nothing-fits s roots (Alloc layout) (made.Answers stage) q = tt
+nothing-fits s roots (Alloc layout) made.Ends q = tt
+
+-- what is answered fits what was asked for
+pub answers : (s : Setup) (h : Shared) (roots : List Reference) (action : Action) (at : Stance) (move : Move) → HasShape s h → AsksByKind s action → IsChosen s h roots action at (move_in roots move)
+    → AnswersByKind s action (answer_of action (move_in roots move))
+answers s h roots action at (made.ReadsWord base word value) shape a c =
+    let asks : AsksByKind s (Read base word) = subst (λ (x : Action). AsksByKind s x) c.0 a in
+    let fits : MayHold s (kind_of s base.cell word) value = subst (λ (x : Reference). MayHold s (kind_of s base.cell word) x) (sym c.1) (word-fits s h base.cell word shape asks.0 asks.1) in
+    subst (λ (x : Action). AnswersByKind s x (answer_of x (move_in roots (made.ReadsWord base word value)))) (sym c.0) fits
+answers s h roots action at (made.Claims r true) shape a c =
+    let fits : AnswersByKind s (Alloc c.0) (Got r) = inr c.2 in
+    subst (λ (x : Action). AnswersByKind s x (answer_of x (move_in roots (made.Claims r true)))) (sym c.1) fits
+answers s h roots action at (made.Claims r false) shape a c =
+    subst (λ (x : Action). AnswersByKind s x (answer_of x (move_in roots (made.Claims r false)))) (sym c.1) (inl refl)
+answers s h roots action at made.Works shape a c = nothing-fits s roots action made.Works tt
+answers s h roots action at made.GoesWrong shape a c = nothing-fits s roots action made.GoesWrong tt
+answers s h roots action at (made.ReadsOldValue base word value) shape a c = nothing-fits s roots action (made.ReadsOldValue base word value) tt
+answers s h roots action at (made.Marks r) shape a c = nothing-fits s roots action (made.Marks r) tt
+answers s h roots action at (made.StoresBehindBarrier base word value) shape a c = nothing-fits s roots action (made.StoresBehindBarrier base word value) tt
+answers s h roots action at (made.StoresPlain base word value) shape a c = nothing-fits s roots action (made.StoresPlain base word value) tt
+answers s h roots action at (made.ReadsPosted stage) shape a c = nothing-fits s roots action (made.ReadsPosted stage) tt
+answers s h roots action at (made.Answers stage) shape a c = nothing-fits s roots action (made.Answers stage) tt
+answers s h roots action at made.Ends shape a c = nothing-fits s roots action made.Ends tt
+
+-- one of two states that fit
+either-fits : {State : Type 0} (Fits : State → Type 0) (b : Bool) (x y : State) → Fits x → Fits y → Fits (if b then x else y)
+either-fits Fits true x y f g = f
+either-fits Fits false x y f g = g
+
+-- so the state behind the move fits
+pub moved-fits : (s : Setup) (m : Machine) (Fits : m.State → Type 0) (h : Shared) (stand : Stand m.State) (move : Move) → HasShape s h → KeepsKinds s m.action m.after_answer m.roots Fits stand.state → Fits stand.state
+    → IsChosen s h (m.roots stand.state) (m.action stand.state) stand.stance (move_in (m.roots stand.state) move)
+    → Fits (moved s m (standing m.roots stand) (move_in (m.roots stand.state) move)).state
+moved-fits s m Fits h stand move shape keeps fits c =
+    either-fits Fits _ _ _
+    (keeps.goes_on (answer_of (m.action stand.state) (move_in (m.roots stand.state) move)) (answers s h (m.roots stand.state) (m.action stand.state) stand.stance move shape keeps.asks c))
+    fits
+
+-- and what a write under way has read is a cell
+pub replaced-cell : (s : Setup) (h : Shared) (roots : List Reference) (action : Action) (at : Stance) (move : Move) → HasShape s h → AsksByKind s action → IsChosen s h roots action at (move_in roots move)
+    → (old_by (move_in roots move)).cell < cells s
+replaced-cell s h roots action at (made.ReadsOldValue base word value) shape a c =
+    let asks : AsksByKind s (Write base word c.0) = subst (λ (x : Action). AsksByKind s x) c.1 a in
+    let fits = word-fits s h base.cell word shape asks.0 (reference-there (kind_of s base.cell word) asks.1) in
+    subst (λ (x : Reference). x.cell < cells s) (sym c.2) (cell-held s (kind_of s base.cell word) (word_at h.words base.cell word) asks.1 fits)
+replaced-cell s h roots action at made.Works shape a c = omega arith
+replaced-cell s h roots action at made.GoesWrong shape a c = omega arith
+replaced-cell s h roots action at (made.ReadsWord base word value) shape a c = omega arith
+replaced-cell s h roots action at (made.Marks r) shape a c = omega arith
+replaced-cell s h roots action at (made.StoresBehindBarrier base word value) shape a c = omega arith
+replaced-cell s h roots action at (made.StoresPlain base word value) shape a c = omega arith
+replaced-cell s h roots action at (made.Claims r won) shape a c = omega arith
+replaced-cell s h roots action at (made.ReadsPosted stage) shape a c = omega arith
+replaced-cell s h roots action at (made.Answers stage) shape a c = omega arith
+replaced-cell s h roots action at made.Ends shape a c = omega arith

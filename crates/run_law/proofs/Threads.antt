@@ -1,0 +1,119 @@
+-- A next move of a thread of a run leaves what stands behind the longer run.
+use Rattle.std.proofs.Common.{◌≡◌, ◌≢◌, ◌≤◌, ◌<◌, ◌^◌, ℕ, Some, List, length, sym, ◌∙◌, subst, arith}
+use Rattle.pools.specs.Heap.{Setup, cells}
+use Rattle.colours.specs.Mutator.{Phase, Ended, HasBegun, phase_of}
+use Rattle.runs.specs.Machine.{Reference, Action, Alloc, Machine}
+use Rattle.runs.specs.Moves as moves
+use Rattle.runs.specs.Moves.{steps_of, state_after}
+use Rattle.runs.specs.ModuleRuns.{Happening, share_of}
+use Rattle.runs.specs.NextMoves.{Sight, next_move}
+use Rattle.runs.specs.Ends.{next_move_of}
+use Rattle.runs.proofs.Shares.{is_share}
+use Rattle.run_law.specs.Bounds.{IsBounded}
+use Rattle.moves.specs.declared.moves.Move.{Move}
+use Rattle.moves.specs.declared.shared.Shared.{Shared}
+use Rattle.moves.specs.declared.stand.Stance.{Stance}
+use Rattle.moves.specs.declared.stand.Stance.TheVariants as stance
+use Rattle.moves.specs.declared.stand.Stand.{Stand}
+use Rattle.moves.specs.Calls.{move_in}
+use Rattle.moves.specs.Kinds.{KeepsKinds}
+use Rattle.moves.specs.Shared.{CanTake}
+use Rattle.moves.specs.Stands.{HasTryLeft, falling, phase_at, standing, sight_in}
+use Rattle.moves.proofs.Allocs.{within}
+use Rattle.moves.proofs.Nexts.{falling-length}
+use Rattle.run_law.specs.Growth.{ThreadIsBehind, MoveGrows, ThreadGrows}
+use Rattle.run_law.proofs.Words.{words-grow}
+use Rattle.run_law.proofs.Tries.{pool-within, TriedFrom, TriesFrom, tries-from}
+use Rattle.run_law.proofs.Chosen.{IsChosen, is-chosen}
+use Rattle.run_law.proofs.Moves.{puts, sees, takes, may-make, answers, moved-fits, replaced-cell}
+
+-- ---- a thread that tries cells
+
+-- a pool has fewer cells than 2^32
+few-tried : (s : Setup) (layout first tried : ℕ) → cells s ≤ 2 ^ 32 → TriedFrom s layout (falling first tried) → tried < 2 ^ 32
+few-tried s layout first tried few f =
+    let count = falling-length first tried in
+    let below = pool-within s layout (length (falling first tried)) f.few in
+    omega (arith, few, count, below)
+
+-- there is a pool, and so few were tried
+try-left : (s : Setup) (action : Action) (roots : List Reference) (at : Stance) → cells s ≤ 2 ^ 32 → TriesFrom s action (phase_at roots at) → HasTryLeft s.pools action at
+try-left s action roots stance.Ready few f = tt
+try-left s action roots (stance.MarkingOld c i o) few f = tt
+try-left s action roots (stance.MarkingNew c i o) few f = tt
+try-left s action roots (stance.Writing c i o n) few f = tt
+try-left s action roots (stance.Answering next marked) few f = tt
+try-left s action roots stance.Ended few f = tt
+try-left s (Alloc layout) roots (stance.Trying first tried) few f =
+    let some = f.few in
+    (within s.pools layout (λ z. omega (arith, some, z)), few-tried s layout first tried few f)
+try-left s action roots (stance.Trying first tried) few f = absurd f
+
+-- ---- each next move
+
+-- a thread of the code has begun
+begun-at : (roots : List Reference) (at : Stance) → HasBegun (phase_at roots at)
+begun-at roots stance.Ready = tt
+begun-at roots (stance.MarkingOld c i o) = tt
+begun-at roots (stance.MarkingNew c i o) = tt
+begun-at roots (stance.Writing c i o n) = tt
+begun-at roots (stance.Trying first tried) = tt
+begun-at roots (stance.Answering next marked) = tt
+begun-at roots stance.Ended = tt
+
+-- a thread that has a next move has not ended
+not-ended : (s : Setup) (h : Sight) (stage : ℕ) (roots : List Reference) (old : Reference) (action : Action) (phase : Phase) (move : moves.Move) → next_move s h stage roots old action phase ≡ Some move → phase ≢ Ended
+not-ended s h stage roots old action phase move e is =
+    let none = subst (λ (p : Phase). next_move s h stage roots old action p ≡ Some move) is e in
+    absurd cc
+
+-- of a thread of a run
+pub thread-grows : (s : Setup) (m : Machine) (Fits : m.State → Type 0) → ((state : m.State) → Fits state → KeepsKinds s m.action m.after_answer m.roots Fits state)
+    → (starts : ℕ → m.State) (run : List Happening) (t : ℕ) (stand : Stand m.State) (h : Shared) → IsBounded s run → ThreadIsBehind s m Fits starts run t stand h → ThreadGrows s m Fits run t stand h
+thread-grows s m Fits keeps_kinds starts run t stand h bounded b = record {
+  births = λ cell. subst (λ n. n < 2 ^ 62) (sym (b.words.behind.births cell)) (bounded.births cell);
+  try_left = try-left s action roots stand.stance b.few_cells tries;
+  move = grows;
+}
+  where
+    roots : List Reference
+    roots = m.roots stand.state
+
+    action : Action
+    action = m.action stand.state
+
+    keeps : KeepsKinds s m.action m.after_answer m.roots Fits stand.state
+    keeps = keeps_kinds stand.state b.fits
+
+    tries : TriesFrom s action (phase_at roots stand.stance)
+    tries =
+        subst (λ (p : Phase). TriesFrom s (m.action stand.state) p) (sym b.stands.phase)
+        (subst (λ (q : m.State). TriesFrom s (m.action q) (phase_of s t (steps_of (share_of t run)))) (sym b.stands.state)
+        (tries-from s m t (starts t) (share_of t run) (is_share s m starts run t b.is_run) b.tries))
+
+    grows : (made : Move) → next_move_of s m (sight_in s h) (standing m.roots stand) ≡ Some (move_in roots made) → MoveGrows s m Fits run t stand h made
+    grows made e = record {
+      may_make = λ call asks. may-make s h roots action stand.stance made call asks is;
+      can_take = can;
+      words = words-grow s run t stand.stage roots h made b.stands.stage b.words can
+          (sees s h roots action stand.stance made is)
+          (puts s h roots action stand.stance made keeps.asks is);
+      answers = answers s h roots action stand.stance made b.words.shape keeps.asks is;
+      fits = moved-fits s m Fits h stand made b.words.shape keeps b.fits is;
+      replaced = replaced-cell s h roots action stand.stance made b.words.shape keeps.asks is;
+    }
+      where
+        is : IsChosen s h roots action stand.stance (move_in roots made)
+        is = is-chosen s h stand.stage roots stand.replaced action stand.stance (move_in roots made) keeps.asks keeps.roots_fit b.replaced tries e
+
+        goes : phase_of s t (steps_of (share_of t run)) ≢ Ended
+        goes = λ ended. not-ended s (sight_in s h) stand.stage roots stand.replaced action (phase_at roots stand.stance) (move_in roots made) e (b.stands.phase ∙ ended)
+
+        begun : HasBegun (phase_of s t (steps_of (share_of t run)))
+        begun = subst (λ (p : Phase). HasBegun p) b.stands.phase (begun-at roots stand.stance)
+
+        few : stand.stage < 2 ^ 62
+        few = subst (λ n. n < 2 ^ 62) (sym b.stands.stage) (bounded.stages t b.is_thread begun goes)
+
+        can : CanTake h t stand.stage made
+        can = takes s h roots action stand.stance t stand.stage made b.words.shape keeps.asks b.is_thread few is

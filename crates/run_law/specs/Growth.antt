@@ -1,0 +1,93 @@
+-- What a next step leaves of the words and births behind a run.
+use Rattle.std.specs.Prelude.{ℕ, ◌≡◌, ◌<◌, ◌≤◌, ◌^◌, Option, Some, None, List, ◌∷◌, slice_index}
+use Rattle.pools.specs.Heap.{Setup, cells}
+use Rattle.colours.specs.Collector.{Collection, Posting, Waiting, ShadingGlobals, Passing, Scanning, Shading, Sweeping, Clearing}
+use Rattle.colours.specs.Runs.{turns_of}
+use Rattle.trace_sweep.specs.Collecting.{Collecting, NamesCells}
+use Rattle.trace_sweep.specs.Stands as collector
+use Rattle.trace_sweep.specs.Stands.{IsStepOn}
+use Rattle.trace_sweep.specs.declared.motion.Motion.{Motion}
+use Rattle.runs.specs.Machine.{Reference, Machine, Action, Answer, machine_of}
+use Rattle.runs.specs.Moves.{answer_of}
+use Rattle.runs.specs.ModuleRuns.{Happening, OfThread, OfCollector, share_of, heap_of, IsModuleRun}
+use Rattle.runs.specs.Ends.{StandsBehind, moved, next_move_of}
+use Rattle.runs.specs.Tries.{TriesLowest}
+use Rattle.moves.specs.declared.call.Call.{Call}
+use Rattle.moves.specs.declared.moves.Move.{Move}
+use Rattle.moves.specs.declared.shared.Shared.{Shared}
+use Rattle.moves.specs.declared.stand.Stand.{Stand}
+use Rattle.moves.specs.Calls.{action_of, move_in}
+use Rattle.moves.specs.Kinds.{AnswersByKind}
+use Rattle.moves.specs.Moving.{MayMake}
+use Rattle.moves.specs.Shared.{StandBehind, CanHold, CanTake, with_move, with_number, held_at}
+use Rattle.moves.specs.Stands.{HasTryLeft, standing, sight_in}
+
+-- ---- threads
+
+-- where a thread of a run stands, with a state that fits the heap, and the words and births behind the run
+pub record ThreadIsBehind (s : Setup) (m : Machine) (Fits : m.State → Type 0) (starts : ℕ → m.State) (run : List Happening) (t : ℕ) (stand : Stand m.State) (h : Shared) : Type 0 where
+  pub few_cells : cells s ≤ 2 ^ 32
+  pub is_run : IsModuleRun s m starts run
+  pub tries : TriesLowest s m t (starts t) (share_of t run)
+  pub is_thread : t < s.threads
+  pub stands : StandsBehind s m starts run t (standing m.roots stand)
+  pub fits : Fits stand.state
+  pub replaced : stand.replaced.cell < cells s
+  pub words : StandBehind s run h
+
+-- a next move of the thread may be made, and leaves what stands behind the longer run
+pub record MoveGrows (s : Setup) (m : Machine) (Fits : m.State → Type 0) (run : List Happening) (t : ℕ) (stand : Stand m.State) (h : Shared) (made : Move) : Type 0 where
+  pub may_make : (call : Call) → action_of call ≡ m.action stand.state → MayMake s (m.roots stand.state) call stand.stance made
+  pub can_take : CanTake h t stand.stage made
+  pub words : StandBehind s (OfThread t (move_in (m.roots stand.state) made) ∷ run) (with_move h t stand.stage made)
+  pub answers : AnswersByKind s (m.action stand.state) (answer_of (m.action stand.state) (move_in (m.roots stand.state) made))
+  pub fits : Fits (moved s m (standing m.roots stand) (move_in (m.roots stand.state) made)).state
+  pub replaced : (moved s m (standing m.roots stand) (move_in (m.roots stand.state) made)).old.cell < cells s
+
+-- what the next move of a thread needs, and each move that is the next one
+pub record ThreadGrows (s : Setup) (m : Machine) (Fits : m.State → Type 0) (run : List Happening) (t : ℕ) (stand : Stand m.State) (h : Shared) : Type 0 where
+  pub births : (cell : ℕ) → slice_index h.births cell < 2 ^ 62
+  pub try_left : HasTryLeft s.pools (m.action stand.state) stand.stance
+  pub move : (made : Move) → next_move_of s m (sight_in s h) (standing m.roots stand) ≡ Some (move_in (m.roots stand.state) made) → MoveGrows s m Fits run t stand h made
+
+-- so of each thread of a machine that keeps to the kinds of words
+abbrev pub ThreadsGrow : (s : Setup) {State : Type 0} (action : State → Action) (after_answer : State → Answer → State) (roots : State → List Reference) (Fits : State → Type 0) → Type 0
+ThreadsGrow s {State} action after_answer roots Fits = (starts : ℕ → State) (run : List Happening) (t : ℕ) (stand : Stand State) (h : Shared)
+    → ThreadIsBehind s (machine_of action after_answer roots) Fits starts run t stand h → ThreadGrows s (machine_of action after_answer roots) Fits run t stand h
+
+-- ---- the collector
+
+-- a collector stands at a thread or at a cell of the heap, and has a cell in hand
+abbrev pub IsInHeap : Setup → Collection → Type 0
+IsInHeap s Posting = Unit {0}
+IsInHeap s (Waiting thread) = thread < s.threads
+IsInHeap s ShadingGlobals = Unit {0}
+IsInHeap s (Passing p) = p.next < cells s
+IsInHeap s (Scanning cell word p) = cell < cells s
+IsInHeap s (Shading value cell word p) = (value < cells s) × (cell < cells s)
+IsInHeap s (Sweeping cell) = cell < cells s
+IsInHeap s (Clearing cell word) = cell < cells s
+
+-- the words behind a step of the collector: another number in its word, if it stores one
+abbrev pub with_stored : Shared → Motion → Option ℕ → Shared
+with_stored h motion None = h
+with_stored h motion (Some n) = with_number h motion.place n
+
+-- where the collector of a run stands, and the words and births behind the run
+pub record CollectorIsBehind (s : Setup) (run : List Happening) (c : Collecting) (h : Shared) : Type 0 where
+  pub few_cells : cells s ≤ 2 ^ 32
+  pub stands : collector.StandsBehind s (turns_of (heap_of run)) c
+  pub in_heap : IsInHeap s c.at
+  pub words : StandBehind s run h
+
+-- its next step may be made, and leaves what stands behind the longer run
+pub record MotionGrows (s : Setup) (run : List Happening) (h : Shared) (motion : Motion) (behind : Collecting) : Type 0 where
+  pub can_hold : CanHold h motion.place
+  pub stands : collector.StandsBehind s (turns_of (heap_of (OfCollector motion.turn ∷ run))) behind
+  pub in_heap : IsInHeap s behind.at
+  pub words : StandBehind s (OfCollector motion.turn ∷ run) (with_stored h motion motion.stored)
+
+-- so behind each run
+abbrev pub CollectorGrows : Setup → Type 0
+CollectorGrows s = (run : List Happening) (c : Collecting) (h : Shared) → CollectorIsBehind s run c h
+    → NamesCells c.heap (held_at h) × ((motion : Motion) (behind : Collecting) → IsStepOn (held_at h) c motion behind → MotionGrows s run h motion behind)

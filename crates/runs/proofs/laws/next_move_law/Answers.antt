@@ -1,0 +1,21 @@
+-- The law is that of every machine.
+use Rattle.std.proofs.Common.{refl}
+use Rattle.runs.specs.Machine.{machine_of}
+use Rattle.runs.proofs.NextMoves.{next_is}
+use Rattle.runs.proofs.Tries.{keeps_order}
+use Rattle.runs.proofs.laws.next_move_law.Goals as goal
+
+pub returns-clause-next : goal.returns-clause-next
+returns-clause-next g c s = next_is s (machine_of g.M.Machine.action g.M.Machine.after_answer g.M.Machine.roots)
+
+pub returns-clause-lowest : goal.returns-clause-lowest
+returns-clause-lowest g c s = keeps_order s (machine_of g.M.Machine.action g.M.Machine.after_answer g.M.Machine.roots)
+
+pub returns-clause-sight : goal.returns-clause-sight
+returns-clause-sight g c s run order = record {
+  word = λ c i. refl;
+  word_birth = λ c i. refl;
+  posted = refl;
+  is_blue = λ c. refl;
+  claim_birth = λ layout tried. refl;
+}

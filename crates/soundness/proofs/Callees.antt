@@ -1,0 +1,194 @@
+-- Which function a call is of, and the types of the runtime's functions.
+use Rattle.std.proofs.Common.{◌≡◌, ℕ, List, [], ◌∷◌, length, refl, sym, ap, ◌∙◌, subst, arith, true, false, Bool, Option, Some, None, slice_get}
+use Rattle.std.specs.Prelude.{◌==◌, ◌&&◌, if◌then◌else◌, not}
+use Rattle.std.specs.List.{list_all, zip}
+use Rattle.ir_ast.specs.declared.function.Function.{Function}
+use Rattle.ir_ast.specs.declared.items_of_module.Declare.{Declare}
+use Rattle.ir_ast.specs.declared.items_of_module.SymbolSort.{SymbolSort}
+use Rattle.ir_ast.specs.declared.items_of_module.SymbolSort.TheVariants as symbol
+use Rattle.ir_ast.specs.declared.module.Module.{Module}
+use Rattle.ir_ast.specs.declared.runtime.Runtime.{Runtime}
+use Rattle.ir_ast.specs.declared.runtime.Runtime.TheVariants as runtime
+use Rattle.types.specs.RuntimeCall.{runtime_called, runtime_of_declare, runtime_of_sort}
+use Rattle.block_rules.specs.declared.callee.Callee.TheVariants.{OfRuntime, OfModule, NoFunction}
+use Rattle.block_rules.specs.declared.signature.RuntimeType.TheVariants as types
+use Rattle.block_rules.specs.Signature.{signature_of, is_runtime_type, is_of_type, is_declared_as, callable, callable_declare, callable_function, callable_sort, callee_of}
+use Rattle.block_rules.specs.RuntimeNames.{names_runtime}
+use Rattle.machine.specs.Asks as a
+use Rattle.soundness.proofs.KindLemmas.{bits_same, void_same, bytes_same, place_bytes_same}
+use Rattle.soundness.proofs.Lists.{both, equal}
+
+-- ---- which function a call is of
+
+-- what the rules take for a callee is declared so
+pub record IsCallee (m : Module) (callee count : ℕ) (called : Runtime) (declared : Option Declare) : Type 0 where
+  pub declare : Declare
+  pub is_declared : declared ≡ Some declare
+  pub types : is_declared_as m declare called ≡ true
+  pub arity : (count == length (signature_of called).parameters) ≡ true
+
+module _ (m : Module) (callee count : ℕ) (called : Runtime) where
+  -- by the function that a declaration is of
+  of_runtime : (declared : Declare) (t : Option Runtime) → declared.runtime ≡ t → callable m count declared t ≡ OfRuntime called → IsCallee m callee count called (Some declared) × (declared.runtime ≡ Some called)
+  of_runtime declared None is e = absurd cc
+  of_runtime declared (Some own) is e = pick (is_declared_as m declared own && (count == length (signature_of own).parameters)) refl e where
+    pick : (b : Bool) → (is_declared_as m declared own && (count == length (signature_of own).parameters)) ≡ b → (if b then OfRuntime own else NoFunction) ≡ OfRuntime called → IsCallee m callee count called (Some declared) × (declared.runtime ≡ Some called)
+    pick false t e = absurd cc
+    pick true t e =
+        let same : own ≡ called = cc in
+        let b = both (is_declared_as m declared own) (count == length (signature_of own).parameters) t in (
+          record { declare = declared; is_declared = refl; types = subst (λ x. is_declared_as m declared x ≡ true) same b.0; arity = subst (λ x. (count == length (signature_of x).parameters) ≡ true) same b.1 },
+          is ∙ ap Some same,
+        )
+
+  -- by the declaration, if there is one
+  of_declare : (q : Option Declare) → callable_declare m count q ≡ OfRuntime called → IsCallee m callee count called q × (runtime_of_declare q ≡ Some called)
+  of_declare None e = absurd cc
+  of_declare (Some declared) e = of_runtime declared declared.runtime refl e
+
+  -- by what the name stands for
+  of_sort : (q : Option SymbolSort) → callable_sort m callee count q ≡ OfRuntime called → IsCallee m callee count called (a.declare_of_sort m q) × (runtime_of_sort m q ≡ Some called)
+  of_sort None e = absurd cc
+  of_sort (Some symbol.Unknown) e = absurd cc
+  of_sort (Some (symbol.Global g)) e = absurd cc
+  of_sort (Some (symbol.Defined d)) e = by (slice_get m.functions d) e where
+    by : (q : Option Function) → callable_function m callee count d q ≡ OfRuntime called → IsCallee m callee count called None × (◌≡◌ {A = Option Runtime} None (Some called))
+    by None e = absurd cc
+    by (Some function) e = pick ((count == length function.parameters) && not (names_runtime (slice_get m.symbols callee))) e where
+      pick : (b : Bool) → (if b then OfModule d else NoFunction) ≡ OfRuntime called → IsCallee m callee count called None × (◌≡◌ {A = Option Runtime} None (Some called))
+      pick true e = absurd cc
+      pick false e = absurd cc
+  of_sort (Some (symbol.Declared d)) e = of_declare (slice_get m.declares d) e
+
+  -- by the name of the callee
+  pub callee_is : callee_of m callee count ≡ OfRuntime called → IsCallee m callee count called (a.declare_of m callee) × (runtime_called m callee ≡ Some called)
+  callee_is e = of_sort (slice_get m.sorts callee) e
+
+-- what the rules take for a defined function is one, and takes so many arguments
+pub record IsDefined (m : Module) (callee count number : ℕ) : Type 0 where
+  pub function : Function
+  pub there : slice_get m.functions number ≡ Some function
+  pub named : a.number_called m callee ≡ Some number
+  pub no_runtime : runtime_called m callee ≡ None
+  pub arity : (count == length function.parameters) ≡ true
+
+module _ (m : Module) (callee count number : ℕ) where
+  no_declare : (q : Option Declare) → callable_declare m count q ≡ OfModule number → ⊥
+  no_declare None e = absurd cc
+  no_declare (Some declared) e = by declared.runtime e where
+    by : (t : Option Runtime) → callable m count declared t ≡ OfModule number → ⊥
+    by None e = absurd cc
+    by (Some own) e = pick (is_declared_as m declared own && (count == length (signature_of own).parameters)) e where
+      pick : (b : Bool) → (if b then OfRuntime own else NoFunction) ≡ OfModule number → ⊥
+      pick true e = absurd cc
+      pick false e = absurd cc
+
+  pub defined_is : callee_of m callee count ≡ OfModule number → IsDefined m callee count number
+  defined_is e = by (slice_get m.sorts callee) refl e where
+    by : (q : Option SymbolSort) → slice_get m.sorts callee ≡ q → callable_sort m callee count q ≡ OfModule number → IsDefined m callee count number
+    by None is e = absurd cc
+    by (Some symbol.Unknown) is e = absurd cc
+    by (Some (symbol.Global g)) is e = absurd cc
+    by (Some (symbol.Declared d)) is e = absurd (no_declare (slice_get m.declares d) e)
+    by (Some (symbol.Defined d)) is e = of_function (slice_get m.functions d) refl e where
+      of_function : (q : Option Function) → slice_get m.functions d ≡ q → callable_function m callee count d q ≡ OfModule number → IsDefined m callee count number
+      of_function None at e = absurd cc
+      of_function (Some function) at e = pick ((count == length function.parameters) && not (names_runtime (slice_get m.symbols callee))) refl e where
+        pick : (b : Bool) → ((count == length function.parameters) && not (names_runtime (slice_get m.symbols callee))) ≡ b → (if b then OfModule d else NoFunction) ≡ OfModule number → IsDefined m callee count number
+        pick false t e = absurd cc
+        pick true t e =
+            let same : d ≡ number = cc in
+            record {
+              function = function;
+              there = subst (λ n. slice_get m.functions n ≡ Some function) same at;
+              named = ap a.number_of_sort is ∙ ap Some same;
+              no_runtime = ap (runtime_of_sort m) is;
+              arity = (both (count == length function.parameters) (not (names_runtime (slice_get m.symbols callee))) t).0;
+            }
+
+-- ---- the types of the runtime's functions
+
+-- a list of one is it
+pub one_parameter : {X : Type 0} (xs : List X) → (length xs ≡ 1) → (x : X) × (xs ≡ x ∷ [])
+one_parameter [] e = absurd (omega arith)
+one_parameter (x ∷ []) e = (x, refl)
+one_parameter (x ∷ y ∷ xs) e = absurd (omega arith)
+
+-- and a list of two are they
+pub two_parameters : {X : Type 0} (xs : List X) → (length xs ≡ 2) → (x : X) × (y : X) × (xs ≡ x ∷ y ∷ [])
+two_parameters [] e = absurd (omega arith)
+two_parameters (x ∷ []) e = absurd (omega arith)
+two_parameters (x ∷ y ∷ []) e = (x, y, refl)
+two_parameters (x ∷ y ∷ z ∷ xs) e = absurd (omega arith)
+
+-- and a list of three
+pub three_parameters : {X : Type 0} (xs : List X) → (length xs ≡ 3) → (x : X) × (y : X) × (z : X) × (xs ≡ x ∷ y ∷ z ∷ [])
+three_parameters [] e = absurd (omega arith)
+three_parameters (x ∷ []) e = absurd (omega arith)
+three_parameters (x ∷ y ∷ []) e = absurd (omega arith)
+three_parameters (x ∷ y ∷ z ∷ []) e = (x, y, z, refl)
+three_parameters (x ∷ y ∷ z ∷ w ∷ xs) e = absurd (omega arith)
+
+module _ (m : Module) where
+  -- the types of dg_alloc are those of the machine
+  pub alloc_types : (returned written : ℕ) → is_runtime_type m returned types.Pointer ≡ true → is_runtime_type m written types.Number ≡ true → a.are_alloc_types m returned (written ∷ []) ≡ true
+  alloc_types returned written a b = rw (sym (bytes_same m returned) ∙ a, sym (bits_same m 32 written) ∙ b) refl
+
+  -- so are those with which it is declared
+  pub alloc_declared : (d : Declare) → is_declared_as m d runtime.Alloc ≡ true → a.are_alloc_types m d.returned d.parameters ≡ true
+  alloc_declared d e =
+      let a = both (is_runtime_type m d.returned types.Pointer) ((length d.parameters == 1) && list_all (is_of_type m) (zip d.parameters (types.Number ∷ []))) e in
+      let b = both (length d.parameters == 1) (list_all (is_of_type m) (zip d.parameters (types.Number ∷ []))) a.1 in
+      let p = one_parameter d.parameters (equal (length d.parameters) 1 b.0) in
+      let c = both (is_runtime_type m p.0 types.Number) true (subst (λ x. list_all (is_of_type m) (zip x (types.Number ∷ [])) ≡ true) p.1 b.1) in
+      rw p.1 (alloc_types d.returned p.0 a.0 c.0)
+
+  -- the types of gcroot are those of the machine
+  pub root_types : (returned place metadata : ℕ) → is_runtime_type m returned types.Void ≡ true → is_runtime_type m place types.PointerToPointer ≡ true → is_runtime_type m metadata types.Pointer ≡ true → a.are_gcroot_types m returned (place ∷ metadata ∷ []) ≡ true
+  root_types returned place metadata a b c = rw (sym (void_same m returned) ∙ a, sym (place_bytes_same m place) ∙ b, sym (bytes_same m metadata) ∙ c) refl
+
+  -- so are those with which it is declared
+  pub root_declared : (d : Declare) → is_declared_as m d runtime.GcRoot ≡ true → a.are_gcroot_types m d.returned d.parameters ≡ true
+  root_declared d e =
+      let expected = types.PointerToPointer ∷ types.Pointer ∷ [] in
+      let a = both (is_runtime_type m d.returned types.Void) ((length d.parameters == 2) && list_all (is_of_type m) (zip d.parameters expected)) e in
+      let b = both (length d.parameters == 2) (list_all (is_of_type m) (zip d.parameters expected)) a.1 in
+      let p = two_parameters d.parameters (equal (length d.parameters) 2 b.0) in
+      let all = subst (λ x. list_all (is_of_type m) (zip x expected) ≡ true) p.2 b.1 in
+      let c = both (is_runtime_type m p.0 types.PointerToPointer) (is_runtime_type m p.1 types.Pointer && true) all in
+      let g = both (is_runtime_type m p.1 types.Pointer) true c.1 in
+      rw p.2 (root_types d.returned p.0 p.1 a.0 c.0 g.0)
+
+  -- the types of gcread are those of the machine
+  pub read_types : (returned object place : ℕ) → is_runtime_type m returned types.Pointer ≡ true → is_runtime_type m object types.Pointer ≡ true → is_runtime_type m place types.PointerToPointer ≡ true → a.are_gcread_types m returned (object ∷ place ∷ []) ≡ true
+  read_types returned object place a b c = rw (sym (bytes_same m returned) ∙ a, sym (bytes_same m object) ∙ b, sym (place_bytes_same m place) ∙ c) refl
+
+  -- so are those with which it is declared
+  pub read_declared : (d : Declare) → is_declared_as m d runtime.GcRead ≡ true → a.are_gcread_types m d.returned d.parameters ≡ true
+  read_declared d e =
+      let expected = types.Pointer ∷ types.PointerToPointer ∷ [] in
+      let a = both (is_runtime_type m d.returned types.Pointer) ((length d.parameters == 2) && list_all (is_of_type m) (zip d.parameters expected)) e in
+      let b = both (length d.parameters == 2) (list_all (is_of_type m) (zip d.parameters expected)) a.1 in
+      let p = two_parameters d.parameters (equal (length d.parameters) 2 b.0) in
+      let all = subst (λ x. list_all (is_of_type m) (zip x expected) ≡ true) p.2 b.1 in
+      let c = both (is_runtime_type m p.0 types.Pointer) (is_runtime_type m p.1 types.PointerToPointer && true) all in
+      let g = both (is_runtime_type m p.1 types.PointerToPointer) true c.1 in
+      rw p.2 (read_types d.returned p.0 p.1 a.0 c.0 g.0)
+
+  -- the types of gcwrite are those of the machine
+  pub write_types : (returned stored object place : ℕ) → is_runtime_type m returned types.Void ≡ true → is_runtime_type m stored types.Pointer ≡ true → is_runtime_type m object types.Pointer ≡ true → is_runtime_type m place types.PointerToPointer ≡ true
+      → a.are_gcwrite_types m returned (stored ∷ object ∷ place ∷ []) ≡ true
+  write_types returned stored object place a b c d = rw (sym (void_same m returned) ∙ a, sym (bytes_same m stored) ∙ b, sym (bytes_same m object) ∙ c, sym (place_bytes_same m place) ∙ d) refl
+
+  -- so are those with which it is declared
+  pub write_declared : (d : Declare) → is_declared_as m d runtime.GcWrite ≡ true → a.are_gcwrite_types m d.returned d.parameters ≡ true
+  write_declared d e =
+      let expected = types.Pointer ∷ types.Pointer ∷ types.PointerToPointer ∷ [] in
+      let a = both (is_runtime_type m d.returned types.Void) ((length d.parameters == 3) && list_all (is_of_type m) (zip d.parameters expected)) e in
+      let b = both (length d.parameters == 3) (list_all (is_of_type m) (zip d.parameters expected)) a.1 in
+      let p = three_parameters d.parameters (equal (length d.parameters) 3 b.0) in
+      let all = subst (λ x. list_all (is_of_type m) (zip x expected) ≡ true) p.3 b.1 in
+      let c = both (is_runtime_type m p.0 types.Pointer) (is_runtime_type m p.1 types.Pointer && (is_runtime_type m p.2 types.PointerToPointer && true)) all in
+      let g = both (is_runtime_type m p.1 types.Pointer) (is_runtime_type m p.2 types.PointerToPointer && true) c.1 in
+      let k = both (is_runtime_type m p.2 types.PointerToPointer) true g.1 in
+      rw p.3 (write_types d.returned p.0 p.1 p.2 a.0 c.0 g.0 k.0)

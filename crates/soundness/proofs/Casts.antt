@@ -1,0 +1,217 @@
+-- Bitcasts.
+use Rattle.std.proofs.Common.{◌≡◌, ◌≢◌, ℕ, ◌<◌, ◌^◌, length, map, refl, sym, ap, ◌∙◌, subst, arith, true, false, Bool, Option, Some, None, slice_set, List}
+use Rattle.std.specs.Prelude.{◌==◌, ◌||◌, if◌then◌else◌}
+use Rattle.ir_ast.specs.declared.function.Function.{Function}
+use Rattle.ir_ast.specs.declared.op.Op.TheVariants.{Bitcast}
+use Rattle.ir_ast.specs.declared.operand.Constant.{Constant}
+use Rattle.ir_ast.specs.declared.operand.Constant.TheVariants as constant
+use Rattle.ir_ast.specs.declared.operand.Operand.{Operand}
+use Rattle.ir_ast.specs.declared.operand.Operand.TheVariants as operand
+use Rattle.pools.specs.Heap.{Setup}
+use Rattle.pools.specs.Layouts.{kind_of_word}
+use Rattle.pools.specs.declared.word_set.WordSet.{WordSet}
+use Rattle.layout.specs.Globals.{IsHeapFor, global_word}
+use Rattle.layout.specs.Layouts.{LaidOut}
+use Rattle.types.specs.ValueTypes.{has_type}
+use Rattle.shadow_stack.specs.Slots.{SlotTable, slot_of, held_type}
+use Rattle.certs.specs.declared.section.Section.{Section}
+use Rattle.facts.specs.declared.known.Known.{Known}
+use Rattle.facts.specs.declared.known.Known.TheVariants.{Nothing, Number, Cell, Null, Address, GlobalAddress}
+use Rattle.facts.specs.Facts.{FactSet, known_at, class_at, off_base, values_without, forget, define}
+use Rattle.block_rules.specs.declared.type_kind.TypeKind.{TypeKind}
+use Rattle.block_rules.specs.declared.type_kind.TypeKind.TheVariants.{NoValue, Bits, Reference, AnyReference, Address as AddressKind, Other}
+use Rattle.block_rules.specs.Casts as c
+use Rattle.block_rules.specs.Operands as o
+use Rattle.block_rules.specs.Places.{define_held, first_layout, cell_words, wanted_by_load, each_word}
+use Rattle.block_rules.specs.Rules.{after_op}
+use Rattle.block_rules.specs.TypeKinds.{kind_of, place_kind, fits_layout, may_be_reference}
+use Rattle.machine.specs.declared.value.Value.{Value}
+use Rattle.machine.specs.declared.value.Value.TheVariants as value
+use Rattle.machine.specs.declared.frame.Frame.{Frame}
+use Rattle.machine.specs.Asks as a
+use Rattle.machine.specs.Kinds as k
+use Rattle.machine.specs.Kinds.{register_at, wrapped, bits_at, value_of, constant_value}
+use Rattle.machine.specs.Machine as mc
+use Rattle.machine.specs.Log.{Log}
+use Rattle.soundness.specs.Meaning.{Cells, Guarded, IsReferenceTo, IsOwn, IsAddressOf, IsGlobal, AreApart, Means, Holds}
+use Rattle.soundness.proofs.Lists.{both, either_true, equal, at_other, at_map}
+use Rattle.soundness.proofs.KindLemmas.{refers_same, leads_same, constant_passes, bits_are}
+use Rattle.soundness.proofs.Keep.{Beside, unequal, forget_cell, off_cell, without_same, means_without, known_within}
+use Rattle.soundness.proofs.Change.{apart_turned, define_keeps, define_plain, new_keeps}
+use Rattle.machine.proofs.WrappedFits.{wrapped_fits}
+use Rattle.soundness.proofs.Edges.{wrapped_le}
+use Rattle.soundness.proofs.SlotsKeep.{same_written}
+use Rattle.soundness.proofs.PlaceFacts.{holds_as_asked}
+use Rattle.soundness.specs.Goes.{Goes}
+use Rattle.soundness.proofs.Globals.{word_is, word_casts_to}
+use Rattle.soundness.proofs.SameKinds.{first_holds, part_refers, null_casts, layout_refers, held_casts, word_casts}
+use Rattle.soundness.proofs.Steps.{goes_local, chosen, below_itself, available, base_is, known_set}
+
+module _ (heap : Setup) (p : LaidOut) (certs : List Section) (reaches : Bool) (f : Function) (table : SlotTable) (guarded : Guarded) (log : Log) (cells : Cells) (facts : FactSet) (frame : Frame) (h : Holds heap p table guarded log cells facts frame.registers frame.slots) where
+  -- v is a reference of a new class that is not fresh, where a layout is known
+  pub held_keeps : (v : ℕ) (layout : Option ℕ) (nonnull : Bool) (new : Value) → ((l : ℕ) → layout ≡ Some l → IsReferenceTo heap l new × IsOwn log guarded new) → (nonnull ≡ true → new ≢ value.Null)
+      → ((w d l : ℕ) (s : Bool) → known_at facts.values w ≡ Cell d l s → (class_at facts.classes d).fresh ≡ true → AreApart (cells d) new)
+      → (more : Cells) × Holds heap p table guarded log more (define_held v layout nonnull facts) (slice_set frame.registers v new) frame.slots
+  held_keeps v None nonnull new refers known apart = (cells, define_plain heap p table guarded log cells facts frame.registers frame.slots h v Nothing new (λ d l s e. cc) tt)
+  held_keeps v (Some layout) nonnull new refers known apart =
+      let r = refers layout refl in (
+        _,
+        new_keeps heap p table guarded log cells facts frame.registers frame.slots h v layout false (record { nonnull = nonnull; fresh = false }) new r.0 (λ e. r.1)
+            (record { nonnull = known; fresh = λ z. absurd cc }) (λ z. absurd cc) (λ z. apart) (λ z. absurd cc),
+      )
+
+  -- v is null
+  pub null_keeps : (v : ℕ) (layout : Option ℕ) → (more : Cells) × Holds heap p table guarded log more (define_held v layout false facts) (slice_set frame.registers v value.Null) frame.slots
+  null_keeps v layout = held_keeps v layout false value.Null (λ l e. (tt, tt)) (λ z. absurd cc) (λ w d l s is fr. apart_turned value.Null (cells d) tt)
+
+  module _ (fits : IsHeapFor heap p) (from to : ℕ) where
+    -- ---- constants
+
+    number_keeps : (v n : ℕ) → from ≡ to → Holds heap p table guarded log cells (c.cast_number v n (kind_of p.of_module to) facts) (slice_set frame.registers v (value.Number (wrapped (bits_at p.of_module from) n))) frame.slots
+    number_keeps v n equals = by (kind_of p.of_module to) refl where
+      new : Value
+      new = value.Number (wrapped (bits_at p.of_module from) n)
+
+      plain : Holds heap p table guarded log cells (define v Nothing facts) (slice_set frame.registers v new) frame.slots
+      plain = define_plain heap p table guarded log cells facts frame.registers frame.slots h v Nothing new (λ d l s e. cc) tt
+
+      by : (x : TypeKind) → kind_of p.of_module to ≡ x → Holds heap p table guarded log cells (c.cast_number v n x facts) (slice_set frame.registers v new) frame.slots
+      by (Bits bits) is =
+          let b : bits_at p.of_module from ≡ bits = bits_are p.of_module from bits (ap (kind_of p.of_module) equals ∙ is) in
+          let le = wrapped_le (bits_at p.of_module from) n in
+          define_plain heap p table guarded log cells facts frame.registers frame.slots h v (Number bits _) new (λ d l s e. cc)
+          (record { number = wrapped (bits_at p.of_module from) n; is = refl; fits = subst (λ z. wrapped (bits_at p.of_module from) n < 2 ^ z) b (wrapped_fits (bits_at p.of_module from) n); under = below_itself n (wrapped (bits_at p.of_module from) n) (omega (arith, le)) })
+      by NoValue is = plain
+      by (Reference layout) is = plain
+      by AnyReference is = plain
+      by AddressKind is = plain
+      by Other is = plain
+
+    constant_keeps : (v : ℕ) (x : Constant) → c.may_cast p table facts from to (operand.Constant x) ≡ true
+        → (more : Cells) × Holds heap p table guarded log more (c.cast_constant p.of_module v from to x facts) (slice_set frame.registers v (constant_value p.of_module from x)) frame.slots
+    constant_keeps v (constant.Number n) k19 = (cells, number_keeps v n (equal from to (first_holds (from == to) k19)))
+    constant_keeps v (constant.Truth b) k19 = (cells, define_plain heap p table guarded log cells facts frame.registers frame.slots h v Nothing value.Unset (λ d l s e. cc) tt)
+    constant_keeps v constant.Null k19 = null_keeps v (c.layout_of_null (kind_of p.of_module from) (kind_of p.of_module to))
+
+    constant_casts : (x : Constant) → o.constant_fits x (kind_of p.of_module from) ≡ true → c.may_cast p table facts from to (operand.Constant x) ≡ true → a.may_cast p from to (constant_value p.of_module from x) ≡ true
+    constant_casts (constant.Number n) k2 e = chosen (from == to) false _ e (λ bad. absurd cc)
+    constant_casts (constant.Truth b) k2 e = absurd cc
+    constant_casts constant.Null k2 e = chosen (from == to) (c.casts_null p.of_module from to) _ e (null_casts p.of_module from to)
+
+    pub constant_goes : (result : Option ℕ) (x : Constant) → o.constant_fits x (kind_of p.of_module from) ≡ true → c.may_cast p table facts from to (operand.Constant x) ≡ true
+        → Goes heap p table frame.slots reaches guarded log (after_op p certs table result (Bitcast from (operand.Constant x) to) facts) (a.cast_action p f table frame.registers from (operand.Constant x) to None) (λ given. mc.set_register result (constant_value p.of_module from x) frame)
+    constant_goes result x k2 k19 = goes_local heap p table frame.slots reaches guarded log _ _ _ (rw (constant_passes p.of_module from x k2, constant_casts x k2 k19) refl) (kept result) where
+      kept : (result : Option ℕ) → (more : Cells) × Holds heap p table guarded log more (after_op p certs table result (Bitcast from (operand.Constant x) to) facts) (mc.set_register result (constant_value p.of_module from x) frame).registers (mc.set_register result (constant_value p.of_module from x) frame).slots
+      kept None = (cells, h)
+      kept (Some v) = constant_keeps v x k19
+
+    -- ---- slots
+
+    pub slot_goes : (result : Option ℕ) (u s : ℕ) → slot_of table u ≡ Some s → has_type p.of_module f from u ≡ true → c.may_cast p table facts from to (operand.Local u) ≡ true
+        → Goes heap p table frame.slots reaches guarded log (after_op p certs table result (Bitcast from (operand.Local u) to) facts) (a.cast_action p f table frame.registers from (operand.Local u) to (slot_of table u)) (λ given. mc.after_cast result (register_at frame.registers u) (slot_of table u) frame)
+    slot_goes result u s is k2 k19 =
+        subst (λ x. Goes heap p table frame.slots reaches guarded log (after_op p certs table result (Bitcast from (operand.Local u) to) facts) (a.cast_action p f table frame.registers from (operand.Local u) to x) (λ given. mc.after_cast result (register_at frame.registers u) x frame)) (sym is)
+        (goes_local heap p table frame.slots reaches guarded log _ _ _ (rw (k2, casts (rw is at k19)) refl) (kept result)) where
+          casts : ((from == to) || c.casts_held p.of_module to (held_type table s)) ≡ true → a.may_cast_slot p.of_module (held_type table s) from to ≡ true
+          casts e = chosen (from == to) (c.casts_held p.of_module to (held_type table s)) _ e (held_casts p.of_module to (held_type table s))
+
+          kept : (result : Option ℕ) → (more : Cells) × Holds heap p table guarded log more (after_op p certs table result (Bitcast from (operand.Local u) to) facts) frame.registers frame.slots
+          kept None = (cells, h)
+          kept (Some v) = rw is (cells, h)
+
+    -- ---- values
+
+    reference_casts : (layout : ℕ) (v : Value) → IsReferenceTo heap layout v → fits_layout layout (kind_of p.of_module to) ≡ true → a.may_cast_value p from to v ≡ true
+    reference_casts layout value.Unset r e = absurd r
+    reference_casts layout (value.Number n) r e = absurd r
+    reference_casts layout value.Null r e = either_true (k.may_refer p.of_module to) _ (sym (refers_same p.of_module to) ∙ layout_refers p.of_module layout (kind_of p.of_module to) e)
+    reference_casts layout (value.Cell own at) r e = part_refers p.of_module own to (subst (λ l. fits_layout l (kind_of p.of_module to) ≡ true) (sym r.0) e)
+    reference_casts layout (value.Address at) r e = absurd r
+
+    address_casts : (layout : ℕ) (words : WordSet) (base v : Value) → IsReferenceTo heap layout base → IsAddressOf p words.members base v → c.casts_words p.layouts layout words (place_kind p.of_module to) ≡ true → a.may_cast_value p from to v ≡ true
+    address_casts layout words value.Unset v r is e = absurd r
+    address_casts layout words (value.Number n) v r is e = absurd r
+    address_casts layout words value.Null v r is e = ap (a.may_cast_value p from to) is ∙ sym (leads_same p.of_module to) ∙ (both (may_be_reference (place_kind p.of_module to)) _ e).0
+    address_casts layout words (value.Cell own at) v r is e =
+        let b = both (may_be_reference (place_kind p.of_module to)) (each_word (wanted_by_load (place_kind p.of_module to) (first_layout p.layouts layout words cell_words)) p.layouts layout words) e in
+        let w = holds_as_asked heap p table guarded log cells facts frame.registers frame.slots fits h (wanted_by_load (place_kind p.of_module to) (first_layout p.layouts layout words cell_words)) layout is.0 words is.3 is.2 b.1 in
+        ap (a.may_cast_value p from to) is.1 ∙ ap (λ l. k.may_cast_word p.of_module to (kind_of_word p.layouts l is.0)) r.0 ∙ word_casts p.of_module to (place_kind p.of_module to) (first_layout p.layouts layout words cell_words) (kind_of_word p.layouts layout is.0) refl w b.0
+    address_casts layout words (value.Address at) v r is e = absurd r
+
+    -- a global, as its word
+    global_casts : (symbol : ℕ) (v : Value) → IsGlobal p.of_module symbol v → c.casts_global p.of_module to symbol ≡ true → a.may_cast_value p from to v ≡ true
+    global_casts symbol v global e =
+        ap (a.may_cast_value p from to) global.2 ∙ ap (k.may_cast_word p.of_module to) (sym (word_is p.of_module symbol global.0 global.1)) ∙ word_casts_to p.of_module to (global_word p.of_module symbol) e
+
+    known_casts : (known : Known) (v : Value) → Means heap p guarded log cells (length facts.classes) frame.registers known v → o.is_known facts known ≡ true → c.casts_known p facts to known ≡ true → a.may_cast_value p from to v ≡ true
+    known_casts Nothing v means is e = absurd cc
+    known_casts (Number bits below) v means is e = absurd cc
+    known_casts (Cell d l s) v means is e = reference_casts l v means.refers e
+    known_casts Null v means is e = ap (a.may_cast_value p from to) means ∙ either_true (k.may_refer p.of_module to) _ (sym (refers_same p.of_module to) ∙ e)
+    known_casts (Address base words) v means is e =
+        let b = base_is heap p certs reaches f table guarded log cells facts frame h base (known_at facts.values base) refl is in
+        let member = known_within heap p table guarded log cells facts frame.registers frame.slots h base b.0 b.1 b.2 b.3 in
+        address_casts b.1 words (register_at frame.registers base) v member.refers means (subst (λ x. c.casts_base p to words x ≡ true) b.3 e)
+    known_casts (GlobalAddress symbol) v means is e = global_casts symbol v means e
+
+    -- a value under another name
+    module _ (u v : ℕ) (other : u ≢ v) where
+      is_off : known_at (values_without v facts.values) u ≡ off_base v (known_at facts.values u)
+      is_off = at_other (map (off_base v) facts.values) v u Nothing Nothing (λ e. other (sym e)) ∙ at_map (off_base v) facts.values u Nothing refl
+
+      beside : Beside cells (forget v facts) frame.slots (off_base v (known_at facts.values u))
+      beside = record {
+        fresh_here = λ d l s e fr w b m is ne. h.alone u w d b l m s (off_cell v (known_at facts.values u) d l s e) (forget_cell v facts.values w b m false is) fr ne;
+        fresh_there = λ b m e w d l s is fr ne. h.alone w u d b l m s (forget_cell v facts.values w d l s is) (off_cell v (known_at facts.values u) b m false e) fr ne;
+        fresh_slots = λ d l s e fr t out. h.alone_in_slots u t d l s (off_cell v (known_at facts.values u) d l s e) fr
+            (without_same (known_at facts.values v) (values_without v facts.values) facts.classes facts.slots t u d l s (is_off ∙ e) out);
+      }
+
+      copy_keeps : Holds heap p table guarded log cells (define v (off_base v (known_at facts.values u)) facts) (slice_set frame.registers v (register_at frame.registers u)) frame.slots
+      copy_keeps = define_keeps heap p table guarded log cells facts frame.registers frame.slots h v (off_base v (known_at facts.values u)) (register_at frame.registers u)
+          (means_without heap p table guarded log cells (length facts.classes) frame.registers v (register_at frame.registers u) (known_at facts.values u) (register_at frame.registers u) (h.values u)) beside
+
+    pub value_goes : (result : Option ℕ) (u : ℕ) → slot_of table u ≡ None → o.is_available table facts (operand.Local u) ≡ true → has_type p.of_module f from u ≡ true → c.may_cast p table facts from to (operand.Local u) ≡ true
+        → Goes heap p table frame.slots reaches guarded log (after_op p certs table result (Bitcast from (operand.Local u) to) facts) (a.cast_action p f table frame.registers from (operand.Local u) to (slot_of table u)) (λ given. mc.after_cast result (register_at frame.registers u) (slot_of table u) frame)
+    value_goes result u none k1 k2 k19 =
+        subst (λ x. Goes heap p table frame.slots reaches guarded log (after_op p certs table result (Bitcast from (operand.Local u) to) facts) (a.cast_action p f table frame.registers from (operand.Local u) to x) (λ given. mc.after_cast result (register_at frame.registers u) x frame)) (sym none)
+        (goes_local heap p table frame.slots reaches guarded log _ _ _ (rw (k2, none, set, casts (rw none at k19)) refl) (kept result)) where
+          known : o.is_known facts (known_at facts.values u) ≡ true
+          known = available heap p certs reaches f table guarded log cells facts frame h u none k1
+
+          set : k.is_set (register_at frame.registers u) ≡ true
+          set = known_set heap p certs reaches f table guarded log cells facts frame h (known_at facts.values u) (register_at frame.registers u) (h.values u) known
+
+          casts : ((from == to) || c.casts_known p facts to (known_at facts.values u)) ≡ true → ((from == to) || a.may_cast_value p from to (register_at frame.registers u)) ≡ true
+          casts e = chosen (from == to) (c.casts_known p facts to (known_at facts.values u)) _ e (known_casts (known_at facts.values u) (register_at frame.registers u) (h.values u) known)
+
+          -- what is named as itself stays
+          named_so : (v : ℕ) (b : Bool) → (u == v) ≡ b → Holds heap p table guarded log cells (if b then facts else define v (off_base v (known_at facts.values u)) facts) (slice_set frame.registers v (register_at frame.registers u)) frame.slots
+          named_so v true e = subst (λ w. Holds heap p table guarded log cells facts (slice_set frame.registers w (register_at frame.registers u)) frame.slots) (equal u v e)
+              (subst (λ xs. Holds heap p table guarded log cells facts xs frame.slots) (sym (same_written frame.registers u value.Unset)) h)
+          named_so v false e = copy_keeps u v (unequal u v e)
+
+          kept : (result : Option ℕ) → (more : Cells) × Holds heap p table guarded log more (after_op p certs table result (Bitcast from (operand.Local u) to) facts) (mc.set_register result (register_at frame.registers u) frame).registers (mc.set_register result (register_at frame.registers u) frame).slots
+          kept None = (cells, h)
+          kept (Some v) = rw none (cells, named_so v (u == v) refl)
+
+    -- ---- globals
+
+    -- a global as an operand
+    pub global_goes : (result : Option ℕ) (x : Operand) (symbol : ℕ) (next : Option ℕ → FactSet) → next None ≡ facts → ((v : ℕ) → next (Some v) ≡ define v (GlobalAddress symbol) facts)
+        → k.is_typed p.of_module f table from x ≡ true → IsGlobal p.of_module symbol (value_of p.of_module frame.registers from x) → ((from == to) || c.casts_global p.of_module to symbol) ≡ true
+        → Goes heap p table frame.slots reaches guarded log (next result) (a.cast_action p f table frame.registers from x to None) (λ given. mc.set_register result (value_of p.of_module frame.registers from x) frame)
+    global_goes result x symbol next none some typed global k19 = goes_local heap p table frame.slots reaches guarded log _ _ _ (rw (typed, ap k.is_set global.2, casts) refl) (kept result) where
+      new : Value
+      new = value_of p.of_module frame.registers from x
+
+      casts : ((from == to) || a.may_cast_value p from to (value_of p.of_module frame.registers from x)) ≡ true
+      casts = chosen (from == to) (c.casts_global p.of_module to symbol) _ k19 (global_casts symbol (value_of p.of_module frame.registers from x) global)
+
+      kept : (result : Option ℕ) → (more : Cells) × Holds heap p table guarded log more (next result) (mc.set_register result new frame).registers (mc.set_register result new frame).slots
+      kept None = (cells, subst (λ y. Holds heap p table guarded log cells y frame.registers frame.slots) (sym none) h)
+      kept (Some v) = (
+        cells,
+        subst (λ y. Holds heap p table guarded log cells y (slice_set frame.registers v new) frame.slots) (sym (some v))
+            (define_plain heap p table guarded log cells facts frame.registers frame.slots h v (GlobalAddress symbol) new (λ d l s e. cc) global),
+      )

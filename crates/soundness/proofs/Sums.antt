@@ -1,0 +1,308 @@
+-- Arithmetic, changes of width, and comparisons.
+use Rattle.std.proofs.Common.{◌≡◌, ℕ, ◌<◌, ◌^◌, List, length, refl, sym, ap, ◌∙◌, subst, arith, true, false, Bool, Option, Some, None, slice_set}
+use Rattle.std.proofs.lemmas.List.{length-set}
+use Rattle.std.specs.Prelude.{◌==◌, ◌&&◌, if◌then◌else◌}
+use Rattle.ir_ast.specs.declared.function.Function.{Function}
+use Rattle.ir_ast.specs.declared.op.Arithmetic.{Arithmetic as Operation}
+use Rattle.ir_ast.specs.declared.op.Arithmetic.TheVariants as operation
+use Rattle.ir_ast.specs.declared.op.Comparison.{Comparison}
+use Rattle.ir_ast.specs.declared.op.Comparison.TheVariants as compare
+use Rattle.ir_ast.specs.declared.op.Op.TheVariants.{Arithmetic, Resize, Compare}
+use Rattle.ir_ast.specs.declared.op.Resize.{Resize as Width}
+use Rattle.ir_ast.specs.declared.op.Resize.TheVariants as width
+use Rattle.ir_ast.specs.declared.operand.Constant.{Constant}
+use Rattle.ir_ast.specs.declared.operand.Constant.TheVariants as constant
+use Rattle.ir_ast.specs.declared.operand.Operand.{Operand}
+use Rattle.ir_ast.specs.declared.operand.Operand.TheVariants as operand
+use Rattle.pools.specs.Heap.{Setup}
+use Rattle.layout.specs.Layouts.{LaidOut}
+use Rattle.types.specs.ValueTypes.{has_type}
+use Rattle.shadow_stack.specs.Slots.{SlotTable}
+use Rattle.certs.specs.declared.section.Section.{Section}
+use Rattle.facts.specs.declared.known.Known.{Known}
+use Rattle.facts.specs.declared.known.Known.TheVariants.{Nothing, Number, Cell, Null, Address, GlobalAddress}
+use Rattle.facts.specs.declared.known.Test.{Test}
+use Rattle.facts.specs.Facts.{FactSet, known_at, define, define_test, off_test}
+use Rattle.block_rules.specs.declared.type_kind.TypeKind.{TypeKind}
+use Rattle.block_rules.specs.declared.type_kind.TypeKind.TheVariants.{NoValue, Bits, Reference, AnyReference, Address as AddressKind, Other}
+use Rattle.block_rules.specs.Integers as r
+use Rattle.block_rules.specs.Operands as o
+use Rattle.block_rules.specs.Rules.{after_op}
+use Rattle.block_rules.specs.TypeKinds.{kind_of, is_integer, may_be_reference}
+use Rattle.machine.specs.declared.value.Value.{Value}
+use Rattle.machine.specs.declared.value.Value.TheVariants as value
+use Rattle.machine.specs.declared.frame.Frame.{Frame}
+use Rattle.machine.specs.Asks as a
+use Rattle.machine.specs.Integers as i
+use Rattle.machine.specs.Kinds as k
+use Rattle.machine.specs.Kinds.{register_at, wrapped, bits_at, number_in, value_of, constant_value}
+use Rattle.machine.specs.Machine as mc
+use Rattle.machine.specs.Machine.{compared}
+use Rattle.machine.specs.Log.{Log}
+use Rattle.soundness.specs.Meaning.{Cells, Guarded, IsReferenceTo, IsBelow, IsInteger, Means, WasTested, Holds}
+use Rattle.soundness.proofs.Lists.{both, either_true, other_true, at_set, got_set}
+use Rattle.soundness.proofs.KindLemmas.{integer_same, refers_same, bits_are}
+use Rattle.soundness.proofs.Keep.{unequal, got_other}
+use Rattle.soundness.proofs.Change.{define_plain}
+use Rattle.soundness.proofs.Edges.{wrapped_le}
+use Rattle.soundness.proofs.Numbers.{computed_fits, and_below, resized_fits, resized_stays, truth_fits}
+use Rattle.soundness.specs.Goes.{Goes}
+use Rattle.soundness.proofs.Steps.{goes_local, no_value, no_number, below_itself, available, usable, integer_is, number_usable, kind_bits}
+
+-- what a comparison gives is an i1
+pub compared_fits : (kind : Comparison) (bits : ℕ) (first second : Value) → IsInteger 1 None (compared kind bits first second)
+compared_fits kind bits (value.Number a) (value.Number b) = truth_fits (i.compares kind bits a b)
+compared_fits kind bits (value.Number a) value.Unset = truth_fits _
+compared_fits kind bits (value.Number a) value.Null = truth_fits _
+compared_fits kind bits (value.Number a) (value.Cell l at) = truth_fits _
+compared_fits kind bits (value.Number a) (value.Address at) = truth_fits _
+compared_fits kind bits value.Unset second = truth_fits _
+compared_fits kind bits value.Null second = truth_fits _
+compared_fits kind bits (value.Cell l at) second = truth_fits _
+compared_fits kind bits (value.Address at) second = truth_fits _
+
+-- the rules and the machine ask alike for what is compared for equality
+same_equality : (kind : Comparison) → i.is_equality kind ≡ r.is_equality kind
+same_equality compare.Equal = refl
+same_equality compare.NotEqual = refl
+same_equality compare.UnsignedGreater = refl
+same_equality compare.UnsignedGreaterOrEqual = refl
+same_equality compare.UnsignedLess = refl
+same_equality compare.UnsignedLessOrEqual = refl
+same_equality compare.SignedGreater = refl
+same_equality compare.SignedGreaterOrEqual = refl
+same_equality compare.SignedLess = refl
+same_equality compare.SignedLessOrEqual = refl
+
+-- and for how the width changes
+same_width : (kind : Width) (from to : ℕ) → i.may_resize kind from to ≡ r.changes_width kind from to
+same_width width.ZeroExtend from to = refl
+same_width width.SignExtend from to = refl
+same_width width.Truncate from to = refl
+
+-- two kinds between which the width changes are integers
+both_bits : (kind : Width) (x y : TypeKind) → r.may_resize kind x y ≡ true → (from : ℕ) × (to : ℕ) × (x ≡ Bits from) × (y ≡ Bits to) × (r.changes_width kind from to ≡ true)
+both_bits kind (Bits from) (Bits to) e = (from, to, refl, refl, e)
+both_bits kind (Bits from) NoValue e = absurd cc
+both_bits kind (Bits from) (Reference l) e = absurd cc
+both_bits kind (Bits from) AnyReference e = absurd cc
+both_bits kind (Bits from) AddressKind e = absurd cc
+both_bits kind (Bits from) Other e = absurd cc
+both_bits kind NoValue y e = absurd cc
+both_bits kind (Reference l) y e = absurd cc
+both_bits kind AnyReference y e = absurd cc
+both_bits kind AddressKind y e = absurd cc
+both_bits kind Other y e = absurd cc
+
+module _ (heap : Setup) (p : LaidOut) (certs : List Section) (reaches : Bool) (f : Function) (table : SlotTable) (guarded : Guarded) (log : Log) (cells : Cells) (facts : FactSet) (frame : Frame) (h : Holds heap p table guarded log cells facts frame.registers frame.slots) where
+  -- a number that is defined
+  pub defines : (v bits : ℕ) (below : Option ℕ) (new : Value) → IsInteger bits below new → Holds heap p table guarded log cells (define v (Number bits below) facts) (slice_set frame.registers v new) frame.slots
+  defines v bits below new is = define_plain heap p table guarded log cells facts frame.registers frame.slots h v (Number bits below) new (λ c l s e. cc) is
+
+  -- ---- arithmetic
+
+  -- a constant is no more than it is written
+  constant_under : (written : ℕ) (x : Operand) → IsBelow (number_in (value_of p.of_module frame.registers written x)) (r.constant_below (o.number_of x))
+  constant_under written (operand.Constant (constant.Number n)) = let le = wrapped_le (bits_at p.of_module written) n in below_itself n (wrapped (bits_at p.of_module written) n) (omega (arith, le))
+  constant_under written (operand.Constant (constant.Truth b)) = tt
+  constant_under written (operand.Constant constant.Null) = tt
+  constant_under written (operand.Local v) = tt
+  constant_under written (operand.Global g) = tt
+  constant_under written (operand.CastGlobal a b c) = tt
+
+  -- what is computed is below what the rules say
+  computed_below : (kind : Operation) (written bits : ℕ) (first second : Operand)
+      → IsBelow (i.computed kind bits (number_in (value_of p.of_module frame.registers written first)) (number_in (value_of p.of_module frame.registers written second))) (r.arithmetic_below kind first second)
+  computed_below operation.Add written bits first second = tt
+  computed_below operation.Sub written bits first second = tt
+  computed_below operation.Mul written bits first second = tt
+  computed_below operation.And written bits first second = and_below bits _ _ _ _ (constant_under written first) (constant_under written second)
+  computed_below operation.Or written bits first second = tt
+  computed_below operation.Xor written bits first second = tt
+
+  -- an arithmetic instruction
+  pub arithmetic_goes : (result : Option ℕ) (kind : Operation) (written : ℕ) (first second : Operand) → o.is_available table facts first ≡ true → o.is_available table facts second ≡ true → o.is_value p.of_module f facts written first ≡ true
+      → o.is_value p.of_module f facts written second ≡ true → is_integer (kind_of p.of_module written) ≡ true → o.slot_named table first ≡ None → o.slot_named table second ≡ None
+      → Goes heap p table frame.slots reaches guarded log (after_op p certs table result (Arithmetic kind written first second) facts) (a.op_action p f table frame.block frame.registers (Arithmetic kind written first second))
+      (λ given. mc.after_op p f table result (Arithmetic kind written first second) given frame)
+  arithmetic_goes result kind written first second k1 k1s k2 k2s integer none nones =
+      goes_local heap p table frame.slots reaches guarded log _ _ _
+      (rw (number_usable heap p certs reaches f table guarded log cells facts frame h written b.0 first b.1 k1 k2 none, number_usable heap p certs reaches f table guarded log cells facts frame h written b.0 second b.1 k1s k2s nones) refl)
+      (kept result) where
+        b : (bits : ℕ) × (kind_of p.of_module written ≡ Bits bits)
+        b = kind_bits heap p certs reaches f table guarded log cells facts frame h (kind_of p.of_module written) integer
+
+        new : Value
+        new = value.Number (i.computed kind (bits_at p.of_module written) (number_in (value_of p.of_module frame.registers written first)) (number_in (value_of p.of_module frame.registers written second)))
+
+        kept : (result : Option ℕ) → (more : Cells) × Holds heap p table guarded log more (after_op p certs table result (Arithmetic kind written first second) facts) (mc.set_register result new frame).registers (mc.set_register result new frame).slots
+        kept None = (cells, h)
+        kept (Some v) = rw b.1 (
+          cells,
+          defines v b.0 (r.arithmetic_below kind first second) new (record {
+            number = i.computed kind (bits_at p.of_module written) (number_in (value_of p.of_module frame.registers written first)) (number_in (value_of p.of_module frame.registers written second));
+            is = refl;
+            fits = subst (λ n. i.computed kind (bits_at p.of_module written) (number_in (value_of p.of_module frame.registers written first)) (number_in (value_of p.of_module frame.registers written second)) < 2 ^ n) (bits_are p.of_module written b.0 b.1)
+                (computed_fits kind (bits_at p.of_module written) _ _);
+            under = computed_below kind written (bits_at p.of_module written) first second;
+          }),
+        )
+
+  -- ---- changes of width
+
+  -- a change of width
+  pub resize_goes : (result : Option ℕ) (kind : Width) (from : ℕ) (x : Operand) (to : ℕ) → o.is_available table facts x ≡ true → o.is_value p.of_module f facts from x ≡ true → r.may_resize kind (kind_of p.of_module from) (kind_of p.of_module to) ≡ true → o.slot_named table x ≡ None
+      → Goes heap p table frame.slots reaches guarded log (after_op p certs table result (Resize kind from x to) facts) (a.op_action p f table frame.block frame.registers (Resize kind from x to)) (λ given. mc.after_op p f table result (Resize kind from x to) given frame)
+  resize_goes result kind from x to k1 k2 changes none =
+      goes_local heap p table frame.slots reaches guarded log _ _ _ (rw (number_usable heap p certs reaches f table guarded log cells facts frame h from b.0 x b.2 k1 k2 none, sym (integer_same p.of_module to) ∙ ap is_integer b.3, same) refl) (kept result) where
+        b : (n : ℕ) × (m : ℕ) × (kind_of p.of_module from ≡ Bits n) × (kind_of p.of_module to ≡ Bits m) × (r.changes_width kind n m ≡ true)
+        b = both_bits kind (kind_of p.of_module from) (kind_of p.of_module to) changes
+
+        same : i.may_resize kind (bits_at p.of_module from) (bits_at p.of_module to) ≡ true
+        same = rw (bits_are p.of_module from b.0 b.2, bits_are p.of_module to b.1 b.3) (same_width kind b.0 b.1 ∙ b.4)
+
+        n : IsInteger b.0 (r.below_of facts x) (value_of p.of_module frame.registers from x)
+        n = integer_is heap p certs reaches f table guarded log cells facts frame h from b.0 x b.2 k1 k2 none
+
+        new : Value
+        new = value.Number (i.resized kind (bits_at p.of_module from) (bits_at p.of_module to) (number_in (value_of p.of_module frame.registers from x)))
+
+        kept : (result : Option ℕ) → (more : Cells) × Holds heap p table guarded log more (after_op p certs table result (Resize kind from x to) facts) (mc.set_register result new frame).registers (mc.set_register result new frame).slots
+        kept None = (cells, h)
+        kept (Some v) = rw b.3 (
+          cells,
+          defines v b.1 (r.resized_below kind (r.below_of facts x)) new (record {
+            number = i.resized kind (bits_at p.of_module from) (bits_at p.of_module to) (number_in (value_of p.of_module frame.registers from x));
+            is = refl;
+            fits = subst (λ z. i.resized kind (bits_at p.of_module from) (bits_at p.of_module to) (number_in (value_of p.of_module frame.registers from x)) < 2 ^ z) (bits_are p.of_module to b.1 b.3)
+                (resized_fits kind (bits_at p.of_module from) (bits_at p.of_module to) _);
+            under = resized_stays kind (bits_at p.of_module from) (bits_at p.of_module to) _ (r.below_of facts x) (subst (λ y. IsBelow y (r.below_of facts x)) (sym (ap number_in n.is)) n.under);
+          }),
+        )
+
+  -- ---- comparisons
+
+  -- what is known as a reference is one
+  reference_known : (kind : TypeKind) (known : Known) (v : Value) → Means heap p guarded log cells (length facts.classes) frame.registers known v → o.is_known facts known ≡ true → o.known_fits kind known ≡ true → may_be_reference kind ≡ true → k.is_reference v ≡ true
+  reference_known kind Nothing v means is fits e = absurd cc
+  reference_known NoValue (Number bits below) v means is fits e = absurd cc
+  reference_known (Bits n) (Number bits below) v means is fits e = absurd cc
+  reference_known (Reference l) (Number bits below) v means is fits e = absurd cc
+  reference_known AnyReference (Number bits below) v means is fits e = absurd cc
+  reference_known AddressKind (Number bits below) v means is fits e = absurd cc
+  reference_known Other (Number bits below) v means is fits e = absurd cc
+  reference_known kind (Cell c l s) v means is fits e = refers l v means.refers where
+    refers : (layout : ℕ) (v : Value) → IsReferenceTo heap layout v → k.is_reference v ≡ true
+    refers layout value.Unset q = absurd q
+    refers layout (value.Number n) q = absurd q
+    refers layout value.Null q = refl
+    refers layout (value.Cell own at) q = refl
+    refers layout (value.Address at) q = absurd q
+  reference_known kind Null v means is fits e = ap k.is_reference means
+  reference_known kind (Address base words) v means is fits e = absurd cc
+  reference_known kind (GlobalAddress g) v means is fits e = absurd cc
+
+  -- an operand that the rules let stand at a reference type is a reference
+  pub reference_usable : (written : ℕ) (x : Operand) → may_be_reference (kind_of p.of_module written) ≡ true → o.is_available table facts x ≡ true → o.is_value p.of_module f facts written x ≡ true → o.slot_named table x ≡ None
+      → (k.is_typed p.of_module f table written x && k.is_reference (value_of p.of_module frame.registers written x)) ≡ true
+  reference_usable written x refers k1 k2 none = rw ((both (k.is_typed p.of_module f table written x) (k.is_plain (value_of p.of_module frame.registers written x)) (usable heap p certs reaches f table guarded log cells facts frame h written x k1 k2 none)).0, by x k1 k2 none) refl where
+    by : (x : Operand) → o.is_available table facts x ≡ true → o.is_value p.of_module f facts written x ≡ true → o.slot_named table x ≡ None → k.is_reference (value_of p.of_module frame.registers written x) ≡ true
+    by (operand.Constant (constant.Number n)) k1 k2 none = absurd (no_number n (kind_of p.of_module written) (both (o.fits_bits n (kind_of p.of_module written)) true k2).0 refers)
+    by (operand.Constant (constant.Truth b)) k1 k2 none = absurd cc
+    by (operand.Constant constant.Null) k1 k2 none = refl
+    by (operand.Local v) k1 k2 none =
+        let b = both (has_type p.of_module f written v) (o.known_fits (kind_of p.of_module written) (known_at facts.values v)) k2 in
+        reference_known (kind_of p.of_module written) (known_at facts.values v) (register_at frame.registers v) (h.values v) (available heap p certs reaches f table guarded log cells facts frame h v none k1) b.1 refers
+    by (operand.Global g) k1 k2 none = absurd (no_value _ k2)
+    by (operand.CastGlobal a b c) k1 k2 none = absurd (no_value _ k2)
+
+  -- two operands of an integer type, or of a reference type
+  pub numbers_usable : (written bits : ℕ) (first second : Operand) → kind_of p.of_module written ≡ Bits bits → o.is_available table facts first ≡ true → o.is_available table facts second ≡ true → o.is_value p.of_module f facts written first ≡ true
+      → o.is_value p.of_module f facts written second ≡ true → o.slot_named table first ≡ None → o.slot_named table second ≡ None → a.are_numbers p.of_module f table frame.registers written first second ≡ true
+  numbers_usable written bits first second is k1 k1s k2 k2s none nones =
+      rw (number_usable heap p certs reaches f table guarded log cells facts frame h written bits first is k1 k2 none, number_usable heap p certs reaches f table guarded log cells facts frame h written bits second is k1s k2s nones) refl
+
+  -- two operands of a reference type are references
+  pub references_usable : (written : ℕ) (first second : Operand) → may_be_reference (kind_of p.of_module written) ≡ true → o.is_available table facts first ≡ true → o.is_available table facts second ≡ true → o.is_value p.of_module f facts written first ≡ true
+      → o.is_value p.of_module f facts written second ≡ true → o.slot_named table first ≡ None → o.slot_named table second ≡ None → a.are_references p.of_module f table frame.registers written first second ≡ true
+  references_usable written first second is k1 k1s k2 k2s none nones =
+      rw (sym (refers_same p.of_module written) ∙ is, reference_usable written first is k1 k2 none, reference_usable written second is k1s k2s nones) refl
+
+  module _ (v : ℕ) (kind : Comparison) (written : ℕ) where
+    tested : (u : ℕ) (c : Constant) → Holds heap p table guarded log cells (define_test v (record { tested = u; kind = kind; constant = c }) facts)
+        (slice_set frame.registers v (compared kind (bits_at p.of_module written) (register_at frame.registers u) (constant_value p.of_module written c))) frame.slots
+    tested u c = record {
+      registers_size = rest.registers_size;
+      tests_size = rest.tests_size ∙ sym (length-set (define v (Number 1 None) facts).tests v (off_test v (Some test)));
+      slots_size = rest.slots_size;
+      held_size = rest.held_size;
+      values = rest.values;
+      classes = rest.classes;
+      tests = λ j. at_set (λ t. WasTested p.of_module after t (register_at after j)) (define v (Number 1 None) facts).tests v j (off_test v (Some test)) None
+          (λ e lt. subst (λ y. WasTested p.of_module after (off_test v (Some test)) (register_at after y)) e (here lt)) (λ ne. rest.tests j) tt;
+      slot_types = rest.slot_types;
+      slot_facts = rest.slot_facts;
+      alone = rest.alone;
+      alone_in_slots = rest.alone_in_slots;
+    } where
+      test : Test
+      test = record { tested = u; kind = kind; constant = c }
+
+      new : Value
+      new = compared kind (bits_at p.of_module written) (register_at frame.registers u) (constant_value p.of_module written c)
+
+      after : List Value
+      after = slice_set frame.registers v (compared kind (bits_at p.of_module written) (register_at frame.registers u) (constant_value p.of_module written c))
+
+      rest : Holds heap p table guarded log cells (define v (Number 1 None) facts) (slice_set frame.registers v (compared kind (bits_at p.of_module written) (register_at frame.registers u) (constant_value p.of_module written c))) frame.slots
+      rest = defines v 1 None _ (compared_fits kind (bits_at p.of_module written) (register_at frame.registers u) (constant_value p.of_module written c))
+
+      here : v < length (define v (Number 1 None) facts).tests → WasTested p.of_module after (off_test v (Some test)) (register_at after v)
+      here lt = pick (u == v) refl where
+        size : v < length frame.registers
+        size = let a = rest.tests_size in let b = length-set frame.registers v (compared kind (bits_at p.of_module written) (register_at frame.registers u) (constant_value p.of_module written c)) in omega (arith, lt, a, b)
+
+        pick : (b : Bool) → (u == v) ≡ b → WasTested p.of_module after (if b then None else Some test) (register_at after v)
+        pick true e = tt
+        pick false e = (
+          written,
+          got_set frame.registers v _ value.Unset size ∙ ap (λ y. compared kind (bits_at p.of_module written) y (constant_value p.of_module written c)) (sym (got_other frame.registers v u _ value.Unset (λ z. unequal u v e (sym z)))),
+        )
+
+    plain_keeps : (first second : Operand) → Holds heap p table guarded log cells (define v (Number 1 None) facts)
+        (slice_set frame.registers v (compared kind (bits_at p.of_module written) (value_of p.of_module frame.registers written first) (value_of p.of_module frame.registers written second))) frame.slots
+    plain_keeps first second = defines v 1 None _ (compared_fits kind (bits_at p.of_module written) (value_of p.of_module frame.registers written first) (value_of p.of_module frame.registers written second))
+
+    compared_keeps : (first second : Operand) → Holds heap p table guarded log cells (r.after_compare v kind first second facts)
+        (slice_set frame.registers v (compared kind (bits_at p.of_module written) (value_of p.of_module frame.registers written first) (value_of p.of_module frame.registers written second))) frame.slots
+    compared_keeps (operand.Local u) (operand.Constant c) = tested u c
+    compared_keeps (operand.Local u) (operand.Local w) = plain_keeps (operand.Local u) (operand.Local w)
+    compared_keeps (operand.Local u) (operand.Global g) = plain_keeps (operand.Local u) (operand.Global g)
+    compared_keeps (operand.Local u) (operand.CastGlobal x y z) = plain_keeps (operand.Local u) (operand.CastGlobal x y z)
+    compared_keeps (operand.Constant d) second = plain_keeps (operand.Constant d) second
+    compared_keeps (operand.Global d) second = plain_keeps (operand.Global d) second
+    compared_keeps (operand.CastGlobal x y z) second = plain_keeps (operand.CastGlobal x y z) second
+
+  -- a comparison
+  pub compare_goes : (result : Option ℕ) (kind : Comparison) (written : ℕ) (first second : Operand) → o.is_available table facts first ≡ true → o.is_available table facts second ≡ true → o.is_value p.of_module f facts written first ≡ true
+      → o.is_value p.of_module f facts written second ≡ true → r.may_compare kind (kind_of p.of_module written) ≡ true → o.slot_named table first ≡ None → o.slot_named table second ≡ None
+      → Goes heap p table frame.slots reaches guarded log (after_op p certs table result (Compare kind written first second) facts) (a.op_action p f table frame.block frame.registers (Compare kind written first second))
+      (λ given. mc.after_op p f table result (Compare kind written first second) given frame)
+  compare_goes result kind written first second k1 k1s k2 k2s may none nones = goes_local heap p table frame.slots reaches guarded log _ _ _ (rw (compares (kind_of p.of_module written) refl may) refl) (kept result) where
+    of_references : (x : TypeKind) → kind_of p.of_module written ≡ x → may_be_reference x ≡ true → r.is_equality kind ≡ true → a.may_compare p.of_module f table frame.registers kind written first second ≡ true
+    of_references x is refers e = other_true (a.are_numbers p.of_module f table frame.registers written first second) (i.is_equality kind && a.are_references p.of_module f table frame.registers written first second)
+        (rw (same_equality kind ∙ e, references_usable written first second (ap may_be_reference is ∙ refers) k1 k1s k2 k2s none nones) refl)
+
+    compares : (x : TypeKind) → kind_of p.of_module written ≡ x → r.may_compare kind x ≡ true → a.may_compare p.of_module f table frame.registers kind written first second ≡ true
+    compares NoValue is e = absurd cc
+    compares (Bits bits) is e = either_true (a.are_numbers p.of_module f table frame.registers written first second) (i.is_equality kind && a.are_references p.of_module f table frame.registers written first second)
+        (numbers_usable written bits first second is k1 k1s k2 k2s none nones)
+    compares (Reference l) is e = of_references (Reference l) is refl e
+    compares AnyReference is e = of_references AnyReference is refl e
+    compares AddressKind is e = absurd cc
+    compares Other is e = absurd cc
+
+    kept : (result : Option ℕ) → (more : Cells) × Holds heap p table guarded log more (after_op p certs table result (Compare kind written first second) facts)
+        (mc.set_register result (compared kind (bits_at p.of_module written) (value_of p.of_module frame.registers written first) (value_of p.of_module frame.registers written second)) frame).registers frame.slots
+    kept None = (cells, h)
+    kept (Some v) = (cells, compared_keeps v kind written first second)

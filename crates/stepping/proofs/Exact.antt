@@ -1,0 +1,113 @@
+-- A walk that looked at all that it met tells the first thing that is gone and can be reached behind a run.
+use Rattle.std.proofs.Common.{◌≡◌, ◌≢◌, ◌<◌, inl, inr, ℕ, zero, suc, Bool, true, false, Option, Some, None, List, [], ◌∷◌, length, slice_index, slice_index_or, refl, sym, ap, subst, ◌∙◌, IsTrue, IfSome, arith}
+use Rattle.pools.specs.declared.word_kind.WordKind.{WordKind}
+use Rattle.pools.specs.declared.word_kind.WordKind.TheVariants as kind
+use Rattle.pools.specs.Heap.{Setup, cells, kind_of}
+use Rattle.pools.specs.Layouts.{is_reference_kind}
+use Rattle.colours.specs.declared.place.Place.TheVariants.{Colour, Word}
+use Rattle.colours.specs.Runs.{word_after}
+use Rattle.runs.specs.Machine.{Reference, Machine}
+use Rattle.runs.specs.Moves.{IsIn}
+use Rattle.runs.specs.ModuleRuns.{Happening, heap_of, birth_in}
+use Rattle.runs.specs.Broken as broken
+use Rattle.runs.specs.Broken.{Reached, IsRoot, IsReachable, IsBlue, IsReborn, IsGone, Shows, ReachBlue, ReachBirth}
+use Rattle.moves.specs.declared.shared.Shared.{Shared}
+use Rattle.moves.specs.Rows.{word_at}
+use Rattle.moves.specs.Shared.{HasShape, StandBehind}
+use Rattle.stepping.specs.declared.walk.Walk.{Walk}
+use Rattle.stepping.specs.Reach.{AreRoots, IsFirstGone, gone_of}
+use Rattle.stepping.specs.Walks.{Found, globals, root, further, IsAtMost, IsSeen, IsFound, IsFoundReborn, IsWhole}
+
+-- ---- all that can be reached was met
+
+-- a word that holds references has a kind
+held-kind : (k : Option WordKind) → IsTrue (is_reference_kind k) → (layout : ℕ) × (k ≡ Some (kind.Reference layout))
+held-kind None is = absurd cc
+held-kind (Some (kind.Integer bits)) is = absurd cc
+held-kind (Some (kind.Reference layout)) is = (layout, refl)
+
+module _ (s : Setup) (h : Shared) (roots : List Reference) (shape : HasShape s h) (are_cells : (r : Reference) → IsIn r roots → r.cell < cells s) where
+  -- what can be reached is a cell
+  found-cell : (r : Reference) → Found s h roots r → r.cell < cells s
+  found-cell _ globals = omega arith
+  found-cell _ (root r is_in n) = are_cells r is_in
+  found-cell _ (further r word found is n) =
+      let k = held-kind (kind_of s r.cell word) is in
+      let fits = shape.kinds r.cell word (kind.Reference k.0) (found-cell r found) k.1 in
+      elim fits [ inl null_is ↦ absurd (n null_is) | inr of_layout ↦ of_layout.1 ]
+
+  -- a cell of the row that is met was listed
+  listed-met : (met : List Bool) (cell : ℕ) → cell < length met → slice_index_or met cell true ≡ true → slice_index_or met cell false ≡ true
+  listed-met [] cell lt is = absurd (omega (arith, lt))
+  listed-met (first ∷ met) zero lt is = is
+  listed-met (first ∷ met) (suc cell) lt is = listed-met met cell (omega (arith, lt)) is
+
+  -- all that can be reached was met
+  pub seen-all : (w : Walk) → length w.met ≡ cells s → IsWhole s h roots w → (r : Reference) → Found s h roots r → IsSeen h w r
+  seen-all w wide whole _ globals = whole.globals_seen
+  seen-all w wide whole _ (root r is_in n) = whole.roots_seen r is_in n
+  seen-all w wide whole _ (further r word found is n) =
+      let seen = seen-all w wide whole r found in
+      let lt : r.cell < length w.met = let below = found-cell r found in omega (arith, below, wide) in
+      let at = whole.listed r.cell (listed-met w.met r.cell lt seen.met) in
+      let words = whole.words_seen at.0 at.1 in
+      subst (λ c. IsTrue (is_reference_kind (kind_of s c word)) → (word_at h.words c word).cell ≢ 0 → IsSeen h w (word_at h.words c word)) at.2 (words word) is n
+
+-- ---- as behind the run
+
+module _ (s : Setup) (m : Machine) (starts : ℕ → m.State) (run : List Happening) (h : Shared) (roots : List Reference)
+    (stand : StandBehind s run h) (are : AreRoots s m starts run roots) where
+  -- what a word holds
+  word-is : (cell word : ℕ) → (record { cell = word_after s (heap_of run) (Word cell word); birth = birth_in run cell word }) ≡ word_at h.words cell word
+  word-is cell word =
+      sym (ap (λ c. record { cell = c; birth = birth_in run cell word }) (stand.behind.words (Word cell word)))
+      ∙ ap (λ b. record { cell = (word_at h.words cell word).cell; birth = b }) (sym (stand.behind.word_births cell word))
+
+  -- what is found can be reached
+  reachable : (r : Reference) → Found s h roots r → IsReachable s m starts run r
+  reachable _ globals = broken.globals
+  reachable _ (root r is_in n) = broken.from r (are.are_roots r is_in n) n
+  reachable _ (further r word found is n) =
+      subst (λ (q : Reference). IsReachable s m starts run q) (word-is r.cell word)
+      (broken.further r word (reachable r found) is (λ z. n (stand.behind.words (Word r.cell word) ∙ z)))
+
+  -- and what can be reached is found
+  found-all : (r : Reference) → IsReachable s m starts run r → Found s h roots r
+  found-all _ broken.globals = globals
+  found-all _ (broken.from r is_root n) = root r (are.all r is_root n) n
+  found-all _ (broken.further r word reached is n) =
+      subst (λ (q : Reference). Found s h roots q) (sym (word-is r.cell word))
+      (further r word (found-all r reached) is (λ z. n (sym (stand.behind.words (Word r.cell word)) ∙ z)))
+
+  -- the first that is gone, by the least of what was met
+  abbrev IsFreeCell : ℕ → Type 0
+  IsFreeCell cell = (slice_index h.colours cell ≡ 0) × IsFound s h roots cell
+
+  first-of : (blue reborn : Option ℕ) → IfSome blue IsFreeCell → IfSome reborn (IsFoundReborn s h roots)
+      → ((r : Reference) → Found s h roots r → slice_index h.colours r.cell ≡ 0 → IsAtMost blue r.cell)
+      → ((r : Reference) → Found s h roots r → slice_index h.births r.cell ≢ r.birth → IsAtMost reborn r.cell)
+      → IsFirstGone s m starts run (gone_of blue reborn)
+  first-of (Some cell) reborn free claimed blues reborns = (
+    (record { cell = cell; birth = free.1.birth }, reachable (record { cell = cell; birth = free.1.birth }) free.1.is_found, refl, sym (stand.behind.words (Colour cell)) ∙ free.0),
+    λ other lt shown.
+        let most = blues shown.0 (found-all shown.0 shown.1) (stand.behind.words (Colour shown.0.cell) ∙ shown.3) in
+        absurd (omega (arith, lt, most, shown.2)),
+  )
+  first-of None (Some cell) free claimed blues reborns = (
+    λ other shown. blues shown.0 (found-all shown.0 shown.1) (stand.behind.words (Colour shown.0.cell) ∙ shown.3),
+    (record { cell = cell; birth = claimed.birth }, reachable (record { cell = cell; birth = claimed.birth }) claimed.is_found, refl, λ z. claimed.is_reborn (stand.behind.births cell ∙ z)),
+    λ other lt shown.
+        let most = reborns shown.0 (found-all shown.0 shown.1) (λ z. shown.3 (sym (stand.behind.births shown.0.cell) ∙ z)) in
+        absurd (omega (arith, lt, most, shown.2)),
+  )
+  first-of None None free claimed blues reborns = λ r reached gone.
+      elim gone [
+        | inl blue ↦ blues r (found-all r reached) (stand.behind.words (Colour r.cell) ∙ blue)
+        | inr reborn ↦ reborns r (found-all r reached) (λ z. reborn (sym (stand.behind.births r.cell) ∙ z))
+      ]
+
+  -- a walk that looked at all that it met tells it
+  pub first-gone : (w : Walk) → length w.met ≡ cells s → IsWhole s h roots w → IsFirstGone s m starts run (gone_of w.blue w.reborn)
+  first-gone w wide whole =
+      let seen = seen-all s h roots stand.shape are.are_cells w wide whole in
+      first-of w.blue w.reborn whole.sound.blue whole.sound.reborn (λ r found. (seen r found).blue) (λ r found. (seen r found).reborn)

@@ -1,0 +1,238 @@
+-- A walk behind one more reference, and behind the words of a cell.
+use Rattle.std.proofs.Common.{◌≡◌, ◌≢◌, ◌≤◌, ◌<◌, ◌⊎◌, ◌+◌, ◌-◌, ◌==◌, inl, inr, ℕ, zero, suc, not, Bool, true, false, Option, Some, None, List, [], ◌∷◌, ◌++◌, length, slice_get, slice_set, slice_index, slice_index_or, sum_by, if◌then◌else◌, refl, sym, ap, ◌∙◌, IsTrue, arith, add-one}
+use Rattle.std.proofs.lemmas.Bool.Decides.{nat_tests}
+use Rattle.std.proofs.lemmas.List.{get_or-set_same, get_or-set_other, get_or_past, get_or_append_left, length-append}
+use Rattle.std.proofs.lemmas.List.Sums.{sum_by-set}
+use Rattle.std.proofs.Math.ListN.{length-set}
+use Rattle.pools.specs.declared.word_kind.WordKind.{WordKind}
+use Rattle.pools.specs.Layouts.{is_reference_kind}
+use Rattle.runs.specs.Machine.{Reference}
+use Rattle.runs.specs.Moves.{null}
+use Rattle.moves.specs.declared.shared.Shared.{Shared}
+use Rattle.stepping.specs.declared.walk.Walk.{Walk}
+use Rattle.stepping.specs.Walks.{least, blue_with, reborn_with, met_with, meeting, following, looking_at, looking, IsAtMost, IsSeen}
+
+-- ---- the cells that were met
+
+-- a cell that was not met is one of the row
+pub new-within : (met : List Bool) (cell : ℕ) → slice_index_or met cell true ≡ false → cell < length met
+new-within met cell e = grind (arith, get_or_past met cell true)
+
+-- a cell is met, behind itself
+met-here : (met : List Bool) (cell : ℕ) → slice_index_or (met_with met cell) cell true ≡ true
+met-here met cell = go (slice_index_or met cell true) refl
+  where
+    go : (b : Bool) → slice_index_or met cell true ≡ b → slice_index_or (if not b then slice_set met cell true else met) cell true ≡ true
+    go true e = e
+    go false e = get_or-set_same met cell true true (new-within met cell e)
+
+-- one that is met stays so
+met-stays : (met : List Bool) (cell other : ℕ) → slice_index_or met other true ≡ true → slice_index_or (met_with met cell) other true ≡ true
+met-stays met cell other was = go (slice_index_or met cell true) refl
+  where
+    at : (b : Bool) → (other == cell) ≡ b → slice_index_or met cell true ≡ false → slice_index_or (slice_set met cell true) other true ≡ true
+    at true same e =
+        let is : other ≡ cell = grind (arith, nat_tests) in
+        rw is (get_or-set_same met cell true true (new-within met cell e))
+    at false differs e =
+        let isnt : other ≢ cell = grind (arith, nat_tests) in
+        get_or-set_other met cell other true true isnt ∙ was
+
+    go : (b : Bool) → slice_index_or met cell true ≡ b → slice_index_or (if not b then slice_set met cell true else met) other true ≡ true
+    go true e = was
+    go false e = at (other == cell) refl e
+
+-- a cell that is met was met before, or is this one
+pub met-before : (met : List Bool) (cell other : ℕ) → slice_index_or (slice_set met cell true) other false ≡ true → (slice_index_or met other false ≡ true) ⊎ (other ≡ cell)
+met-before met cell other is = go (other == cell) refl
+  where
+    go : (b : Bool) → (other == cell) ≡ b → (slice_index_or met other false ≡ true) ⊎ (other ≡ cell)
+    go true e = inr (grind (arith, nat_tests))
+    go false e =
+        let isnt : other ≢ cell = grind (arith, nat_tests) in
+        inl (sym (get_or-set_other met cell other true false isnt) ∙ is)
+
+-- ---- how many are left
+
+-- a cell that was not met counts
+abbrev pub unmet : Bool → ℕ
+unmet true = 0
+unmet false = 1
+
+-- what a reference leaves of the row and the order
+pub record Widens (before after : Walk) : Type 0 where
+  pub wide : length after.met ≡ length before.met
+  pub left : length after.order + sum_by unmet after.met ≡ length before.order + sum_by unmet before.met
+  pub longer : length before.order ≤ length after.order
+  pub same : (place : ℕ) → place < length before.order → slice_index after.order place ≡ slice_index before.order place
+
+widens-none : (w : Walk) → Widens w w
+widens-none w = record { wide = refl; left = refl; longer = omega arith; same = λ place lt. refl }
+
+widens-both : (v w x : Walk) → Widens v w → Widens w x → Widens v x
+widens-both v w x a b = record {
+  wide = b.wide ∙ a.wide;
+  left = b.left ∙ a.left;
+  longer = omega (arith, a.longer, b.longer);
+  same = λ place lt. b.same place (omega (arith, lt, a.longer)) ∙ a.same place lt;
+}
+
+pub widens-meeting : (h : Shared) (w : Walk) (r : Reference) → Widens w (meeting h w r)
+widens-meeting h w r = go (slice_index_or w.met r.cell true) refl
+  where
+    wide-set : length (slice_set w.met r.cell true) ≡ length w.met
+    wide-set = length-set w.met r.cell true
+
+    go : (b : Bool) → slice_index_or w.met r.cell true ≡ b
+        → Widens w (record { met = if not b then slice_set w.met r.cell true else w.met; order = if not b then w.order ++ r.cell ∷ [] else w.order; blue = blue_with h w.blue r; reborn = reborn_with h w.reborn r })
+    go true e = record { wide = refl; left = refl; longer = omega arith; same = λ place lt. refl }
+    go false e =
+        let counted = sum_by-set unmet w.met r.cell true true (new-within w.met r.cell e) in
+        let was : unmet (slice_index_or w.met r.cell true) ≡ 1 = ap unmet e in
+        let long : length (w.order ++ r.cell ∷ []) ≡ length w.order + 1 = length-append w.order (r.cell ∷ []) in
+        record {
+          wide = wide-set;
+          left = omega (arith, counted, was, long);
+          longer = omega (arith, long);
+          same = λ place lt. get_or_append_left w.order (r.cell ∷ []) 0 place lt;
+        }
+
+widens-following : (h : Shared) (w : Walk) (r : Reference) → Widens w (following h w r)
+widens-following h w r = go (r.cell == 0)
+  where
+    go : (b : Bool) → Widens w (if b then w else meeting h w r)
+    go true = widens-none w
+    go false = widens-meeting h w r
+
+widens-looking_at : (h : Shared) (w : Walk) (kind : Option WordKind) (r : Reference) → Widens w (looking_at h w kind r)
+widens-looking_at h w kind r = go (is_reference_kind kind)
+  where
+    go : (b : Bool) → Widens w (if b then following h w r else w)
+    go true = widens-following h w r
+    go false = widens-none w
+
+-- behind the words of a cell
+pub widens-looking : (h : Shared) (kinds : List WordKind) (row : List Reference) (w : Walk) (count : ℕ) → Widens w (looking h kinds row w count)
+unfolding looking
+widens-looking h kinds row w zero = widens-none w
+widens-looking h kinds row w (suc word) =
+    let before = looking h kinds row w word in
+    widens-both w before (looking h kinds row w (suc word)) (widens-looking h kinds row w word) (widens-looking_at h before (slice_get kinds word) (slice_index_or row word null))
+
+-- ---- what is seen
+
+at_most-least : (least_so_far : Option ℕ) (cell other : ℕ) → IsAtMost least_so_far other → IsAtMost (Some (least least_so_far cell)) other
+at_most-least None cell other h = absurd h
+at_most-least (Some first) cell other h = omega (arith, h)
+
+at_most-here : (least_so_far : Option ℕ) (cell : ℕ) → IsAtMost (Some (least least_so_far cell)) cell
+at_most-here None cell = omega arith
+at_most-here (Some first) cell = omega arith
+
+-- a reference is seen, behind itself
+pub seen-meeting : (h : Shared) (w : Walk) (r : Reference) → IsSeen h (meeting h w r) r
+seen-meeting h w r = record {
+  met = met-here w.met r.cell;
+  blue = λ e. blue (slice_index h.colours r.cell == 0) refl e;
+  reborn = λ n. reborn (slice_index h.births r.cell == r.birth) refl n;
+}
+  where
+    blue : (b : Bool) → (slice_index h.colours r.cell == 0) ≡ b → slice_index h.colours r.cell ≡ 0 → IsAtMost (if b then Some (least w.blue r.cell) else w.blue) r.cell
+    blue true e z = at_most-here w.blue r.cell
+    blue false e z = let isnt : slice_index h.colours r.cell ≢ 0 = grind (arith, nat_tests) in absurd (isnt z)
+
+    reborn : (b : Bool) → (slice_index h.births r.cell == r.birth) ≡ b → slice_index h.births r.cell ≢ r.birth → IsAtMost (if b then w.reborn else Some (least w.reborn r.cell)) r.cell
+    reborn true e n = let is : slice_index h.births r.cell ≡ r.birth = grind (arith, nat_tests) in absurd (n is)
+    reborn false e n = at_most-here w.reborn r.cell
+
+-- what is seen stays so
+seen-stays : (h : Shared) (w : Walk) (r q : Reference) → IsSeen h w q → IsSeen h (meeting h w r) q
+seen-stays h w r q was = record {
+  met = met-stays w.met r.cell q.cell was.met;
+  blue = λ e. blue (slice_index h.colours r.cell == 0) (was.blue e);
+  reborn = λ n. reborn (slice_index h.births r.cell == r.birth) (was.reborn n);
+}
+  where
+    blue : (b : Bool) → IsAtMost w.blue q.cell → IsAtMost (if b then Some (least w.blue r.cell) else w.blue) q.cell
+    blue true most = at_most-least w.blue r.cell q.cell most
+    blue false most = most
+
+    reborn : (b : Bool) → IsAtMost w.reborn q.cell → IsAtMost (if b then w.reborn else Some (least w.reborn r.cell)) q.cell
+    reborn true most = most
+    reborn false most = at_most-least w.reborn r.cell q.cell most
+
+-- behind a reference that may be null
+pub stays-following : (h : Shared) (w : Walk) (r q : Reference) → IsSeen h w q → IsSeen h (following h w r) q
+stays-following h w r q was = go (r.cell == 0)
+  where
+    go : (b : Bool) → IsSeen h (if b then w else meeting h w r) q
+    go true = was
+    go false = seen-stays h w r q was
+
+pub seen-following : (h : Shared) (w : Walk) (r : Reference) → r.cell ≢ 0 → IsSeen h (following h w r) r
+seen-following h w r n = go (r.cell == 0) refl
+  where
+    go : (b : Bool) → (r.cell == 0) ≡ b → IsSeen h (if b then w else meeting h w r) r
+    go true e = let is : r.cell ≡ 0 = grind (arith, nat_tests) in absurd (n is)
+    go false e = seen-meeting h w r
+
+stays-looking_at : (h : Shared) (w : Walk) (kind : Option WordKind) (r q : Reference) → IsSeen h w q → IsSeen h (looking_at h w kind r) q
+stays-looking_at h w kind r q was = go (is_reference_kind kind)
+  where
+    go : (b : Bool) → IsSeen h (if b then following h w r else w) q
+    go true = stays-following h w r q was
+    go false = was
+
+-- behind the words of a cell
+pub stays-looking : (h : Shared) (kinds : List WordKind) (row : List Reference) (w : Walk) (q : Reference) (count : ℕ) → IsSeen h w q → IsSeen h (looking h kinds row w count) q
+unfolding looking
+stays-looking h kinds row w q zero was = was
+stays-looking h kinds row w q (suc word) was =
+    stays-looking_at h (looking h kinds row w word) (slice_get kinds word) (slice_index_or row word null) q (stays-looking h kinds row w q word was)
+
+seen-looking_at : (h : Shared) (w : Walk) (kind : Option WordKind) (r : Reference) → IsTrue (is_reference_kind kind) → r.cell ≢ 0 → IsSeen h (looking_at h w kind r) r
+seen-looking_at h w kind r is n = go (is_reference_kind kind) is
+  where
+    go : (b : Bool) → IsTrue b → IsSeen h (if b then following h w r else w) r
+    go true t = seen-following h w r n
+    go false t = absurd cc
+
+-- what its reference words hold is seen
+pub seen-looking : (h : Shared) (kinds : List WordKind) (row : List Reference) (w : Walk) (count word : ℕ) → word < count
+    → IsTrue (is_reference_kind (slice_get kinds word)) → (slice_index_or row word null).cell ≢ 0 → IsSeen h (looking h kinds row w count) (slice_index_or row word null)
+unfolding looking
+seen-looking h kinds row w zero word lt is n = absurd (omega (arith, lt))
+seen-looking h kinds row w (suc last) word lt is n = go (λ less. seen-looking h kinds row w last word less is n) (word == last) refl
+  where
+    go : (word < last → IsSeen h (looking h kinds row w last) (slice_index_or row word null)) → (b : Bool) → (word == last) ≡ b
+        → IsSeen h (looking_at h (looking h kinds row w last) (slice_get kinds last) (slice_index_or row last null)) (slice_index_or row word null)
+    go rest true e =
+        let here : word ≡ last = grind (arith, nat_tests) in
+        rw (← here) (seen-looking_at h (looking h kinds row w word) (slice_get kinds word) (slice_index_or row word null) is n)
+    go rest false e =
+        let isnt : word ≢ last = grind (arith, nat_tests) in
+        stays-looking_at h (looking h kinds row w last) (slice_get kinds last) (slice_index_or row last null) (slice_index_or row word null)
+        (rest (omega (arith, lt, isnt)))
+
+-- ---- word by word
+
+-- behind one more word
+pub looking-more : (h : Shared) (kinds : List WordKind) (row : List Reference) (w : Walk) (word : ℕ) (kind : WordKind) (held : Reference) → slice_get kinds word ≡ Some kind → held ≡ slice_index_or row word null
+    → looking_at h (looking h kinds row w word) (Some kind) held ≡ looking h kinds row w (word + 1)
+unfolding looking
+looking-more h kinds row w word kind held is here = rw (add-one, is, here) refl
+
+-- the row stays as wide
+pub looking-wide : (h : Shared) (kinds : List WordKind) (row : List Reference) (w now : Walk) (count limit : ℕ) → now ≡ looking h kinds row w count → length w.met ≤ limit → length now.met ≤ limit
+looking-wide h kinds row w now count limit is few =
+    let wide = (widens-looking h kinds row w count).wide in
+    rw is (omega (arith, wide, few))
+
+-- the order stays as long
+pub looking-longer : (h : Shared) (kinds : List WordKind) (row : List Reference) (w now : Walk) (count : ℕ) → now ≡ looking h kinds row w count → length w.order ≤ length now.order
+looking-longer h kinds row w now count is = let widens = widens-looking h kinds row w count in rw is (omega (arith, widens.longer))
+
+-- and behind one more cell fewer are left
+pub looking-smaller : (h : Shared) (kinds : List WordKind) (row : List Reference) (w now : Walk) (count looked : ℕ) → now ≡ looking h kinds row w count → looked < length w.order
+    → length now.order + sum_by unmet now.met - (looked + 1) < length w.order + sum_by unmet w.met - looked
+looking-smaller h kinds row w now count looked is lt = let widens = widens-looking h kinds row w count in rw is (omega (arith, widens.left, lt))

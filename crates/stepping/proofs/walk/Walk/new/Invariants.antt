@@ -1,0 +1,6 @@
+-- So many cells of the row.
+use Rattle.std.proofs.Common.{◌≡◌, false, replicate}
+use Rattle.stepping.proofs.walk.Walk.new.Given as goal
+
+abbrev pub invariant-loop-cell : goal.invariant-loop-cell
+invariant-loop-cell l = l.met ≡ replicate l._cell false

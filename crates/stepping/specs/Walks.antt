@@ -1,0 +1,122 @@
+-- A walk over what can be reached, over the words as they stand.
+use Rattle.std.specs.Prelude.{ℕ, zero, suc, ◌≡◌, ◌≢◌, ◌<◌, ◌≤◌, ◌==◌, not, Bool, true, false, min, Option, Some, None, List, [], ◌∷◌, ◌++◌, length, slice_get, slice_set, slice_index, slice_index_or, replicate, if◌then◌else◌, IsTrue, IfSome}
+use Rattle.pools.specs.declared.word_kind.WordKind.{WordKind}
+use Rattle.pools.specs.Heap.{Setup, kind_of}
+use Rattle.pools.specs.Layouts.{is_reference_kind}
+use Rattle.runs.specs.Machine.{Reference}
+use Rattle.runs.specs.Moves.{null, IsIn}
+use Rattle.moves.specs.declared.shared.Shared.{Shared}
+use Rattle.moves.specs.Rows.{word_at}
+use Rattle.stepping.specs.declared.walk.Walk.{Walk}
+
+-- ---- what can be reached
+
+-- what a path of reference words comes to, from the cell of the globals or from one of these roots
+pub data Found (s : Setup) (h : Shared) (roots : List Reference) : Reference → Type 0 where
+  globals : Found s h roots null
+  root : (r : Reference) → IsIn r roots → r.cell ≢ 0 → Found s h roots r
+  further : (r : Reference) (word : ℕ) → Found s h roots r → IsTrue (is_reference_kind (kind_of s r.cell word)) → (word_at h.words r.cell word).cell ≢ 0
+      → Found s h roots (word_at h.words r.cell word)
+
+-- ---- the walk, reference by reference
+
+-- before any reference is met, over so many cells
+abbrev pub begun : (cells : ℕ) → Walk
+begun cells = record { met = replicate cells false; order = []; blue = None; reborn = None }
+
+-- the cell is there, and was not met
+abbrev pub is_new : (met : List Bool) → (cell : ℕ) → Bool
+is_new met cell = not (slice_index_or met cell true)
+
+-- the least of a cell and those so far
+abbrev pub least : Option ℕ → ℕ → ℕ
+least None cell = cell
+least (Some other) cell = min other cell
+
+-- the least free cell, behind a reference that is met
+abbrev pub blue_with : Shared → Option ℕ → Reference → Option ℕ
+blue_with h blue r = if slice_index h.colours r.cell == 0 then Some (least blue r.cell) else blue
+
+-- and the least that was claimed again
+abbrev pub reborn_with : Shared → Option ℕ → Reference → Option ℕ
+reborn_with h reborn r = if slice_index h.births r.cell == r.birth then reborn else Some (least reborn r.cell)
+
+-- the cells that were met
+abbrev pub met_with : List Bool → (cell : ℕ) → List Bool
+met_with met cell = if is_new met cell then slice_set met cell true else met
+
+-- and their order
+abbrev pub order_with : List Bool → List ℕ → (cell : ℕ) → List ℕ
+order_with met order cell = if is_new met cell then order ++ cell ∷ [] else order
+
+-- the walk behind a reference
+abbrev pub meeting : Shared → Walk → Reference → Walk
+meeting h w r = record {
+  met = met_with w.met r.cell;
+  order = order_with w.met w.order r.cell;
+  blue = blue_with h w.blue r;
+  reborn = reborn_with h w.reborn r;
+}
+
+-- and behind one that may be null, which leads nowhere
+abbrev pub following : Shared → Walk → Reference → Walk
+following h w r = if r.cell == 0 then w else meeting h w r
+
+-- behind what a word of this kind holds
+abbrev pub looking_at : Shared → Walk → Option WordKind → Reference → Walk
+looking_at h w kind r = if is_reference_kind kind then following h w r else w
+
+-- behind so many words of a cell
+unfoldable pub looking : Shared → List WordKind → (row : List Reference) → Walk → (count : ℕ) → Walk
+looking h kinds row w zero = w
+looking h kinds row w (suc word) = looking_at h (looking h kinds row w word) (slice_get kinds word) (slice_index_or row word null)
+
+-- ---- what it has to do with what can be reached
+
+-- there is a number, and it is at most this one
+abbrev pub IsAtMost : Option ℕ → ℕ → Type 0
+IsAtMost None cell = ⊥
+IsAtMost (Some other) cell = other ≤ cell
+
+-- the reference was met, and if it is gone, so it was taken down
+pub record IsSeen (h : Shared) (w : Walk) (r : Reference) : Type 0 where
+  pub met : slice_index_or w.met r.cell true ≡ true
+  pub blue : slice_index h.colours r.cell ≡ 0 → IsAtMost w.blue r.cell
+  pub reborn : slice_index h.births r.cell ≢ r.birth → IsAtMost w.reborn r.cell
+
+-- a reference to this cell can be reached
+pub record IsFound (s : Setup) (h : Shared) (roots : List Reference) (cell : ℕ) : Type 0 where
+  pub birth : ℕ
+  pub is_found : Found s h roots (record { cell = cell; birth = birth })
+
+-- and one of another birth than the cell's
+pub record IsFoundReborn (s : Setup) (h : Shared) (roots : List Reference) (cell : ℕ) : Type 0 where
+  pub birth : ℕ
+  pub is_found : Found s h roots (record { cell = cell; birth = birth })
+  pub is_reborn : slice_index h.births cell ≢ birth
+
+-- what was met can be reached
+pub record IsSound (s : Setup) (h : Shared) (roots : List Reference) (w : Walk) : Type 0 where
+  pub cells : (place : ℕ) → place < length w.order → IsFound s h roots (slice_index w.order place)
+  pub blue : IfSome w.blue (λ cell. (slice_index h.colours cell ≡ 0) × IsFound s h roots cell)
+  pub reborn : IfSome w.reborn (IsFoundReborn s h roots)
+
+-- each cell that was met stands in the order
+abbrev pub IsListed : Walk → Type 0
+IsListed w = (cell : ℕ) → slice_index_or w.met cell false ≡ true → (place : ℕ) × (place < length w.order) × (slice_index w.order place ≡ cell)
+
+-- what the words of a cell hold was met
+abbrev pub AreSeen : Setup → Shared → Walk → (cell : ℕ) → Type 0
+AreSeen s h w cell = (word : ℕ) → IsTrue (is_reference_kind (kind_of s cell word)) → (word_at h.words cell word).cell ≢ 0 → IsSeen h w (word_at h.words cell word)
+
+-- the walk looked at the words of so many cells of its order, and at the roots
+pub record IsWalked (s : Setup) (h : Shared) (roots : List Reference) (w : Walk) (looked : ℕ) : Type 0 where
+  pub sound : IsSound s h roots w
+  pub listed : IsListed w
+  pub globals_seen : IsSeen h w null
+  pub roots_seen : (r : Reference) → IsIn r roots → r.cell ≢ 0 → IsSeen h w r
+  pub words_seen : (place : ℕ) → place < looked → AreSeen s h w (slice_index w.order place)
+
+-- it looked at all that it met
+abbrev pub IsWhole : (s : Setup) (h : Shared) (roots : List Reference) (w : Walk) → Type 0
+IsWhole s h roots w = IsWalked s h roots w (length w.order)

@@ -1,0 +1,160 @@
+ghost use Rattle.std.specs.Prelude.{◌≡◌, ◌<◌, ◌≤◌, ◌^◌, ◌+◌, [], length, true, slice_index_or, IsTrue, IsFalse, IfOk, OnOk};
+ghost use Rattle.pools.specs.Heap.{Setup, cells_in, words_of_cell};
+ghost use Rattle.runs.specs.Moves.{null};
+ghost use Rattle.stepping.specs.Reach.{IsPlanOf};
+ghost use Rattle.stepping.specs.Walks as walks;
+ghost use Rattle.stepping.specs.Walks.{meeting, following, looking_at, looking, IsWhole};
+
+use crate::gone::Plan;
+use items::Items;
+use moves::{NULL, Reference, Shared};
+use pools::WordKind;
+use std::alloc::{AllocError, Global};
+
+/// A walk over what can be reached, for references that are gone.
+#[derive(Drop)]
+pub(crate) struct Walk {
+    /// The cells that were met.
+    met: Items<bool>,
+    /// The same cells, as they were met.
+    order: Items<u32>,
+    /// The least free cell, and the least that was claimed again.
+    pub(crate) blue: Option<u64>,
+    pub(crate) reborn: Option<u64>,
+}
+
+impl Walk {
+    /// Before any reference is met, over so many cells.
+    fn new(alloc: Global, cells: u32) -> Result<Self, AllocError>
+        ensures { IfOk result (λ walk. walk ≡ walks.begun cells) }
+    {
+        let mut met = Items::new(alloc);
+        for _cell in 0..cells {
+            met.push(false)?;
+        }
+        Ok(Walk {
+            met,
+            order: Items::new(alloc),
+            blue: None,
+            reborn: None,
+        })
+    }
+
+    /// The cell is there, and was not met.
+    fn is_new(&self, cell: u64) -> bool
+        ensures value { result ≡ walks.is_new self.now.met cell }
+        ensures within { IsTrue result → cell < length self.now.met }
+    {
+        !is_set(self.met.as_slice(), cell as usize)
+    }
+
+    /// A reference can be reached.
+    fn meet(&mut self, shared: &Shared, found: Reference) -> Result<(), AllocError>
+        requires { length self.old.met ≤ 2 ^ 20 }
+        ensures { OnOk result (self.new ≡ meeting shared.now self.old found) }
+    {
+        let cell = found.cell;
+        if shared.colour(cell) == 0 {
+            self.blue = Some(least(self.blue, cell));
+        }
+        if shared.birth(cell) != found.birth {
+            self.reborn = Some(least(self.reborn, cell));
+        }
+        if self.is_new(cell) {
+            self.met.set(cell as usize, true);
+            self.order.push(cell as u32)?;
+        }
+        Ok(())
+    }
+
+    /// What a word or a root holds can be reached; null leads nowhere.
+    fn follow(&mut self, shared: &Shared, held: Reference) -> Result<(), AllocError>
+        requires { length self.old.met ≤ 2 ^ 20 }
+        ensures { OnOk result (self.new ≡ following shared.now self.old held) }
+    {
+        if held.cell != 0 {
+            self.meet(shared, held)?;
+        }
+        Ok(())
+    }
+
+    /// What a word of this kind holds can be reached, if it holds references.
+    fn look_at(
+        &mut self,
+        shared: &Shared,
+        kind: WordKind,
+        held: Reference,
+    ) -> Result<(), AllocError>
+        requires { length self.old.met ≤ 2 ^ 20 }
+        ensures { OnOk result (self.new ≡ looking_at shared.now self.old (Some kind) held) }
+    {
+        match kind {
+            WordKind::Reference(_) => self.follow(shared, held),
+            WordKind::Integer(_) => Ok(()),
+        }
+    }
+
+    /// What the reference words of a cell hold can be reached too.
+    fn look_into(&mut self, plan: Plan<'_>, shared: &Shared, cell: u32) -> Result<(), AllocError>
+        requires is_cell { cell < cells_in plan.pools.now }
+        requires few { length self.old.met ≤ 2 ^ 20 }
+        ensures { (s : Setup) → IsPlanOf s plan.entry
+            → OnOk result (self.new ≡ looking shared.now (words_of_cell s cell) (slice_index_or shared.now.words cell []) self.old (length (words_of_cell s cell))) }
+    {
+        let row = shared.words.row(u64::from(cell));
+        for (word, kind) in plan.words(cell).iter().enumerate() {
+            self.look_at(shared, *kind, reference_at(row, word))?;
+        }
+        Ok(())
+    }
+}
+
+/// The least of a cell and those so far.
+fn least(so_far: Option<u64>, cell: u64) -> u64
+    ensures { result ≡ walks.least so_far cell }
+{
+    match so_far {
+        Some(other) if other < cell => other,
+        _ => cell,
+    }
+}
+
+/// What is told of this place; yes outside the list.
+fn is_set(each: &[bool], at: usize) -> bool
+    ensures value { result ≡ slice_index_or each.now at true }
+    ensures within { IsFalse result → at < length each.now }
+{
+    match each.get(at) {
+        Some(told) => *told,
+        None => true,
+    }
+}
+
+/// The reference at this place; null outside the row.
+fn reference_at(row: &[Reference], at: usize) -> Reference
+    ensures { result ≡ slice_index_or row.now at null }
+{
+    row.get(at).copied().unwrap_or(NULL)
+}
+
+/// The whole walk from the globals and from these roots.
+pub(crate) fn walk_from(
+    alloc: Global,
+    plan: Plan<'_>,
+    shared: &Shared,
+    roots: &[Reference],
+) -> Result<Walk, AllocError>
+    ensures { (s : Setup) → IsPlanOf s plan.entry → IfOk result (λ walk. (length walk.met ≡ cells_in s.pools) × IsWhole s shared.now roots.now walk) }
+{
+    let mut walk = Walk::new(alloc, plan.pools.cells())?;
+    walk.meet(shared, NULL)?;
+    for root in roots {
+        walk.follow(shared, *root)?;
+    }
+    let mut looked = 0;
+    while let Some(cell) = walk.order.get(looked).copied() {
+        walk.look_into(plan, shared, cell)?;
+        looked += 1;
+    }
+    Ok(walk)
+}

@@ -1,2 +1,0 @@
-//! Each run of the heap leads to a state of the collector's invariant, and what that says of runs.
-#![tactic(auto)]

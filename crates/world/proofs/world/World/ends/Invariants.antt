@@ -1,8 +1,0 @@
-use Rattle.std.proofs.Common.{slice_get}
-use Rattle.world.specs.Keeping.{end_told}
-use Rattle.world.proofs.Told.{AreTold}
-use Rattle.world.proofs.world.World.ends.Given as goal
-
--- the ends of so many threads were told
-abbrev pub invariant-loop-thread : goal.invariant-loop-thread
-invariant-loop-thread l = AreTold l.ends l.thread (λ k. end_told (slice_get l.self-inside.actors.threads.items k) (slice_get l.self-inside.endings k))

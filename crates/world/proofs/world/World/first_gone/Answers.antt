@@ -1,8 +1,0 @@
-use Rattle.program_runner.specs.Heaps.{heap_of}
-use Rattle.world.specs.Setups.{starts_of}
-use Rattle.world.proofs.Steps.{are_behind}
-use Rattle.world.proofs.world.World.first_gone.Goals as goal
-
-pub returns : goal.returns
-returns c = λ before b.
-    c.first_gone.ensures (heap_of c.args.self.now.program c.args.self.now.setup) (starts_of c.args.self.now.program c.args.self.now.setup) before (are_behind c.self.inside c.args.self.now before c.self.view_is c.self.invariant b)

@@ -1,6 +1,0 @@
-use Rattle.std.proofs.Common.{◌≡◌, length}
-use Rattle.world.proofs.world.no_endings.Given as goal
-
--- something is kept of so many threads
-abbrev pub invariant-loop-thread : goal.invariant-loop-thread
-invariant-loop-thread l = length l.endings ≡ l.thread

@@ -1,6 +1,0 @@
-pub mod Runs
-pub mod Setups
-pub mod Worlds
-pub mod ThreadEnds
-pub mod Keeping
-pub mod WorldView
