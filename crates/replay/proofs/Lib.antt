@@ -6,7 +6,7 @@ pub mod Safe
 pub mod WorldSteps
 pub mod Told
 pub mod Lists
-pub mod Steps
+pub mod StepsTaken
 pub mod StartsLemmas
 pub mod Watching
 pub mod Drawings

@@ -21,7 +21,7 @@ use Rattle.replay.specs.declared.outcome.Cause.{Cause}
 use Rattle.replay.specs.declared.watch.Watch.{Watch}
 use Rattle.replay.specs.Outcomes.{Reports}
 use Rattle.replay.specs.Watched.{IsUnbroken, IsWatched, IsStepped, IsMadeBehind, IsCauseBehind, HasRoomFor, claims_cell, frees_cell}
-use Rattle.replay.proofs.Steps.{claims-more, frees-more, claims-short, frees-short}
+use Rattle.replay.proofs.StepsTaken.{claims-more, frees-more, claims-short, frees-short}
 
 -- ---- one step
 
