@@ -4,3 +4,5 @@ pub mod Decided
 pub mod Predecessors
 pub mod PhiOperands
 pub mod Entries
+pub mod Follows
+pub mod Exact

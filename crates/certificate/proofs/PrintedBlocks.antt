@@ -21,7 +21,7 @@ use Rattle.certificate.specs.Text as text
 use Rattle.certs.specs.Fits.{line_fits, lists, lists_slot, is_listed, lists_once, named_in, named_in_fact, lists_named, all_named_listed, lines_fit, is_value}
 use Rattle.certificate.specs.Named.{IsNamed, IsNamedFunction}
 use Rattle.certificate.specs.Print.{word_if, value_text, local_text, fact_text, line_text, lines_text, block_text}
-use Rattle.name_text.proofs.Seams.{word_on, blanks_on, lines_on, all_bytes}
+use Rattle.name_text.specs.Seams.{word_on, blanks_on, lines_on, all_bytes}
 use Rattle.certificate.proofs.PrintedNames.{value_printed, block_printed}
 use Rattle.certificate.proofs.PrintedLines.{at, Behind, word_is, taken_on, expect_on, line_end_on, noting, lined, IsValue, IsNew, line_on, value_is}
 use Rattle.certificate.proofs.Between.{both, first_true, rest_true, turned, first_no, all_weaker, any_more, Between, Within, block_begins}

@@ -22,7 +22,7 @@ use Rattle.certs.specs.Families.{family_of_type, family_of_value}
 use Rattle.certs.specs.Fits.{lines_fit, promise_fits, promised_fits, parameter_fits, parameters_fit, blocks_fit, section_fits, fits, entry_is_empty}
 use Rattle.certificate.specs.Named.{IsNamed, IsNamedFunction}
 use Rattle.certificate.specs.Print.{local_text, global_text, lines_text, block_text, blocks_text, promise_text, parameter_text, parameters_text, result_text, mark_text, section_text, sections_text, cert_text}
-use Rattle.name_text.proofs.Seams.{word_on, blanks_on}
+use Rattle.name_text.specs.Seams.{word_on, blanks_on}
 use Rattle.certificate.proofs.PrintedLines.{at, Behind, skip_on, word_is, taken_on, expect_on, line_end_on, as_on}
 use Rattle.certificate.proofs.PrintedNames.{function_printed}
 use Rattle.certificate.proofs.PrintedPromises.{parameter_on, result_on}

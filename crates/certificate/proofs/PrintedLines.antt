@@ -25,7 +25,7 @@ use Rattle.certificate.specs.Lines.{number_head, head_by, below_by, below, liste
 use Rattle.certs.specs.Fits.{is_count, below_fits, stands_for, layout_fits, words_fit, fact_fits, is_value_sort, is_value, line_fits, named_in_fact, named_in}
 use Rattle.certificate.specs.Named.{IsNamed, IsNamedFunction}
 use Rattle.certificate.specs.Print.{word_if, below_text, value_text, age_text, words_text, fact_text, line_text, local_text, global_text, layout_text}
-use Rattle.name_text.proofs.Seams.{past_word_on, word_on, blanks_on, all_bytes}
+use Rattle.name_text.specs.Seams.{past_word_on, word_on, blanks_on, all_bytes}
 use Rattle.certificate.proofs.PrintedWords.{first_true, rest_true, same_bytes, small_is, count_read, bits_read}
 use Rattle.certificate.proofs.PrintedSets.{words_read}
 use Rattle.certificate.proofs.PrintedNames.{value_printed, global_printed, layout_printed}

@@ -21,7 +21,7 @@ use Rattle.certs.specs.Fits.{is_value, is_value_sort, stands_for}
 use Rattle.certificate.specs.declared.naming.Naming.TheVariants as naming
 use Rattle.name_text.specs.declared.naming.Sigil.TheVariants as sigil
 use Rattle.name_text.specs.Words.{is_word}
-use Rattle.name_text.proofs.Seams.{all_bytes}
+use Rattle.name_text.specs.Seams.{all_bytes}
 use Rattle.certificate.proofs.PrintedWords.{key_read, layout_read, global_read, name_word}
 
 within_got : {A : Type 0} (xs : List A) (i : ℕ) → i < length xs → (x : A) × (slice_get xs i ≡ Some x)

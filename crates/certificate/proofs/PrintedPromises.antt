@@ -21,7 +21,7 @@ use Rattle.certificate.specs.Text as text
 use Rattle.certs.specs.Fits.{is_count, stands_for, layout_fits, says_something, promised_layout_fits, promised_below_fits, promise_fits, promised_fits, is_value_sort, is_value}
 use Rattle.certificate.specs.Named.{IsNamed, IsNamedFunction}
 use Rattle.certificate.specs.Print.{local_text, layout_text, promise_text, parameter_text, result_text}
-use Rattle.name_text.proofs.Seams.{blanks_on}
+use Rattle.name_text.specs.Seams.{blanks_on}
 use Rattle.certificate.proofs.PrintedWords.{first_true, rest_true, count_read}
 use Rattle.certificate.proofs.PrintedNames.{value_printed, layout_printed}
 use Rattle.certificate.proofs.PrintedLines.{at, Behind, skip_on, word_is, taken_on, expect_on, line_end_on, count_on, layout_on}

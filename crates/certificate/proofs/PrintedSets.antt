@@ -12,8 +12,8 @@ use Rattle.certificate.specs.Numbers.{with_digit, words_behind, words_of_word}
 use Rattle.certificate.specs.Print.{words_of, words_text}
 use Rattle.certs.specs.Fits.{add_words, own_words, same_words, words_fit}
 use Rattle.name_text.specs.Words.{is_word}
-use Rattle.name_text.proofs.Seams.{is_word_byte, bytes_close}
-use Rattle.name_text.proofs.Spelled.{number_is_inner, number_is_word}
+use Rattle.name_text.specs.Seams.{is_word_byte, bytes_close}
+use Rattle.name_text.specs.Spelled.{number_is_inner, number_is_word}
 use Rattle.certificate.proofs.PrintedWords.{digit_is, first_true, rest_true}
 
 -- sets that are one

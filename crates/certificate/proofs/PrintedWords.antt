@@ -8,12 +8,12 @@ use Rattle.std.proofs.lemmas.Bool.{eq-eqb, le-leb, ltb-true}
 use Rattle.ir_tokens.specs.Bytes.{Text, is_digit}
 use Rattle.ir_ast.specs.KeyNames.{name_of_key}
 use Rattle.ir_ast.specs.LocalKeys.{key_of_name}
-use Rattle.ir_ast.proofs.Keys.{name_again, no_number}
+use Rattle.ir_ast.specs.Keys.{name_again, no_number}
 use Rattle.name_text.specs.Words.{is_word}
 use Rattle.name_text.specs.declared.blank.Blank.TheVariants as blank
-use Rattle.name_text.proofs.NameWords.{names_are_words}
-use Rattle.name_text.proofs.Spelled.{global_spelled, layout_spelled, local_spelled, digits_spelled, digits_are_word, number_is_inner, number_is_word, number_read}
-use Rattle.name_text.proofs.Seams.{bytes_close}
+use Rattle.name_text.specs.NameWords.{names_are_words}
+use Rattle.name_text.specs.Spelled.{global_spelled, layout_spelled, local_spelled, digits_spelled, digits_are_word, number_is_inner, number_is_word, number_read}
+use Rattle.name_text.specs.Seams.{bytes_close}
 use Rattle.name_text.specs.Naming.{name_in}
 use Rattle.certs.specs.Fits as fits
 use Rattle.certificate.specs.Numbers.{count_of_word, bits_of_word}

@@ -8,7 +8,7 @@ use Rattle.colours.specs.declared.turn.Turn.TheVariants.{PostStage, ReadStage, M
 use Rattle.colours.specs.Collector.{Posting, Waiting, ShadingGlobals, posted_of, has_answered, wait_from}
 use Rattle.colours.specs.Runs.{Event, ByCollector, log_of, turns_of, word_after, IsRun}
 use Rattle.colours.proofs.Tests.{test_true, test_yes, test_no}
-use Rattle.colours.proofs.Stages.{stage_is, begun_stage, handshake}
+use Rattle.colours.specs.Stages.{stage_is, begun_stage, handshake}
 use Rattle.colours.specs.Mutator.{phase_of, stage_of}
 use Rattle.collector_law.proofs.Match.{begun_or_done, stage_in}
 use Rattle.collector_law.specs.Invariant as law

@@ -8,7 +8,7 @@ use Rattle.colours.specs.Steps.{Step, ReadWord, ReadOldValue, Claim}
 use Rattle.colours.specs.Mutator.{MayUse, IsDisciplined, Held, gains, Keeps}
 use Rattle.colours.specs.Runs.{Event, ByThread, ByCollector, log_of, word_after, births_after, given, MayHappen, IsHeapRun, Kept, globals, held, further, IsAlive}
 use Rattle.colours.proofs.Tests.{and_parts, test_true, test_yes, test_no, not_null}
-use Rattle.colours.proofs.Frames.{won_blue}
+use Rattle.colours.specs.Frames.{won_blue}
 use Rattle.collector_law.specs.Laws.{HoldsReference}
 use Rattle.collector_law.proofs.Events.{log_here, log_other}
 use Rattle.collector_law.proofs.Safeties.{kept_alive}

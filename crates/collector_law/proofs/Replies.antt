@@ -9,7 +9,7 @@ use Rattle.colours.specs.Mutator.{Phase, Ready, Answering, Ended, Absent, Arrivi
 use Rattle.colours.specs.Collector.{Collection, posted_of}
 use Rattle.colours.specs.Runs.{Event, ByThread, log_of, turns_of, word_after, births_after, MayHappen, IsRun}
 use Rattle.colours.proofs.Tests.{test_true}
-use Rattle.colours.proofs.Stages.{posted_is, handshake}
+use Rattle.colours.specs.Stages.{posted_is, handshake}
 use Rattle.collector_law.specs.Invariant as law
 use Rattle.collector_law.proofs.Puts.{put, put-here, put-other}
 use Rattle.collector_law.proofs.Shade.{shaded, shades}

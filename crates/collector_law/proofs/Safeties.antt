@@ -11,7 +11,7 @@ use Rattle.colours.specs.Mutator.{stage_of, phase_of, MayUse, MayFind, IsPossibl
 use Rattle.colours.specs.Collector.{Collection, Posting, Sweeping, Clearing, posted_of}
 use Rattle.colours.specs.Runs.{Event, ByThread, ByCollector, log_of, turns_of, word_after, births_after, MayHappen, IsRun, IsHeapRun, Kept, globals, held, further, IsAlive, birth_used, TouchesAlive}
 use Rattle.colours.proofs.Tests.{and_parts, test_true, test_yes}
-use Rattle.colours.proofs.Frames.{won_blue}
+use Rattle.colours.specs.Frames.{won_blue}
 use Rattle.collector_law.specs.Invariant as law
 use Rattle.collector_law.proofs.Write.{base-live}
 use Rattle.collector_law.proofs.Law as heap

@@ -11,7 +11,7 @@ use Rattle.colours.specs.Mutator.{Phase, Ready, MarkingNew, Writing, stage_of, p
 use Rattle.colours.specs.Collector.{Collection, posted_of}
 use Rattle.colours.specs.Runs.{Event, ByThread, log_of, turns_of, word_after, births_after, MayHappen, IsRun}
 use Rattle.colours.proofs.Tests.{test_true, test_yes}
-use Rattle.colours.proofs.Stages.{handshake}
+use Rattle.colours.specs.Stages.{handshake}
 use Rattle.collector_law.specs.Invariant as law
 use Rattle.collector_law.proofs.Puts.{put_word, here_or_not, put_word-here, put_word-other}
 use Rattle.collector_law.proofs.Write.{after_store, IsStoring, written}

@@ -8,7 +8,7 @@ use Rattle.colours.specs.Colours.{done}
 use Rattle.colours.specs.Steps.{Step}
 use Rattle.colours.specs.Mutator.{Phase, stage_of, phase_of, phase_after, MayFollow, MayUse, Held, Fresh, gains, wins}
 use Rattle.colours.specs.Runs.{Event, ByThread, log_of, word_after, births_after, MayHappen, IsRun}
-use Rattle.colours.proofs.Stages.{no_more, handshake}
+use Rattle.colours.specs.Stages.{no_more, handshake}
 use Rattle.collector_law.specs.Invariant as law
 use Rattle.collector_law.proofs.Puts.{put, put-here, put-other}
 use Rattle.collector_law.proofs.Match.{IsInvariant, flat, seen, stage_in, Shows}

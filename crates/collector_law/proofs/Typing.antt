@@ -11,7 +11,7 @@ use Rattle.colours.specs.Mutator.{MayStore, IsDisciplined}
 use Rattle.colours.specs.Runs.{Event, ByThread, ByCollector, log_of, word_after, IsRun, KeepsDiscipline, puts, value_put}
 use Rattle.collector_law.specs.Laws.{FitsKind}
 use Rattle.colours.proofs.Tests.{and_parts, test_true}
-use Rattle.colours.proofs.Frames.{word_left}
+use Rattle.colours.specs.Frames.{word_left}
 
 -- the globals fit at the start
 at_start : (s : Setup) (k : Option WordKind) (v : ℕ) → IsStartOf k v → FitsKind s k v

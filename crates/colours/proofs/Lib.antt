@@ -1,7 +1,4 @@
 pub mod Tests
-pub mod Frames
-pub mod Stages
-pub mod Lists
 pub mod Barriers
 pub mod Tries
 mod FirstTurns

@@ -3,3 +3,4 @@ pub mod Laws
 pub mod Grammar
 pub mod Takes
 pub mod Many
+pub mod Turns

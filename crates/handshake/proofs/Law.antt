@@ -10,7 +10,7 @@ use Rattle.colours.specs.Steps.{Step, ReadWord, ReadOldValue, Mark, StoreBehindB
 use Rattle.colours.specs.Mutator.{Phase, Ready, MarkingOld, MarkingNew, Writing, Trying, Answering, Ended, Absent, Arriving, Entering, Leaving, stage_of, phase_of, MayFollow, Held, Fresh, gains, Keeps, wins, stores, is_answer, IsDisciplined, MayUse, MayStore, IsPossible, MayFind}
 use Rattle.colours.specs.Runs.{Event, ByThread, ByCollector, log_of, word_after, births_after, given, puts, value_put, IsAlive, MayHappen, IsRun, KeepsDiscipline, IsHeapRun, HasNoTurn, Kept, globals, held, further, birth_used, TouchesAlive}
 use Rattle.colours.proofs.Tests.{and_parts, test_true, test_false, test_yes, not_null}
-use Rattle.colours.proofs.Frames.{word_left, won_blue, alive_stays}
+use Rattle.colours.specs.Frames.{word_left, won_blue, alive_stays}
 
 -- what a word of this kind holds: an integer that fits, or null or a reference that is alive
 abbrev pub IsSound : Setup → List Event → Option WordKind → (value birth : ℕ) → Type 0

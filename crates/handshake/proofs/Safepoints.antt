@@ -8,7 +8,7 @@ use Rattle.colours.specs.Steps.{Step, Mark, ReadPosted, StoreStage}
 use Rattle.colours.specs.Mutator.{Ready, Ended, Answering, is_between, non_null}
 use Rattle.colours.specs.Calls.{marks_of_all, marks_of_roots, answer_to, Polling, Makes, AreEntries, MakesExactly, Ends, IsCall, Names, IsSafepoint}
 use Rattle.colours.proofs.Tests.{test_no}
-use Rattle.colours.proofs.Lists.{Silent, listed, list_made, list_entries}
+use Rattle.colours.specs.Lists.{Silent, listed, list_made, list_entries}
 
 -- ---- lists of roots
 

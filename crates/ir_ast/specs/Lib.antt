@@ -4,3 +4,6 @@ pub mod LocalKeys
 pub mod KeyNames
 pub mod StructNames
 pub mod Numbers
+pub mod Keys
+pub mod Places
+pub mod TypePlaces

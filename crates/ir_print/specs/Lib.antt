@@ -6,6 +6,3 @@ pub mod Blocks
 pub mod Items
 pub mod Standing
 pub mod Fits
-pub mod Readings
-pub mod Ends
-pub mod Stars

@@ -23,10 +23,10 @@ use Rattle.ir_forms.specs.Names.{is_at}
 use Rattle.ir_forms.specs.Written as w
 use Rattle.ir_forms.specs.Written.{no_parameters, integer, bits_at, begins_unread_type}
 use Rattle.ir_print.specs.Standing.{Stands, IsSeam, AreBlanks}
-use Rattle.ir_print.proofs.Constants.{integer_types_are_read, are_digits}
+use Rattle.ir_print_law.proofs.Constants.{integer_types_are_read, are_digits}
 use Rattle.name_text.specs.declared.blank.Blank.TheVariants as blank
-use Rattle.name_text.proofs.Reading.{name_spelled}
-use Rattle.ir_print.proofs.Words.{sign_comes, number_comes, local_comes, seen}
+use Rattle.name_text.specs.Reading.{name_spelled}
+use Rattle.ir_print_law.proofs.Words.{sign_comes, number_comes, local_comes, seen}
 use Rattle.ir_print_law.specs.Definitions.{defined_structs}
 use Rattle.ir_print_law.specs.Shapes.{Shape, Integer, Pointer, Array, Empty, Struct, Named, HasShape, IsWritten, IsStruct, levels}
 use Rattle.ir_print_law.proofs.State.{Invariant, Ready, Reads, Any}

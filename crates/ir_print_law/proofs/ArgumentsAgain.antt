@@ -38,7 +38,7 @@ use Rattle.ir_forms.specs.declared.decorating.Spot.{Spot}
 use Rattle.ir_forms.specs.declared.decorating.Spot.TheVariants as spot
 use Rattle.ir_forms.specs.Input.{unexpected}
 use Rattle.ir_print.specs.Operands.{listed}
-use Rattle.ir_print.proofs.Words.{seen}
+use Rattle.ir_print_law.proofs.Words.{seen}
 use Rattle.ir_print_law.proofs.Steps.{sign_kind, test_reads}
 use Rattle.ir_print_law.proofs.OperandsAgain.{begins_operand, operand_begins}
 use Rattle.ir_print_law.proofs.PlaceOperations.{later_shape}

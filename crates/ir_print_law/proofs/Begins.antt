@@ -13,10 +13,10 @@ use Rattle.ir_forms.specs.Place.{Place}
 use Rattle.ir_forms.specs.Branches as branches
 use Rattle.ir_print.specs.Instructions.{op_text, ends_block}
 use Rattle.ir_print.specs.Names.{key_text}
-use Rattle.ir_print.specs.Readings.{IsKey}
+use Rattle.ir_print_law.specs.Readings.{IsKey}
 use Rattle.ir_print.specs.Standing.{Stands, IsSeam, AreBlanks}
-use Rattle.ir_print.proofs.NamesRead.{digits_text, name_key_text}
-use Rattle.ir_print.proofs.Words.{word_comes, local_comes, local_number_comes}
+use Rattle.ir_print_law.proofs.NamesRead.{digits_text, name_key_text}
+use Rattle.ir_print_law.proofs.Words.{word_comes, local_comes, local_number_comes}
 use Rattle.ir_print_law.specs.Printable.{gives_value}
 use Rattle.ir_print_law.proofs.OpNeeds.{begins_body_line}
 

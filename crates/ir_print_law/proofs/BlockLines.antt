@@ -16,7 +16,7 @@ use Rattle.ir_text.specs.Blocks.{block}
 use Rattle.ir_print.specs.Blocks.{block_text}
 use Rattle.ir_print.specs.Instructions.{instruction_line, ends_block}
 use Rattle.ir_print.specs.Names.{name_at, key_text}
-use Rattle.ir_print.specs.Readings.{IsKey}
+use Rattle.ir_print_law.specs.Readings.{IsKey}
 use Rattle.ir_print_law.specs.Definitions.{result_keys, value_keys_of, block_keys}
 use Rattle.ir_print_law.specs.Printable.{IsOp, IsBlock, AreInner}
 use Rattle.ir_print_law.proofs.Tables.{stays}

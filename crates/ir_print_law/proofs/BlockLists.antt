@@ -17,7 +17,7 @@ use Rattle.ir_print.specs.Blocks.{block_text}
 use Rattle.ir_print.specs.Instructions.{instruction_line}
 use Rattle.ir_print.specs.Names.{name_at, key_text}
 use Rattle.ir_print.specs.Standing.{Stands}
-use Rattle.ir_print.proofs.Words.{sign_comes, seen}
+use Rattle.ir_print_law.proofs.Words.{sign_comes, seen}
 use Rattle.ir_print_law.specs.Definitions.{block_keys, value_keys_of}
 use Rattle.ir_print_law.specs.Printable.{IsBlock}
 use Rattle.ir_print_law.specs.Again.{AreAlike, IsBlockAgain}

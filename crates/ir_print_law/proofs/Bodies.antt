@@ -19,7 +19,7 @@ use Rattle.ir_forms.specs.ManyWith.{Follows}
 use Rattle.ir_forms.specs.Sites.{is_phi, behind}
 use Rattle.ir_print.specs.Instructions.{op_text, instruction_line, ends_block}
 use Rattle.ir_print.specs.Names.{name_at}
-use Rattle.ir_print.specs.Readings.{IsKey}
+use Rattle.ir_print_law.specs.Readings.{IsKey}
 use Rattle.ir_print.specs.Standing.{Stands, IsSeam}
 use Rattle.ir_print_law.specs.Definitions.{result_keys}
 use Rattle.ir_print_law.specs.Printable.{IsInner, AreInner}

@@ -48,8 +48,8 @@ use Rattle.name_text.specs.Readings.{AreBytes}
 use Rattle.name_text.specs.declared.blank.Blank.TheVariants as blank
 use Rattle.ir_print.specs.Names.{name_at, global_text}
 use Rattle.ir_print.specs.Operands.{listed}
-use Rattle.ir_print.proofs.NamesRead.{callees_are_read}
-use Rattle.ir_print.proofs.Words.{global_comes}
+use Rattle.ir_print_law.proofs.NamesRead.{callees_are_read}
+use Rattle.ir_print_law.proofs.Words.{global_comes}
 use Rattle.ir_print_law.specs.Printable.{IsVoid}
 use Rattle.ir_print_law.specs.Definitions.{functions_of}
 use Rattle.ir_print_law.proofs.OperandsAgain.{symbol_ready, symbol_grows, symbol_few, symbol_there, sign_less}

@@ -25,7 +25,7 @@ use Rattle.ir_print.specs.Names.{name_at, global_text}
 use Rattle.ir_print.specs.Operands.{listed}
 use Rattle.ir_print.specs.Standing.{AreBlanks}
 use Rattle.ir_print.specs.Types.{type_text}
-use Rattle.ir_print.proofs.Words.{global_comes}
+use Rattle.ir_print_law.proofs.Words.{global_comes}
 use Rattle.ir_print_law.specs.Definitions.{defined_globals}
 use Rattle.ir_print_law.specs.Printable.{IsDeclare}
 use Rattle.ir_print_law.specs.Shapes.{IsIn}

@@ -20,7 +20,7 @@ use Rattle.ir_text.specs.Parameters.{declared_parameter, declared_name, declared
 use Rattle.ir_print.specs.Operands.{listed}
 use Rattle.ir_print.specs.Standing.{Stands, IsSeam, AreBlanks}
 use Rattle.ir_print.specs.Types.{type_text}
-use Rattle.ir_print.proofs.Words.{comma_comes, close_round_comes, seen}
+use Rattle.ir_print_law.proofs.Words.{comma_comes, close_round_comes, seen}
 use Rattle.ir_print_law.specs.Printable.{IsAnyType}
 use Rattle.ir_print_law.proofs.Tables.{begins_itself}
 use Rattle.ir_print_law.specs.Again.{AreAlike}

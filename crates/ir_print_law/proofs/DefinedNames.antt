@@ -9,8 +9,8 @@ use Rattle.ir_forms.specs.Number as numbers
 use Rattle.ir_tokens.specs.Bytes.{Text, is_digit}
 use Rattle.name_text.specs.Readings.{AreBytes}
 use Rattle.ir_print.specs.Standing.{AreDigits}
-use Rattle.name_text.proofs.Spelled.{number_is}
-use Rattle.ir_print.proofs.Constants.{are_digits}
+use Rattle.name_text.specs.Spelled.{number_is}
+use Rattle.ir_print_law.proofs.Constants.{are_digits}
 use Rattle.ir_print_law.specs.Definitions.{AreDefined}
 use Rattle.ir_print_law.specs.Shapes.{IsIn}
 

@@ -39,7 +39,7 @@ use Rattle.ir_print_law.proofs.OperationsAgain.{on}
 use Rattle.std.specs.List.{flat_map}
 use Rattle.ir_forms.specs.ManyWith.{Follows}
 use Rattle.ir_print.specs.Names.{name_at}
-use Rattle.ir_print.proofs.Words.{seen}
+use Rattle.ir_print_law.proofs.Words.{seen}
 use Rattle.ir_print_law.proofs.Steps.{sign_kind, said_then}
 use Rattle.ir_print_law.proofs.PlaceOperations.{later_shape}
 use Rattle.ir_ast.specs.declared.op.Case.{Case}
@@ -51,7 +51,7 @@ use Rattle.ir_print.specs.Fits.{FitsType}
 use Rattle.ir_print.specs.Instructions.{case_text, target_text}
 use Rattle.ir_print.specs.Names.{local_text}
 use Rattle.ir_print.specs.Operands.{constant_text}
-use Rattle.ir_print.proofs.Constants.{constant_is_read}
+use Rattle.ir_print_law.proofs.Constants.{constant_is_read}
 use Rattle.ir_print_law.specs.Printable.{IsTarget, AreCases, IsOp}
 use Rattle.ir_print.specs.Instructions.{ends_block}
 use Rattle.ir_forms.specs.Names.{target}

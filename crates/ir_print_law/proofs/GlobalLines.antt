@@ -33,8 +33,8 @@ use Rattle.ir_print.specs.Names.{name_at, global_text}
 use Rattle.ir_print.specs.Operands.{constant_text, is_bit, number_text, truth_text, bit_of}
 use Rattle.ir_print.specs.Standing.{Stands, IsSeam, AreBlanks}
 use Rattle.ir_print.specs.Types.{type_text}
-use Rattle.ir_print.proofs.Constants.{are_digits, constants_are_read}
-use Rattle.ir_print.proofs.Words.{global_comes, word_comes, number_comes}
+use Rattle.ir_print_law.proofs.Constants.{are_digits, constants_are_read}
+use Rattle.ir_print_law.proofs.Words.{global_comes, word_comes, number_comes}
 use Rattle.ir_print_law.specs.Printable.{IsGlobal, IsInitial}
 use Rattle.ir_print_law.specs.Shapes.{IsIn, Shape, Integer, Pointer, Array, Empty, Struct, Named, HasShape, bits_of_shape}
 use Rattle.ir_print_law.proofs.Tables.{stays, begins_itself}

@@ -17,7 +17,7 @@ use Rattle.ir_print.specs.Items.{function_text, declare_line, global_line, globa
 use Rattle.ir_ast.specs.declared.items_of_module.Global.{Global}
 use Rattle.ir_print_law.proofs.GlobalLines.{global_goes, line_is, behind_word}
 use Rattle.ir_print_law.proofs.DeclareLists.{declared_names, declares_begin, declares_go, later_than}
-use Rattle.ir_print.proofs.Words.{global_comes}
+use Rattle.ir_print_law.proofs.Words.{global_comes}
 use Rattle.ir_ast.specs.declared.items_of_module.Declare.{Declare}
 use Rattle.ir_print_law.proofs.Types.{Comes}
 use Rattle.ir_print_law.proofs.Results.{begins_item}

@@ -29,7 +29,7 @@ use Rattle.ir_text.specs.Late.{is_right}
 use Rattle.ir_text.specs.Late as late
 use Rattle.ir_forms.specs.RuntimeNames.{is_left_out}
 use Rattle.name_text.specs.Readings.{AreBytes}
-use Rattle.ir_print.specs.Readings.{IsKey}
+use Rattle.ir_print_law.specs.Readings.{IsKey}
 use Rattle.ir_print_law.specs.Definitions.{defined_structs, defined_globals}
 use Rattle.ir_print_law.specs.Shapes.{IsIn}
 use Rattle.ir_print_law.proofs.State.{Invariant, used_keys, used_symbols}

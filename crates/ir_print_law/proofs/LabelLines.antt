@@ -20,11 +20,11 @@ use Rattle.ir_text.specs.Blocks.{block_label, label_by}
 use Rattle.name_text.specs.Names.{name_text}
 use Rattle.name_text.specs.declared.blank.Blank.TheVariants as blank
 use Rattle.ir_print.specs.Names.{key_text}
-use Rattle.ir_print.specs.Readings.{IsKey}
+use Rattle.ir_print_law.specs.Readings.{IsKey}
 use Rattle.ir_print.specs.Standing.{Stands}
-use Rattle.ir_print.proofs.Constants.{are_digits}
-use Rattle.ir_print.proofs.NamesRead.{digits_text, name_key_text, labels_are_read}
-use Rattle.ir_print.proofs.Words.{label_comes}
+use Rattle.ir_print_law.proofs.Constants.{are_digits}
+use Rattle.ir_print_law.proofs.NamesRead.{digits_text, name_key_text, labels_are_read}
+use Rattle.ir_print_law.proofs.Words.{label_comes}
 use Rattle.ir_print_law.specs.Shapes.{IsIn}
 use Rattle.ir_print_law.proofs.Tables.{begins_itself, name_begins, name_length, name_there, number_within}
 use Rattle.ir_print_law.proofs.State.{Ready}

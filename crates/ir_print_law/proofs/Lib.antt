@@ -89,3 +89,13 @@ pub mod DeclareLists
 pub mod GlobalLists
 pub mod StructLists
 pub mod Whole
+pub mod Constants
+pub mod EndsRead
+pub mod NamesRead
+pub mod Numbered
+pub mod Seams
+pub mod Spelled
+pub mod Standing
+pub mod StarsRead
+pub mod Words
+pub mod Worked

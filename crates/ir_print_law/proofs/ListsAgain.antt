@@ -46,7 +46,7 @@ use Rattle.ir_ast.specs.declared.op.Incoming.{Incoming}
 use Rattle.ir_forms.specs.Cursor.{kind_behind}
 use Rattle.ir_print.specs.Names.{name_at}
 use Rattle.ir_print.specs.Operands.{listed}
-use Rattle.ir_print.proofs.Words.{seen, sign_comes}
+use Rattle.ir_print_law.proofs.Words.{seen, sign_comes}
 use Rattle.ir_print_law.proofs.Steps.{sign_kind}
 use Rattle.ir_print_law.proofs.PlaceOperations.{later_shape}
 use Rattle.ir_print_law.proofs.ArgumentsAgain.{ends_line, EndsLine, listed_by}

@@ -17,14 +17,14 @@ use Rattle.ir_forms.specs.Place.{Place}
 use Rattle.ir_forms.specs.Table.{mentioned}
 use Rattle.ir_forms.specs.declared.input.Input.{Input}
 use Rattle.ir_forms.specs.Names as names
-use Rattle.ir_print.specs.Readings.{IsKey}
+use Rattle.ir_print_law.specs.Readings.{IsKey}
 use Rattle.ir_print.specs.Standing.{Stands, AreDigits}
-use Rattle.name_text.proofs.Spelled.{number_is}
-use Rattle.ir_print.proofs.Constants.{are_digits}
-use Rattle.name_text.proofs.Seams.{both}
-use Rattle.ir_print.proofs.Spelled.{label_number_read, label_number_spelled}
-use Rattle.ir_print.proofs.Standing.{Comes, comes}
-use Rattle.ir_print.proofs.Words.{no_gap, second_of}
+use Rattle.name_text.specs.Spelled.{number_is}
+use Rattle.ir_print_law.proofs.Constants.{are_digits}
+use Rattle.name_text.specs.Seams.{both}
+use Rattle.ir_print_law.proofs.Spelled.{label_number_read, label_number_spelled}
+use Rattle.ir_print_law.proofs.Standing.{Comes, comes}
+use Rattle.ir_print_law.proofs.Words.{no_gap, second_of}
 use Rattle.ir_print_law.proofs.WholeForms.{few}
 
 -- ---- labels that are numbers

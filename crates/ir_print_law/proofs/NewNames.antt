@@ -12,8 +12,8 @@ use Rattle.name_text.specs.Names.{name_text}
 use Rattle.name_text.specs.Readings.{AreBytes}
 use Rattle.name_text.specs.declared.blank.Blank.TheVariants as blank
 use Rattle.ir_print.specs.Standing.{IsSeam, AreBlanks}
-use Rattle.name_text.proofs.Reading.{name_spelled}
-use Rattle.ir_print.proofs.Words.{local_comes, global_comes}
+use Rattle.name_text.specs.Reading.{name_spelled}
+use Rattle.ir_print_law.proofs.Words.{local_comes, global_comes}
 use Rattle.ir_print_law.specs.Shapes.{IsIn}
 use Rattle.ir_print_law.proofs.Tables.{begins_itself, name_begins, name_length, name_there, number_within}
 use Rattle.ir_print_law.proofs.State.{Ready}

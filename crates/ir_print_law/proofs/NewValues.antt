@@ -19,10 +19,10 @@ use Rattle.name_text.specs.Readings.{AreBytes}
 use Rattle.name_text.specs.declared.blank.Blank.TheVariants as blank
 use Rattle.ir_print.specs.Names.{key_text}
 use Rattle.ir_print.specs.Standing.{Stands, IsSeam, AreBlanks}
-use Rattle.ir_print.proofs.Constants.{are_digits}
-use Rattle.ir_print.proofs.NamesRead.{digits_text, name_key_text, new_values_are_read}
-use Rattle.ir_print.proofs.Numbered.{numbered_values_are_read}
-use Rattle.ir_print.proofs.Words.{local_comes, local_number_comes}
+use Rattle.ir_print_law.proofs.Constants.{are_digits}
+use Rattle.ir_print_law.proofs.NamesRead.{digits_text, name_key_text, new_values_are_read}
+use Rattle.ir_print_law.proofs.Numbered.{numbered_values_are_read}
+use Rattle.ir_print_law.proofs.Words.{local_comes, local_number_comes}
 use Rattle.ir_print_law.specs.Shapes.{IsIn}
 use Rattle.ir_print_law.proofs.Tables.{begins_itself, name_begins, name_length, name_there, number_within}
 use Rattle.ir_print_law.proofs.State.{Ready}

@@ -18,8 +18,8 @@ use Rattle.ir_tokens.specs.Names.{spelling, bare, unquoted, name_of}
 use Rattle.ir_tokens.specs.Tokens.{token, token_by, word, number, quote, local, local_by, global, global_by, group, group_by, metadata, metadata_by, name, digits, quotation, sign, label_or, Cut, IsLexed}
 use Rattle.ir_forms.specs.Cursor.{is_local_number}
 use Rattle.ir_print.specs.Standing.{AreDigits}
-use Rattle.name_text.proofs.Seams.{both}
-use Rattle.name_text.proofs.Reading.{digits_spelled}
+use Rattle.name_text.specs.Seams.{both}
+use Rattle.name_text.specs.Reading.{digits_spelled}
 
 -- a number in place of a local name spells digits
 abbrev pub SpellsDigits : Text → Token → Type 0

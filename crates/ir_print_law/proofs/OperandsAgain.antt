@@ -33,10 +33,10 @@ use Rattle.ir_print.specs.Names.{name_at, key_text, local_text, global_text}
 use Rattle.ir_print.specs.Operands.{is_bit, number_text, constant_text, operand_text, cast_text}
 use Rattle.ir_print.specs.Standing.{Stands, IsSeam, AreBlanks}
 use Rattle.ir_print.specs.Types.{type_text}
-use Rattle.ir_print.proofs.Constants.{constant_is_read}
-use Rattle.ir_print.proofs.NamesRead.{local_operands_are_read}
-use Rattle.name_text.proofs.Reading.{name_spelled}
-use Rattle.ir_print.proofs.Words.{global_comes, sign_comes, word_comes}
+use Rattle.ir_print_law.proofs.Constants.{constant_is_read}
+use Rattle.ir_print_law.proofs.NamesRead.{local_operands_are_read}
+use Rattle.name_text.specs.Reading.{name_spelled}
+use Rattle.ir_print_law.proofs.Words.{global_comes, sign_comes, word_comes}
 use Rattle.ir_print_law.specs.Printable.{IsType, IsGlobalUse, IsOperand}
 use Rattle.ir_print_law.specs.Shapes.{IsIn, Shape, Integer, Pointer, Array, Empty, Struct, Named, HasShape, bits_of_shape, is_pointer_shape}
 use Rattle.ir_print_law.proofs.Tables.{Begins, begins_itself, stays, name_begins, name_length, name_there, number_within}

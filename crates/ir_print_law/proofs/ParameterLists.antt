@@ -24,10 +24,10 @@ use Rattle.ir_text.specs.Parameters.{parameter, parameter_type, parameter_type_b
 use Rattle.ir_print.specs.Items.{parameter_text}
 use Rattle.ir_print.specs.Names.{key_text, local_text}
 use Rattle.ir_print.specs.Operands.{listed}
-use Rattle.ir_print.specs.Readings.{IsKey}
+use Rattle.ir_print_law.specs.Readings.{IsKey}
 use Rattle.ir_print.specs.Standing.{Stands, IsSeam, AreBlanks}
 use Rattle.ir_print.specs.Types.{type_text}
-use Rattle.ir_print.proofs.Words.{seen, comma_comes, close_round_comes}
+use Rattle.ir_print_law.proofs.Words.{seen, comma_comes, close_round_comes}
 use Rattle.ir_print_law.specs.Definitions.{parameter_key}
 use Rattle.ir_print_law.specs.Printable.{IsParameter, IsType}
 use Rattle.ir_print_law.specs.Shapes.{Shape}

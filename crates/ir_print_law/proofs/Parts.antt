@@ -30,8 +30,8 @@ use Rattle.ir_print.specs.Operands.{operand_text, typed_text, argument_text}
 use Rattle.ir_print.specs.Instructions.{op_text, typed, pair_text, target_text}
 use Rattle.ir_print.specs.Standing.{IsSeam, AreBlanks}
 use Rattle.ir_print.specs.Types.{type_text}
-use Rattle.ir_print.proofs.NamesRead.{locals_are_read}
-use Rattle.ir_print.proofs.Words.{sign_comes}
+use Rattle.ir_print_law.proofs.NamesRead.{locals_are_read}
+use Rattle.ir_print_law.proofs.Words.{sign_comes}
 use Rattle.ir_print_law.specs.Printable.{IsOperand, IsArgument, ArePair, IsTarget}
 use Rattle.ir_print_law.specs.Shapes.{IsIn, Shape, HasShape, bits_of_shape}
 use Rattle.ir_print_law.proofs.Tables.{stays}

@@ -23,8 +23,8 @@ use Rattle.name_text.specs.declared.blank.Blank.TheVariants as blank
 use Rattle.ir_print.specs.Standing.{Stands, IsSeam, AreBlanks}
 use Rattle.ir_print.specs.Types.{type_text}
 use Rattle.ir_print.specs.Types as printed
-use Rattle.ir_print.proofs.NamesRead.{collectors_are_read}
-use Rattle.ir_print.proofs.Words.{sign_comes, word_comes, global_comes, seen}
+use Rattle.ir_print_law.proofs.NamesRead.{collectors_are_read}
+use Rattle.ir_print_law.proofs.Words.{sign_comes, word_comes, global_comes, seen}
 use Rattle.ir_print_law.specs.Printable.{IsVoid, IsPassed, IsAnyType, IsCollector}
 use Rattle.ir_print_law.proofs.Tables.{stays}
 use Rattle.ir_print_law.proofs.State.{Invariant, Ready, Reads, IsLater}

@@ -12,7 +12,7 @@ use Rattle.ir_forms.specs.declared.uses.Wanted.TheVariants as wants
 use Rattle.ir_text.specs.Read.{start}
 use Rattle.name_text.specs.Readings.{AreBytes}
 use Rattle.ir_print.specs.Names.{name_at}
-use Rattle.ir_print.specs.Readings.{IsKey}
+use Rattle.ir_print_law.specs.Readings.{IsKey}
 use Rattle.ir_print_law.specs.Definitions.{AreDefined, defined_keys, parameter_keys, block_keys, value_keys_of, value_keys, label_keys, defined_globals, functions_of}
 use Rattle.ir_print_law.specs.Printable.{IsFunction, IsPrintable, IsSymbol}
 use Rattle.ir_print_law.specs.Shapes.{IsIn}

@@ -14,7 +14,7 @@ use Rattle.ir_forms.specs.Names.{is_function, with_struct_use, with_symbol_use, 
 use Rattle.ir_forms.specs.Written.{with_type_interned}
 use Rattle.ir_forms.specs.RuntimeNames.{is_left_out}
 use Rattle.name_text.specs.Readings.{AreBytes}
-use Rattle.ir_print.specs.Readings.{IsKey}
+use Rattle.ir_print_law.specs.Readings.{IsKey}
 use Rattle.ir_print.specs.Standing.{Stands}
 use Rattle.ir_print_law.specs.Definitions.{value_keys, label_keys, target_keys, defined_structs, defined_globals, functions_of}
 use Rattle.ir_print_law.specs.Shapes.{IsIn}

@@ -19,7 +19,7 @@ use Rattle.ir_forms.specs.Input.{Form, left, advanced, skip, expect, sees_is}
 use Rattle.ir_forms.specs.Written.{intern, with_type_interned, place_in_table}
 use Rattle.name_text.specs.Names.{is_plain}
 use Rattle.ir_print.specs.Standing.{Stands, IsSeam, AreBlanks}
-use Rattle.ir_print.proofs.Words.{word_comes, sign_comes, expected}
+use Rattle.ir_print_law.proofs.Words.{word_comes, sign_comes, expected}
 use Rattle.ir_print_law.proofs.Tables.{IsRestBefore, begins_itself, begins_further, type_within, type_begins, type_there, type_ordered, type_length}
 use Rattle.ir_print_law.proofs.State.{Invariant, HasRoom, Ready, Grows, IsLater, Reads}
 

@@ -20,7 +20,7 @@ use Rattle.name_text.specs.declared.blank.Blank.TheVariants as blank
 use Rattle.ir_print.specs.Names.{name_at, struct_text}
 use Rattle.ir_print.specs.Standing.{Stands, AreBlanks}
 use Rattle.ir_print.specs.Types.{type_text}
-use Rattle.ir_print.proofs.Words.{sign_comes}
+use Rattle.ir_print_law.proofs.Words.{sign_comes}
 use Rattle.ir_print_law.specs.Printable.{IsType}
 use Rattle.ir_print_law.specs.Shapes.{IsIn, Shape, Integer, Pointer, Array, Empty, Struct, Named, HasShape, is_struct_shape}
 use Rattle.ir_print_law.proofs.Tables.{stays, begins_itself}

@@ -20,7 +20,7 @@ use Rattle.ir_ast.specs.declared.items_of_module.StructType.{StructType}
 use Rattle.ir_print_law.proofs.StructLines.{struct_goes, line_is}
 use Rattle.ir_print_law.proofs.GlobalLists.{global_names, functions_text, GlobalsGo}
 use Rattle.ir_print_law.proofs.DeclareLists.{declared_names, later_than}
-use Rattle.ir_print.proofs.Words.{local_comes}
+use Rattle.ir_print_law.proofs.Words.{local_comes}
 use Rattle.ir_print.specs.Types.{type_text}
 use Rattle.ir_ast.specs.declared.items_of_module.Declare.{Declare}
 use Rattle.ir_print_law.proofs.FunctionLists.{function_names}

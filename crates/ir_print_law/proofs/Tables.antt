@@ -4,7 +4,7 @@ use Rattle.std.specs.Prelude.{nat_lt, eqb}
 use Rattle.std.specs.List.{position_or_len}
 use Rattle.std.proofs.lemmas.Bool.Decides.{nat_tests}
 use Rattle.std.proofs.lemmas.List.Folds.{prefix_len-append}
-use Rattle.ir_ast.proofs.Places.{place_is_end}
+use Rattle.ir_ast.specs.Places.{place_is_end}
 use Rattle.std.proofs.lemmas.Option.{slice_get-get_or}
 use Rattle.std.proofs.lemmas.Slice.Eq.{bytes_eq-Decides}
 use Rattle.std.proofs.lemmas.List.{append-nil}
@@ -13,7 +13,7 @@ use Rattle.std.specs.Str.{bytes_eq}
 use Rattle.ir_ast.specs.Names.{place_of, number_of, numbered}
 use Rattle.ir_ast.specs.Types.{place_of_type, number_of_type, numbered_type, is_same_type}
 use Rattle.ir_ast.specs.declared.ir_type.IrType.{IrType}
-use Rattle.ir_ast.proofs.TypePlaces.{stands}
+use Rattle.ir_ast.specs.TypePlaces.{stands}
 use Rattle.ir_tokens.specs.Bytes.{Text}
 use Rattle.ir_ast.specs.declared.ir_type.IrType.TheVariants as type
 

@@ -27,12 +27,12 @@ use Rattle.name_text.specs.Names.{name_text, is_plain, quoted_text}
 use Rattle.name_text.specs.Readings.{AreBytes}
 use Rattle.name_text.specs.declared.blank.Blank.TheVariants as blank
 use Rattle.ir_print.specs.Standing.{Stands, IsSeam, AreBlanks, AreDigits}
-use Rattle.ir_print.specs.Stars.{stars}
-use Rattle.name_text.proofs.Spelled.{number_is}
-use Rattle.ir_print.proofs.Constants.{integer_types_are_read, are_digits}
-use Rattle.ir_print.proofs.NamesRead.{struct_names_are_read}
-use Rattle.name_text.proofs.Seams.{both}
-use Rattle.ir_print.proofs.Words.{local_comes, seen}
+use Rattle.ir_print_law.specs.Stars.{stars}
+use Rattle.name_text.specs.Spelled.{number_is}
+use Rattle.ir_print_law.proofs.Constants.{integer_types_are_read, are_digits}
+use Rattle.ir_print_law.proofs.NamesRead.{struct_names_are_read}
+use Rattle.name_text.specs.Seams.{both}
+use Rattle.ir_print_law.proofs.Words.{local_comes, seen}
 use Rattle.ir_print_law.specs.Definitions.{defined_structs}
 use Rattle.ir_print_law.specs.Shapes.{IsIn, Shape, Integer, Pointer, Named, HasShape, levels}
 use Rattle.ir_print_law.proofs.Tables.{AreOrdered, IsRestBefore, begins_itself, name_begins, name_length, place_there, place_stays, number_within}

@@ -10,7 +10,7 @@ use Rattle.ir_ast.specs.declared.module.Module.{Module}
 use Rattle.ir_tokens.specs.declared.token.Kind.TheVariants as k
 use Rattle.ir_tokens.specs.Bytes.{Text}
 use Rattle.ir_tokens.specs.Tokens.{IsLexed, lexed_of, lex_from, past_gap}
-use Rattle.ir_tokens.proofs.Laws.{found}
+use Rattle.ir_tokens.specs.Laws.{found}
 use Rattle.ir_forms.specs.Cursor.{kind, kind_first}
 use Rattle.ir_forms.specs.Place.{Place}
 use Rattle.ir_forms.specs.declared.uses.StructUse.{StructUse}

@@ -22,9 +22,9 @@ use Rattle.ir_forms.specs.Input.{Form, unexpected, advanced, skip, expect, start
 use Rattle.ir_forms.specs.Written as w
 use Rattle.ir_forms.specs.Written.{part, firm, begins_type}
 use Rattle.ir_print.specs.Standing.{Stands, IsSeam, AreBlanks}
-use Rattle.ir_print.specs.Stars.{stars}
-use Rattle.ir_print.proofs.Constants.{integer_types_are_read, are_digits}
-use Rattle.ir_print.proofs.Words.{sign_comes, number_comes, local_comes, seen}
+use Rattle.ir_print_law.specs.Stars.{stars}
+use Rattle.ir_print_law.proofs.Constants.{integer_types_are_read, are_digits}
+use Rattle.ir_print_law.proofs.Words.{sign_comes, number_comes, local_comes, seen}
 use Rattle.ir_print_law.specs.Definitions.{defined_structs}
 use Rattle.ir_print_law.specs.Shapes.{Shape, Integer, Pointer, Array, Empty, Struct, Named, HasShape, IsWritten, IsStruct, levels, is_struct_shape}
 use Rattle.ir_print_law.proofs.State.{Invariant, Ready, Grows, Reads, Any}

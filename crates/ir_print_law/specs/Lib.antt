@@ -6,3 +6,6 @@ pub mod ModuleNames
 pub mod ReadModules
 pub mod Again
 pub mod Printed
+pub mod Ends
+pub mod Stars
+pub mod Readings

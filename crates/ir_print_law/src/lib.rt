@@ -3,6 +3,8 @@
 
 mod print_laws;
 mod printable_laws;
+mod reading_laws;
 
 pub use print_laws::{print_law, printed_again_law};
 pub use printable_laws::{named_law, printable_law};
+pub use reading_laws::{constant_law, end_law, integer_type_law, name_law, star_law};

@@ -4,3 +4,4 @@ pub mod Keywords
 pub mod Names
 pub mod Position
 pub mod Tokens
+pub mod Laws

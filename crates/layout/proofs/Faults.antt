@@ -4,7 +4,7 @@ use Rattle.std.specs.List.{list_any}
 use Rattle.std.specs.Prelude.{slice_get}
 use Rattle.std.proofs.lemmas.List.Quantifiers.{position-Some}
 use Rattle.std.proofs.lemmas.Option.{slice_get-get_or, get_or_from_slice_get, slice_get_within}
-use Rattle.ir_ast.proofs.Places.{none_passes, map-length}
+use Rattle.ir_ast.specs.Places.{none_passes, map-length}
 use Rattle.ir_ast.specs.declared.module.Module.{Module}
 use Rattle.ir_ast.specs.declared.items_of_module.StructType.{StructType}
 use Rattle.pools.specs.declared.word_kind.WordKind.{WordKind}
@@ -18,7 +18,7 @@ use Rattle.layout.specs.Words.{Scalars, word_of, AreWords}
 use Rattle.layout.specs.Layouts.{IsLayout, AreLayoutsOf, AreLayouts, IsFirst, HasNoEnd, HasTooManyWords, PointsNowhere, StructHoldsItself, IsLayoutFault, IsSize, AreSizes}
 use Rattle.layout.specs.Survey.{mark_at, fields_at, IsWithin, IsLarge, MarkFits, IsSettled, is_new, is_endless, is_large, span_of, size_in, struct_is_endless, struct_is_large, struct_fields, points_nowhere, known_word, words_of, fault_by, first_fault}
 use Rattle.layout.specs.Ring.{IsFirstIfAny, at_ring}
-use Rattle.layout.proofs.Rings.{one_list}
+use Rattle.layout.specs.Rings.{one_list}
 use Rattle.layout.proofs.Searches.{order, ring_has_no_end, one_first, none_first}
 use Rattle.layout.proofs.Turns.{length_at}
 use Rattle.types.specs.Elements.{body_in, body_of_layout}

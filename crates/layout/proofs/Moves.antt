@@ -2,7 +2,7 @@
 use Rattle.std.proofs.Common.{◌≡◌, ◌<◌, ◌≤◌, ◌+◌, ◌-◌, ◌*◌, ◌⊎◌, inl, inr, ℕ, zero, suc, false, List, [], ◌∷◌, ◌++◌, length, None, Some, refl, sym, ap, ◌∙◌, subst, arith, length-append, append_assoc}
 use Rattle.std.proofs.lemmas.List.{append-nil}
 use Rattle.std.proofs.lemmas.Option.{slice_get_past}
-use Rattle.layout.proofs.Rings.{expected}
+use Rattle.layout.specs.Rings.{expected}
 use Rattle.std.specs.Prelude.{slice_get, slice_set, replicate}
 use Rattle.ir_ast.specs.declared.module.Module.{Module}
 use Rattle.layout.specs.Words.{Scalars, Scalar, copies}
@@ -12,7 +12,7 @@ use Rattle.layout.specs.declared.survey.Mark.TheVariants.{New, Open, Endless, La
 use Rattle.layout.specs.declared.survey.Span.{Span}
 use Rattle.layout.specs.declared.survey.Turn.{Turn}
 use Rattle.layout.specs.declared.survey.Turn.TheVariants.{Wait, Done, Alone, Join, Repeat}
-use Rattle.layout.proofs.Steps.{part_opened, top_known, fields_behind, is_ready, same_fields, within_more, get_inside, AfterSet, Other, Here, Outside, after_set, set_length, kept_at}
+use Rattle.layout.specs.Steps.{part_opened, top_known, fields_behind, is_ready, same_fields, within_more, get_inside, AfterSet, Other, Here, Outside, after_set, set_length, kept_at}
 use Rattle.layout.proofs.Turns.{length_at, copies_length, turn_right}
 
 -- one copy more at the end

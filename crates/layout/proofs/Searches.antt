@@ -7,8 +7,8 @@ use Rattle.ir_ast.specs.declared.ir_type.IrType.{IrType}
 use Rattle.ir_ast.specs.declared.ir_type.IrType.TheVariants.{Void, Integer, Pointer, Array, EmptyStruct, Struct, Named}
 use Rattle.layout.specs.Layouts.{IsPartOf, Holds, Itself, Deeper, HoldsStruct, StructHoldsItself, HasNoEnd, IsFirst}
 use Rattle.layout.specs.Ring.{is_met, met_with, stack_with, met_body, stack_body, met_parts, stack_parts, Waits, IsPassed, IsSearch, unmet_count, search_left, IsFirstIfAny}
-use Rattle.layout.proofs.Rings.{holds_more, no_end_above_ring}
-use Rattle.layout.proofs.Steps.{get_front, get_last, get_either}
+use Rattle.layout.specs.Rings.{holds_more, no_end_above_ring}
+use Rattle.layout.specs.Steps.{get_front, get_last, get_either}
 use Rattle.types.specs.Elements.{body_of_layout, body_named}
 use Rattle.types.specs.References.{layout_of_struct}
 

@@ -13,7 +13,7 @@ use Rattle.layout.specs.declared.survey.Mark.{Mark}
 use Rattle.layout.specs.declared.survey.Mark.TheVariants.{New, Open, Endless, Large, Known}
 use Rattle.layout.specs.declared.survey.Span.{Span}
 use Rattle.layout.specs.declared.survey.Turn.TheVariants.{Done, Join, Repeat}
-use Rattle.layout.proofs.Rings.{no_end_in_ring, expected}
+use Rattle.layout.specs.Rings.{no_end_in_ring, expected}
 use Rattle.types.specs.Elements.{body_named}
 
 decide : (b : Bool) → (b ≡ true) ⊎ (b ≡ false)

@@ -4,3 +4,5 @@ pub mod Offsets
 pub mod Survey
 pub mod Ring
 pub mod Globals
+pub mod Rings
+pub mod Steps

@@ -1,5 +1,4 @@
 mod Few
-pub mod WrappedFits
 mod AsksArguments
 mod AsksPhis
 mod Phis

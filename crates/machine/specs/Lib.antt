@@ -8,3 +8,4 @@ pub mod Log
 pub mod Start
 pub mod Entered
 pub mod Endings
+pub mod WrappedFits

@@ -5,7 +5,7 @@ use Rattle.certs.specs.declared.section.Section.{Section}
 use Rattle.layout.specs.Layouts.{LaidOut, AreLayouts, AreSizes}
 use Rattle.block_rules.specs.declared.block_fault.BlockFault.{BlockFault}
 use Rattle.block_rules.specs.declared.block_fault.BlockFault.TheVariants as block
-use Rattle.block_check.proofs.Exact.{certified_only}
+use Rattle.block_check.specs.Exact.{certified_only}
 use Rattle.module_check.specs.declared.verdict.Verdict.TheVariants.{Memory}
 use Rattle.module_check.specs.Accepted.{IsAccepted, IsModuleCertified, IsModuleFault, verdict_of_block}
 use Rattle.module_check.proofs.OneLayout.{one_layouts, one_sizes}

@@ -5,7 +5,7 @@ use Rattle.ir_ast.specs.declared.items_of_module.StructType.{StructType}
 use Rattle.pools.specs.declared.word_kind.WordKind.{WordKind}
 use Rattle.layout.specs.Words.{AreWords}
 use Rattle.layout.specs.Layouts.{IsLayout, AreLayouts, AreLayoutsOf, IsSize, AreSizes}
-use Rattle.layout.proofs.Rings.{one_list}
+use Rattle.layout.specs.Rings.{one_list}
 
 -- fields have one list of words
 one_words : (m : Module) (fields : List ℕ) (a b : List WordKind) → AreWords m fields a → AreWords m fields b → a ≡ b

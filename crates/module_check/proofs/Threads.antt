@@ -1,7 +1,7 @@
 -- What a certified module promises: its threads keep to the discipline, and all their runs are safe.
 use Rattle.std.proofs.Common.{ℕ, ◌<◌, List, length, sym, subst}
 use Rattle.std.specs.Option.{option_map_or}
-use Rattle.layout.proofs.Steps.{get_inside}
+use Rattle.layout.specs.Steps.{get_inside}
 use Rattle.layout.specs.Layouts.{LaidOut}
 use Rattle.certs.specs.declared.section.Section.{Section}
 use Rattle.program_safety.specs.Safety.{AreCertified, CertifiedIsNeverWrong, CertifiedIsSafe, IsSafeProgram}

@@ -7,7 +7,7 @@ use Rattle.colours.specs.Mutator.{after_loss, phase_after}
 use Rattle.colours.specs.Steps.{Claim}
 use Rattle.moves.specs.Moving.{IsNextTry, LosesNext, phase_left}
 use Rattle.moves.specs.Stands.{falling, phase_at}
-use Rattle.moves.proofs.Nexts.{falling-length}
+use Rattle.moves.specs.Nexts.{falling-length}
 use Rattle.runs.specs.Machine.{Reference, Alloc}
 use Rattle.moves.specs.declared.call.Call.{Call}
 use Rattle.moves.specs.declared.call.Call.TheVariants as call

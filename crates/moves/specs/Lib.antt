@@ -6,3 +6,10 @@ pub mod Shared
 pub mod Stands
 pub mod Moving
 pub mod Causes
+pub mod Marked
+pub mod Allocs
+pub mod Nexts
+pub mod GoesOn
+pub mod Sights
+pub mod Breaks
+pub mod Drawn

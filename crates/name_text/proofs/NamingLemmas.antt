@@ -3,7 +3,7 @@ use Rattle.std.proofs.Common.{◌≡◌, ℕ, ◌≤◌, ◌^◌, Bool, true, na
 use Rattle.std.proofs.lemmas.Bool.Decides.{nat_tests}
 use Rattle.ir_tokens.specs.declared.lexed.Lexed.{Lexed}
 use Rattle.ir_tokens.specs.Tokens.{IsLexed, lexed_of}
-use Rattle.ir_tokens.proofs.Laws.{found}
+use Rattle.ir_tokens.specs.Laws.{found}
 use Rattle.ir_tokens.specs.Bytes.{Text}
 use Rattle.name_text.specs.Naming.{name_from, name_in}
 use Rattle.name_text.specs.declared.naming.Sigil.{Sigil}

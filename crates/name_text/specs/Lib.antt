@@ -5,3 +5,7 @@ pub mod Numbers
 pub mod Places
 pub mod Naming
 pub mod Falls
+pub mod Seams
+pub mod Reading
+pub mod Spelled
+pub mod NameWords

@@ -2,3 +2,4 @@ pub mod Layouts
 pub mod Heap
 pub mod Pools
 pub mod WordSets
+pub mod Ends

@@ -21,7 +21,7 @@ use Rattle.runs.specs.Moves.{Move, Works, ReadsWord, StoresBehindBarrier, Stores
 use Rattle.runs.specs.Discipline as discipline
 use Rattle.runs.specs.Discipline.{Holds, MayName, MayPut, MayCall, IsPossibleMove}
 use Rattle.runs.specs.Soundness.{EndsCall}
-use Rattle.runs.proofs.Shares.{holds_held}
+use Rattle.runs.specs.Shares.{holds_held}
 use Rattle.program_safety.specs.Threads.{in_run, at_thread, reference_in, stored, asked_as, null_or_cell, word_read, given_as}
 use Rattle.program_safety.specs.Sound.{BearsOut}
 use Rattle.program_safety.proofs.Roots.{from_values, among_values}

@@ -20,7 +20,7 @@ use Rattle.moves.specs.declared.stand.Stance.TheVariants.{Ready, MarkingOld, Mar
 use Rattle.moves.specs.declared.stand.Stand.{Stand}
 use Rattle.moves.specs.Runs.{run_by, by_thread, by_collector, next_by, next_turn, collector_behind, with_next}
 use Rattle.moves.specs.Stands.{standing, phase_at, sight_in}
-use Rattle.moves.proofs.Sights.{next_in_words}
+use Rattle.moves.specs.Sights.{next_in_words}
 use Rattle.trace_sweep.specs.Collecting.{Collecting}
 use Rattle.colours.specs.declared.turn.Turn.{Turn}
 use Rattle.stepping.specs.Ends as stepping

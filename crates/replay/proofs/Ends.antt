@@ -15,7 +15,7 @@ use Rattle.moves.specs.declared.shared.Shared.{Shared}
 use Rattle.moves.specs.declared.stand.Stand.{Stand}
 use Rattle.moves.specs.Rows.{word_at}
 use Rattle.moves.specs.Stands.{standing}
-use Rattle.moves.proofs.Drawn.{drawn}
+use Rattle.moves.specs.Drawn.{drawn}
 use Rattle.stepping.specs.Ends as stepping
 use Rattle.program_runner.specs.Threads.{program_machine}
 use Rattle.program_runner.specs.Heaps as heaps

@@ -12,7 +12,7 @@ use Rattle.pools.specs.Heap.{kind_of, IsStartOf, IsSetup}
 use Rattle.layout.specs.Globals.{kind_of_global}
 use Rattle.layout.specs.Layouts.{LaidOut, AreLayouts, AreLayoutsOf}
 use Rattle.layout.specs.Words.{AreWords, word_of}
-use Rattle.machine.proofs.WrappedFits.{wrapped_fits}
+use Rattle.machine.specs.WrappedFits.{wrapped_fits}
 use Rattle.program_runner.specs.Heaps.{heap_of, value_at_start, value_of_global}
 use Rattle.trace_text.specs.declared.trace.Setup.{Setup}
 

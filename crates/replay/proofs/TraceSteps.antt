@@ -4,7 +4,7 @@ use Rattle.std.specs.List.{AllByRecursion}
 use Rattle.std.proofs.lemmas.List.{append-nil, reverse-append, reverse-reverse, length-replicate, length-reverse}
 use Rattle.std.proofs.lemmas.List.Sums.{sum_by-cons}
 use Rattle.layout.specs.Layouts.{LaidOut}
-use Rattle.runs.proofs.Causes.{shows_broken}
+use Rattle.runs.specs.Causes.{shows_broken}
 use Rattle.replay.specs.Runs.{program_machine, heap_of}
 use Rattle.trace_text.specs.Traces.{IsActorOf, IsTraceOf, step_sum}
 use Rattle.trace_text.specs.declared.trace.Setup.{Setup}

@@ -11,8 +11,8 @@ use Rattle.colours.specs.Collector.{Collection, Posting, posted_of, Collects}
 use Rattle.colours.specs.Runs.{Event, ByThread, ByCollector, log_of, turns_of, word_after, births_after, IsRun}
 use Rattle.colours.specs.Safety.{IsFree}
 use Rattle.colours.proofs.Tests.{test_true, test_yes, and_parts}
-use Rattle.colours.proofs.Frames.{won_blue}
-use Rattle.colours.proofs.Stages.{handshake, colour_grows}
+use Rattle.colours.specs.Frames.{won_blue}
+use Rattle.colours.specs.Stages.{handshake, colour_grows}
 use Rattle.run_law.proofs.Frees.{frees, freed_below}
 
 -- the claims of a cell are at most one more than its frees, and no more than these while it is blue

@@ -11,7 +11,7 @@ use Rattle.runs.specs.Machine.{Reference, Action, Read, StorePlain, Write, Alloc
 use Rattle.runs.specs.Moves.{Move, Works, ReadsWord, ReadsOldValue, Marks, StoresBehindBarrier, StoresPlain, Claims, StoresStage, IsIn, next_root}
 use Rattle.runs.specs.NextMoves.{next_move, try_of, mark_or_answer}
 use Rattle.runs.specs.Tries.{lowest}
-use Rattle.runs.proofs.Calls.{get_in}
+use Rattle.runs.specs.Calls.{get_in}
 use Rattle.moves.specs.declared.call.Call.TheVariants as call
 use Rattle.moves.specs.declared.shared.Shared.{Shared}
 use Rattle.moves.specs.declared.stand.Stance.{Stance}
@@ -20,8 +20,8 @@ use Rattle.moves.specs.Kinds.{MayHold, AsksByKind}
 use Rattle.moves.specs.Moving.{IsNextTry, LosesNext, MarksNext}
 use Rattle.moves.specs.Rows.{word_at}
 use Rattle.moves.specs.Stands.{falling, marked_of, phase_at, sight_in}
-use Rattle.moves.proofs.Marked.{next_root-marked}
-use Rattle.moves.proofs.Nexts.{falling-length}
+use Rattle.moves.specs.Marked.{next_root-marked}
+use Rattle.moves.specs.Nexts.{falling-length}
 use Rattle.run_law.proofs.Tries.{of-place, TriesFrom, TriedFrom}
 
 -- the move reads, marks, stores or claims what the action asks for there

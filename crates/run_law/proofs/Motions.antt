@@ -16,8 +16,8 @@ use Rattle.trace_sweep.specs.Turns.{turn_in, behind}
 use Rattle.trace_sweep.specs.Collecting as machine
 use Rattle.trace_sweep.specs.Collecting.{Collecting, plan_of, in_order, moved, NamesCells, stored_by}
 use Rattle.trace_sweep.specs.Stands.{StandsBehind, IsStepOn, ExtendsLogs, ExtendsRun}
-use Rattle.trace_sweep.proofs.Order.{moved-stands}
-use Rattle.trace_sweep.proofs.Extends.{next-extends}
+use Rattle.trace_sweep.specs.Order.{moved-stands}
+use Rattle.trace_sweep.specs.Extends.{next-extends}
 use Rattle.runs.specs.ModuleRuns.{Happening, heap_of, birth_in, cleared_birth}
 use Rattle.moves.specs.declared.shared.Shared.{Shared}
 use Rattle.moves.specs.Kinds.{MayHold}

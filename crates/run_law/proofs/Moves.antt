@@ -21,7 +21,7 @@ use Rattle.moves.specs.Moving.{MayMake, LosesNext}
 use Rattle.moves.specs.Rows.{word_at}
 use Rattle.moves.specs.Shared.{HasShape, CanHold, CanTake}
 use Rattle.moves.specs.Stands.{standing}
-use Rattle.moves.proofs.GoesOn.{same-call}
+use Rattle.moves.specs.GoesOn.{same-call}
 use Rattle.run_law.proofs.Places.{SeesCell}
 use Rattle.run_law.proofs.Shapes.{PutsByKind}
 use Rattle.run_law.proofs.Chosen.{IsChosen, cell-held}

@@ -5,7 +5,7 @@ use Rattle.colours.specs.Mutator.{Ended, stage_of, phase_of}
 use Rattle.colours.specs.Collector.{posted_of}
 use Rattle.colours.specs.Runs.{Event, log_of, turns_of, IsRun}
 use Rattle.colours.specs.Safety.{IsInStep}
-use Rattle.colours.proofs.Stages.{Begun, Handshake, handshake}
+use Rattle.colours.specs.Stages.{Begun, Handshake, handshake}
 
 -- a stage in step with a low one is low, or done
 pub stage_low : (s : Setup) (h : List Event) (t : ℕ) → IsRun s h → t < s.threads → Begun s h t → phase_of s t (log_of t h) ≢ Ended

@@ -8,7 +8,7 @@ use Rattle.runs.specs.Moves.{steps_of, state_after}
 use Rattle.runs.specs.ModuleRuns.{Happening, share_of}
 use Rattle.runs.specs.NextMoves.{Sight, next_move}
 use Rattle.runs.specs.Ends.{next_move_of}
-use Rattle.runs.proofs.Shares.{is_share}
+use Rattle.runs.specs.Shares.{is_share}
 use Rattle.run_law.specs.Bounds.{IsBounded}
 use Rattle.moves.specs.declared.moves.Move.{Move}
 use Rattle.moves.specs.declared.shared.Shared.{Shared}
@@ -19,8 +19,8 @@ use Rattle.moves.specs.Calls.{move_in}
 use Rattle.moves.specs.Kinds.{KeepsKinds}
 use Rattle.moves.specs.Shared.{CanTake}
 use Rattle.moves.specs.Stands.{HasTryLeft, falling, phase_at, standing, sight_in}
-use Rattle.moves.proofs.Allocs.{within}
-use Rattle.moves.proofs.Nexts.{falling-length}
+use Rattle.moves.specs.Allocs.{within}
+use Rattle.moves.specs.Nexts.{falling-length}
 use Rattle.run_law.specs.Growth.{ThreadIsBehind, MoveGrows, ThreadGrows}
 use Rattle.run_law.proofs.Words.{words-grow}
 use Rattle.run_law.proofs.Tries.{pool-within, TriedFrom, TriesFrom, tries-from}

@@ -4,17 +4,17 @@ use Rattle.std.proofs.lemmas.Bool.Decides.{nat_tests}
 use Rattle.std.proofs.lemmas.List.Sums.{sum_by-cons}
 use Rattle.pools.specs.Heap.{Setup, IsOfLayout, layout_of, layout_at, cells, is_late}
 use Rattle.pools.specs.Pools.{first_cell}
-use Rattle.pools.proofs.Ends.{in_pool, pool_ends}
+use Rattle.pools.specs.Ends.{in_pool, pool_ends}
 use Rattle.colours.specs.Colours.{done}
 use Rattle.colours.specs.Mutator.{Phase, Ready, MarkingOld, MarkingNew, Writing, Trying, Answering, Ended, Absent, Arriving, Entering, Leaving, stage_of, phase_of}
 use Rattle.colours.proofs.Tests.{test_false}
 use Rattle.runs.specs.Machine.{Reference, Action, Local, Read, StorePlain, Write, Alloc, Safepoint, End, Wrong, Machine}
 use Rattle.runs.specs.Moves.{Move, Works, GoesWrong, ReadsWord, ReadsOldValue, Marks, StoresBehindBarrier, StoresPlain, Claims, ReadsPosted, StoresStage, ReadsPostedFirst, EntersStage, ReadsPostedAgain, step_of, steps_of, phase_behind, ends_call, answer_of, state_after, old_of, IsOfTry, AsksFor, IsShare}
 use Rattle.runs.specs.Tries.{lowest, IsLowest, TriesLowest}
-use Rattle.runs.proofs.Calls.{phase_with}
-use Rattle.runs.proofs.NextMoves.{ends_between}
+use Rattle.runs.specs.Calls.{phase_with}
+use Rattle.runs.specs.NextMoveLemmas.{ends_between}
 use Rattle.moves.specs.Stands.{falling}
-use Rattle.moves.proofs.Allocs.{within}
+use Rattle.moves.specs.Allocs.{within}
 
 -- ---- pools
 

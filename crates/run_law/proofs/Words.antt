@@ -9,7 +9,7 @@ use Rattle.colours.proofs.Tests.{test_true, test_false, test_yes, test_no}
 use Rattle.runs.specs.Machine.{Reference}
 use Rattle.runs.specs.Moves.{step_of, steps_of}
 use Rattle.runs.specs.ModuleRuns.{Happening, OfThread, share_of, with_step, heap_of, birth_in, left_birth}
-use Rattle.runs.proofs.Shares.{log_is}
+use Rattle.runs.specs.Shares.{log_is}
 use Rattle.moves.specs.declared.moves.Move.{Move}
 use Rattle.moves.specs.declared.moves.Move.TheVariants as made
 use Rattle.moves.specs.declared.shared.Shared.{Shared}

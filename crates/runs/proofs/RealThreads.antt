@@ -7,7 +7,7 @@ use Rattle.runs.specs.Machine.{Machine}
 use Rattle.runs.specs.Moves.{Move, step_of, steps_of, logged}
 use Rattle.runs.specs.Discipline.{ArePossible}
 use Rattle.runs.specs.RealThreads.{CarefulMeetsConditions}
-use Rattle.runs.proofs.Shares.{disciplined}
+use Rattle.runs.specs.Shares.{disciplined}
 
 -- where each answer in the log was possible, each move of the share was
 pub possible_share : (s : Setup) (share : List Move) → IsPossibleLog s (steps_of share) → ArePossible s share

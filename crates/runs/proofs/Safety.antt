@@ -12,7 +12,7 @@ use Rattle.colours.specs.Steps.{Step, ReadWord, ReadOldValue, Mark, StoreBehindB
 use Rattle.colours.specs.Mutator.{Held, Keeps, IsDisciplined, IsPossible, phase_of}
 use Rattle.colours.specs.Runs.{Event, ByThread, ByCollector, log_of, word_after, births_after, puts, value_put, IsAlive, IsHeapRun, MayHappen, KeepsDiscipline, Kept, globals, held, further}
 use Rattle.colours.proofs.Tests.{and_parts, test_true}
-use Rattle.colours.proofs.Frames.{word_left}
+use Rattle.colours.specs.Frames.{word_left}
 use Rattle.runs.specs.Machine.{Reference, Machine}
 use Rattle.runs.specs.Moves.{Move, Works, GoesWrong, ReadsWord, ReadsOldValue, Marks, StoresBehindBarrier, StoresPlain, Claims, ReadsPosted, StoresStage, ReadsPostedFirst, EntersStage, ReadsPostedAgain, step_of, steps_of, state_after, old_of, AsksFor}
 use Rattle.runs.specs.Discipline.{Brings, Holds, MayTouch, MayName, MayPut, KeepsTo, ArePossible, IsPossibleMove}
@@ -20,7 +20,7 @@ use Rattle.runs.specs.ModuleRuns.{Happening, OfThread, OfCollector, share_of, wi
 use Rattle.runs.specs.Broken as broken
 use Rattle.runs.specs.Broken.{IsRoot, Reached, IsReachable, IsGone, WentWrong, TouchedGone, IsBroken}
 use Rattle.runs.specs.Promises.{AreCareful, HeapLaw, IsSafe, IsNeverWrong}
-use Rattle.runs.proofs.Shares.{same_cell, log_is, run_with, heap_run, is_share, brings_gains, leaves_keeps, holds_held, disciplined}
+use Rattle.runs.specs.Shares.{same_cell, log_is, run_with, heap_run, is_share, brings_gains, leaves_keeps, holds_held, disciplined}
 use Rattle.runs.proofs.Births.{birth_stays, birth_given, birth_elsewhere, word_birth_left}
 
 -- what holds of each end of a run: the heap part keeps the discipline, answers were possible, and the births of references are the heap's

@@ -6,7 +6,7 @@ use Rattle.runs.specs.Moves.{Move, Works, Claims, ReadsPosted, StoresStage, null
 use Rattle.runs.specs.Discipline.{Holds, MayName, MayCall}
 use Rattle.runs.specs.Soundness.{EndsCall, IsSound}
 use Rattle.runs.specs.Promises.{HeapLaw, IsSafe}
-use Rattle.runs.proofs.Calls.{all_careful}
+use Rattle.runs.specs.Calls.{all_careful}
 use Rattle.runs.proofs.Safety.{safe}
 use Rattle.runs.proofs.Scripts.{Script, scripts, next_call, after_call, behind_call}
 

@@ -13,7 +13,7 @@ use Rattle.runs.specs.ModuleRuns.{Happening, OfThread, OfCollector, heap_of, bir
 use Rattle.runs.specs.Broken as broken
 use Rattle.runs.specs.Broken.{IsRoot, Reached, IsReachable, IsGone, IsBroken, Cause, Wrong, TouchBlue, TouchBirth, ReachBlue, ReachBirth, Shows, GoesBefore, IsCause}
 use Rattle.runs.proofs.Scripts.{Script, first, forgetful}
-use Rattle.runs.proofs.Causes.{shows_broken}
+use Rattle.runs.specs.Causes.{shows_broken}
 
 abbrev heap : Setup
 heap = record { threads = 2; late = []; layouts = (kind.Integer 64 ∷ kind.Reference 0 ∷ []) ∷ []; pools = 1 ∷ []; globals = kind.Reference 0 ∷ []; values = 0 ∷ [] }

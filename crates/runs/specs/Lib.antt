@@ -9,3 +9,9 @@ pub mod NextMoves
 pub mod Tries
 pub mod Ends
 pub mod RealThreads
+pub mod NextMoveLemmas
+pub mod TryLemmas
+pub mod Shares
+pub mod Calls
+pub mod Standings
+pub mod Causes

@@ -38,7 +38,7 @@ use Rattle.soundness.proofs.Lists.{both, either_true, equal, at_other, at_map}
 use Rattle.soundness.proofs.KindLemmas.{refers_same, leads_same, constant_passes, bits_are}
 use Rattle.soundness.proofs.Keep.{Beside, unequal, forget_cell, off_cell, without_same, means_without, known_within}
 use Rattle.soundness.proofs.Change.{apart_turned, define_keeps, define_plain, new_keeps}
-use Rattle.machine.proofs.WrappedFits.{wrapped_fits}
+use Rattle.machine.specs.WrappedFits.{wrapped_fits}
 use Rattle.soundness.proofs.Edges.{wrapped_le}
 use Rattle.soundness.proofs.SlotsKeep.{same_written}
 use Rattle.soundness.proofs.PlaceFacts.{holds_as_asked}

@@ -35,7 +35,7 @@ use Rattle.block_rules.specs.Standing.{instructions_of}
 use Rattle.block_rules.specs.Bounds.{below_next}
 use Rattle.block_rules.specs.Ways as w
 use Rattle.block_rules.specs.Ways.{Scene, operand_from, constant_comes_in, number_comes_in, known_comes_in, phi_comes_in, named_comes_in, comes_in}
-use Rattle.machine.proofs.WrappedFits.{wrapped_fits}
+use Rattle.machine.specs.WrappedFits.{wrapped_fits}
 use Rattle.machine.specs.declared.value.Value.{Value}
 use Rattle.machine.specs.declared.value.Value.TheVariants as value
 use Rattle.machine.specs.Kinds.{register_at, bits_of, bits_at, modulus, wrapped}

@@ -13,7 +13,7 @@ use Rattle.machine.specs.Kinds.{wrapped}
 use Rattle.machine.specs.Integers.{computed, resized, truth}
 use Rattle.soundness.specs.Meaning.{IsBelow, IsInteger}
 use Rattle.soundness.proofs.Lists.{lt_true, lt_false}
-use Rattle.machine.proofs.WrappedFits.{wrapped_fits}
+use Rattle.machine.specs.WrappedFits.{wrapped_fits}
 use Rattle.soundness.proofs.Edges.{wrapped_le}
 
 pub below_less : (m n : ℕ) (below : Option ℕ) → m ≤ n → IsBelow n below → IsBelow m below

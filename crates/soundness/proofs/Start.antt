@@ -25,7 +25,7 @@ use Rattle.block_rules.specs.Ways.{parameters_given}
 use Rattle.machine.specs.declared.value.Value.{Value}
 use Rattle.machine.specs.declared.value.Value.TheVariants as value
 use Rattle.machine.specs.Kinds.{is_integer, bits_of, bits_at, wrapped, register_at}
-use Rattle.machine.proofs.WrappedFits.{wrapped_fits}
+use Rattle.machine.specs.WrappedFits.{wrapped_fits}
 use Rattle.machine.specs.Machine.{slot_value, initial, with_arguments}
 use Rattle.machine.specs.Start.{is_reference_parameter, argument_fits, arguments_fit, argument_values}
 use Rattle.machine.specs.Log.{Log}

@@ -41,7 +41,7 @@ use Rattle.soundness.specs.Goes.{Goes}
 use Rattle.soundness.proofs.Lists.{both, equal}
 use Rattle.soundness.proofs.Keep.{log_keeps, known_within}
 use Rattle.soundness.proofs.SlotsKeep.{end_keeps}
-use Rattle.machine.proofs.WrappedFits.{wrapped_fits}
+use Rattle.machine.specs.WrappedFits.{wrapped_fits}
 use Rattle.soundness.proofs.Edges.{wrapped_le}
 use Rattle.soundness.proofs.KindLemmas.{constant_passes, bits_are, integer_same}
 

@@ -15,7 +15,7 @@ use Rattle.trace_sweep.specs.Collecting.{Collecting, plan, plan_of, begun}
 use Rattle.runs.specs.Machine.{Reference, Machine}
 use Rattle.runs.specs.Moves.{null}
 use Rattle.runs.specs.Ends.{StandsBehind}
-use Rattle.runs.proofs.Standings.{begins}
+use Rattle.runs.specs.Standings.{begins}
 use Rattle.moves.specs.declared.shared.Shared.{Shared}
 use Rattle.moves.specs.declared.stand.Stand.{Stand}
 use Rattle.moves.specs.Kinds.{MayHold}

@@ -13,17 +13,17 @@ use Rattle.trace_sweep.specs.declared.motion.Motion.{Motion}
 use Rattle.trace_sweep.specs.Turns.{is_at_limit}
 use Rattle.trace_sweep.specs.Collecting.{Collecting, ask_of, turn_of, moved}
 use Rattle.trace_sweep.specs.Stands.{StandsBehind, IsStepOn}
-use Rattle.trace_sweep.proofs.Order.{turn_of-turn_in}
+use Rattle.trace_sweep.specs.Order.{turn_of-turn_in}
 use Rattle.runs.specs.Machine.{Machine}
 use Rattle.runs.specs.ModuleRuns.{Happening, OfCollector, heap_of}
-use Rattle.runs.proofs.Standings.{goes_on}
+use Rattle.runs.specs.Standings.{goes_on}
 use Rattle.moves.specs.declared.actor.Actor.{Actor}
 use Rattle.moves.specs.declared.actor.Actor.TheVariants.{Collector}
 use Rattle.moves.specs.declared.shared.Shared.{Shared}
 use Rattle.moves.specs.Runs.{found_in, collector_behind, turn_for, by_collector, next_by, run_by}
 use Rattle.moves.specs.Shared.{held_at}
 use Rattle.moves.specs.Stands.{standing}
-use Rattle.moves.proofs.Drawn.{drawn, moved-found}
+use Rattle.moves.specs.Drawn.{drawn, moved-found}
 use Rattle.stepping.specs.Reach.{LosesNothing}
 use Rattle.run_law.specs.Growth.{CollectorIsBehind, MotionGrows, with_stored}
 use Rattle.stepping.specs.declared.acting.Actors.{Actors}

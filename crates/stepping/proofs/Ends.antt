@@ -5,7 +5,7 @@ use Rattle.runs.specs.Machine.{Machine}
 use Rattle.runs.specs.ModuleRuns.{Happening, IsModuleRun}
 use Rattle.moves.specs.declared.actor.Actor.{Actor}
 use Rattle.moves.specs.Runs.{next_by, with_next, run_by, AreActors}
-use Rattle.moves.proofs.Drawn.{drawn}
+use Rattle.moves.specs.Drawn.{drawn}
 use Rattle.stepping.specs.Reach.{IsFirstGone, LosesNothing}
 
 -- the run behind one step more

@@ -9,7 +9,7 @@ use Rattle.runs.specs.Moves as moves
 use Rattle.runs.specs.Moves.{step_of, state_after}
 use Rattle.runs.specs.ModuleRuns.{Happening, OfThread, share_of, heap_of}
 use Rattle.runs.specs.Ends.{Standing, StandsBehind, moved, next_move_of}
-use Rattle.runs.proofs.Standings.{goes_on}
+use Rattle.runs.specs.Standings.{goes_on}
 use Rattle.moves.specs.declared.actor.Actor.{Actor}
 use Rattle.moves.specs.declared.actor.Actor.TheVariants.{Thread}
 use Rattle.moves.specs.declared.call.Call.{Call}
@@ -22,9 +22,9 @@ use Rattle.moves.specs.Causes.{Breaks}
 use Rattle.moves.specs.Runs.{collector_behind, by_thread, next_by, run_by}
 use Rattle.moves.specs.Shared.{with_move}
 use Rattle.moves.specs.Stands.{standing, sight_in}
-use Rattle.moves.proofs.Drawn.{drawn, turns-with}
-use Rattle.moves.proofs.Sights.{next_in_words}
-use Rattle.moves.proofs.Breaks.{first_cause}
+use Rattle.moves.specs.Drawn.{drawn, turns-with}
+use Rattle.moves.specs.Sights.{next_in_words}
+use Rattle.moves.specs.Breaks.{first_cause}
 use Rattle.stepping.specs.Reach.{AddsNothing, LosesNothing}
 use Rattle.run_law.specs.Growth.{ThreadIsBehind, MoveGrows}
 use Rattle.stepping.specs.declared.acting.Actors.{Actors}

@@ -1,3 +1,1 @@
 pub mod WordPlaces
-pub mod Order
-pub mod Extends

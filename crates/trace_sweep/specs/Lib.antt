@@ -5,3 +5,5 @@ pub mod Positions
 pub mod View
 pub mod Stands
 pub mod Laws
+pub mod Order
+pub mod Extends

@@ -19,7 +19,7 @@ use Rattle.trace_text.specs.Print.{name_text, name_at, struct_name, layout_text,
 use Rattle.trace_text.specs.declared.trace.Actor.{Actor}
 use Rattle.trace_text.specs.declared.trace.Actor.TheVariants as actor
 use Rattle.trace_text.specs.declared.trace.Start.{Start}
-use Rattle.name_text.proofs.Spelled.{number_is_inner, number_has_bytes}
+use Rattle.name_text.specs.Spelled.{number_is_inner, number_has_bytes}
 use Rattle.trace_text.proofs.Seams.{IsWord, inner_word, inner_stays, inner_goes_on}
 use Rattle.trace_text.proofs.NameSeams.{name_word, name_stays, signed_word}
 use Rattle.trace_text.proofs.Reading.{at, looked, IsFresh, skipped, expected, function_says, layout_says, argument_says, cells_say, thread_says, steps_say, line_ended, begins_so}

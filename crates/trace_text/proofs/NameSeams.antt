@@ -4,8 +4,8 @@ use Rattle.std.specs.Prelude.{◌==◌}
 use Rattle.ir_tokens.specs.Bytes.{Text}
 use Rattle.name_text.specs.Words.{ends_word, past_blanks}
 use Rattle.name_text.specs.declared.blank.Blank.TheVariants as blank
-use Rattle.name_text.proofs.NameWords.{names_are_words}
-use Rattle.name_text.proofs.Seams.{all_bytes, past_word_on, blanks_on}
+use Rattle.name_text.specs.NameWords.{names_are_words}
+use Rattle.name_text.specs.Seams.{all_bytes, past_word_on, blanks_on}
 use Rattle.trace_text.specs.Print.{name_text}
 use Rattle.trace_text.proofs.Seams.{IsWord}
 

@@ -5,7 +5,7 @@ use Rattle.ir_ast.specs.declared.function.Function.{Function}
 use Rattle.layout.specs.Layouts.{LaidOut}
 use Rattle.name_text.specs.Readings.{IsShort}
 use Rattle.name_text.specs.declared.blank.Blank.TheVariants as blank
-use Rattle.name_text.proofs.Spelled.{global_spelled, layout_spelled}
+use Rattle.name_text.specs.Spelled.{global_spelled, layout_spelled}
 use Rattle.trace_text.specs.Names.{function_of_word, function_named, layout_of_word, layout_named}
 use Rattle.trace_text.specs.Print.{function_text, layout_text, name_of_function, name_at, struct_name}
 use Rattle.trace_text.specs.Traces.{AreNamed, symbol_name}

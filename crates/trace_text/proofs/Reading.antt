@@ -14,7 +14,7 @@ use Rattle.trace_text.specs.Names.{function_of_word, layout_of_word}
 use Rattle.trace_text.specs.Input.{Input, Form, word, begins, after, next_line, with_steps}
 use Rattle.trace_text.specs.Forms.{skip, taken, taken_as, expect, line_end, function_name, new_layout, layout_named, layout_by, cell_count, argument, thread, thread_numbered, thread_by, step_count, steps_counted, steps_by, put_steps}
 use Rattle.trace_text.specs.declared.trace.Actor.{Actor}
-use Rattle.name_text.proofs.Spelled.{number_read, number_is_inner}
+use Rattle.name_text.specs.Spelled.{number_read, number_is_inner}
 use Rattle.trace_text.proofs.Seams.{IsWord, word_before, same_bytes, count_read, inner_word}
 
 -- with this text left

@@ -8,8 +8,8 @@ use Rattle.std.proofs.Math.Seq.{take-append_seam}
 use Rattle.std.proofs.lemmas.Bool.Decides.{nat_tests}
 use Rattle.ir_tokens.specs.Bytes.{Text}
 use Rattle.name_text.specs.Words.{ends_word, past_word, word_at, past_blanks, ends_line, stops}
-use Rattle.name_text.proofs.Seams.{both, is_false, past_word_on, is_word_byte, bytes_close}
-use Rattle.name_text.proofs.Spelled.{number_is_one, number_is}
+use Rattle.name_text.specs.Seams.{both, is_false, past_word_on, is_word_byte, bytes_close}
+use Rattle.name_text.specs.Spelled.{number_is_one, number_is}
 use Rattle.name_text.specs.Numbers.{is_nil}
 use Rattle.trace_text.specs.Numbers.{count_of_word, capped}
 

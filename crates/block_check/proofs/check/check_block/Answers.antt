@@ -1,4 +1,4 @@
-use Rattle.block_check.proofs.Exact.{certified_only, refused_only}
+use Rattle.block_check.specs.Exact.{certified_only, refused_only}
 use Rattle.block_check.proofs.check.check_block.Goals as goal
 
 pub returns-clause-certified : goal.returns-clause-certified

@@ -1,5 +1,5 @@
 use Rattle.block_rules.specs.Functions.{blocks_in}
-use Rattle.block_check.proofs.Exact.{function_certified_only, function_refused_only}
+use Rattle.block_check.specs.Exact.{function_certified_only, function_refused_only}
 use Rattle.block_check.proofs.check.check_function.Goals as goal
 
 pub returns-clause-certified : goal.returns-clause-certified

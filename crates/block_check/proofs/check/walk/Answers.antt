@@ -1,7 +1,7 @@
 use Rattle.std.proofs.Common.{sym, ◌∙◌, arith}
 use Rattle.block_rules.specs.Ways.{given_at}
 use Rattle.block_check.specs.Subject.{seen}
-use Rattle.block_check.proofs.Follows.{standing_is, step_here}
+use Rattle.block_check.specs.Follows.{standing_is, step_here}
 use Rattle.block_check.proofs.check.walk.Goals as goal
 
 pub loop-place-preserved : goal.loop-place-preserved

@@ -2,7 +2,7 @@ use Rattle.std.proofs.Common.{◌+◌, ◌-◌, ◌∙◌, sym, rules, arith}
 use Rattle.std.proofs.lemmas.Grind.{common_steps}
 use Rattle.certificate.specs.Text.{blocks, past_blocks, block}
 use Rattle.certificate.specs.declared.found.Found.{Found}
-use Rattle.grammar.proofs.Turns.{turns, one_more, no_more, turn_ends, turn_goes, turn_breaks, no_turns}
+use Rattle.grammar.specs.Turns.{turns, one_more, no_more, turn_ends, turn_goes, turn_breaks, no_turns}
 use Rattle.certificate.proofs.reader.blocks.Goals as goal
 
 pub returns-then-past_blocks : goal.returns-then-past_blocks

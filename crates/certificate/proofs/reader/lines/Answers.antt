@@ -3,7 +3,7 @@ use Rattle.std.proofs.lemmas.Grind.{common_steps}
 use Rattle.certificate.specs.Text.{lines, past_lines}
 use Rattle.certificate.specs.Lines.{line}
 use Rattle.certificate.specs.declared.found.Found.{Found}
-use Rattle.grammar.proofs.Turns.{turns, one_more, no_more, turn_ends, turn_goes, turn_breaks, no_turns}
+use Rattle.grammar.specs.Turns.{turns, one_more, no_more, turn_ends, turn_goes, turn_breaks, no_turns}
 use Rattle.certificate.proofs.reader.lines.Goals as goal
 
 pub returns-then-past_lines : goal.returns-then-past_lines

@@ -2,7 +2,7 @@ use Rattle.std.proofs.Common.{◌≡◌, ◌-◌, suc}
 use Rattle.certificate.specs.Input.{left}
 use Rattle.certificate.specs.Text.{past_lines}
 use Rattle.certificate.specs.Lines.{line}
-use Rattle.grammar.proofs.Turns.{turns}
+use Rattle.grammar.specs.Turns.{turns}
 use Rattle.certificate.proofs.reader.lines.Given as goal
 
 abbrev pub invariant-loop-turn : goal.invariant-loop-turn

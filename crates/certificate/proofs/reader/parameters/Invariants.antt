@@ -1,7 +1,7 @@
 use Rattle.std.proofs.Common.{◌≡◌, ◌-◌, suc}
 use Rattle.certificate.specs.Input.{left}
 use Rattle.certificate.specs.Text.{past_parameters, parameter}
-use Rattle.grammar.proofs.Turns.{turns}
+use Rattle.grammar.specs.Turns.{turns}
 use Rattle.certificate.proofs.reader.parameters.Given as goal
 
 abbrev pub invariant-loop-turn : goal.invariant-loop-turn

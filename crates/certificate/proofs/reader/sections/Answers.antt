@@ -3,7 +3,7 @@ use Rattle.std.proofs.lemmas.Grind.{common_steps}
 use Rattle.certificate.specs.Input.{ended}
 use Rattle.certificate.specs.Text.{section, sections}
 use Rattle.certificate.specs.declared.found.Found.{Found}
-use Rattle.grammar.proofs.Turns.{turns, one_more, no_more, turn_ends, turn_goes, turn_breaks, no_turns}
+use Rattle.grammar.specs.Turns.{turns, one_more, no_more, turn_ends, turn_goes, turn_breaks, no_turns}
 use Rattle.certificate.proofs.reader.sections.Goals as goal
 
 pub returns-then-ended : goal.returns-then-ended

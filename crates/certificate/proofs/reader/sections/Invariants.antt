@@ -1,7 +1,7 @@
 use Rattle.std.proofs.Common.{◌≡◌, ◌-◌, suc}
 use Rattle.certificate.specs.Input.{left, ended}
 use Rattle.certificate.specs.Text.{section}
-use Rattle.grammar.proofs.Turns.{turns}
+use Rattle.grammar.specs.Turns.{turns}
 use Rattle.certificate.proofs.reader.sections.Given as goal
 
 abbrev pub invariant-loop-turn : goal.invariant-loop-turn

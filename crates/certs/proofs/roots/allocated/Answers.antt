@@ -1,7 +1,7 @@
 use Rattle.std.proofs.Common.{◌∙◌, sym}
 use Rattle.certs.specs.Roots.{allocated_within}
 use Rattle.certs.proofs.SlotRoots.{allocated_on}
-use Rattle.grammar.proofs.Turns.{one_more}
+use Rattle.grammar.specs.Turns.{one_more}
 use Rattle.certs.proofs.roots.allocated.Goals as goal
 
 pub loop-turn-preserved : goal.loop-turn-preserved

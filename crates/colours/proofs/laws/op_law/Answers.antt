@@ -1,4 +1,4 @@
-use Rattle.colours.proofs.Lists.{read_exact, plain_exact, finish_exact}
+use Rattle.colours.specs.Lists.{read_exact, plain_exact, finish_exact}
 use Rattle.colours.proofs.Barriers.{write_exact}
 use Rattle.colours.proofs.Tries.{alloc_exact}
 use Rattle.colours.proofs.laws.op_law.Goals as goal

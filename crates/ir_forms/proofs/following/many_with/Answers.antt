@@ -1,7 +1,7 @@
 use Rattle.std.proofs.Common.{rules, arith}
 use Rattle.std.proofs.lemmas.Grind.{common_steps}
 use Rattle.ir_forms.specs.ManyWith.{many_with_from}
-use Rattle.grammar.proofs.Turns.{one_more, no_more}
+use Rattle.grammar.specs.Turns.{one_more, no_more}
 use Rattle.ir_forms.proofs.following.many_with.Goals as goal
 
 pub returns-then-ends : goal.returns-then-ends

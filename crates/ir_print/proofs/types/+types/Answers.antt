@@ -1,7 +1,7 @@
 use Rattle.std.proofs.Common.{rules, arith, ◌++◌}
 use Rattle.std.proofs.lemmas.Grind.{common_steps}
 use Rattle.ir_print.specs.Types.{fields_text, type_within}
-use Rattle.grammar.proofs.Turns.{one_more, no_more}
+use Rattle.grammar.specs.Turns.{one_more, no_more}
 use Rattle.ir_print.proofs.types.+types.Goals as goal
 
 pub put_fields-returns-in_default : goal.put_fields-returns-in_default

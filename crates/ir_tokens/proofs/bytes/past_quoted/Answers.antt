@@ -1,7 +1,7 @@
 use Rattle.std.proofs.Common.{rules, arith}
 use Rattle.std.proofs.lemmas.Grind.{common_steps}
 use Rattle.ir_tokens.specs.Form.{quoted_from}
-use Rattle.grammar.proofs.Turns.{one_more, no_more}
+use Rattle.grammar.specs.Turns.{one_more, no_more}
 use Rattle.ir_tokens.proofs.bytes.past_quoted.Goals as goal
 
 pub returns-in-None : goal.returns-in-None

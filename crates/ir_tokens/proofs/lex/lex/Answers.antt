@@ -1,7 +1,7 @@
 use Rattle.std.proofs.Common.{rules, arith, length}
 use Rattle.std.proofs.lemmas.Grind.{common_steps}
 use Rattle.ir_tokens.specs.Tokens.{lex_from}
-use Rattle.grammar.proofs.Turns.{one_more, no_more}
+use Rattle.grammar.specs.Turns.{one_more, no_more}
 use Rattle.ir_tokens.proofs.lex.lex.Goals as goal
 
 pub loop-turn-preserved : goal.loop-turn-preserved

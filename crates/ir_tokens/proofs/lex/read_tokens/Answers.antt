@@ -1,4 +1,4 @@
-use Rattle.ir_tokens.proofs.Laws.{found, only}
+use Rattle.ir_tokens.specs.Laws.{found, only}
 use Rattle.ir_tokens.proofs.lex.read_tokens.Goals as goal
 
 pub returns-clause-found : goal.returns-clause-found

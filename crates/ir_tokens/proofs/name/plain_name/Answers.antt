@@ -3,7 +3,7 @@ use Rattle.std.specs.Prelude.{◌==◌}
 use Rattle.std.specs.List.{list_any}
 use Rattle.ir_tokens.specs.Bytes.{Text, next}
 use Rattle.ir_tokens.specs.Names.{bare, inside, begins_quote, unquoted, unescaped_from, is_special}
-use Rattle.ir_tokens.proofs.Laws.{false_false}
+use Rattle.ir_tokens.specs.Laws.{false_false}
 use Rattle.ir_tokens.proofs.name.plain_name.Goals as goal
 
 -- text without escapes stands for itself

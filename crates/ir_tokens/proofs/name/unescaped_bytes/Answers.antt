@@ -1,7 +1,7 @@
 use Rattle.std.proofs.Common.{rules, arith, ◌++◌}
 use Rattle.std.proofs.lemmas.Grind.{common_steps}
 use Rattle.ir_tokens.specs.Names.{unescaped_from}
-use Rattle.grammar.proofs.Turns.{one_more, no_more}
+use Rattle.grammar.specs.Turns.{one_more, no_more}
 use Rattle.ir_tokens.proofs.name.unescaped_bytes.Goals as goal
 
 pub returns-in_default : goal.returns-in_default

@@ -7,7 +7,7 @@ use Rattle.moves.specs.declared.call.Call.{Call}
 use Rattle.moves.specs.declared.stand.Stand.{Stand}
 use Rattle.moves.specs.Calls.{answer_in, move_in}
 use Rattle.moves.specs.Moving.{MayMake}
-use Rattle.moves.proofs.GoesOn.{same-call, moved-between, moved-within}
+use Rattle.moves.specs.GoesOn.{same-call, moved-between, moved-within}
 use Rattle.moves.proofs.going.go_on.Goals as goal
 use Rattle.moves.proofs.going.go_on.Goals.{then-is_between+in_ok-roots_change, else-is_between}
 

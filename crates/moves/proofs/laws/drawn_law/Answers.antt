@@ -1,6 +1,6 @@
 -- The law is that of every machine.
 use Rattle.runs.specs.Machine.{machine_of}
-use Rattle.moves.proofs.Drawn.{drawn}
+use Rattle.moves.specs.Drawn.{drawn}
 use Rattle.moves.proofs.laws.drawn_law.Goals as goal
 
 pub returns-clause-is_run : goal.returns-clause-is_run

@@ -1,7 +1,7 @@
 -- The law is that of every machine.
 use Rattle.runs.specs.Machine.{machine_of}
 use Rattle.moves.specs.Stands.{standing}
-use Rattle.moves.proofs.Sights.{next_in_words}
+use Rattle.moves.specs.Sights.{next_in_words}
 use Rattle.moves.proofs.laws.sight_law.Goals as goal
 
 pub returns : goal.returns

@@ -1,6 +1,6 @@
 -- The law is that of every machine.
 use Rattle.runs.specs.Machine.{machine_of}
-use Rattle.moves.proofs.Breaks.{first_cause}
+use Rattle.moves.specs.Breaks.{first_cause}
 use Rattle.moves.proofs.laws.touch_law.Goals as goal
 
 pub returns : goal.returns

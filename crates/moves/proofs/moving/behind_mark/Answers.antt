@@ -1,5 +1,5 @@
 -- Behind the mark of its next root a thread has marked one more.
-use Rattle.moves.proofs.Marked.{answering-mark}
+use Rattle.moves.specs.Marked.{answering-mark}
 use Rattle.moves.proofs.moving.behind_mark.Goals as goal
 
 pub returns-in-Answering : goal.returns-in-Answering

@@ -3,7 +3,7 @@ use Rattle.std.proofs.Common.{â„•, List, [], Some, slice_index, refl, sym, ap, â
 use Rattle.std.proofs.lemmas.Option.{unwrap_or-slice_get}
 use Rattle.runs.specs.Moves as moves
 use Rattle.moves.specs.Stands.{sight_in}
-use Rattle.moves.proofs.Allocs.{within, no_cell, first_try}
+use Rattle.moves.specs.Allocs.{within, no_cell, first_try}
 use Rattle.moves.proofs.next.alloc_move.Goals as goal
 
 pub returns-then-count-eq0 : goal.returns-then-count-eq0

@@ -5,7 +5,7 @@ use Rattle.runs.specs.Machine.{Reference}
 use Rattle.runs.specs.Moves as moves
 use Rattle.runs.specs.NextMoves.{mark_or_answer}
 use Rattle.moves.specs.Moving.{not_null}
-use Rattle.moves.proofs.Marked.{next_root-marked}
+use Rattle.moves.specs.Marked.{next_root-marked}
 use Rattle.moves.proofs.next.answering_move.Goals as goal
 
 pub returns-clause-next : goal.returns-clause-next

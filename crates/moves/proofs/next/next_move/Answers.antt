@@ -5,7 +5,7 @@ use Rattle.moves.specs.Calls.{action_of}
 use Rattle.moves.specs.declared.stand.Stance.{Stance}
 use Rattle.moves.specs.Moving.{HasRoom, HasRoomForNext}
 use Rattle.moves.specs.Stands.{sight_in}
-use Rattle.moves.proofs.Nexts.{stands-next, falling-length, counts-none}
+use Rattle.moves.specs.Nexts.{stands-next, falling-length, counts-none}
 use Rattle.moves.proofs.next.next_move.Goals as goal
 
 -- where it stands, nothing is counted

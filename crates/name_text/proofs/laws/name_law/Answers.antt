@@ -1,5 +1,5 @@
-use Rattle.name_text.proofs.Reading.{globals_are_read, locals_are_read, numbers_are_read}
-use Rattle.name_text.proofs.NameWords.{names_are_words}
+use Rattle.name_text.specs.Reading.{globals_are_read, locals_are_read, numbers_are_read}
+use Rattle.name_text.specs.NameWords.{names_are_words}
 use Rattle.name_text.proofs.laws.name_law.Goals as goal
 
 pub returns-clause-globals : goal.returns-clause-globals

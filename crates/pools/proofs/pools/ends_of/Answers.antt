@@ -1,6 +1,6 @@
 use Rattle.std.proofs.Common.{arith, sym, ◌∙◌}
 use Rattle.std.proofs.lemmas.Grind.{common_steps}
-use Rattle.pools.proofs.Ends.{ends_one_more}
+use Rattle.pools.specs.Ends.{ends_one_more}
 use Rattle.pools.proofs.pools.ends_of.Goals as goal
 
 pub loop-count-preserved : goal.loop-count-preserved

@@ -1,5 +1,5 @@
 use Rattle.std.proofs.Common.{arith}
-use Rattle.pools.proofs.Ends.{first_from_end}
+use Rattle.pools.specs.Ends.{first_from_end}
 use Rattle.pools.proofs.pools.first_of.Goals as goal
 
 pub bounds-ends-layout : goal.bounds-ends-layout

@@ -5,7 +5,7 @@ use Rattle.colours.specs.Steps.{Step}
 use Rattle.colours.specs.Mutator.{Ended, HasBegun, stage_of, phase_of}
 use Rattle.runs.specs.Machine.{Machine, machine_of}
 use Rattle.runs.specs.ModuleRuns.{heap_of}
-use Rattle.runs.proofs.Shares.{log_is, heap_run}
+use Rattle.runs.specs.Shares.{log_is, heap_run}
 use Rattle.run_law.specs.Bounds.{AreBounded}
 use Rattle.run_law.proofs.Births.{births_low}
 use Rattle.run_law.proofs.Stages.{stage_low}

@@ -1,6 +1,6 @@
 -- The law is that of every machine.
 use Rattle.runs.specs.Machine.{machine_of}
-use Rattle.runs.proofs.Causes.{shows_broken, one_cause, some_cause}
+use Rattle.runs.specs.Causes.{shows_broken, one_cause, some_cause}
 use Rattle.runs.proofs.laws.cause_law.Goals as goal
 
 pub returns : goal.returns

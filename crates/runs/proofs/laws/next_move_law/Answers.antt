@@ -1,8 +1,8 @@
 -- The law is that of every machine.
 use Rattle.std.proofs.Common.{refl}
 use Rattle.runs.specs.Machine.{machine_of}
-use Rattle.runs.proofs.NextMoves.{next_is}
-use Rattle.runs.proofs.Tries.{keeps_order}
+use Rattle.runs.specs.NextMoveLemmas.{next_is}
+use Rattle.runs.specs.TryLemmas.{keeps_order}
 use Rattle.runs.proofs.laws.next_move_law.Goals as goal
 
 pub returns-clause-next : goal.returns-clause-next

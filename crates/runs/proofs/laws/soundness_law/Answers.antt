@@ -1,6 +1,6 @@
 -- The law is that of every machine and every predicate.
 use Rattle.runs.specs.Machine.{machine_of}
-use Rattle.runs.proofs.Calls.{all_careful}
+use Rattle.runs.specs.Calls.{all_careful}
 use Rattle.runs.proofs.laws.soundness_law.Goals as goal
 
 pub returns-clause-careful : goal.returns-clause-careful

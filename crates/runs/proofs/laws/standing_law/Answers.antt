@@ -1,6 +1,6 @@
 -- The law is that of every machine.
 use Rattle.runs.specs.Machine.{machine_of}
-use Rattle.runs.proofs.Standings.{begins, goes_on}
+use Rattle.runs.specs.Standings.{begins, goes_on}
 use Rattle.runs.proofs.laws.standing_law.Goals as goal
 
 pub returns-clause-begun : goal.returns-clause-begun

@@ -1,5 +1,5 @@
 -- The law of the machine, clause by clause.
-use Rattle.trace_sweep.proofs.Order.{turns-turn_in, found-turn_in, turn_in-only}
+use Rattle.trace_sweep.specs.Order.{turns-turn_in, found-turn_in, turn_in-only}
 use Rattle.trace_sweep.proofs.laws.order_law.Goals as goal
 
 pub returns-clause-made : goal.returns-clause-made

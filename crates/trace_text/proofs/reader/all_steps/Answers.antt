@@ -2,7 +2,7 @@ use Rattle.std.proofs.Common.{◌+◌, ◌-◌, ◌∙◌, sym, rules, arith}
 use Rattle.std.proofs.lemmas.Grind.{common_steps}
 use Rattle.trace_text.specs.Text.{steps_line, past_steps, all_steps}
 use Rattle.trace_text.specs.declared.fault.Found.{Found}
-use Rattle.grammar.proofs.Turns.{turns, one_more, no_more, turn_ends, turn_goes, turn_breaks, no_turns}
+use Rattle.grammar.specs.Turns.{turns, one_more, no_more, turn_ends, turn_goes, turn_breaks, no_turns}
 use Rattle.trace_text.proofs.reader.all_steps.Goals as goal
 
 pub returns-then-past_steps : goal.returns-then-past_steps

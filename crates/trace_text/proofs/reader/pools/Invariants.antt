@@ -1,7 +1,7 @@
 use Rattle.std.proofs.Common.{◌≡◌, ◌-◌, suc}
 use Rattle.trace_text.specs.Input.{left}
 use Rattle.trace_text.specs.Text.{pool, past_pools}
-use Rattle.grammar.proofs.Turns.{turns}
+use Rattle.grammar.specs.Turns.{turns}
 use Rattle.trace_text.proofs.reader.pools.Given as goal
 
 abbrev pub invariant-loop-turn : goal.invariant-loop-turn

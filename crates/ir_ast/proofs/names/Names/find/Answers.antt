@@ -1,7 +1,7 @@
 use Rattle.std.proofs.Common.{◌≡◌, ap, ◌∙◌, sym}
 use Rattle.std.specs.Str.{bytes_eq}
 use Rattle.ir_ast.specs.Names.{place_of}
-use Rattle.ir_ast.proofs.Places.{position-map}
+use Rattle.ir_ast.specs.Places.{position-map}
 use Rattle.ir_ast.proofs.names.Names.find.Goals as goal
 
 pub returns-clause-place : goal.returns-clause-place

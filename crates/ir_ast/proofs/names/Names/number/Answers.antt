@@ -1,5 +1,5 @@
 use Rattle.std.proofs.Common.{◌≡◌, ℕ, map, ap, ◌∙◌, sym, Vec, Global}
-use Rattle.ir_ast.proofs.Places.{new_name}
+use Rattle.ir_ast.specs.Places.{new_name}
 use Rattle.ir_ast.proofs.names.Names.number.Goals as goal
 
 pub returns-clause-number : goal.returns-clause-number

@@ -1,5 +1,5 @@
 use Rattle.std.proofs.Common.{◌≡◌, ◌∙◌, Result, Ok, Err, OnErr}
-use Rattle.ir_ast.proofs.TypePlaces.{found_stands, number-is, types-are, none-is}
+use Rattle.ir_ast.specs.TypePlaces.{found_stands, number-is, types-are, none-is}
 use Rattle.ir_ast.proofs.types.Types.number.Goals as goal
 
 on_err : {A E P : Type 0} (r : Result A E) → P → OnErr r P

@@ -2,7 +2,7 @@ use Rattle.std.proofs.Common.{rules, arith}
 use Rattle.std.proofs.lemmas.Grind.{common_steps}
 use Rattle.ir_forms.specs.Written.{fields_again, again_within}
 use Rattle.ir_forms.proofs.Stars.{again_more}
-use Rattle.grammar.proofs.Turns.{one_more, no_more}
+use Rattle.grammar.specs.Turns.{one_more, no_more}
 use Rattle.ir_forms.proofs.input.Input.+mentions.Goals as goal
 
 pub again_within-returns-in_err-again_by : goal.again_within-returns-in_err-again_by

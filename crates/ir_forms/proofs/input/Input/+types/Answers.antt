@@ -3,7 +3,7 @@ use Rattle.std.proofs.lemmas.Grind.{common_steps}
 use Rattle.grammar.specs.Many.{many_from}
 use Rattle.ir_forms.specs.Written.{at_brace, field, firm}
 use Rattle.ir_forms.proofs.Stars.{part_more}
-use Rattle.grammar.proofs.Turns.{one_more, no_more}
+use Rattle.grammar.specs.Turns.{one_more, no_more}
 use Rattle.ir_forms.proofs.input.Input.+types.Goals as goal
 
 pub part-returns : goal.part-returns

@@ -1,5 +1,5 @@
 use Rattle.layout.proofs.Moves.{arrives}
-use Rattle.layout.proofs.Steps.{is_ready}
+use Rattle.layout.specs.Steps.{is_ready}
 use Rattle.layout.proofs.survey.Survey.advance.Goals as goal
 
 pub turn-turn-requires : goal.turn-turn-requires

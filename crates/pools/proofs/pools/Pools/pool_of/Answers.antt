@@ -1,6 +1,6 @@
 use Rattle.std.proofs.Common.{◌-◌, arith, ap, sym, ◌∙◌}
 use Rattle.pools.specs.Heap.{layout_at}
-use Rattle.pools.proofs.Ends.{ends_rise, pool_at}
+use Rattle.pools.specs.Ends.{ends_rise, pool_at}
 use Rattle.pools.proofs.pools.Pools.pool_of.Goals as goal
 
 pub count_up_to-requires : goal.count_up_to-requires

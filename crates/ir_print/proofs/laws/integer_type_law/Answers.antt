@@ -1,5 +1,0 @@
-use Rattle.ir_print.proofs.Constants.{integer_types_are_read}
-use Rattle.ir_print.proofs.laws.integer_type_law.Goals as goal
-
-pub returns : goal.returns
-returns c = integer_types_are_read

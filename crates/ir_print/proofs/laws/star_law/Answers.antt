@@ -1,5 +1,0 @@
-use Rattle.ir_print.proofs.StarsRead.{stars_are_read}
-use Rattle.ir_print.proofs.laws.star_law.Goals as goal
-
-pub returns : goal.returns
-returns c = stars_are_read

@@ -1,0 +1,156 @@
+-- Printed constants and integer types are read as themselves.
+use Rattle.std.proofs.Common.{◌≡◌, ℕ, zero, suc, ◌-◌, ◌*◌, ◌<◌, ◌≤◌, ◌^◌, Bool, true, false, if◌then◌else◌, [], ◌∷◌, ◌++◌, Option, Some, None, is_some, refl, ap, sym, subst, ◌∙◌, arith, rules}
+use Rattle.std.specs.Prelude.{◌==◌, nat_lt, nat_le, min, unwrap_or, codes}
+use Rattle.std.specs.List.{list_all}
+use Rattle.std.specs.Fmt as text
+use Rattle.std.proofs.lemmas.Bool.{eqb-true}
+use Rattle.std.proofs.lemmas.Bool.Decides.{nat_tests}
+use Rattle.std.proofs.lemmas.Fmt.{digits_decimal, decimal_nonempty}
+use Rattle.std.proofs.Math.Nat.{pow-succ'}
+use Rattle.std.proofs.Math.Pow.{pow_mono}
+use Rattle.std.proofs.lemmas.Str.Parse.{IsNumeralModel, numerals_by_fold}
+use Rattle.ir_tokens.specs.declared.token.Kind.{Kind}
+use Rattle.ir_tokens.specs.declared.token.Kind.TheVariants as k
+use Rattle.ir_tokens.specs.Bytes.{Text, is_digit}
+use Rattle.ir_tokens.specs.Keywords.{word_kind, keywords}
+use Rattle.ir_ast.specs.declared.operand.Constant.{Constant}
+use Rattle.ir_ast.specs.declared.operand.Constant.TheVariants as c
+use Rattle.ir_forms.specs.Cursor.{kind, next}
+use Rattle.ir_forms.specs.Number as numbers
+use Rattle.ir_forms.specs.declared.input.Input.{Input}
+use Rattle.ir_forms.specs.Input.{advanced}
+use Rattle.ir_forms.specs.Operand.{constant, constant_by, number, number_at, truth_of}
+use Rattle.ir_print.specs.Operands.{truth_text, bit_of, number_text}
+use Rattle.ir_print.specs.Fits.{FitsType, constant_shown}
+use Rattle.ir_print.specs.Standing.{Stands, IsSeam, AreBlanks, AreDigits}
+use Rattle.std.specs.Prelude.{◌&&◌, ◌||◌}
+use Rattle.std.proofs.Common.{drop}
+use Rattle.ir_tokens.specs.Bytes.{is_letter}
+use Rattle.ir_tokens.specs.Keywords.{kind_in, other_word}
+use Rattle.ir_forms.specs.Cursor.{name}
+use Rattle.ir_forms.specs.Written.{integer, bits_at}
+use Rattle.ir_print_law.specs.Readings.{ConstantsAreRead, IntegerTypesAreRead}
+use Rattle.name_text.specs.Seams.{both}
+use Rattle.name_text.specs.Spelled.{number_is}
+use Rattle.ir_print_law.proofs.Words.{second_of, word_comes, number_comes}
+
+-- ---- numbers
+
+model : IsNumeralModel (λ (ds : Text). list_all is_digit ds ≡ true) (numbers.decimal_behind 0)
+model = numerals_by_fold _ (search rules) numbers.decimal_behind (search rules)
+
+pub are_digits : (n : ℕ) → n < 2 ^ 64 → AreDigits (text.decimal n)
+are_digits n less = (decimal_nonempty n less, digits_decimal model n less)
+
+no_minus : (b : ℕ) → is_digit b ≡ true → b == 45 ≡ false
+no_minus b e = let low : nat_le 48 b ≡ true = (both (nat_le 48 b) (nat_le b 57) e).0 in grind (arith, nat_tests)
+
+number_value : (digits : Text) (n bits : ℕ) → AreDigits digits → numbers.decimal digits ≡ n → n < 2 ^ 64 → n < 2 * numbers.half_of bits → numbers.constant digits bits ≡ Some n
+unfolding numbers.constant
+number_value [] n bits own is less fits = absurd (omega (arith, own.0))
+number_value (b ∷ digits) n bits own is less fits =
+    let minus = no_minus b (both (is_digit b) (list_all is_digit digits) own.1).0 in
+    let small : nat_lt n 18446744073709551616 ≡ true = grind (arith, nat_tests) in
+    let within : nat_lt n (2 * numbers.half_of bits) ≡ true = grind (arith, nat_tests) in
+    rw (minus, is, small, within) refl
+
+half_is : (bits : ℕ) → 1 ≤ bits → bits ≤ 64 → 2 * numbers.half_of bits ≡ 2 ^ bits
+half_is zero some most = absurd (omega (arith, some))
+half_is (suc p) some most =
+    let same : min (suc p) 64 - 1 ≡ p = omega (arith, most) in
+    ap (λ (n : ℕ). 2 * 2 ^ n) same ∙ sym (pow-succ' 2 p)
+
+-- ---- constants
+
+-- the constant comes next, and the rest stands behind it
+abbrev pub IsConstantRead : Option ℕ → Constant → Input → Text → Type 0
+IsConstantRead bits x i rest = (constant bits).says i x (advanced i) × Stands (next i.cursor) rest
+
+by_kind : (bits : Option ℕ) (x : Constant) (i o : Input) (token : Kind) → kind i.cursor ≡ token → (constant_by bits token).says i x o → (constant bits).says i x o
+unfolding constant
+by_kind bits x i o token e h = subst (λ (y : Kind). (constant_by bits y).says i x o) (sym e) h
+
+truth_read : (bits : Option ℕ) (truth : Bool) (i : Input) (gap rest : Text) → AreBlanks gap → IsSeam rest → Stands i.cursor (gap ++ (truth_text truth ++ rest)) → IsConstantRead bits (truth_of bits truth) i rest
+unfolding word_kind keywords
+truth_read bits true i gap rest blanks seam at =
+    let w = word_comes i.cursor gap (codes "true") rest blanks refl seam at in
+    (by_kind bits (truth_of bits true) i (advanced i) k.True w.0 (tt, advanced i, (refl, refl), (refl, refl)), w.3)
+truth_read bits false i gap rest blanks seam at =
+    let w = word_comes i.cursor gap (codes "false") rest blanks refl seam at in
+    (by_kind bits (truth_of bits false) i (advanced i) k.False w.0 (tt, advanced i, (refl, refl), (refl, refl)), w.3)
+
+null_read : (bits : Option ℕ) (i : Input) (gap rest : Text) → AreBlanks gap → IsSeam rest → Stands i.cursor (gap ++ (codes "null" ++ rest)) → IsConstantRead bits c.Null i rest
+unfolding word_kind keywords
+null_read bits i gap rest blanks seam at =
+    let w = word_comes i.cursor gap (codes "null") rest blanks refl seam at in
+    (by_kind bits c.Null i (advanced i) k.Null w.0 (tt, advanced i, (refl, refl), (refl, refl)), w.3)
+
+number_read : (bits : Option ℕ) (n : ℕ) (i : Input) (gap rest : Text) → n < 2 ^ 64 → n < 2 * numbers.half_of (unwrap_or bits 64) → AreBlanks gap → IsSeam rest → Stands i.cursor (gap ++ (text.decimal n ++ rest))
+    → IsConstantRead bits (c.Number n) i rest
+unfolding number number_at
+number_read bits n i gap rest less fits blanks seam at =
+    let own = are_digits n less in
+    let w = number_comes i.cursor gap (text.decimal n) rest blanks own seam at in
+    let e : number_at bits i ≡ Some n = ap (λ (x : Text). numbers.constant x (unwrap_or bits 64)) w.1 ∙ number_value (text.decimal n) n (unwrap_or bits 64) own (number_is n less) less fits in (
+      by_kind bits (c.Number n) i (advanced i) k.Number w.0 (tt, i, (ap (λ (x : Option ℕ). is_some x) e, refl), (ap (λ (x : Option ℕ). c.Number (unwrap_or x 0)) e, refl)),
+      w.3,
+    )
+
+-- the numbers of one bit are read from their words
+bit_read : (bits n : ℕ) (i : Input) (gap rest : Text) → bits == 1 ≡ true → n < 2 ^ bits → AreBlanks gap → IsSeam rest → Stands i.cursor (gap ++ (truth_text (bit_of n) ++ rest))
+    → IsConstantRead (Some bits) (c.Number n) i rest
+bit_read bits n i gap rest one less blanks seam at =
+    let read = truth_read (Some bits) (bit_of n) i gap rest blanks seam at in
+    let below : n < 2 ^ 1 = subst (λ (b : ℕ). n < 2 ^ b) (eqb-true bits 1 one) less in
+    let same : truth_of (Some bits) (bit_of n) ≡ c.Number n = ap (λ (t : Bool). if t then c.Number (if bit_of n then 1 else 0) else c.Truth (bit_of n)) one ∙ ap (λ (x : ℕ). c.Number x) (bit_is n below) in
+    subst (λ (x : Constant). IsConstantRead (Some bits) x i rest) same read where
+      bit_is : (n : ℕ) → n < 2 ^ 1 → (if bit_of n then 1 else 0) ≡ n
+      bit_is zero below = refl
+      bit_is (suc zero) below = refl
+      bit_is (suc (suc n)) below = absurd (omega (arith, below))
+
+wide : (bits n : ℕ) → bits ≤ 64 → n < 2 ^ bits → n < 2 ^ 64
+wide bits n most less = let grows : 2 ^ bits ≤ 2 ^ 64 = pow_mono most in omega (arith, less, grows)
+
+pub constant_is_read : (bits : Option ℕ) (x : Constant) (i : Input) (gap rest : Text) → FitsType bits x → AreBlanks gap → IsSeam rest → Stands i.cursor (gap ++ (constant_shown bits x ++ rest)) → IsConstantRead bits x i rest
+constant_is_read None (c.Number n) i gap rest fits blanks seam at = number_read None n i gap rest fits fits blanks seam at
+constant_is_read (Some bits) (c.Number n) i gap rest fits blanks seam at = by (bits == 1) refl at where
+  by : (one : Bool) → bits == 1 ≡ one → Stands i.cursor (gap ++ (number_text one n ++ rest)) → IsConstantRead (Some bits) (c.Number n) i rest
+  by true e at = bit_read bits n i gap rest e fits.2 blanks seam at
+  by false e at =
+      let within : n < 2 * numbers.half_of bits = subst (λ (most : ℕ). n < most) (sym (half_is bits fits.0 fits.1)) fits.2 in
+      number_read (Some bits) n i gap rest (wide bits n fits.1 fits.2) within blanks seam at
+constant_is_read bits c.Null i gap rest fits blanks seam at = null_read bits i gap rest blanks seam at
+constant_is_read None (c.Truth truth) i gap rest fits blanks seam at = truth_read None truth i gap rest blanks seam at
+constant_is_read (Some bits) (c.Truth truth) i gap rest fits blanks seam at =
+    let same : truth_of (Some bits) truth ≡ c.Truth truth = ap (λ (t : Bool). if t then c.Number (if truth then 1 else 0) else c.Truth truth) fits in
+    subst (λ (x : Constant). IsConstantRead (Some bits) x i rest) same (truth_read (Some bits) truth i gap rest blanks seam at)
+
+pub constants_are_read : ConstantsAreRead
+constants_are_read bits x i fits = λ gap rest blanks seam at. constant_is_read bits x i gap rest fits blanks seam at
+
+-- ---- integer types
+
+plain_digits : (digits : Text) → list_all is_digit digits ≡ true → list_all (λ byte. is_letter byte || is_digit byte) digits ≡ true
+plain_digits [] e = refl
+plain_digits (b ∷ digits) e =
+    let parts = both (is_digit b) (list_all is_digit digits) e in
+    rw (second_of (is_letter b) (is_digit b) parts.0) (plain_digits digits parts.1)
+
+integer_kind : (digits : Text) → AreDigits digits → word_kind (105 ∷ digits) ≡ k.IntegerType
+unfolding word_kind
+integer_kind [] own = absurd (omega (arith, own.0))
+integer_kind (b ∷ digits) own =
+    ap (λ (t : Bool). if t then k.IntegerType else unwrap_or (kind_in keywords (105 ∷ b ∷ digits)) (other_word (105 ∷ b ∷ digits))) own.1
+
+pub integer_types_are_read : IntegerTypesAreRead
+unfolding integer bits_at name
+integer_types_are_read bits i gap rest some most blanks seam at =
+    let less : bits < 2 ^ 64 = omega (arith, most) in
+    let own = are_digits bits less in
+    let w = word_comes i.cursor gap (105 ∷ text.decimal bits) rest blanks (plain_digits (text.decimal bits) own.1) seam at in
+    let value : bits_at i ≡ bits = ap (λ (x : Text). numbers.decimal (drop 1 x)) w.1 ∙ number_is bits less in
+    let low : nat_le 1 bits ≡ true = grind (arith, nat_tests) in
+    let high : nat_le bits 64 ≡ true = grind (arith, nat_tests) in
+    let in_range : (nat_le 1 (bits_at i) && nat_le (bits_at i) 64) ≡ true = ap (λ (n : ℕ). nat_le 1 n && nat_le n 64) value ∙ rw (low, high) refl in
+    (w.0 ∙ integer_kind (text.decimal bits) own, (tt, i, (in_range, refl), (value, refl)), w.3)

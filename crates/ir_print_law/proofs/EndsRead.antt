@@ -1,0 +1,57 @@
+-- Instructions that end a block, and write no type, are read as they were printed.
+use Rattle.std.proofs.Common.{◌≡◌, ℕ, Bool, [], ◌∷◌, ◌++◌, refl, sym, subst}
+use Rattle.std.specs.Prelude.{codes}
+use Rattle.ir_tokens.specs.declared.token.Kind.{Kind}
+use Rattle.ir_tokens.specs.declared.token.Kind.TheVariants as k
+use Rattle.ir_tokens.specs.Bytes.{Text, class_of}
+use Rattle.ir_tokens.specs.Keywords.{word_kind, keywords}
+use Rattle.ir_ast.specs.declared.op.Op.{Op}
+use Rattle.ir_ast.specs.declared.op.Op.TheVariants.{Jump, Unreachable, ReturnVoid}
+use Rattle.ir_forms.specs.Cursor.{kind}
+use Rattle.ir_forms.specs.declared.input.Input.{Input}
+use Rattle.ir_forms.specs.Input.{advanced, skip}
+use Rattle.ir_forms.specs.Names.{target}
+use Rattle.grammar.specs.Grammar.{pure, ◌>>◌}
+use Rattle.ir_forms.specs.Branches.{terminator, terminator_by, br, br_behind, jump, branch, ret, ret_behind, returned_value}
+use Rattle.ir_forms.specs.Decorations.{either}
+use Rattle.ir_print_law.specs.Ends.{JumpsAreRead, EmptyReturnsAreRead, UnreachablesAreRead}
+use Rattle.ir_print.specs.Names.{local_text}
+use Rattle.ir_print.specs.Standing.{Stands}
+use Rattle.ir_print_law.proofs.NamesRead.{targets_are_read}
+use Rattle.ir_print_law.proofs.Words.{word_comes, seen}
+
+-- the word tells which instruction ends the block
+by_word : (x : Kind) (i o : Input) (op : Op) → kind i.cursor ≡ x → (terminator_by x).says i op o → terminator.says i op o
+unfolding terminator
+by_word x i o op e h = subst (λ (y : Kind). (terminator_by y).says i op o) (sym e) h
+
+jump_behind : (i o : Input) (n : ℕ) → kind i.cursor ≡ k.Label → target.says i n o → br_behind.says i (Jump n) o
+jump_behind i o n e h = subst (λ (t : Bool). (either jump branch t).says i (Jump n) o) (sym (seen k.Label i e)) (n, o, h, (refl, refl))
+
+label_kind : (i : Input) (behind : Text) → Stands i.cursor ((32 ∷ []) ++ (codes "label" ++ 32 ∷ behind)) → kind i.cursor ≡ k.Label
+unfolding word_kind keywords class_of
+label_kind i behind at = (word_comes i.cursor (32 ∷ []) (codes "label") (32 ∷ behind) refl refl refl at).0
+
+pub jumps_are_read : JumpsAreRead
+unfolding br word_kind keywords class_of
+jumps_are_read m locals label i gap rest is less blanks seam at =
+    let w = word_comes i.cursor gap (codes "br") (32 ∷ (codes "label" ++ 32 ∷ (local_text locals label ++ rest))) blanks refl refl at in
+    let t = targets_are_read locals label (advanced i) (32 ∷ []) rest is less refl seam w.3 in
+    let e = label_kind (advanced i) (local_text locals label ++ rest) w.3 in
+    (by_word k.Br i _ _ w.0 (tt, advanced i, (refl, refl), jump_behind (advanced i) _ _ e t.0), t.2)
+
+pub empty_returns_are_read : EmptyReturnsAreRead
+unfolding ret word_kind keywords class_of
+empty_returns_are_read m locals i gap rest blanks seam at =
+    let w = word_comes i.cursor gap (codes "ret") (32 ∷ (codes "void" ++ rest)) blanks refl refl at in
+    let v = word_comes (advanced i).cursor (32 ∷ []) (codes "void") rest refl refl seam w.3 in
+    let o = advanced (advanced i) in
+    let behind : ret_behind.says (advanced i) ReturnVoid (advanced (advanced i)) =
+    subst (λ (t : Bool). (either (skip >> pure ReturnVoid) returned_value t).says (advanced i) ReturnVoid (advanced (advanced i))) (sym (seen k.Void (advanced i) v.0)) (tt, o, (refl, refl), (refl, refl)) in
+    (by_word k.Ret i o ReturnVoid w.0 (tt, advanced i, (refl, refl), behind), v.3)
+
+pub unreachables_are_read : UnreachablesAreRead
+unfolding word_kind keywords
+unreachables_are_read m locals i gap rest blanks seam at =
+    let w = word_comes i.cursor gap (codes "unreachable") rest blanks refl seam at in
+    (by_word k.Unreachable i (advanced i) Unreachable w.0 (tt, advanced i, (refl, refl), (refl, refl)), w.3)

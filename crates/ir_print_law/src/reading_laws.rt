@@ -1,0 +1,40 @@
+//! What is printed is read again.
+ghost use Rattle.ir_print_law.specs.Ends.{JumpsAreRead, EmptyReturnsAreRead, UnreachablesAreRead};
+ghost use Rattle.ir_print_law.specs.Stars.{StarsAreRead};
+ghost use Rattle.ir_print_law.specs.Readings.{ConstantsAreRead, LocalsAreRead, LocalOperandsAreRead, GlobalOperandsAreRead, CalleesAreRead, StructNamesAreRead, TargetsAreRead, NewValuesAreRead, NumberedValuesAreRead, LabelsAreRead, CollectorsAreRead, IntegerTypesAreRead};
+
+/// Printed instructions that end a block, and write no type, are read as themselves.
+pub fn end_law()
+    ensures jumps { JumpsAreRead }
+    ensures empty_returns { EmptyReturnsAreRead }
+    ensures unreachables { UnreachablesAreRead }
+{}
+
+/// A printed constant that fits its type is read as itself.
+pub fn constant_law()
+    ensures { ConstantsAreRead }
+{}
+
+/// A printed integer type is read as itself.
+pub fn integer_type_law()
+    ensures { IntegerTypesAreRead }
+{}
+
+/// Printed names are read as those names, by their numbers in the tables that are there.
+pub fn name_law()
+    ensures locals { LocalsAreRead }
+    ensures local_operands { LocalOperandsAreRead }
+    ensures global_operands { GlobalOperandsAreRead }
+    ensures callees { CalleesAreRead }
+    ensures structs { StructNamesAreRead }
+    ensures targets { TargetsAreRead }
+    ensures new_values { NewValuesAreRead }
+    ensures numbered_values { NumberedValuesAreRead }
+    ensures labels { LabelsAreRead }
+    ensures collectors { CollectorsAreRead }
+{}
+
+/// Printed stars are read as the pointer types behind a type.
+pub fn star_law()
+    ensures { StarsAreRead }
+{}

@@ -1,0 +1,34 @@
+-- Lists: what is at a place, and what holds of all elements.
+use Rattle.std.proofs.Common.{◌≡◌, ℕ, zero, suc, ◌+◌, ◌<◌, Bool, true, List, [], ◌∷◌, ◌++◌, length, get_or, map, sum, slice_get, Some, refl, sym, ap, arith}
+use Rattle.std.specs.Prelude.{◌&&◌, replicate}
+use Rattle.std.specs.List.{list_all}
+use Rattle.std.proofs.lemmas.List.Sums.{sum_by-cons}
+use Rattle.lemmas.specs.Bools.{and_parts, and_true}
+
+-- there is an element at each place before the end
+pub get_some : {A : Type 0} (xs : List A) (i : ℕ) → i < length xs → (x : A) × (slice_get xs i ≡ Some x)
+get_some [] i lt = absurd (omega arith)
+get_some (x ∷ xs) zero lt = (x, refl)
+get_some (x ∷ xs) (suc i) lt = get_some xs i (omega arith)
+
+-- the element that a list was made longer by
+pub get_end : {A : Type 0} (xs : List A) (x : A) → slice_get (xs ++ x ∷ []) (length xs) ≡ Some x
+get_end [] x = refl
+get_end (y ∷ xs) x = get_end xs x
+
+pub at_map : {X : Type 0} (g : X → X) (xs : List X) (j : ℕ) (d : X) → g d ≡ d → get_or (map g xs) j d ≡ g (get_or xs j d)
+at_map g [] j d e = sym e
+at_map g (x ∷ xs) zero d e = refl
+at_map g (x ∷ xs) (suc j) d e = at_map g xs j d e
+
+pub length_replicate : {A : Type 0} (n : ℕ) (a : A) → length (replicate n a) ≡ n
+length_replicate zero a = refl
+length_replicate (suc n) a = ap suc (length_replicate n a)
+
+-- what holds of all elements, and of one more
+pub all_end : {A : Type 0} (test : A → Bool) (xs : List A) (x : A) → list_all test xs ≡ true → test x ≡ true → list_all test (xs ++ x ∷ []) ≡ true
+all_end test [] x e h = rw h refl
+all_end test (y ∷ xs) x e h = let p = and_parts (test y) (list_all test xs) e in and_true (test y) (list_all test (xs ++ x ∷ [])) p.0 (all_end test xs x p.1 h)
+
+pub sum_cons : (c : ℕ) (cs : List ℕ) → sum (c ∷ cs) ≡ c + sum cs
+sum_cons c cs = sum_by-cons (λ x. x) c cs

@@ -1,0 +1,2 @@
+//! Lemmas on truth values, numbers and lists that several crates cite.
+#![tactic(auto)]

@@ -1,0 +1,135 @@
+-- The run that a list of actors makes is a run, and the collector stands behind its share of it.
+use Rattle.std.proofs.Common.{◌≡◌, ◌<◌, ◌⊎◌, inl, inr, ℕ, ◌==◌, Bool, true, false, Option, Some, None, List, [], ◌∷◌, refl, sym, ap, subst, if◌then◌else◌, MatchOption, nat_lt, length, is_some}
+use Rattle.pools.specs.Heap.{Setup, words_of_cell}
+use Rattle.colours.specs.declared.place.Place.{Place}
+use Rattle.colours.specs.declared.ask.Ask.{Ask}
+use Rattle.colours.specs.declared.turn.Turn.{Turn}
+use Rattle.colours.specs.Steps.{Step, place_of}
+use Rattle.colours.specs.Collector.{Collection, Posting, Waiting, ShadingGlobals, Passing, Scanning, Shading, Sweeping, Clearing, reference_from}
+use Rattle.colours.specs.Runs.{Event, word_after, turns_of}
+use Rattle.colours.proofs.Tests.{test_true}
+use Rattle.trace_sweep.specs.Collecting.{Collecting, ask_of, turn_of, moved, stored_by}
+use Rattle.trace_sweep.specs.Stands.{StandsBehind}
+use Rattle.trace_sweep.specs.Order.{next-step, took-stands}
+use Rattle.trace_sweep.specs.Extends.{next-extends}
+use Rattle.runs.specs.Machine.{Machine}
+use Rattle.runs.specs.Moves.{Move, step_of}
+use Rattle.runs.specs.ModuleRuns.{Happening, OfThread, share_of, with_step, heap_of, IsNext, IsModuleRun}
+use Rattle.runs.specs.NextMoves.{next_move_in, sight_behind, IsSightOf}
+use Rattle.runs.specs.Tries.{lowest, TriesLowest}
+use Rattle.runs.specs.NextMoveLemmas.{next_is}
+use Rattle.runs.specs.TryLemmas.{keeps_order}
+use Rattle.moves.specs.declared.actor.Actor.{Actor}
+use Rattle.moves.specs.declared.actor.Actor.TheVariants.{Thread, Collector}
+use Rattle.moves.specs.Runs.{found_in, collector_behind, turn_for, by_thread, by_collector, next_by, with_next, run_by, AreActors}
+
+-- a test answers true or false
+yes_or_no : (b : Bool) → (b ≡ true) ⊎ (b ≡ false)
+yes_or_no true = inl refl
+yes_or_no false = inr refl
+
+-- what a step found, by its entry, leads to the same place
+pub moved-found : (c : Collecting) (found : ℕ) → moved c (found_in (turn_of c found)) ≡ moved c found
+moved-found c found = go c.heap c.posted c.at
+  where
+    go : (s : Setup) (stage : ℕ) (at : Collection) → moved (record { heap = s; posted = stage; at = at }) (found_in (turn_of (record { heap = s; posted = stage; at = at }) found)) ≡ moved (record { heap = s; posted = stage; at = at }) found
+    go s stage Posting = refl
+    go s stage (Waiting thread) = refl
+    go s stage ShadingGlobals = refl
+    go s stage (Passing p) = refl
+    go s stage (Scanning cell word p) = elim (yes_or_no (nat_lt (reference_from s cell word) (length (words_of_cell s cell)))) [
+      | inl is ↦ rw is refl
+      | inr n ↦ rw n refl
+    ]
+    go s stage (Shading value cell word p) = refl
+    go s stage (Sweeping cell) = refl
+    go s stage (Clearing cell word) = elim (yes_or_no (nat_lt word (length (words_of_cell s cell)))) [
+      | inl is ↦ rw is refl
+      | inr n ↦ rw n refl
+    ]
+
+-- a thread's step is none of the collector's
+pub turns-with : (t : ℕ) (o : Option Step) (h : List Event) → turns_of (with_step t o h) ≡ turns_of h
+turns-with t None h = refl
+turns-with t (Some step) h = refl
+
+-- a run that was drawn so far
+pub record IsDrawn (s : Setup) (m : Machine) (starts : ℕ → m.State) (run : List Happening) : Type 0 where
+  pub is_run : IsModuleRun s m starts run
+  pub tries : (t : ℕ) → t < s.threads → TriesLowest s m t (starts t) (share_of t run)
+  pub stands : StandsBehind s (turns_of (heap_of run)) (collector_behind s (turns_of (heap_of run)))
+
+-- before the first step
+drawn-none : (s : Setup) (m : Machine) (starts : ℕ → m.State) → IsDrawn s m starts []
+unfolding collector_behind
+drawn-none s m starts = record {
+  is_run = tt;
+  tries = λ t lt. tt;
+  stands = record { heap = refl; posted = refl; place = Posting; at = refl; collects = refl };
+}
+
+-- what a thread sees of a run
+seen : (s : Setup) (run : List Happening) (order : ℕ → List ℕ → ℕ) → IsSightOf s run (sight_behind s run order)
+seen s run order = record {
+  word = λ c i. refl;
+  word_birth = λ c i. refl;
+  posted = refl;
+  is_blue = λ c. refl;
+  claim_birth = λ layout tried. refl;
+}
+
+-- a thread's next move, if there is one
+drawn-move : (s : Setup) (m : Machine) (starts : ℕ → m.State) (run : List Happening) (t : ℕ) → t < s.threads → IsDrawn s m starts run
+    → IsDrawn s m starts (with_next (next_by s m starts run (Thread t)) run)
+drawn-move s m starts run t lt d =
+    let order = keeps_order s m starts run t d.is_run (d.tries t lt) in
+    let next = next_is s m starts run (sight_behind s run (lowest s)) t d.is_run (seen s run (lowest s)) lt order.in_pool in
+    go (next_move_in s m starts run (sight_behind s run (lowest s)) t) next.is_next order.next
+  where
+    go : (o : Option Move) → MatchOption o (Unit {0}) (λ move. IsNext s m starts run (OfThread t move))
+        → MatchOption o (Unit {0}) (λ move. TriesLowest s m t (starts t) (move ∷ share_of t run)) → IsDrawn s m starts (with_next (by_thread t o) run)
+    go None next tries = d
+    go (Some move) next tries = record {
+      is_run = (d.is_run, next);
+      tries = λ u few. each u few (t == u) refl;
+      stands = subst (λ (log : List Turn). StandsBehind s log (collector_behind s log)) (sym (turns-with t (step_of move) (heap_of run))) d.stands;
+    }
+      where
+        each : (u : ℕ) → u < s.threads → (b : Bool) → t == u ≡ b → TriesLowest s m u (starts u) (if b then move ∷ share_of u run else share_of u run)
+        each u few true e = subst (λ v. TriesLowest s m v (starts v) (move ∷ share_of v run)) (test_true t u e) tries
+        each u few false e = d.tries u few
+
+-- the collector's next step, if there is one
+drawn-turn : (s : Setup) (m : Machine) (starts : ℕ → m.State) (run : List Happening) → IsDrawn s m starts run
+    → IsDrawn s m starts (with_next (next_by s m starts run Collector) run)
+unfolding collector_behind
+drawn-turn s m starts run d = go (ask_of (collector_behind s (turns_of (heap_of run)))) refl
+  where
+    log : List Turn
+    log = turns_of (heap_of run)
+
+    c : Collecting
+    c = collector_behind s log
+
+    at : Place → ℕ
+    at = word_after s (heap_of run)
+
+    go : (o : Option Ask) → ask_of c ≡ o → IsDrawn s m starts (with_next (by_collector (turn_for c at o)) run)
+    go None e = d
+    go (Some ask) e =
+        let found = at (place_of ask) in
+        let step = next-step c at ask (place_of ask) found (turn_of c found) (stored_by ask found) (moved c found) e refl refl refl refl refl in
+        let goes = took-stands c found (turn_of c found) (moved c found) refl refl (ap is_some e) in
+        let extends = next-extends c at (record { turn = turn_of c found; place = place_of ask; stored = stored_by ask found }) (moved c found) step goes s (heap_of run) d.stands (λ p. refl) in
+        record {
+          is_run = (d.is_run, extends.may_happen);
+          tries = d.tries;
+          stands = subst (λ (e : Collecting). StandsBehind s (turn_of c found ∷ log) e) (sym (moved-found c found)) (goes s log d.stands);
+        }
+
+-- the run of a list of actors
+pub drawn : (s : Setup) (m : Machine) (starts : ℕ → m.State) (actors : List Actor) → AreActors s.threads actors → IsDrawn s m starts (run_by s m starts actors)
+unfolding run_by
+drawn s m starts [] are = drawn-none s m starts
+drawn s m starts (Thread t ∷ actors) are = drawn-move s m starts (run_by s m starts actors) t are.0 (drawn s m starts actors are.1)
+drawn s m starts (Collector ∷ actors) are = drawn-turn s m starts (run_by s m starts actors) (drawn s m starts actors are.1)

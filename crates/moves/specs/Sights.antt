@@ -1,0 +1,65 @@
+-- Sights that are alike show a thread the same next move.
+use Rattle.std.proofs.Common.{◌≡◌, ℕ, ◌==◌, suc, Some, List, [], slice_index, refl, sym, ap, ◌∙◌, if◌then◌else◌}
+use Rattle.pools.specs.Heap.{Setup}
+use Rattle.colours.specs.declared.place.Place.TheVariants.{Posted, Colour, Word}
+use Rattle.colours.specs.Mutator.{Phase, Ready, Trying, Absent, Entering, stage_of, phase_of}
+use Rattle.runs.specs.Machine.{Reference, Action, Read, Write, Alloc, Safepoint, Machine}
+use Rattle.runs.specs.Moves.{Move, Works, ReadsWord, ReadsOldValue, Claims, ReadsPosted, ReadsPostedFirst, ReadsPostedAgain, steps_of, state_after, old_of}
+use Rattle.runs.specs.ModuleRuns.{Happening, share_of}
+use Rattle.runs.specs.NextMoves.{Sight, next_move, try_of, sight_behind}
+use Rattle.runs.specs.Tries.{lowest}
+use Rattle.runs.specs.Ends.{Standing, StandsBehind, next_move_of}
+use Rattle.runs.specs.Standings.{goes_on}
+use Rattle.moves.specs.declared.actor.Actor.TheVariants.{Thread}
+use Rattle.moves.specs.declared.shared.Shared.{Shared}
+use Rattle.moves.specs.Rows.{word_at}
+use Rattle.moves.specs.Runs.{by_thread, next_by}
+use Rattle.moves.specs.Shared.{AreBehind}
+use Rattle.moves.specs.Stands.{sight_in}
+
+-- they show the same everywhere
+record AreAlike (h k : Sight) : Type 0 where
+  word : (c i : ℕ) → h.word c i ≡ k.word c i
+  posted : h.posted ≡ k.posted
+  claim : (layout : ℕ) (tried : List ℕ) → h.claim layout tried ≡ k.claim layout tried
+  is_blue : (c : ℕ) → h.is_blue c ≡ k.is_blue c
+
+-- references with one cell and one birth are one
+one_reference : (a b : Reference) → a.cell ≡ b.cell → a.birth ≡ b.birth → a ≡ b
+one_reference a b cell birth =
+    let keep : Reference → Reference = λ r. r in
+    ap (λ n. keep (record { cell = n; birth = a.birth })) cell ∙ ap (λ n. keep (record { cell = b.cell; birth = n })) birth
+
+-- the same try
+alike_try : (h k : Sight) → AreAlike h k → (layout : ℕ) (tried : List ℕ) → try_of h (h.claim layout tried) ≡ try_of k (k.claim layout tried)
+alike_try h k a layout tried = ap (λ (r : Reference). Claims r (h.is_blue r.cell)) (a.claim layout tried) ∙ ap (Claims (k.claim layout tried)) (a.is_blue (k.claim layout tried).cell)
+
+-- the same next move
+alike_next : (s : Setup) (h k : Sight) → AreAlike h k → (stage : ℕ) (roots : List Reference) (old : Reference) (action : Action) (phase : Phase)
+    → next_move s h stage roots old action phase ≡ next_move s k stage roots old action phase
+alike_next s h k a stage roots old action Absent = ap (λ n. Some (ReadsPostedFirst n)) a.posted
+alike_next s h k a stage roots old action Entering = ap (λ n. Some (ReadsPostedAgain n)) a.posted
+alike_next s h k a stage roots old (Read base word) Ready = ap (λ (r : Reference). Some (ReadsWord base word r)) (a.word base.cell word)
+alike_next s h k a stage roots old (Write base word value) Ready = ap (λ (r : Reference). Some (ReadsOldValue base word r)) (a.word base.cell word)
+alike_next s h k a stage roots old (Alloc layout) Ready = ap (λ (m : Move). Some (if slice_index s.pools layout == 0 then Works else m)) (alike_try h k a layout [])
+alike_next s h k a stage roots old (Alloc layout) (Trying tried) = ap (λ (m : Move). Some m) (alike_try h k a layout tried)
+alike_next s h k a stage roots old Safepoint Ready = ap (λ n. Some (ReadsPosted n)) a.posted
+alike_next s h k a stage roots old action phase = refl
+
+-- what stands behind a run, seen in the run and in the words
+alike_behind : (s : Setup) (run : List Happening) (shared : Shared) → AreBehind s run shared → AreAlike (sight_behind s run (lowest s)) (sight_in s shared)
+alike_behind s run shared b = record {
+  word = λ c i. sym (one_reference (word_at shared.words c i) ((sight_behind s run (lowest s)).word c i) (b.words (Word c i)) (b.word_births c i));
+  posted = sym (b.words Posted);
+  claim = λ layout tried. one_reference ((sight_behind s run (lowest s)).claim layout tried) ((sight_in s shared).claim layout tried) refl (ap suc (sym (b.births (lowest s layout tried))));
+  is_blue = λ c. ap (λ n. n == 0) (sym (b.words (Colour c)));
+}
+
+-- the next step of a thread that stands behind a run, from the words as they stand
+pub next_in_words : (s : Setup) (m : Machine) (starts : ℕ → m.State) (run : List Happening) (t : ℕ) (stand : Standing m.State) (shared : Shared) → AreBehind s run shared → StandsBehind s m starts run t stand
+    → next_by s m starts run (Thread t) ≡ by_thread t (next_move_of s m (sight_in s shared) stand)
+next_in_words s m starts run t stand shared behind stands =
+    let share = share_of t run in
+    let state = state_after s m t (starts t) share in
+    let same = alike_next s (sight_behind s run (lowest s)) (sight_in s shared) (alike_behind s run shared behind) (stage_of (steps_of share)) (m.roots state) (old_of share) (m.action state) (phase_of s t (steps_of share)) in
+    ap (by_thread t) (same ∙ sym ((goes_on s m starts run t stand stands).next (sight_in s shared)))

@@ -1,0 +1,104 @@
+-- Where a thread stands behind a run, and how it goes on from there.
+use Rattle.std.proofs.Common.{◌≡◌, ◌≢◌, ℕ, List, [], ◌∷◌, if◌then◌else◌, refl, sym, ◌∙◌, subst}
+use Rattle.std.proofs.Math.Path.{ap}
+use Rattle.pools.specs.Heap.{Setup}
+use Rattle.colours.specs.Steps.{Step}
+use Rattle.colours.specs.Mutator.{Phase, stage_of, phase_of}
+use Rattle.colours.proofs.Tests.{test_yes, test_no}
+use Rattle.runs.specs.Machine.{Reference, Machine}
+use Rattle.runs.specs.Moves.{Move, Works, GoesWrong, ReadsWord, ReadsOldValue, Marks, StoresBehindBarrier, StoresPlain, Claims, ReadsPosted, StoresStage, ReadsPostedFirst, EntersStage, ReadsPostedAgain, step_of, steps_of, phase_behind, ends_call, answer_of, state_after, old_of}
+use Rattle.runs.specs.ModuleRuns.{Happening, OfThread, OfCollector, share_of}
+use Rattle.runs.specs.NextMoves.{Sight, next_move, next_move_in}
+use Rattle.runs.specs.Ends.{Standing, StandsBehind, begun, stage_behind, old_by, moved, next_move_of, GoesOn}
+use Rattle.runs.specs.Calls.{phase_with}
+
+-- a thread before its first move
+pub begins : (s : Setup) (m : Machine) (starts : ℕ → m.State) (t : ℕ) → StandsBehind s m starts [] t (begun s m starts t)
+begins s m starts t = record { state = refl; stage = refl; phase = refl; old = refl }
+
+-- a thread stands so behind this share
+record IsAt (s : Setup) (m : Machine) (t : ℕ) (start : m.State) (share : List Move) (stand : Standing m.State) : Type 0 where
+  state : stand.state ≡ state_after s m t start share
+  stage : stand.stage ≡ stage_of (steps_of share)
+  phase : stand.phase ≡ phase_of s t (steps_of share)
+  old : stand.old ≡ old_of share
+
+at_share : (s : Setup) (m : Machine) (starts : ℕ → m.State) (run : List Happening) (t : ℕ) (stand : Standing m.State) → StandsBehind s m starts run t stand → IsAt s m t (starts t) (share_of t run) stand
+at_share s m starts run t stand x = record { state = x.state; stage = x.stage; phase = x.phase; old = x.old }
+
+behind_run : (s : Setup) (m : Machine) (starts : ℕ → m.State) (run : List Happening) (t : ℕ) (share : List Move) (stand : Standing m.State) → share_of t run ≡ share → IsAt s m t (starts t) share stand
+    → StandsBehind s m starts run t stand
+behind_run s m starts run t share stand e x =
+    let y : IsAt s m t (starts t) (share_of t run) stand = subst (λ (q : List Move). IsAt s m t (starts t) q stand) (sym e) x in
+    record { state = y.state; stage = y.stage; phase = y.phase; old = y.old }
+
+-- ---- its own move
+
+stage_with : (log : List Step) (move : Move) (share : List Move) → log ≡ steps_of share → stage_behind (stage_of log) move ≡ stage_of (steps_of (move ∷ share))
+stage_with log Works share e = ap stage_of e
+stage_with log GoesWrong share e = ap stage_of e
+stage_with log (ReadsWord base word value) share e = ap stage_of e
+stage_with log (ReadsOldValue base word value) share e = ap stage_of e
+stage_with log (Marks r) share e = ap stage_of e
+stage_with log (StoresBehindBarrier base word value) share e = ap stage_of e
+stage_with log (StoresPlain base word value) share e = ap stage_of e
+stage_with log (Claims r won) share e = ap stage_of e
+stage_with log (ReadsPosted stage) share e = ap stage_of e
+stage_with log (StoresStage stage roots) share e = refl
+stage_with log (ReadsPostedFirst stage) share e = ap stage_of e
+stage_with log (EntersStage stage) share e = refl
+stage_with log (ReadsPostedAgain stage) share e = ap stage_of e
+
+old_with : (move : Move) (share : List Move) → old_by move ≡ old_of (move ∷ share)
+old_with (ReadsOldValue base word value) share = refl
+old_with move share = refl
+
+own_move : (s : Setup) (m : Machine) (t : ℕ) (start : m.State) (share : List Move) (stand : Standing m.State) → IsAt s m t start share stand → (move : Move) → IsAt s m t start (move ∷ share) (moved s m stand move)
+own_move s m t start share stand x move = record {
+  state = ap (λ (q : m.State). after q (phase_behind s stand.stage stand.phase (step_of move))) x.state ∙ ap (λ (q : Phase). after (state_after s m t start share) q) same_phase;
+  stage = ap (λ (n : ℕ). stage_behind n move) x.stage ∙ stage_with (steps_of share) move share refl;
+  phase = same_phase;
+  old = old_with move share;
+}
+  where
+    after : m.State → Phase → m.State
+    after state phase = if ends_call move phase then m.after_answer state (answer_of (m.action state) move) else state
+
+    same_phase : phase_behind s stand.stage stand.phase (step_of move) ≡ phase_of s t (steps_of (move ∷ share))
+    same_phase =
+        ap (λ (n : ℕ). phase_behind s n stand.phase (step_of move)) x.stage
+        ∙ ap (λ (q : Phase). phase_behind s (stage_of (steps_of share)) q (step_of move)) x.phase
+        ∙ phase_with s t (steps_of share) (step_of move)
+
+-- ---- every happening
+
+-- the thread goes on from where it stands
+pub goes_on : (s : Setup) (m : Machine) (starts : ℕ → m.State) (run : List Happening) (t : ℕ) (stand : Standing m.State) → StandsBehind s m starts run t stand → GoesOn s m starts run t stand
+goes_on s m starts run t stand x = record {
+  next = same_next;
+  own = λ move. behind_run s m starts (OfThread t move ∷ run) t (move ∷ share_of t run) (moved s m stand move) (here move) (own_move s m t (starts t) (share_of t run) stand at move);
+  other = λ u move n. behind_run s m starts (OfThread u move ∷ run) t (share_of t run) stand (elsewhere u move n) at;
+  collector = λ turn. behind_run s m starts (OfCollector turn ∷ run) t (share_of t run) stand refl at;
+}
+  where
+    at : IsAt s m t (starts t) (share_of t run) stand
+    at = at_share s m starts run t stand x
+
+    here : (move : Move) → share_of t (OfThread t move ∷ run) ≡ move ∷ share_of t run
+    here move = rw (test_yes t t refl) refl
+
+    elsewhere : (u : ℕ) (move : Move) → u ≢ t → share_of t (OfThread u move ∷ run) ≡ share_of t run
+    elsewhere u move n = rw (test_no u t n) refl
+
+    same_next : (h : Sight) → next_move_of s m h stand ≡ next_move_in s m starts run h t
+    same_next h =
+        ap (λ (q : m.State). next_move s h stand.stage (m.roots q) stand.old (m.action q) stand.phase) x.state
+        ∙ ap (λ (n : ℕ). next_move s h n (m.roots state) stand.old (m.action state) stand.phase) x.stage
+        ∙ ap (λ (r : Reference). next_move s h (stage_of (steps_of share)) (m.roots state) r (m.action state) stand.phase) x.old
+        ∙ ap (λ (q : Phase). next_move s h (stage_of (steps_of share)) (m.roots state) (old_of share) (m.action state) q) x.phase
+      where
+        share : List Move
+        share = share_of t run
+
+        state : m.State
+        state = state_after s m t (starts t) share
