@@ -5,6 +5,9 @@ use Rattle.std.specs.List.{list_all, list_any, zip}
 use Rattle.std.proofs.lemmas.Bool.{cases_eq, eqb-true, eq-eqb, ne_eqb}
 use Rattle.std.proofs.lemmas.List.{length-set}
 use Rattle.std.proofs.lemmas.List.Folds.{list_any-append}
+use Rattle.lemmas.specs.Lists.{get_some, length_replicate, all_end}
+use Rattle.lemmas.specs.Numbers.{test_same}
+use Rattle.lemmas.specs.Bools.{never_true, or_neither, and_second, and_first, and_true, or_false}
 use Rattle.ir_ast.specs.declared.function.Function.{Function}
 use Rattle.ir_ast.specs.declared.function.Parameter.{Parameter}
 use Rattle.ir_ast.specs.declared.module.Module.{Module}
@@ -22,9 +25,6 @@ use Rattle.certs.specs.declared.section.Promise.{Promise}
 
 -- ---- lists
 
-pub both : (a b : Bool) → a ≡ true → b ≡ true → (a && b) ≡ true
-both a b e g = rw (e, g) refl
-
 pub got_set : {A : Type 0} (xs : List A) (i : ℕ) (x y : A) → slice_get xs i ≡ Some x → slice_get (slice_set xs i y) i ≡ Some y
 got_set [] i x y e = absurd cc
 got_set (z ∷ xs) zero x y e = refl
@@ -41,24 +41,11 @@ got_cases (x ∷ xs) (suc i) (suc j) y = elim (got_cases xs i j y) [
   | inr h ↦ inr h
 ]
 
-within_got : {A : Type 0} (xs : List A) (i : ℕ) → i < length xs → (x : A) × (slice_get xs i ≡ Some x)
-within_got [] i lt = absurd (omega arith)
-within_got (x ∷ xs) zero lt = (x, refl)
-within_got (x ∷ xs) (suc i) lt = within_got xs i (omega arith)
-
 got_other : {A : Type 0} (xs : List A) (i j : ℕ) (y : A) → (i ≡ j → ⊥) → slice_get (slice_set xs i y) j ≡ slice_get xs j
 got_other xs i j y differ = elim (got_cases xs i j y) [
   | inl h ↦ absurd (differ h.0)
   | inr h ↦ h
 ]
-
-pub rest_true : (a b : Bool) → (a && b) ≡ true → b ≡ true
-rest_true true b e = e
-rest_true false b e = absurd cc
-
-pub first_true : (a b : Bool) → (a && b) ≡ true → a ≡ true
-first_true true b e = refl
-first_true false b e = absurd cc
 
 and_on : (a b c : Bool) → (a && b) ≡ true → (b ≡ true → c ≡ true) → (a && c) ≡ true
 and_on true b c e on = on e
@@ -66,7 +53,7 @@ and_on false b c e on = absurd cc
 
 all_set : {A : Type 0} (test : A → Bool) (xs : List A) (i : ℕ) (y : A) → list_all test xs ≡ true → test y ≡ true → list_all test (slice_set xs i y) ≡ true
 all_set test [] i y all e = refl
-all_set test (x ∷ xs) zero y all e = both (test y) (list_all test xs) e (rest_true (test x) (list_all test xs) all)
+all_set test (x ∷ xs) zero y all e = and_true (test y) (list_all test xs) e (and_second (test x) (list_all test xs) all)
 all_set test (x ∷ xs) (suc i) y all e = and_on (test x) (list_all test xs) (list_all test (slice_set xs i y)) all (λ r. all_set test xs i y r e)
 
 same_in : {A : Type 0} (a b : A) → (xs : List A) → slice_get (a ∷ xs) 0 ≡ Some b → a ≡ b
@@ -76,21 +63,13 @@ pub all_set_zip : {A B : Type 0} (test : A × B → Bool) (xs : List A) (ys : Li
 all_set_zip test [] ys i x y e all h = absurd cc
 all_set_zip test (z ∷ xs) [] i x y e all h = refl
 all_set_zip test (z ∷ xs) (w ∷ ys) zero x y e all h =
-    both (test (z, y)) (list_all test (zip xs ys)) (ap (λ k. test (k, y)) (same_in z x xs e) ∙ h) (rest_true (test (z, w)) (list_all test (zip xs ys)) all)
+    and_true (test (z, y)) (list_all test (zip xs ys)) (ap (λ k. test (k, y)) (same_in z x xs e) ∙ h) (and_second (test (z, w)) (list_all test (zip xs ys)) all)
 all_set_zip test (z ∷ xs) (w ∷ ys) (suc i) x y e all h = and_on (test (z, w)) (list_all test (zip xs ys)) (list_all test (zip xs (slice_set ys i y))) all (λ r. all_set_zip test xs ys i x y e r h)
-
-all_more : {A : Type 0} (test : A → Bool) (xs : List A) (x : A) → list_all test xs ≡ true → test x ≡ true → list_all test (xs ++ x ∷ []) ≡ true
-all_more test [] x all e = rw e refl
-all_more test (y ∷ xs) x all e = and_on (test y) (list_all test xs) (list_all test (xs ++ x ∷ [])) all (λ r. all_more test xs x r e)
 
 pub all_weaker : {A : Type 0} (test other : A → Bool) (xs : List A) → ((x : A) → test x ≡ true → other x ≡ true) → list_all test xs ≡ true → list_all other xs ≡ true
 all_weaker test other [] weaker all = refl
 all_weaker test other (x ∷ xs) weaker all =
-    both (other x) (list_all other xs) (weaker x (first_true (test x) (list_all test xs) all)) (all_weaker test other xs weaker (rest_true (test x) (list_all test xs) all))
-
-or_false : (b : Bool) → (b || false) ≡ b
-or_false true = refl
-or_false false = refl
+    and_true (other x) (list_all other xs) (weaker x (and_first (test x) (list_all test xs) all)) (all_weaker test other xs weaker (and_second (test x) (list_all test xs) all))
 
 pub any_more : {A : Type 0} (test : A → Bool) (xs : List A) (x : A) → list_any test (xs ++ x ∷ []) ≡ (list_any test xs || test x)
 any_more test xs x = list_any-append test xs (x ∷ []) ∙ ap (λ b. list_any test xs || b) (or_false (test x))
@@ -105,20 +84,16 @@ apart_step false b c d e f g = rw (f, g) refl
 pub turned : (x y : ℕ) → (x == y) ≡ false → (y == x) ≡ false
 turned x y e = ne_eqb y x (λ h. let t = eq-eqb x y (sym h) in cc)
 
-pub first_no : (a b : Bool) → (a || b) ≡ false → (a ≡ false) × (b ≡ false)
-first_no true b e = absurd cc
-first_no false b e = (refl, e)
-
 -- a line that lists what no other one lists is not listed by them
 not_by : (new old : Line) (lines : List Line) → is_listed (old ∷ lines) new ≡ false → is_listed (new ∷ []) old ≡ false
-not_by (line.Value v fact) (line.Value w other) lines e = let h = first_no (w == v) (list_any (lists v) lines) e in rw (turned w v h.0) refl
+not_by (line.Value v fact) (line.Value w other) lines e = let h = or_neither (w == v) (list_any (lists v) lines) e in rw (turned w v h.0) refl
 not_by (line.Value v fact) (line.Slot s nonnull holds) lines e = refl
 not_by (line.Slot s nonnull holds) (line.Value w other) lines e = refl
-not_by (line.Slot s nonnull holds) (line.Slot t n h) lines e = let h = first_no (t == s) (list_any (lists_slot s) lines) e in rw (turned t s h.0) refl
+not_by (line.Slot s nonnull holds) (line.Slot t n h) lines e = let h = or_neither (t == s) (list_any (lists_slot s) lines) e in rw (turned t s h.0) refl
 
 rest_not : (new old : Line) (lines : List Line) → is_listed (old ∷ lines) new ≡ false → is_listed lines new ≡ false
-rest_not (line.Value v fact) old lines e = (first_no (lists v old) (list_any (lists v) lines) e).1
-rest_not (line.Slot s nonnull holds) old lines e = (first_no (lists_slot s old) (list_any (lists_slot s) lines) e).1
+rest_not (line.Value v fact) old lines e = (or_neither (lists v old) (list_any (lists v) lines) e).1
+rest_not (line.Slot s nonnull holds) old lines e = (or_neither (lists_slot s old) (list_any (lists_slot s) lines) e).1
 
 listed_more : (old : Line) (lines : List Line) (new : Line) → is_listed (lines ++ new ∷ []) old ≡ (is_listed lines old || is_listed (new ∷ []) old)
 listed_more (line.Value v fact) lines new = list_any-append (lists v) lines (new ∷ [])
@@ -192,17 +167,10 @@ Between m f d = Fitting m f (λ _. ⊥) d × (d.lines ≡ []) × (d.wanted ≡ [
 abbrev pub Within : Module → Function → (block : ℕ) → Draft → Type 0
 Within m f block d = Fitting m f (λ b. b ≡ block) d × Lines m f block d
 
-length_replicate : {A : Type 0} (n : ℕ) (a : A) → length (replicate n a) ≡ n
-length_replicate zero a = refl
-length_replicate (suc n) a = ap suc (length_replicate n a)
-
 none_in : (n block i : ℕ) → is_in block (slice_get (replicate n None) i) ≡ true → ⊥
 none_in zero block i e = absurd cc
 none_in (suc n) block zero e = absurd cc
 none_in (suc n) block (suc i) e = none_in n block i e
-
-same_eq : (n : ℕ) → (n == n) ≡ true
-same_eq n = eq-eqb n n refl
 
 no_promises : (m : Module) (f : Function) (ps : List Parameter) → list_all (λ p. parameter_fits m f p.0 p.1) (zip ps (replicate (length ps) None)) ≡ true
 no_promises m f [] = refl
@@ -229,7 +197,7 @@ pub at_start : (m : Module) (f : Function) → Between m f (draft_of m f)
 at_start m f = (
   record {
     roots = refl;
-    promises = both (length (draft_of m f).parameters == length f.parameters) (list_all (λ p. parameter_fits m f p.0 p.1) (zip f.parameters (draft_of m f).parameters))
+    promises = and_true (length (draft_of m f).parameters == length f.parameters) (list_all (λ p. parameter_fits m f p.0 p.1) (zip f.parameters (draft_of m f).parameters))
         (eq-eqb (length (draft_of m f).parameters) (length f.parameters) (length_replicate (length f.parameters) None)) (no_promises m f f.parameters);
     as_many = map_length (λ _. []) f.blocks;
     entry = first_empty f.blocks;
@@ -260,11 +228,11 @@ with_parameter m f place promise d is fits h =
     let test : Parameter × Option Promise → Bool = λ p. parameter_fits m f p.0 p.1 in
     let here : test (p.0, Some promise) ≡ true = ap (λ v. promise_fits m (family_of_value m f v) promise) p.2 ∙ fits in
     let set = slice_set d.parameters place (Some promise) in
-    let len : length set ≡ length f.parameters = length-set d.parameters place (Some promise) ∙ eqb-true (length d.parameters) (length f.parameters) (first_true (length d.parameters == length f.parameters) (list_all test (zip f.parameters d.parameters)) old) in (
+    let len : length set ≡ length f.parameters = length-set d.parameters place (Some promise) ∙ eqb-true (length d.parameters) (length f.parameters) (and_first (length d.parameters == length f.parameters) (list_all test (zip f.parameters d.parameters)) old) in (
       record {
         roots = h.0.roots;
-        promises = both (length set == length f.parameters) (list_all test (zip f.parameters set)) (eq-eqb (length set) (length f.parameters) len)
-            (all_set_zip test f.parameters d.parameters place p.0 (Some promise) p.1 (rest_true (length d.parameters == length f.parameters) (list_all test (zip f.parameters d.parameters)) old) here);
+        promises = and_true (length set == length f.parameters) (list_all test (zip f.parameters set)) (eq-eqb (length set) (length f.parameters) len)
+            (all_set_zip test f.parameters d.parameters place p.0 (Some promise) p.1 (and_second (length d.parameters == length f.parameters) (list_all test (zip f.parameters d.parameters)) old) here);
         as_many = h.0.as_many;
         entry = h.0.entry;
         fit = h.0.fit;
@@ -282,10 +250,6 @@ with_parameter m f place promise d is fits h =
 
 not_again : (given : List Bool) (block : ℕ) → slice_get given block ≡ Some false → slice_get given block ≡ Some true → ⊥
 not_again given block e g = cc
-
-not_in : (b : Bool) → (b ≡ true → ⊥) → b ≡ false
-not_in true h = absurd (h refl)
-not_in false h = refl
 
 -- a block begins of which no line is read
 pub block_begins : (m : Module) (f : Function) (block : ℕ) (d : Draft) → slice_get d.given block ≡ Some false → Between m f d → Within m f block d
@@ -306,8 +270,8 @@ block_begins m f block d new h = (
     each = ap (list_all (line_fits m f)) h.1;
     once = ap lists_once h.1;
     asked = ap (list_all (λ line. is_wanted d.wanted (named_in line))) h.1;
-    values = λ value. not_in (is_in block (slice_get d.values value)) (λ e. none (h.0.values_before block value e)) ∙ sym (ap (list_any (lists value)) h.1);
-    slots = λ slot. not_in (is_in block (slice_get d.slots slot)) (λ e. none (h.0.slots_before block slot e)) ∙ sym (ap (list_any (lists_slot slot)) h.1);
+    values = λ value. never_true (is_in block (slice_get d.values value)) (λ e. none (h.0.values_before block value e)) ∙ sym (ap (list_any (lists value)) h.1);
+    slots = λ slot. never_true (is_in block (slice_get d.slots slot)) (λ e. none (h.0.slots_before block slot e)) ∙ sym (ap (list_any (lists_slot slot)) h.1);
   },
 )
   where
@@ -393,7 +357,7 @@ with_wanted m f block value left d h = (
 )
 
 pub last_wanted : (wanted : List Wanted) (value left : ℕ) → is_wanted (wanted ++ record { value = value; left = left } ∷ []) (Some value) ≡ true
-last_wanted wanted value left = any_more (λ (w : Wanted). w.value == value) wanted (record { value = value; left = left }) ∙ or_true (list_any (λ (w : Wanted). w.value == value) wanted) (value == value) (same_eq value)
+last_wanted wanted value left = any_more (λ (w : Wanted). w.value == value) wanted (record { value = value; left = left }) ∙ or_true (list_any (λ (w : Wanted). w.value == value) wanted) (value == value) (test_same value)
   where
     or_true : (a b : Bool) → b ≡ true → (a || b) ≡ true
     or_true true b e = refl
@@ -403,8 +367,8 @@ last_wanted wanted value left = any_more (λ (w : Wanted). w.value == value) wan
 listed_with : (block value : ℕ) (values : List (Option ℕ)) (listed : ℕ → Bool) → value < length values → ((u : ℕ) → is_in block (slice_get values u) ≡ listed u) → (u : ℕ) → is_in block (slice_get (slice_set values value (Some block)) u) ≡ (listed u || value == u)
 listed_with block value values listed within old u = elim (cases_eq value u) [
   | inl same ↦
-      let p = within_got values value within in
-      ap (λ x. is_in block (slice_get (slice_set values value (Some block)) x)) (sym same) ∙ ap (is_in block) (got_set values value p.0 (Some block) p.1) ∙ same_eq block ∙ sym (ap (λ b. listed u || b) (eq-eqb value u same) ∙ always (listed u))
+      let p = get_some values value within in
+      ap (λ x. is_in block (slice_get (slice_set values value (Some block)) x)) (sym same) ∙ ap (is_in block) (got_set values value p.0 (Some block) p.1) ∙ test_same block ∙ sym (ap (λ b. listed u || b) (eq-eqb value u same) ∙ always (listed u))
   | inr differ ↦ ap (is_in block) (got_other values value u (Some block) differ) ∙ old u ∙ sym (ap (λ b. listed u || b) (ne_eqb value u differ) ∙ or_false (listed u))
 ]
   where
@@ -438,9 +402,9 @@ with_value m f block value fact d within new fits wanted h =
         slots_before = h.0.slots_before;
       },
       record {
-        each = all_more (line_fits m f) d.lines one h.1.each fits;
+        each = all_end (line_fits m f) d.lines one h.1.each fits;
         once = once_more d.lines one h.1.once (sym (h.1.values value) ∙ new);
-        asked = all_more (λ line. is_wanted d.wanted (named_in line)) d.lines one h.1.asked wanted;
+        asked = all_end (λ line. is_wanted d.wanted (named_in line)) d.lines one h.1.asked wanted;
         values = λ u. listed_with block value d.values (λ u. list_any (lists u) d.lines) room h.1.values u ∙ sym (any_more (lists u) d.lines one);
         slots = λ s. h.1.slots s ∙ sym (any_more (lists_slot s) d.lines one ∙ or_false (list_any (lists_slot s) d.lines));
       },
@@ -465,9 +429,9 @@ with_slot m f block slot nonnull holds d within new fits wanted h =
         slots_before = before_with block slot d.slots d.given h.0.slots_before;
       },
       record {
-        each = all_more (line_fits m f) d.lines one h.1.each fits;
+        each = all_end (line_fits m f) d.lines one h.1.each fits;
         once = once_more d.lines one h.1.once (sym (h.1.slots slot) ∙ new);
-        asked = all_more (λ line. is_wanted d.wanted (named_in line)) d.lines one h.1.asked wanted;
+        asked = all_end (λ line. is_wanted d.wanted (named_in line)) d.lines one h.1.asked wanted;
         values = λ u. h.1.values u ∙ sym (any_more (lists u) d.lines one ∙ or_false (list_any (lists u) d.lines));
         slots = λ s. listed_with block slot d.slots (λ s. list_any (lists_slot s) d.lines) room h.1.slots s ∙ sym (any_more (lists_slot s) d.lines one);
       },

@@ -5,6 +5,8 @@ use Rattle.std.specs.List.{list_all, list_any}
 use Rattle.std.specs.Str.{bytes_eq}
 use Rattle.std.proofs.lemmas.Bool.{eqb-true, eq-eqb}
 use Rattle.std.proofs.lemmas.List.{append-nil}
+use Rattle.lemmas.specs.Lists.{all_end}
+use Rattle.lemmas.specs.Bools.{or_second, or_first, or_neither, and_second, and_first, and_true}
 use Rattle.grammar.specs.Many.{Listed}
 use Rattle.ir_ast.specs.declared.block.Block.{Block}
 use Rattle.ir_ast.specs.declared.function.Function.{Function}
@@ -24,7 +26,7 @@ use Rattle.certificate.specs.Print.{word_if, value_text, local_text, fact_text, 
 use Rattle.name_text.specs.Seams.{word_on, blanks_on, lines_on, all_bytes}
 use Rattle.certificate.proofs.PrintedNames.{value_printed, block_printed}
 use Rattle.certificate.proofs.PrintedLines.{at, Behind, word_is, taken_on, expect_on, line_end_on, noting, lined, IsValue, IsNew, line_on, value_is}
-use Rattle.certificate.proofs.Between.{both, first_true, rest_true, turned, first_no, all_weaker, any_more, Between, Within, block_begins}
+use Rattle.certificate.proofs.Between.{turned, all_weaker, any_more, Between, Within, block_begins}
 use Rattle.certificate.proofs.ReadFits.{line_is}
 use Rattle.certificate.specs.declared.draft.Draft.{Draft}
 use Rattle.certificate.specs.declared.draft.Wanted.{Wanted}
@@ -49,23 +51,23 @@ not_false false b e = (refl, e)
 
 -- a line that comes later is not listed before
 same_apart : (old new : Line) (lines : List Line) → is_listed (new ∷ lines) old ≡ false → is_listed (old ∷ []) new ≡ false
-same_apart (line.Value v fact) (line.Value w other) lines e = let h = first_no (w == v) (list_any (lists v) lines) e in rw (turned w v h.0) refl
+same_apart (line.Value v fact) (line.Value w other) lines e = let h = or_neither (w == v) (list_any (lists v) lines) e in rw (turned w v h.0) refl
 same_apart (line.Value v fact) (line.Slot s nonnull holds) lines e = refl
 same_apart (line.Slot s nonnull holds) (line.Value w other) lines e = refl
-same_apart (line.Slot s nonnull holds) (line.Slot t n h) lines e = let h = first_no (t == s) (list_any (lists_slot s) lines) e in rw (turned t s h.0) refl
+same_apart (line.Slot s nonnull holds) (line.Slot t n h) lines e = let h = or_neither (t == s) (list_any (lists_slot s) lines) e in rw (turned t s h.0) refl
 
 skip_listed : (old : Line) (done : List Line) (new : Line) (lines : List Line) → is_listed (done ++ new ∷ lines) old ≡ false → is_listed (new ∷ lines) old ≡ false
 skip_listed old [] new lines e = e
-skip_listed (line.Value v fact) (d ∷ done) new lines e = skip_listed (line.Value v fact) done new lines (first_no (lists v d) (list_any (lists v) (done ++ new ∷ lines)) e).1
-skip_listed (line.Slot s nonnull holds) (d ∷ done) new lines e = skip_listed (line.Slot s nonnull holds) done new lines (first_no (lists_slot s d) (list_any (lists_slot s) (done ++ new ∷ lines)) e).1
+skip_listed (line.Value v fact) (d ∷ done) new lines e = skip_listed (line.Value v fact) done new lines (or_neither (lists v d) (list_any (lists v) (done ++ new ∷ lines)) e).1
+skip_listed (line.Slot s nonnull holds) (d ∷ done) new lines e = skip_listed (line.Slot s nonnull holds) done new lines (or_neither (lists_slot s d) (list_any (lists_slot s) (done ++ new ∷ lines)) e).1
 
 no_or : (a b : Bool) → a ≡ false → b ≡ false → (a || b) ≡ false
 no_or true b e g = absurd cc
 no_or false b e g = g
 
 listed_both : (old new : Line) (done : List Line) → is_listed (old ∷ []) new ≡ false → is_listed done new ≡ false → is_listed (old ∷ done) new ≡ false
-listed_both old (line.Value v fact) done e g = no_or (lists v old) (list_any (lists v) done) (first_no (lists v old) false e).0 g
-listed_both old (line.Slot s nonnull holds) done e g = no_or (lists_slot s old) (list_any (lists_slot s) done) (first_no (lists_slot s old) false e).0 g
+listed_both old (line.Value v fact) done e g = no_or (lists v old) (list_any (lists v) done) (or_neither (lists v old) false e).0 g
+listed_both old (line.Slot s nonnull holds) done e g = no_or (lists_slot s old) (list_any (lists_slot s) done) (or_neither (lists_slot s old) false e).0 g
 
 none_listed : (new : Line) → is_listed [] new ≡ false
 none_listed (line.Value v fact) = refl
@@ -79,7 +81,7 @@ once_new (d ∷ done) new lines e =
 
 named_listed : (all lines : List Line) (value : ℕ) → list_any (λ (line : Line). names value (named_in line)) lines ≡ true → list_all (λ line. lists_named all (named_in line)) lines ≡ true → list_any (lists value) all ≡ true
 named_listed all [] value e h = absurd cc
-named_listed all (l ∷ lines) value e h = by (named_in l) e (first_true (lists_named all (named_in l)) (list_all (λ line. lists_named all (named_in line)) lines) h) (λ g. named_listed all lines value g (rest_true (lists_named all (named_in l)) (list_all (λ line. lists_named all (named_in line)) lines) h))
+named_listed all (l ∷ lines) value e h = by (named_in l) e (and_first (lists_named all (named_in l)) (list_all (λ line. lists_named all (named_in line)) lines) h) (λ g. named_listed all lines value g (and_second (lists_named all (named_in l)) (list_all (λ line. lists_named all (named_in line)) lines) h))
   where
     here : (other : ℕ) (b : Bool) → other == value ≡ b → (b || list_any (λ (line : Line). names value (named_in line)) lines) ≡ true → list_any (lists other) all ≡ true → (list_any (λ (line : Line). names value (named_in line)) lines ≡ true → list_any (lists value) all ≡ true) → list_any (lists value) all ≡ true
     here other true is e g more = ap (λ x. list_any (lists x) all) (sym (eqb-true other value is)) ∙ g
@@ -94,8 +96,8 @@ all_listed : (block : ℕ) (values : List (Option ℕ)) (lines : List Line) (wan
     → list_all (λ (w : Wanted). list_any (λ (line : Line). names w.value (named_in line)) lines) wanted ≡ true → first_unlisted block values wanted ≡ None
 all_listed block values lines [] same all named = refl
 all_listed block values lines (w ∷ wanted) same all named =
-    let one = first_true (list_any (λ (line : Line). names w.value (named_in line)) lines) (list_all (λ (w : Wanted). list_any (λ (line : Line). names w.value (named_in line)) lines) wanted) named in
-    let more = rest_true (list_any (λ (line : Line). names w.value (named_in line)) lines) (list_all (λ (w : Wanted). list_any (λ (line : Line). names w.value (named_in line)) lines) wanted) named in
+    let one = and_first (list_any (λ (line : Line). names w.value (named_in line)) lines) (list_all (λ (w : Wanted). list_any (λ (line : Line). names w.value (named_in line)) lines) wanted) named in
+    let more = and_second (list_any (λ (line : Line). names w.value (named_in line)) lines) (list_all (λ (w : Wanted). list_any (λ (line : Line). names w.value (named_in line)) lines) wanted) named in
     let here : is_in block (slice_get values w.value) ≡ true = same w.value ∙ named_listed lines lines w.value one all in
     rw here (all_listed block values lines wanted same all more)
 
@@ -113,18 +115,6 @@ lined_same : (block n : ℕ) (said : Line) (i : Input) → SameRest i (lined blo
 lined_same block n (line.Value value fact) i = let h = noted_same (named_in_fact fact) n i in (h.0, ap (λ (x : List Line). x ++ line.Value value fact ∷ []) h.1)
 lined_same block n (line.Slot slot nonnull holds) i = let h = noted_same holds n i in (h.0, ap (λ (x : List Line). x ++ line.Slot slot nonnull holds ∷ []) h.1)
 
-or_first : (a b : Bool) → a ≡ true → (a || b) ≡ true
-or_first true b e = refl
-or_first false b e = absurd cc
-
-or_last : (a b : Bool) → b ≡ true → (a || b) ≡ true
-or_last true b e = refl
-or_last false b e = e
-
-all_end : {A : Type 0} (test : A → Bool) (xs : List A) (x : A) → list_all test xs ≡ true → test x ≡ true → list_all test (xs ++ x ∷ []) ≡ true
-all_end test [] x e h = rw h refl
-all_end test (y ∷ xs) x e h = both (test y) (list_all test (xs ++ x ∷ [])) (first_true (test y) (list_all test xs) e) (all_end test xs x (rest_true (test y) (list_all test xs) e) h)
-
 -- what is wanted stays named with one line more
 more_named : (lines : List Line) (wanted : List Wanted) (said : Line) → list_all (λ (w : Wanted). list_any (λ (line : Line). names w.value (named_in line)) lines) wanted ≡ true
     → list_all (λ (w : Wanted). list_any (λ (line : Line). names w.value (named_in line)) (lines ++ said ∷ [])) wanted ≡ true
@@ -137,7 +127,7 @@ noted_named : (value : Option ℕ) (n : ℕ) (i : Input) (said : Line) → named
 noted_named None n i said is e = more_named i.draft.lines i.draft.wanted said e
 noted_named (Some value) n i said is e =
     all_end (λ (w : Wanted). list_any (λ (line : Line). names w.value (named_in line)) (i.draft.lines ++ said ∷ [])) i.draft.wanted (record { value = value; left = n }) (more_named i.draft.lines i.draft.wanted said e)
-    (any_more (λ (line : Line). names value (named_in line)) i.draft.lines said ∙ or_last (list_any (λ (line : Line). names value (named_in line)) i.draft.lines) (names value (named_in said)) (ap (names value) is ∙ eq-eqb value value refl))
+    (any_more (λ (line : Line). names value (named_in line)) i.draft.lines said ∙ or_second (list_any (λ (line : Line). names value (named_in line)) i.draft.lines) (names value (named_in said)) (ap (names value) is ∙ eq-eqb value value refl))
 
 lined_named : (block n : ℕ) (said : Line) (i : Input) → AllNamed i.draft → AllNamed (lined block n said i).draft
 lined_named block n (line.Value value fact) i e =
@@ -188,11 +178,11 @@ module _ (m : Module) (f : Function) (named : IsNamed m) (own : IsNamedFunction 
   is_new : (block : ℕ) (said : Line) (i : Input) → Within m f block i.draft → line_fits m f said ≡ true → is_listed i.draft.lines said ≡ false → IsNew block said i
   is_new block (line.Value value fact) i within fits new = within.1.values value ∙ new
   is_new block (line.Slot slot nonnull holds) i within fits new =
-      (ap (λ x. unwrap_or (slice_get x slot) false) within.0.roots ∙ rest_true (is_value f slot) (unwrap_or (slice_get (root_names m f) slot) false) fits, within.1.slots slot ∙ new)
+      (ap (λ x. unwrap_or (slice_get x slot) false) within.0.roots ∙ and_second (is_value f slot) (unwrap_or (slice_get (root_names m f) slot) false) fits, within.1.slots slot ∙ new)
 
   listed_value : (value : ℕ) (lines : List Line) → list_all (line_fits m f) lines ≡ true → list_any (lists value) lines ≡ true → is_value f value ≡ true
   listed_value value [] fits e = absurd cc
-  listed_value value (l ∷ lines) fits e = by l (first_true (line_fits m f l) (list_all (line_fits m f) lines) fits) e (listed_value value lines (rest_true (line_fits m f l) (list_all (line_fits m f) lines) fits))
+  listed_value value (l ∷ lines) fits e = by l (and_first (line_fits m f l) (list_all (line_fits m f) lines) fits) e (listed_value value lines (and_second (line_fits m f l) (list_all (line_fits m f) lines) fits))
     where
       by : (l : Line) → line_fits m f l ≡ true → (lists value l || list_any (lists value) lines) ≡ true → (list_any (lists value) lines ≡ true → is_value f value ≡ true) → is_value f value ≡ true
       by (line.Slot slot nonnull holds) fit e more = more e
@@ -217,7 +207,7 @@ module _ (m : Module) (f : Function) (named : IsNamed m) (own : IsNamedFunction 
   lines_begin [] t fits e = e
   lines_begin (l ∷ lines) t fits e =
       let whole : lines_text m f (l ∷ lines) ++ t ≡ line_text m f l ++ (10 ∷ (lines_text m f lines ++ t)) = one_text m f l lines t in
-      ap (past_lines false) whole ∙ line_begins l (10 ∷ (lines_text m f lines ++ t)) (first_true (line_fits m f l) (list_all (line_fits m f) lines) fits) ∙ sym whole
+      ap (past_lines false) whole ∙ line_begins l (10 ∷ (lines_text m f lines ++ t)) (and_first (line_fits m f l) (list_all (line_fits m f) lines) fits) ∙ sym whole
 
   -- no line begins as a block or the end does
   goes_on : (i : Input) (said : Line) (t : Text) → line_fits m f said ≡ true → text.past_lines (at i (line_text m f said ++ 10 ∷ t)) ≡ false
@@ -242,17 +232,17 @@ module _ (m : Module) (f : Function) (named : IsNamed m) (own : IsNamedFunction 
     rest = (refl, refl, refl, refl);
   }
   lines_on_from block all (l ∷ lines) i t fits_all listed fits ends once within named_all =
-      let fit = first_true (line_fits m f l) (list_all (line_fits m f) lines) fits in
-      let more_fit = rest_true (line_fits m f l) (list_all (line_fits m f) lines) fits in
+      let fit = and_first (line_fits m f l) (list_all (line_fits m f) lines) fits in
+      let more_fit = and_second (line_fits m f l) (list_all (line_fits m f) lines) fits in
       let behind = lines_text m f lines ++ t in
       let new = is_new block l i within fit (once_new i.draft.lines l lines once) in
-      let value = named_value all (named_in l) fits_all (first_true (lists_named all (named_in l)) (list_all (λ line. lists_named all (named_in line)) lines) listed) in
+      let value = named_value all (named_in l) fits_all (and_first (lists_named all (named_in l)) (list_all (λ line. lists_named all (named_in line)) lines) listed) in
       let one = line_on m f named own i block l behind behind fit value new (lines_begin lines t more_fit ends.1) in
       let next = lined block one.0 l i in
       let same = lined_same block one.0 l i in
       let inside = line_is m f block (at i (line_text m f l ++ 10 ∷ behind)) tt (at next behind) one.1 within in
       let once_more : lists_once (next.draft.lines ++ lines) ≡ true = ap lists_once (ap (λ (x : List Line). x ++ lines) same.1 ∙ append_assoc i.draft.lines (l ∷ []) lines) ∙ once in
-      let more = lines_on_from block all lines next t fits_all (rest_true (lists_named all (named_in l)) (list_all (λ line. lists_named all (named_in line)) lines) listed) more_fit ends once_more inside.0 (lined_named block one.0 l i named_all) in
+      let more = lines_on_from block all lines next t fits_all (and_second (lists_named all (named_in l)) (list_all (λ line. lists_named all (named_in line)) lines) listed) more_fit ends once_more inside.0 (lined_named block one.0 l i named_all) in
       let whole = one_text m f l lines t in
       record {
         out = more.out;
@@ -269,10 +259,10 @@ module _ (m : Module) (f : Function) (named : IsNamed m) (own : IsNamedFunction 
   pub block_on : (i : Input) (number : ℕ) (b : Block) (lines : List Line) (t : Text) → slice_get f.blocks number ≡ Some b → slice_get i.draft.given number ≡ Some false → Between m f i.draft → lines_fit m f lines ≡ true → EndsLines t → BlockOn m f i number b lines t
   unfolding text.block text.lines text.all_listed new_block with_block
   block_on i number b lines t is new between fits ends =
-      let others = first_true (list_all (line_fits m f) lines && lists_once lines) (all_named_listed lines) fits in
-      let fit = first_true (list_all (line_fits m f) lines) (lists_once lines) others in
-      let once = rest_true (list_all (line_fits m f) lines) (lists_once lines) others in
-      let listed = rest_true (list_all (line_fits m f) lines && lists_once lines) (all_named_listed lines) fits in
+      let others = and_first (list_all (line_fits m f) lines && lists_once lines) (all_named_listed lines) fits in
+      let fit = and_first (list_all (line_fits m f) lines) (lists_once lines) others in
+      let once = and_second (list_all (line_fits m f) lines) (lists_once lines) others in
+      let listed = and_second (list_all (line_fits m f) lines && lists_once lines) (all_named_listed lines) fits in
       let begun = block_begins m f number i.draft new between in
       let none : i.draft.lines ++ lines ≡ lines = ap (λ (x : List Line). x ++ lines) between.1 in
       let none_wanted : AllNamed i.draft = ap (list_all (λ (w : Wanted). list_any (λ (line : Line). names w.value (named_in line)) i.draft.lines)) between.2 in

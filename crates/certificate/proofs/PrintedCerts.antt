@@ -5,6 +5,7 @@ use Rattle.std.specs.List.{list_all, zip, position_or_len}
 use Rattle.std.specs.Str.{bytes_eq}
 use Rattle.std.proofs.lemmas.Bool.{eqb-true, le-ltb}
 use Rattle.std.proofs.lemmas.List.{append-nil}
+use Rattle.lemmas.specs.Bools.{and_second, and_first}
 use Rattle.grammar.specs.Many.{Listed}
 use Rattle.ir_ast.specs.declared.block.Block.{Block}
 use Rattle.ir_ast.specs.declared.function.Function.{Function}
@@ -27,7 +28,7 @@ use Rattle.certificate.proofs.PrintedLines.{at, Behind, skip_on, word_is, taken_
 use Rattle.certificate.proofs.PrintedNames.{function_printed}
 use Rattle.certificate.proofs.PrintedPromises.{parameter_on, result_on}
 use Rattle.certificate.proofs.PrintedBlocks.{EndsLines, block_on}
-use Rattle.certificate.proofs.Between.{first_true, rest_true, Between, at_start}
+use Rattle.certificate.proofs.Between.{Between, at_start}
 use Rattle.certificate.proofs.ReadFits.{block_is, parameter_is}
 use Rattle.certificate.specs.declared.input.Kept.{Kept}
 use Rattle.certs.specs.declared.section.Line.{Line}
@@ -114,12 +115,12 @@ module _ (m : Module) (f : Function) (named : IsNamed m) (own : IsNamedFunction 
       let is : slice_get f.blocks n ≡ Some b = ap (slice_get f.blocks) (sym here) ∙ at_place 0 in
       let new : slice_get i.draft.given n ≡ Some false = ap (λ x. slice_get x n) are ∙ get_mid given false (replicate (length bs) false) n gn in
       let rest = blocks_text m f bs lists ++ t in
-      let one = block_on m f named own i n b l rest is new between (first_true (lines_fit m f l) (list_all (lines_fit m f) lists) fits) (block_ends bs lists t ends) in
+      let one = block_on m f named own i n b l rest is new between (and_first (lines_fit m f l) (list_all (lines_fit m f) lists) fits) (block_ends bs lists t ends) in
       let after = block_is m f (at i (block_text m f b l ++ rest)) tt (at one.out rest) one.read between in
       let places : (k : ℕ) → slice_get f.blocks (suc n + k) ≡ slice_get bs k = λ k. (let e : suc n + k ≡ n + suc k = omega arith in ap (slice_get f.blocks) e ∙ at_place (suc k)) in
       let blocks_then : one.out.draft.blocks ≡ (done ++ l ∷ []) ++ map (λ _. []) bs = one.blocks ∙ ap (λ x. slice_set x n l) blocks ∙ set_mid done [] l (map (λ _. []) bs) n dn in
       let given_then : one.out.draft.given ≡ (given ++ true ∷ []) ++ replicate (length bs) false = one.given ∙ ap (λ x. slice_set x n true) are ∙ set_mid given false true (replicate (length bs) false) n gn in
-      let more = blocks_on_from bs lists (suc n) one.out t (done ++ l ∷ []) (given ++ true ∷ []) places (omega arith) (rest_true (lines_fit m f l) (list_all (lines_fit m f) lists) fits)
+      let more = blocks_on_from bs lists (suc n) one.out t (done ++ l ∷ []) (given ++ true ∷ []) places (omega arith) (and_second (lines_fit m f l) (list_all (lines_fit m f) lists) fits)
       (longer done l n dn) blocks_then (longer given true n gn) (all_end given all) given_then after.0 ends in
       let whole : blocks_text m f (b ∷ bs) (l ∷ lists) ++ t ≡ block_text m f b l ++ rest = append_assoc (block_text m f b l) (blocks_text m f bs lists) t in
       let first : text.past_blocks (at i (block_text m f b l ++ rest)) ≡ false = ap (λ x. not (bytes_eq x (codes "block"))) (word_on (codes "block") (32 ∷ (local_text f b.label ++ (10 ∷ lines_text m f l) ++ rest)) refl refl) in
@@ -181,12 +182,12 @@ module _ (m : Module) (f : Function) (named : IsNamed m) (own : IsNamedFunction 
       let is : slice_get f.parameters n ≡ Some p = ap (slice_get f.parameters) (sym here) ∙ at_place 0 in
       let free : slice_get i.draft.parameters n ≡ Some None = ap (λ x. slice_get x n) are ∙ get_mid done None (replicate (length ps) None) n dn in
       let rest = parameters_text m f ps promises ++ t in
-      let one = parameter_on m f named own i n p q rest rest is free (first_true (promise_fits m (family_of_value m f p.value) q) (list_all (λ p. parameter_fits m f p.0 p.1) (zip ps promises)) fits) (parameters_begin ps promises t ends.1) in
+      let one = parameter_on m f named own i n p q rest rest is free (and_first (promise_fits m (family_of_value m f p.value) q) (list_all (λ p. parameter_fits m f p.0 p.1) (zip ps promises)) fits) (parameters_begin ps promises t ends.1) in
       let next = with_promise n q i in
       let after = parameter_is m f (at i (parameter_text m f p (Some q) ++ rest)) tt (at next rest) one between in
       let places : (k : ℕ) → slice_get f.parameters (suc n + k) ≡ slice_get ps k = λ k. (let e : suc n + k ≡ n + suc k = omega arith in ap (slice_get f.parameters) e ∙ at_place (suc k)) in
       let then_are : next.draft.parameters ≡ (done ++ Some q ∷ []) ++ replicate (length ps) None = ap (λ x. slice_set x n (Some q)) are ∙ set_mid done None (Some q) (replicate (length ps) None) n dn in
-      let more = parameters_on_from ps promises (suc n) next t (done ++ Some q ∷ []) places (omega arith) (rest_true (promise_fits m (family_of_value m f p.value) q) (list_all (λ p. parameter_fits m f p.0 p.1) (zip ps promises)) fits) (longer done (Some q) n dn) then_are after.0 ends in
+      let more = parameters_on_from ps promises (suc n) next t (done ++ Some q ∷ []) places (omega arith) (and_second (promise_fits m (family_of_value m f p.value) q) (list_all (λ p. parameter_fits m f p.0 p.1) (zip ps promises)) fits) (longer done (Some q) n dn) then_are after.0 ends in
       let whole : parameters_text m f (p ∷ ps) (Some q ∷ promises) ++ t ≡ parameter_text m f p (Some q) ++ rest = append_assoc (parameter_text m f p (Some q)) (parameters_text m f ps promises) t in
       let first : text.past_parameters (at i (parameter_text m f p (Some q) ++ rest)) ≡ false = ap (λ x. not (bytes_eq x (codes "param"))) (word_on (codes "param") (32 ∷ (local_text f p.value ++ promise_text m q ++ rest)) refl refl) in
       record {
@@ -258,17 +259,17 @@ module _ (m : Module) (f : Function) (named : IsNamed m) (own : IsNamedFunction 
       → (o : Input) × (text.section m).says (at i (section_text m f section ++ t)) tt (at o t) × (o.sections ≡ slice_set i.sections n (whole_kept section))
   unfolding text.section text.section_behind text.section_of text.body text.parameters text.blocks begin begun new_function marked with_section
   section_on n section i t is new fits start =
-      let two = first_true (parameters_fit m f section.parameters && promised_fits m (family_of_type m f.returned) section.result) (blocks_fit m f section.blocks) fits in
-      let params_fit = first_true (parameters_fit m f section.parameters) (promised_fits m (family_of_type m f.returned) section.result) two in
-      let result_fits = rest_true (parameters_fit m f section.parameters) (promised_fits m (family_of_type m f.returned) section.result) two in
-      let all_fit = rest_true (parameters_fit m f section.parameters && promised_fits m (family_of_type m f.returned) section.result) (blocks_fit m f section.blocks) fits in
-      let blocks_two = first_true (length section.blocks == length f.blocks && entry_is_empty section.blocks) (list_all (lines_fit m f) section.blocks) all_fit in
-      let blocks_len = eqb-true (length section.blocks) (length f.blocks) (first_true (length section.blocks == length f.blocks) (entry_is_empty section.blocks) blocks_two) in
-      let entry = rest_true (length section.blocks == length f.blocks) (entry_is_empty section.blocks) blocks_two in
-      let lines = rest_true (length section.blocks == length f.blocks && entry_is_empty section.blocks) (list_all (lines_fit m f) section.blocks) all_fit in
+      let two = and_first (parameters_fit m f section.parameters && promised_fits m (family_of_type m f.returned) section.result) (blocks_fit m f section.blocks) fits in
+      let params_fit = and_first (parameters_fit m f section.parameters) (promised_fits m (family_of_type m f.returned) section.result) two in
+      let result_fits = and_second (parameters_fit m f section.parameters) (promised_fits m (family_of_type m f.returned) section.result) two in
+      let all_fit = and_second (parameters_fit m f section.parameters && promised_fits m (family_of_type m f.returned) section.result) (blocks_fit m f section.blocks) fits in
+      let blocks_two = and_first (length section.blocks == length f.blocks && entry_is_empty section.blocks) (list_all (lines_fit m f) section.blocks) all_fit in
+      let blocks_len = eqb-true (length section.blocks) (length f.blocks) (and_first (length section.blocks == length f.blocks) (entry_is_empty section.blocks) blocks_two) in
+      let entry = and_second (length section.blocks == length f.blocks) (entry_is_empty section.blocks) blocks_two in
+      let lines = and_second (length section.blocks == length f.blocks && entry_is_empty section.blocks) (list_all (lines_fit m f) section.blocks) all_fit in
       let pairs = list_all (λ p. parameter_fits m f p.0 p.1) (zip f.parameters section.parameters) in
-      let params_len = eqb-true (length section.parameters) (length f.parameters) (first_true (length section.parameters == length f.parameters) pairs params_fit) in
-      let each_param = rest_true (length section.parameters == length f.parameters) pairs params_fit in
+      let params_len = eqb-true (length section.parameters) (length f.parameters) (and_first (length section.parameters == length f.parameters) pairs params_fit) in
+      let each_param = and_second (length section.parameters == length f.parameters) pairs params_fit in
       let g = global_text m f.symbol in
       let mk = mark_text section.mark in
       let p = parameters_text m f f.parameters section.parameters in
@@ -384,11 +385,11 @@ module _ (m : Module) (named : IsNamed m) where
       let new : slice_get i.sections n ≡ Some None = ap (λ x. slice_get x n) are ∙ get_mid done None (map (λ _. None) fs) n dn in
       let rest = sections_text m fs ss in
       let own = (named.functions n f is).2 in
-      let one = section_on m f named own n s i rest is new (first_true (section_fits m f s) (list_all (λ p. section_fits m p.0 p.1) (zip fs ss)) fits) (sections_begin fs ss) in
+      let one = section_on m f named own n s i rest is new (and_first (section_fits m f s) (list_all (λ p. section_fits m p.0 p.1) (zip fs ss)) fits) (sections_begin fs ss) in
       let places : (k : ℕ) → slice_get m.functions (suc n + k) ≡ slice_get fs k = λ k. (let e : suc n + k ≡ n + suc k = omega arith in ap (slice_get m.functions) e ∙ at_place (suc k)) in
       let kept_s : Option Kept = Some (record { section = s; missing = None }) in
       let then_are : (one.0).sections ≡ (done ++ kept_s ∷ []) ++ map (λ _. None) fs = one.2 ∙ ap (λ x. slice_set x n kept_s) are ∙ set_mid done None kept_s (map (λ _. None) fs) n dn in
-      let more = sections_on_from fs ss (suc n) one.0 (done ++ kept_s ∷ []) places (omega arith) (rest_true (section_fits m f s) (list_all (λ p. section_fits m p.0 p.1) (zip fs ss)) fits) (longer done kept_s n dn) then_are in
+      let more = sections_on_from fs ss (suc n) one.0 (done ++ kept_s ∷ []) places (omega arith) (and_second (section_fits m f s) (list_all (λ p. section_fits m p.0 p.1) (zip fs ss)) fits) (longer done kept_s n dn) then_are in
       (more.0, tt ∷ more.1, (refl, at one.0 rest, one.1, more.2), more.3 ∙ append_assoc done (kept_s ∷ []) (kept_whole ss))
 
   no_gap : (n : ℕ) (ss : List Section) → text.first_gap n (kept_whole ss) ≡ None
@@ -404,8 +405,8 @@ module _ (m : Module) (named : IsNamed m) where
   unfolding text.file text.version text.sections text.finished emptied
   cert_printed ss e =
       let pairs = list_all (λ p. section_fits m p.0 p.1) (zip m.functions ss) in
-      let len = eqb-true (length ss) (length m.functions) (first_true (length ss == length m.functions) pairs e) in
-      let each = rest_true (length ss == length m.functions) pairs e in
+      let len = eqb-true (length ss) (length m.functions) (and_first (length ss == length m.functions) pairs e) in
+      let each = and_second (length ss == length m.functions) pairs e in
       let rest = sections_text m m.functions ss in
       let i : Input = start_of m (cert_text ss m) in
       let read = sections_on_from m.functions ss 0 i [] (λ k. (let z : 0 + k ≡ k = omega arith in ap (slice_get m.functions) z)) len each refl refl in

@@ -5,6 +5,7 @@ use Rattle.std.specs.List.{list_any}
 use Rattle.std.specs.Str.{bytes_eq}
 use Rattle.std.specs.Fmt.{decimal}
 use Rattle.std.proofs.lemmas.Bool.{eqb-true}
+use Rattle.lemmas.specs.Bools.{and_second, and_first}
 use Rattle.ir_ast.specs.declared.function.Function.{Function}
 use Rattle.ir_ast.specs.declared.function.LocalSort.{LocalSort}
 use Rattle.ir_ast.specs.declared.function.LocalSort.TheVariants as local
@@ -26,7 +27,7 @@ use Rattle.certs.specs.Fits.{is_count, below_fits, stands_for, layout_fits, word
 use Rattle.certificate.specs.Named.{IsNamed, IsNamedFunction}
 use Rattle.certificate.specs.Print.{word_if, below_text, value_text, age_text, words_text, fact_text, line_text, local_text, global_text, layout_text}
 use Rattle.name_text.specs.Seams.{past_word_on, word_on, blanks_on, all_bytes}
-use Rattle.certificate.proofs.PrintedWords.{first_true, rest_true, same_bytes, small_is, count_read, bits_read}
+use Rattle.certificate.proofs.PrintedWords.{same_bytes, small_is, count_read, bits_read}
 use Rattle.certificate.proofs.PrintedSets.{words_read}
 use Rattle.certificate.proofs.PrintedNames.{value_printed, global_printed, layout_printed}
 use Rattle.certs.specs.declared.family.Family.{Family}
@@ -154,10 +155,10 @@ module _ (m : Module) (f : Function) (named : IsNamed m) (own : IsNamedFunction 
   pub layout_on : (i : Input) (family : Family) (layout : ℕ) (t u : Text) → layout_fits m family layout ≡ true → Behind t u → (layout_name m family).says (at i (layout_text m layout ++ t)) layout (at i u)
   unfolding layout_name
   layout_on i family layout t u e b =
-      let p = layout_printed m layout named (rest_true (refers_to layout family) (list_any (stands_for layout) m.struct_of) e) in
+      let p = layout_printed m layout named (and_second (refers_to layout family) (list_any (stands_for layout) m.struct_of) e) in
       let w = layout_text m layout in
       subst (λ x. (layout_by family x).says (at i (w ++ t)) layout (at i u)) (sym (ap (layout_of_word m) (word_is i w t u p.1 b) ∙ p.0))
-      (subst (λ x. (taken_if x layout).says (at i (w ++ t)) layout (at i u)) (sym (first_true (refers_to layout family) (list_any (stands_for layout) m.struct_of) e)) (taken_on layout i w t u p.1 b))
+      (subst (λ x. (taken_if x layout).says (at i (w ++ t)) layout (at i u)) (sym (and_first (refers_to layout family) (list_any (stands_for layout) m.struct_of) e)) (taken_on layout i w t u p.1 b))
 
   -- ---- facts of references
 
@@ -249,8 +250,8 @@ module _ (m : Module) (f : Function) (named : IsNamed m) (own : IsNamedFunction 
   number_on : (i : Input) (family : Family) (bits : ℕ) (n : Option ℕ) (t : Text) → fact_fits m family (fact.Number bits n) ≡ true → FactOn i family (fact.Number bits n) t
   unfolding fact_of number
   number_on i family bits n t e =
-      let h = bits_head family bits (first_true (is_some (same_bits family (small bits))) (below_fits n) e) in
-      let low = rest_true (is_some (same_bits family (small bits))) (below_fits n) e in
+      let h = bits_head family bits (and_first (is_some (same_bits family (small bits))) (below_fits n) e) in
+      let low = and_second (is_some (same_bits family (small bits))) (below_fits n) e in
       let r = bits_read bits h.0 in
       let w = 105 ∷ decimal bits in
       let end = below_text n ++ 10 ∷ t in
@@ -281,8 +282,8 @@ module _ (m : Module) (f : Function) (named : IsNamed m) (own : IsNamedFunction 
   reference_on i family layout nonnull how same t e is =
       let w = layout_text m layout in
       let a = null_end nonnull how same t in
-      let p = layout_printed m layout named (rest_true (refers_to layout family) (list_any (stands_for layout) m.struct_of) e) in
-      let refers = refers_is family layout (first_true (refers_to layout family) (list_any (stands_for layout) m.struct_of) e) in
+      let p = layout_printed m layout named (and_second (refers_to layout family) (list_any (stands_for layout) m.struct_of) e) in
+      let refers = refers_is family layout (and_first (refers_to layout family) (list_any (stands_for layout) m.struct_of) e) in
       let one : fact_text m f (fact.Reference layout nonnull how same) ++ 10 ∷ t ≡ codes " ref " ++ (w ++ a) =
       ap (λ (x : Text). codes " ref " ++ x)
       (append_assoc (w ++ word_if nonnull (codes " nonnull") ++ age_text how) (value_text f (codes " same ") same) (10 ∷ t)
@@ -325,7 +326,7 @@ module _ (m : Module) (f : Function) (named : IsNamed m) (own : IsNamedFunction 
       let w = local_text f base in
       let set = words_text words.members in
       let p = value_printed f base own is in
-      let fits = rest_true (is_address family) (words_fit words.members) e in
+      let fits = and_second (is_address family) (words_fit words.members) e in
       let r = words_read words.members fits in
       let b = set ++ 10 ∷ t in
       let a = 32 ∷ b in
@@ -333,7 +334,7 @@ module _ (m : Module) (f : Function) (named : IsNamed m) (own : IsNamedFunction 
       ap (λ (x : Text). codes " addr " ++ x) (append_assoc w (32 ∷ set) (10 ∷ t)) in
       let first : Behind (32 ∷ (w ++ a)) (w ++ a) = (refl, blanks_on w a p.1) in
       let kind : head_by family (word (at i (codes "addr" ++ 32 ∷ (w ++ a)))) ≡ head.Address =
-      ap (head_by family) (word_is i (codes "addr") (32 ∷ (w ++ a)) (w ++ a) refl first) ∙ ap (λ (x : Bool). if x then head.Address else head.Other) (first_true (is_address family) (words_fit words.members) e) in
+      ap (head_by family) (word_is i (codes "addr") (32 ∷ (w ++ a)) (w ++ a) refl first) ∙ ap (λ (x : Bool). if x then head.Address else head.Other) (and_first (is_address family) (words_fit words.members) e) in
       let n = length (w ++ a) in
       let behind : Behind a b = (refl, blanks_on set (10 ∷ t) r.1) in
       let other : begins_with 64 (word (at i (w ++ a))) ≡ false = ap (begins_with 64) (word_is i w a b p.1 behind) in
@@ -360,10 +361,10 @@ module _ (m : Module) (f : Function) (named : IsNamed m) (own : IsNamedFunction 
   global_on i family symbol t e =
       let w = global_text m symbol in
       let a = 10 ∷ t in
-      let p = global_printed m symbol named (rest_true (is_address family) (is_some (global_named m symbol)) e) in
+      let p = global_printed m symbol named (and_second (is_address family) (is_some (global_named m symbol)) e) in
       let first : Behind (32 ∷ (w ++ a)) (w ++ a) = (refl, blanks_on w a p.1) in
       let kind : head_by family (word (at i (codes "addr" ++ 32 ∷ (w ++ a)))) ≡ head.Address =
-      ap (head_by family) (word_is i (codes "addr") (32 ∷ (w ++ a)) (w ++ a) refl first) ∙ ap (λ (x : Bool). if x then head.Address else head.Other) (first_true (is_address family) (is_some (global_named m symbol)) e) in
+      ap (head_by family) (word_is i (codes "addr") (32 ∷ (w ++ a)) (w ++ a) refl first) ∙ ap (λ (x : Bool). if x then head.Address else head.Other) (and_first (is_address family) (is_some (global_named m symbol)) e) in
       let is = word_is i w a a p.1 (refl, refl) in (
         refl,
         0,
@@ -529,4 +530,4 @@ module _ (m : Module) (f : Function) (named : IsNamed m) (own : IsNamedFunction 
       → (n : ℕ) × (line m f block).says (at i (line_text m f said ++ 10 ∷ t)) tt (at (lined block n said i) u)
   line_on i block (line.Value value fact) t u fits names new e = value_line_on i block value fact t u (value_is value fact fits) fits names new e
   line_on i block (line.Slot slot nonnull holds) t u fits names new e =
-      slot_line_on i block slot nonnull holds t u (first_true (is_value f slot) (unwrap_or (slice_get (root_names m f) slot) false) fits) new.0 names new.1 e
+      slot_line_on i block slot nonnull holds t u (and_first (is_value f slot) (unwrap_or (slice_get (root_names m f) slot) false) fits) new.0 names new.1 e

@@ -3,6 +3,7 @@ use Rattle.std.proofs.Common.{◌≡◌, ℕ, zero, suc, ◌<◌, Bool, true, fa
 use Rattle.std.specs.Prelude.{◌==◌, unwrap_or}
 use Rattle.std.specs.List.{list_any}
 use Rattle.std.proofs.lemmas.Bool.{eqb-true}
+use Rattle.lemmas.specs.Lists.{get_some}
 use Rattle.ir_ast.specs.Names.{place_of}
 use Rattle.ir_ast.specs.declared.block.Block.{Block}
 use Rattle.ir_ast.specs.declared.function.Function.{Function}
@@ -24,16 +25,11 @@ use Rattle.name_text.specs.Words.{is_word}
 use Rattle.name_text.specs.Seams.{all_bytes}
 use Rattle.certificate.proofs.PrintedWords.{key_read, layout_read, global_read, name_word}
 
-within_got : {A : Type 0} (xs : List A) (i : ℕ) → i < length xs → (x : A) × (slice_get xs i ≡ Some x)
-within_got [] i lt = absurd (omega arith)
-within_got (x ∷ xs) zero lt = (x, refl)
-within_got (x ∷ xs) (suc i) lt = within_got xs i (omega arith)
-
 -- a name of a table, as it is printed
 name_is : (names : List Text) (number : ℕ) → AreNames names → number < length names
     → (name : Text) × (name_text (name_at names number) ≡ name_text name) × (is_word (name_text name) ≡ true) × IsShort blank.Escaped name × (place_of name names ≡ Some number)
 name_is names number are lt =
-    let p = within_got names number lt in
+    let p = get_some names number lt in
     let q = are number p.0 p.1 in
     let at : name_at names number ≡ p.0 = ap (λ (x : Option Text). unwrap_or x []) p.1 in
     (p.0, ap name_text at, name_word p.0, q.0, q.1)
@@ -42,7 +38,7 @@ name_is names number are lt =
 key_is : (keys : List Text) (number : ℕ) → AreKeys keys → number < length keys
     → (key : Text) × (key_text (name_at keys number) ≡ key_text key) × (is_word (key_text key) ≡ true) × (name_in sigil.Local (37 ∷ key_text key) ≡ Some key) × (place_of key keys ≡ Some number)
 key_is keys number are lt =
-    let p = within_got keys number lt in
+    let p = get_some keys number lt in
     let q = are number p.0 p.1 in
     let r = key_read p.0 q.0 in
     let at : name_at keys number ≡ p.0 = ap (λ (x : Option Text). unwrap_or x []) p.1 in

@@ -5,6 +5,7 @@ use Rattle.std.specs.List.{list_any}
 use Rattle.std.specs.Str.{bytes_eq}
 use Rattle.std.specs.Fmt.{decimal}
 use Rattle.std.proofs.lemmas.Bool.{eq-eqb}
+use Rattle.lemmas.specs.Bools.{and_second, and_first}
 use Rattle.ir_ast.specs.declared.function.Function.{Function}
 use Rattle.ir_ast.specs.declared.function.LocalSort.{LocalSort}
 use Rattle.ir_ast.specs.declared.function.LocalSort.TheVariants as local
@@ -22,7 +23,7 @@ use Rattle.certs.specs.Fits.{is_count, stands_for, layout_fits, says_something, 
 use Rattle.certificate.specs.Named.{IsNamed, IsNamedFunction}
 use Rattle.certificate.specs.Print.{local_text, layout_text, promise_text, parameter_text, result_text}
 use Rattle.name_text.specs.Seams.{blanks_on}
-use Rattle.certificate.proofs.PrintedWords.{first_true, rest_true, count_read}
+use Rattle.certificate.proofs.PrintedWords.{count_read}
 use Rattle.certificate.proofs.PrintedNames.{value_printed, layout_printed}
 use Rattle.certificate.proofs.PrintedLines.{at, Behind, skip_on, word_is, taken_on, expect_on, line_end_on, count_on, layout_on}
 use Rattle.certs.specs.declared.family.Family.{Family}
@@ -53,7 +54,7 @@ module _ (m : Module) (f : Function) (named : IsNamed m) (own : IsNamedFunction 
   unfolding promised_fact
   layout_fact i family layout t u refers fits b =
       let w = layout_text m layout in
-      let p = layout_printed m layout named (rest_true (refers_to layout family) (list_any (stands_for layout) m.struct_of) fits) in
+      let p = layout_printed m layout named (and_second (refers_to layout family) (list_any (stands_for layout) m.struct_of) fits) in
       let q : Promise = record { layout = Some layout; nonnull = false; below = None } in
       let behind : Behind (32 ∷ (w ++ t)) (w ++ t) = (refl, blanks_on w t p.1) in
       let is = word_is i (codes "ref") (32 ∷ (w ++ t)) (w ++ t) refl behind in
@@ -104,7 +105,7 @@ module _ (m : Module) (f : Function) (named : IsNamed m) (own : IsNamedFunction 
   unfolding promise
   parts_on i family (Some l) false None t u some fits null low e =
       let w = layout_text m l in
-      let refers = refers_is family l (first_true (refers_to l family) (list_any (stands_for l) m.struct_of) fits) in
+      let refers = refers_is family l (and_first (refers_to l family) (list_any (stands_for l) m.struct_of) fits) in
       let p : Promise = record { layout = Some l; nonnull = false; below = None } in
       let text : promise_text m p ++ t ≡ codes " ref " ++ (w ++ 10 ∷ t) = ap (λ (x : Text). codes " ref " ++ x) (ap (λ (x : Text). x ++ t) (end_only w) ∙ append_assoc w (10 ∷ []) t) in (
         refl,
@@ -121,7 +122,7 @@ module _ (m : Module) (f : Function) (named : IsNamed m) (own : IsNamedFunction 
       end_only (b ∷ w) = ap (λ (x : Text). b ∷ x) (end_only w)
   parts_on i family (Some l) true None t u some fits null low e =
       let w = layout_text m l in
-      let refers = refers_is family l (first_true (refers_to l family) (list_any (stands_for l) m.struct_of) fits) in
+      let refers = refers_is family l (and_first (refers_to l family) (list_any (stands_for l) m.struct_of) fits) in
       let one : Promise = record { layout = Some l; nonnull = false; below = None } in
       let p : Promise = record { layout = Some l; nonnull = true; below = None } in
       let a = codes " nonnull" ++ 10 ∷ t in
@@ -156,14 +157,14 @@ module _ (m : Module) (f : Function) (named : IsNamed m) (own : IsNamedFunction 
         subst (λ x. (promise m family).says (at i (past_blanks x)) p (at i u)) (sym text) (
           p,
           at i (10 ∷ t),
-          below_fact i family n t (first_true (is_integer family) (is_count n) low) (rest_true (is_integer family) (is_count n) low),
+          below_fact i family n t (and_first (is_integer family) (is_count n) low) (and_second (is_integer family) (is_count n) low),
           (p, at i (10 ∷ t), no_more i family p t, (p, at i (10 ∷ t), no_more i family p t, (p, at i (10 ∷ t), no_more i family p t, (tt, at i u, line_end_on i t u e, (refl, refl))))),
         ),
       )
   parts_on i family None false None t u some fits null low e = absurd cc
-  parts_on i family None true (Some n) t u some fits null low e = absurd (not_both family null (first_true (is_integer family) (is_count n) low))
+  parts_on i family None true (Some n) t u some fits null low e = absurd (not_both family null (and_first (is_integer family) (is_count n) low))
   parts_on i family (Some l) nonnull (Some n) t u some fits null low e =
-      absurd (not_both family (refers_is family l (first_true (refers_to l family) (list_any (stands_for l) m.struct_of) fits)) (first_true (is_integer family) (is_count n) low))
+      absurd (not_both family (refers_is family l (and_first (refers_to l family) (list_any (stands_for l) m.struct_of) fits)) (and_first (is_integer family) (is_count n) low))
 
   pub promise_on : (i : Input) (family : Family) (p : Promise) (t u : Text) → promise_fits m family p ≡ true → past_lines false t ≡ u → PromiseOn i family p t u
   promise_on i family p t u e lines = parts (says_something p) (promised_layout_fits m family p.layout) (not p.nonnull || is_reference family) (promised_below_fits family p.below) e

@@ -5,6 +5,7 @@ use Rattle.std.specs.List.{list_all, list_any, flat_map, join_by, range_with_len
 use Rattle.std.specs.Fmt.{decimal}
 use Rattle.std.proofs.lemmas.Bool.{lt-ltb, ltb-true}
 use Rattle.std.proofs.lemmas.Fmt.{decimal_by_steps}
+use Rattle.lemmas.specs.Bools.{and_second, and_first}
 use Rattle.ir_tokens.specs.Bytes.{Text, is_digit}
 use Rattle.pools.specs.WordSets.{no_words, has_word, adds_word}
 use Rattle.pools.specs.declared.word_set.WordSet.{WordSet}
@@ -14,7 +15,7 @@ use Rattle.certs.specs.Fits.{add_words, own_words, same_words, words_fit}
 use Rattle.name_text.specs.Words.{is_word}
 use Rattle.name_text.specs.Seams.{is_word_byte, bytes_close}
 use Rattle.name_text.specs.Spelled.{number_is_inner, number_is_word}
-use Rattle.certificate.proofs.PrintedWords.{digit_is, first_true, rest_true}
+use Rattle.certificate.proofs.PrintedWords.{digit_is}
 
 -- sets that are one
 are_same : (xs ys : List Bool) → same_words xs ys ≡ true → xs ≡ ys
@@ -58,19 +59,19 @@ abbrev behind_commas : List ℕ → Text
 behind_commas words = flat_map (λ word. (44 ∷ []) ++ decimal word) words
 
 first_small : (word : ℕ) (words : List ℕ) → are_small (word ∷ words) ≡ true → word < 64
-first_small word words small = ltb-true word 64 (first_true (nat_lt word 64) (are_small words) small)
+first_small word words small = ltb-true word 64 (and_first (nat_lt word 64) (are_small words) small)
 
 commas_read : (words : List ℕ) (set : WordSet) (n : ℕ) → are_small words ≡ true → words_behind set (Some n) (behind_commas words) ≡ Some (record { members = added words (adds_word set.members n) })
 commas_read [] set n small = refl
 commas_read (word ∷ words) set n small =
     let next : WordSet = record { members = adds_word set.members n } in
-    number_behind word (first_small word words small) next (behind_commas words) ∙ commas_read words next word (rest_true (nat_lt word 64) (are_small words) small)
+    number_behind word (first_small word words small) next (behind_commas words) ∙ commas_read words next word (and_second (nat_lt word 64) (are_small words) small)
 
 joined_read : (words : List ℕ) → are_small words ≡ true → (words ≡ [] → ⊥) → words_of_word (join_by decimal (44 ∷ []) words) ≡ Some (record { members = added words no_words })
 joined_read [] small some = absurd (some refl)
 joined_read (word ∷ words) small some =
     let none : WordSet = record { members = no_words } in
-    number_behind word (first_small word words small) none (behind_commas words) ∙ commas_read words none word (rest_true (nat_lt word 64) (are_small words) small)
+    number_behind word (first_small word words small) none (behind_commas words) ∙ commas_read words none word (and_second (nat_lt word 64) (are_small words) small)
 
 -- ---- the words of a set
 
@@ -102,13 +103,13 @@ filtered_some test (word ∷ words) some e = by (test word) some e (filtered_som
 
 all_joined : (a b : Text) → list_all is_word_byte a ≡ true → list_all is_word_byte b ≡ true → list_all is_word_byte (a ++ b) ≡ true
 all_joined [] b e f = f
-all_joined (x ∷ a) b e f = rw (first_true (is_word_byte x) (list_all is_word_byte a) e) (all_joined a b (rest_true (is_word_byte x) (list_all is_word_byte a) e) f)
+all_joined (x ∷ a) b e f = rw (and_first (is_word_byte x) (list_all is_word_byte a) e) (all_joined a b (and_second (is_word_byte x) (list_all is_word_byte a) e) f)
 
 commas_word : (words : List ℕ) → are_small words ≡ true → list_all is_word_byte (behind_commas words) ≡ true
 commas_word [] small = refl
 commas_word (word ∷ words) small =
     let lt = first_small word words small in
-    all_joined (decimal word) (behind_commas words) (number_is_inner word (omega (arith, lt))) (commas_word words (rest_true (nat_lt word 64) (are_small words) small))
+    all_joined (decimal word) (behind_commas words) (number_is_inner word (omega (arith, lt))) (commas_word words (and_second (nat_lt word 64) (are_small words) small))
 
 word_joined : (a b : Text) → is_word a ≡ true → list_all is_word_byte a ≡ true → list_all is_word_byte b ≡ true → is_word (a ++ b) ≡ true
 word_joined [] b is e f = absurd cc
@@ -118,7 +119,7 @@ joined_word : (words : List ℕ) → are_small words ≡ true → (words ≡ [] 
 joined_word [] small some = absurd (some refl)
 joined_word (word ∷ words) small some =
     let lt = first_small word words small in
-    word_joined (decimal word) (behind_commas words) (number_is_word word (omega (arith, lt))) (number_is_inner word (omega (arith, lt))) (commas_word words (rest_true (nat_lt word 64) (are_small words) small))
+    word_joined (decimal word) (behind_commas words) (number_is_word word (omega (arith, lt))) (number_is_inner word (omega (arith, lt))) (commas_word words (and_second (nat_lt word 64) (are_small words) small))
 
 abbrev words_set : List Bool → Option WordSet
 words_set members = Some (record { members = members })
@@ -127,8 +128,8 @@ words_set members = Some (record { members = members })
 pub words_read : (set : List Bool) → words_fit set ≡ true → (words_of_word (words_text set) ≡ Some (record { members = set })) × (is_word (words_text set) ≡ true)
 unfolding words_text own_words
 words_read set e =
-    let some = first_true (list_any (has_word set) (range_with_len 0 64)) (same_words set (own_words set)) e in
-    let same = are_same set (own_words set) (rest_true (list_any (has_word set) (range_with_len 0 64)) (same_words set (own_words set)) e) in
+    let some = and_first (list_any (has_word set) (range_with_len 0 64)) (same_words set (own_words set)) e in
+    let same = are_same set (own_words set) (and_second (list_any (has_word set) (range_with_len 0 64)) (same_words set (own_words set)) e) in
     let small = filtered_small (has_word set) 64 0 (omega arith) in
     let full = filtered_some (has_word set) (range_with_len 0 64) some in
     (joined_read (words_of set) small full ∙ ap words_set (filtered_added set (range_with_len 0 64) no_words ∙ sym same), joined_word (words_of set) small full)

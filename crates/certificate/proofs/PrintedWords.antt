@@ -5,6 +5,7 @@ use Rattle.std.specs.List.{list_all}
 use Rattle.std.specs.Str.{bytes_eq}
 use Rattle.std.specs.Fmt.{decimal}
 use Rattle.std.proofs.lemmas.Bool.{eq-eqb, le-leb, ltb-true}
+use Rattle.lemmas.specs.Bools.{and_first}
 use Rattle.ir_tokens.specs.Bytes.{Text, is_digit}
 use Rattle.ir_ast.specs.KeyNames.{name_of_key}
 use Rattle.ir_ast.specs.LocalKeys.{key_of_name}
@@ -23,14 +24,6 @@ use Rattle.certificate.specs.Named.{IsNameKey, IsNumberKey}
 use Rattle.name_text.specs.declared.naming.Sigil.TheVariants as sigil
 
 -- ---- bytes
-
-pub first_true : (a b : Bool) → (a && b) ≡ true → a ≡ true
-first_true true b e = refl
-first_true false b e = absurd cc
-
-pub rest_true : (a b : Bool) → (a && b) ≡ true → b ≡ true
-rest_true true b e = e
-rest_true false b e = absurd cc
 
 pub same_bytes : (w : Text) → bytes_eq w w ≡ true
 same_bytes [] = refl
@@ -68,7 +61,7 @@ number_again : (key : Text) → IsNumberKey key → IsReadAgain key
 number_again [] is = absurd (omega (arith, is.0))
 number_again (b ∷ ds) is =
     let number = b ∷ ds in
-    let text : key_text number ≡ number = ap (λ (t : Bool). if t then number else name_text (name_of_key number)) (first_true (is_digit b) (list_all is_digit ds) is.1) in
+    let text : key_text number ≡ number = ap (λ (t : Bool). if t then number else name_text (name_of_key number)) (and_first (is_digit b) (list_all is_digit ds) is.1) in
     let read = digits_spelled number is.0 is.1 is.3 in
     (rw text (read ∙ ap (λ (x : Text). Some x) is.2), rw text (digits_are_word number is.0 is.1))
 

@@ -5,6 +5,7 @@ use Rattle.std.specs.List.{list_all, zip}
 use Rattle.std.specs.Str.{bytes_eq}
 use Rattle.std.proofs.lemmas.Bool.{eqb-true, eq-eqb}
 use Rattle.std.proofs.lemmas.List.{length-set}
+use Rattle.lemmas.specs.Bools.{and_true}
 use Rattle.grammar.specs.Many.{Listed}
 use Rattle.ir_ast.specs.declared.function.Function.{Function}
 use Rattle.ir_ast.specs.declared.module.Module.{Module}
@@ -23,7 +24,7 @@ use Rattle.certificate.specs.Lines.{no_promise, fact_if, promised_by, promise_by
 use Rattle.certificate.specs.Text as text
 use Rattle.certificate.specs.Text.{IsCert, file, first_gap, gap_in, gap_or, sections_in, finished_by}
 use Rattle.certs.specs.Fits.{below_fits, says_something, promised_layout_fits, promised_below_fits, promise_fits, promised_fits, fact_fits, is_value, named_in_fact, section_fits, fits}
-use Rattle.certificate.proofs.Between.{both, all_set_zip, Between, Within, is_wanted, last_wanted, at_start, with_parameter, block_begins, block_ends, with_wanted, with_value, with_slot}
+use Rattle.certificate.proofs.Between.{all_set_zip, Between, Within, is_wanted, last_wanted, at_start, with_parameter, block_begins, block_ends, with_wanted, with_value, with_slot}
 use Rattle.certificate.specs.declared.draft.Draft.{Draft}
 use Rattle.certs.specs.declared.family.Family.{Family}
 use Rattle.certs.specs.declared.family.Family.TheVariants as family
@@ -610,7 +611,7 @@ all_kept m n (f ∷ fs) [] len gap all = absurd (omega arith)
 all_kept m n (f ∷ fs) (None ∷ ks) len gap all = absurd cc
 all_kept m n (f ∷ fs) (Some k ∷ ks) len gap all =
     let more = all_kept m (n + 1) fs ks (omega arith) (rest k.missing gap) (second (section_fits m f k.section) (list_all (kept_fits m) (zip fs ks)) all) in
-    (ap suc more.0, both (section_fits m f k.section) (list_all (λ p. section_fits m p.0 p.1) (zip fs (sections_in ks))) (first (section_fits m f k.section) (list_all (kept_fits m) (zip fs ks)) all) more.1)
+    (ap suc more.0, and_true (section_fits m f k.section) (list_all (λ p. section_fits m p.0 p.1) (zip fs (sections_in ks))) (first (section_fits m f k.section) (list_all (kept_fits m) (zip fs ks)) all) more.1)
   where
     rest : (missing : Option ℕ) → gap_or (gap_in n missing) (first_gap (n + 1) ks) ≡ None → first_gap (n + 1) ks ≡ None
     rest None e = e
@@ -635,7 +636,7 @@ finished_is m i s o h fine = by (first_gap 0 i.sections) refl h
     by : (x : Option Found) → first_gap 0 i.sections ≡ x → (finished_by x).says i s o → fits m s ≡ true
     by None is h =
         let all = all_kept m 0 m.functions i.sections fine.0 is fine.1 in
-        subst (λ x. fits m x ≡ true) h.0 (both (length (sections_in i.sections) == length m.functions) (list_all (λ p. section_fits m p.0 p.1) (zip m.functions (sections_in i.sections))) (eq-eqb (length (sections_in i.sections)) (length m.functions) all.0) all.1)
+        subst (λ x. fits m x ≡ true) h.0 (and_true (length (sections_in i.sections) == length m.functions) (list_all (λ p. section_fits m p.0 p.1) (zip m.functions (sections_in i.sections))) (eq-eqb (length (sections_in i.sections)) (length m.functions) all.0) all.1)
     by (Some gap) is h = absurd h
 
 -- what a text is fits the module

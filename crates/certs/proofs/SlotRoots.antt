@@ -6,6 +6,7 @@ use Rattle.std.proofs.lemmas.Bool.{cases_eq, eq-eqb, ne_eqb}
 use Rattle.std.proofs.lemmas.List.{length-set, get_or-set_same, get_or-set_other}
 use Rattle.std.proofs.lemmas.List.Folds.{list_any-append}
 use Rattle.std.proofs.lemmas.Option.{unwrap_or-slice_get}
+use Rattle.lemmas.specs.Lists.{length_replicate}
 use Rattle.ir_ast.specs.declared.block.Block.{Block}
 use Rattle.ir_ast.specs.declared.function.Function.{Function}
 use Rattle.ir_ast.specs.declared.instr.Instr.{Instr}
@@ -209,10 +210,6 @@ nowhere_at : (n i : ℕ) → origin_at (replicate n origin.Nowhere) i ≡ origin
 nowhere_at zero i = refl
 nowhere_at (suc n) zero = refl
 nowhere_at (suc n) (suc i) = nowhere_at n i
-
-length_replicate : {A : Type 0} (n : ℕ) (a : A) → length (replicate n a) ≡ n
-length_replicate zero a = refl
-length_replicate (suc n) a = ap suc (length_replicate n a)
 
 none_apart : (n : ℕ) → Apart (record { origins = replicate n origin.Nowhere; held = [] })
 none_apart n = (λ i j slot e g. absurd (none i slot e), λ i slot e. absurd (none i slot e))

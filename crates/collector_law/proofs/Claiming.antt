@@ -1,6 +1,7 @@
 -- The tries to claim a cell.
 use Rattle.std.proofs.Common.{◌≡◌, inl, inr, ℕ, suc, ◌<◌, ◌==◌, Bool, true, false, List, [], ◌∷◌, refl, sym, ap, ◌∙◌, subst, if◌then◌else◌, arith}
 use Rattle.std.proofs.lemmas.Bool.{cases_eq}
+use Rattle.lemmas.specs.Numbers.{test_true, test_yes, test_no}
 use Rattle.colours.specs.declared.place.Place.TheVariants.{Colour}
 use Rattle.pools.specs.Heap.{Setup, cells}
 use Rattle.colours.specs.Colours.{done, cycle_of, claim_at}
@@ -8,7 +9,6 @@ use Rattle.colours.specs.Steps.{Claim}
 use Rattle.colours.specs.Mutator.{Phase, Ready, Trying, stage_of, phase_of, phase_after, MayFollow}
 use Rattle.colours.specs.Collector.{Collection}
 use Rattle.colours.specs.Runs.{Event, ByThread, log_of, word_after, births_after, MayHappen, IsRun}
-use Rattle.colours.proofs.Tests.{test_true, test_yes, test_no}
 use Rattle.collector_law.specs.Invariant as law
 use Rattle.collector_law.proofs.Puts.{put-here, put-other}
 use Rattle.collector_law.proofs.Claim.{after_claim, claimed}

@@ -1,13 +1,14 @@
 -- The collector's posts and waits, and its mark of the globals' cell.
 use Rattle.std.proofs.Common.{◌≡◌, ◌⊎◌, inl, inr, ℕ, suc, ◌+◌, ◌*◌, ◌^◌, ◌<◌, ◌==◌, max, Bool, true, false, List, ◌∷◌, refl, sym, ap, ◌∙◌, subst, if◌then◌else◌, arith}
 use Rattle.std.proofs.lemmas.Bool.{cases_eq}
+use Rattle.lemmas.specs.Numbers.{test_true, test_yes, test_no}
+use Rattle.lemmas.specs.Bools.{yes_or_no}
 use Rattle.colours.specs.declared.place.Place.TheVariants.{Stage, Colour}
 use Rattle.pools.specs.Heap.{Setup}
 use Rattle.colours.specs.Colours.{done, cycle_of, claim_at, grey}
 use Rattle.colours.specs.declared.turn.Turn.TheVariants.{PostStage, ReadStage, MarkFound}
 use Rattle.colours.specs.Collector.{Posting, Waiting, ShadingGlobals, posted_of, has_answered, wait_from}
 use Rattle.colours.specs.Runs.{Event, ByCollector, log_of, turns_of, word_after, IsRun}
-use Rattle.colours.proofs.Tests.{test_true, test_yes, test_no}
 use Rattle.colours.specs.Stages.{stage_is, begun_stage, handshake}
 use Rattle.colours.specs.Mutator.{phase_of, stage_of}
 use Rattle.collector_law.proofs.Match.{begun_or_done, stage_in}
@@ -19,7 +20,7 @@ use Rattle.collector_law.proofs.Root.{rooted, marks_root}
 use Rattle.collector_law.proofs.Match.{IsSync, IsInvariant, IsAt, Shows, Safe}
 use Rattle.collector_law.proofs.Numbers.{async_three}
 use Rattle.collector_law.proofs.Storing.{low_cycle}
-use Rattle.collector_law.proofs.Moves.{yes_or_no, behind, IsBehind, turn_shows, IsLook, look_shows, moves, cycle_in, IsWait, waits}
+use Rattle.collector_law.proofs.Moves.{behind, IsBehind, turn_shows, IsLook, look_shows, moves, cycle_in, IsWait, waits}
 
 -- a post changes the posted word alone
 post_behind : (s : Setup) (run : List Event) (S : law.State) → Shows s run S → (to : ℕ) → to ≡ suc (posted_of (turns_of run)) → IsBehind s run S (PostStage to) (suc S.posted) S.colour S.word

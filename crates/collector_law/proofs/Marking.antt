@@ -1,6 +1,7 @@
 -- The marks of a thread.
 use Rattle.std.proofs.Common.{◌≡◌, ◌≢◌, inl, inr, ℕ, suc, ◌*◌, ◌<◌, ◌≤◌, max, true, false, List, ◌∷◌, refl, sym, ap, ◌∙◌, subst, arith}
 use Rattle.std.proofs.lemmas.Bool.{cases_eq}
+use Rattle.lemmas.specs.Numbers.{test_yes, test_no}
 use Rattle.colours.specs.declared.place.Place.TheVariants.{Colour}
 use Rattle.pools.specs.Heap.{Setup}
 use Rattle.colours.specs.Colours.{done, cycle_of, claim_at, mark_at, is_async}
@@ -8,7 +9,6 @@ use Rattle.colours.specs.Steps.{Step, Mark}
 use Rattle.colours.specs.Mutator.{Phase, MarkingOld, MarkingNew, Answering, stage_of, phase_of, phase_after, MayFollow, IsDisciplined}
 use Rattle.colours.specs.Collector.{Collection}
 use Rattle.colours.specs.Runs.{Event, ByThread, log_of, word_after, births_after, MayHappen, IsRun}
-use Rattle.colours.proofs.Tests.{test_yes, test_no}
 use Rattle.collector_law.specs.Invariant as law
 use Rattle.collector_law.proofs.Puts.{put, put-here, put-other}
 use Rattle.collector_law.proofs.Claim.{stands-grow}

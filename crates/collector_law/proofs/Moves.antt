@@ -2,6 +2,8 @@
 use Rattle.std.proofs.Common.{◌≡◌, ◌≢◌, ◌⊎◌, inl, inr, ℕ, zero, suc, ◌+◌, ◌*◌, ◌%◌, ◌<◌, ◌≤◌, Bool, true, false, List, ◌∷◌, length, nat_lt, refl, sym, ap, ◌∙◌, subst, arith}
 use Rattle.std.proofs.lemmas.Bool.Decides.{nat_tests}
 use Rattle.std.proofs.lemmas.Option.{slice_get_past}
+use Rattle.lemmas.specs.Numbers.{test_yes, test_no, lt_true, lt_false}
+use Rattle.lemmas.specs.Bools.{yes_or_no}
 use Rattle.colours.specs.declared.place.Place.TheVariants.{Colour, Word}
 use Rattle.pools.specs.Heap.{Setup, cells, kind_of, words_of_cell}
 use Rattle.pools.specs.Layouts.{is_reference_kind}
@@ -9,31 +11,12 @@ use Rattle.colours.specs.Colours.{done, cycle_of, claim_at}
 use Rattle.colours.specs.declared.turn.Turn.{Turn}
 use Rattle.colours.specs.Collector.{Pass, posted_of, skip_integers, sweep_from, pass_from, after_wait, wait_from}
 use Rattle.colours.specs.Runs.{Event, ByCollector, turns_of, word_after, births_after}
-use Rattle.colours.proofs.Tests.{test_yes, test_no}
 use Rattle.collector_law.specs.Invariant as law
 use Rattle.collector_law.proofs.Turn.{turned, scans}
 use Rattle.collector_law.proofs.Post.{traces, repeats}
 use Rattle.collector_law.proofs.Sweep.{rests}
 use Rattle.collector_law.proofs.Match.{IsSync, IsInvariant, Shows, Safe}
 use Rattle.collector_law.proofs.Numbers.{cycle_is}
-
--- a test is true or false
-pub yes_or_no : (b : Bool) → (b ≡ true) ⊎ (b ≡ false)
-yes_or_no true = inl refl
-yes_or_no false = inr refl
-
--- what a true test of order says
-pub lt_true : (a b : ℕ) → nat_lt a b ≡ true → a < b
-lt_true a b e = grind (arith, nat_tests)
-
-pub lt_false : (a b : ℕ) → nat_lt a b ≡ false → b ≤ a
-lt_false a b e = grind (arith, nat_tests)
-
-pub lt_yes : (a b : ℕ) → a < b → nat_lt a b ≡ true
-lt_yes a b e = grind (arith, nat_tests)
-
-pub lt_no : (a b : ℕ) → b ≤ a → nat_lt a b ≡ false
-lt_no a b e = grind (arith, nat_tests)
 
 -- the state behind a step of the collector
 abbrev pub behind : law.State → law.Part → (cycle posted : ℕ) → (ℕ → ℕ) → (ℕ → ℕ → ℕ) → law.State

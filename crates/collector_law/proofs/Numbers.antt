@@ -1,8 +1,8 @@
 -- Stages and colours in numbers, part by part.
 use Rattle.std.proofs.Common.{◌≡◌, ◌≢◌, ◌⊎◌, inl, inr, ℕ, zero, suc, ◌+◌, ◌-◌, ◌*◌, ◌%◌, ◌<◌, ◌≤◌, max, true, false, ◌∙◌, arith}
 use Rattle.std.proofs.lemmas.Bool.{cases_eq}
+use Rattle.lemmas.specs.Numbers.{test_true, test_yes, test_false, test_no}
 use Rattle.colours.specs.Colours.{cycle_of, is_async, done, grey, black, mark_at, claim_at}
-use Rattle.colours.proofs.Tests.{test_true, test_false, test_yes, test_no}
 use Rattle.collector_law.specs.Invariant as law
 use Rattle.collector_law.proofs.Write.{AreStages}
 use Rattle.collector_law.proofs.Match.{IsSync}

@@ -1,6 +1,8 @@
 -- The collector's passes and its sweep.
 use Rattle.std.proofs.Common.{◌≡◌, ◌≢◌, ◌⊎◌, inl, inr, ℕ, suc, ◌-◌, ◌*◌, ◌<◌, ◌≤◌, ◌==◌, max, nat_lt, Bool, true, false, List, ◌∷◌, length, refl, sym, ap, ◌∙◌, subst, if◌then◌else◌, arith}
 use Rattle.std.proofs.lemmas.Bool.{cases_eq}
+use Rattle.lemmas.specs.Numbers.{test_true, test_yes, test_false, test_no, lt_true, lt_false, lt_yes}
+use Rattle.lemmas.specs.Bools.{and_parts, yes_or_no}
 use Rattle.colours.specs.declared.place.Place.TheVariants.{Colour, Word}
 use Rattle.pools.specs.Heap.{Setup, cells, kind_of, words_of_cell}
 use Rattle.pools.specs.Layouts.{is_reference_kind}
@@ -8,7 +10,6 @@ use Rattle.colours.specs.Colours.{done, cycle_of, claim_at, grey}
 use Rattle.colours.specs.declared.turn.Turn.TheVariants.{MarkFound, ReadColour, ScanWord, Blacken, ClearWord, Free}
 use Rattle.colours.specs.Collector.{Passing, Scanning, Shading, Sweeping, Clearing, Pass, posted_of, reference_from, skip_integers, sweep_from, pass_from, in_turn, out_of_turn, looked, shaded_too, is_white}
 use Rattle.colours.specs.Runs.{Event, ByCollector, turns_of, word_after}
-use Rattle.colours.proofs.Tests.{and_parts, test_true, test_false, test_yes, test_no}
 use Rattle.collector_law.specs.Invariant as law
 use Rattle.collector_law.proofs.Puts.{put, put-here, put-other, put_word, here_or_not, put_word-here, put_word-other}
 use Rattle.collector_law.proofs.Claim.{stands-grow}
@@ -21,7 +22,7 @@ use Rattle.collector_law.proofs.Match.{IsSync, IsInvariant, Shows, Safe}
 use Rattle.collector_law.proofs.Numbers.{Rises, claim_black, async_three}
 use Rattle.collector_law.proofs.Marking.{mark_grows}
 use Rattle.collector_law.proofs.Storing.{word_put}
-use Rattle.collector_law.proofs.Moves.{yes_or_no, lt_true, lt_false, lt_yes, turn_shows, IsLook, look_shows, moves, cycle_in, passes_on, sweeps_on, skips, skip_found, past_words}
+use Rattle.collector_law.proofs.Moves.{turn_shows, IsLook, look_shows, moves, cycle_in, passes_on, sweeps_on, skips, skip_found, past_words}
 
 -- a look at a colour changes no word
 look_look : (s : Setup) (run : List Event) (cell colour : ℕ) → IsLook s run (ReadColour cell colour)

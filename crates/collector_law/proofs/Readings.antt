@@ -1,6 +1,8 @@
 -- The reads of a word.
 use Rattle.std.proofs.Common.{◌≡◌, ◌≢◌, ◌⊎◌, inl, inr, ℕ, ◌<◌, ◌==◌, ◌&&◌, not, Bool, true, false, List, ◌∷◌, refl, sym, ap, ◌∙◌, subst}
 use Rattle.std.proofs.lemmas.Bool.{cases_eq}
+use Rattle.lemmas.specs.Numbers.{test_true, test_false, not_null}
+use Rattle.lemmas.specs.Bools.{and_parts}
 use Rattle.colours.specs.declared.place.Place.TheVariants.{Colour, Word}
 use Rattle.pools.specs.Heap.{Setup, kind_of}
 use Rattle.pools.specs.Layouts.{is_reference_kind}
@@ -9,7 +11,6 @@ use Rattle.colours.specs.Steps.{Step, ReadWord, ReadOldValue}
 use Rattle.colours.specs.Mutator.{Phase, Ready, stage_of, phase_of, phase_after, MayFollow, Held, Fresh, IsDisciplined}
 use Rattle.colours.specs.Collector.{Collection}
 use Rattle.colours.specs.Runs.{Event, ByThread, log_of, word_after, births_after, MayHappen, IsRun}
-use Rattle.colours.proofs.Tests.{test_true, test_false, and_parts, not_null}
 use Rattle.collector_law.specs.Invariant as law
 use Rattle.collector_law.proofs.Puts.{put, put-here, put-other}
 use Rattle.collector_law.proofs.Write.{base-live}

@@ -1,13 +1,14 @@
 -- All references that a thread holds to one cell have the cell's birth.
 use Rattle.std.proofs.Common.{◌≡◌, ◌≢◌, inl, inr, ℕ, ◌==◌, ◌&&◌, not, Bool, true, false, List, [], ◌∷◌, refl, sym, ◌∙◌, subst, if◌then◌else◌}
 use Rattle.std.proofs.lemmas.Bool.{cases_eq}
+use Rattle.lemmas.specs.Numbers.{test_true, test_yes, test_no, not_null}
+use Rattle.lemmas.specs.Bools.{and_parts}
 use Rattle.colours.specs.declared.place.Place.TheVariants.{Colour, Word}
 use Rattle.pools.specs.Heap.{Setup, kind_of}
 use Rattle.pools.specs.Layouts.{is_reference_kind}
 use Rattle.colours.specs.Steps.{Step, ReadWord, ReadOldValue, Claim}
 use Rattle.colours.specs.Mutator.{MayUse, IsDisciplined, Held, gains, Keeps}
 use Rattle.colours.specs.Runs.{Event, ByThread, ByCollector, log_of, word_after, births_after, given, MayHappen, IsHeapRun, Kept, globals, held, further, IsAlive}
-use Rattle.colours.proofs.Tests.{and_parts, test_true, test_yes, test_no, not_null}
 use Rattle.colours.specs.Frames.{won_blue}
 use Rattle.collector_law.specs.Laws.{HoldsReference}
 use Rattle.collector_law.proofs.Events.{log_here, log_other}

@@ -2,13 +2,13 @@
 use Rattle.std.proofs.Common.{◌≡◌, ◌≢◌, ◌⊎◌, inl, inr, ℕ, suc, ◌+◌, ◌*◌, ◌^◌, ◌<◌, ◌==◌, ◌++◌, reverse, cond, not, Bool, true, false, List, [], ◌∷◌, refl, sym, ap, ◌∙◌, subst, if◌then◌else◌, arith}
 use Rattle.std.proofs.lemmas.Bool.{cases_eq}
 use Rattle.std.proofs.lemmas.Grind.{reverse_onto}
+use Rattle.lemmas.specs.Numbers.{test_true}
 use Rattle.pools.specs.Heap.{Setup}
 use Rattle.colours.specs.Colours.{done, cycle_of, claim_at, is_async}
 use Rattle.colours.specs.Steps.{Step, ReadPosted, StoreStage, ReadPostedFirst, EnterStage, ReadPostedAgain}
 use Rattle.colours.specs.Mutator.{Phase, Ready, Answering, Ended, Absent, Arriving, Entering, Leaving, stage_of, phase_of, phase_after, MayFollow, IsAmong, non_null}
 use Rattle.colours.specs.Collector.{Collection, posted_of}
 use Rattle.colours.specs.Runs.{Event, ByThread, log_of, turns_of, word_after, births_after, MayHappen, IsRun}
-use Rattle.colours.proofs.Tests.{test_true}
 use Rattle.colours.specs.Stages.{posted_is, handshake}
 use Rattle.collector_law.specs.Invariant as law
 use Rattle.collector_law.proofs.Puts.{put, put-here, put-other}

@@ -1,5 +1,7 @@
 -- What follows of kept cells, of touches and of answers.
 use Rattle.std.proofs.Common.{◌≡◌, ◌≢◌, inl, inr, ℕ, zero, suc, ◌+◌, ◌*◌, ◌<◌, ◌==◌, ◌&&◌, Bool, true, false, Option, Some, None, List, [], ◌∷◌, refl, sym, ap, ◌∙◌, subst, if◌then◌else◌, arith}
+use Rattle.lemmas.specs.Numbers.{test_true, test_yes}
+use Rattle.lemmas.specs.Bools.{and_parts}
 use Rattle.colours.specs.declared.place.Place.TheVariants.{Colour, Word}
 use Rattle.pools.specs.Heap.{Setup, kind_of}
 use Rattle.pools.specs.declared.word_kind.WordKind.{WordKind}
@@ -10,7 +12,6 @@ use Rattle.colours.specs.Steps.{Step, ReadWord, ReadOldValue, Mark, StoreBehindB
 use Rattle.colours.specs.Mutator.{stage_of, phase_of, MayUse, MayFind, IsPossible, IsDisciplined, Fresh, wins}
 use Rattle.colours.specs.Collector.{Collection, Posting, Sweeping, Clearing, posted_of}
 use Rattle.colours.specs.Runs.{Event, ByThread, ByCollector, log_of, turns_of, word_after, births_after, MayHappen, IsRun, IsHeapRun, Kept, globals, held, further, IsAlive, birth_used, TouchesAlive}
-use Rattle.colours.proofs.Tests.{and_parts, test_true, test_yes}
 use Rattle.colours.specs.Frames.{won_blue}
 use Rattle.collector_law.specs.Invariant as law
 use Rattle.collector_law.proofs.Write.{base-live}

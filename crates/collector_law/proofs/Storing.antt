@@ -1,5 +1,6 @@
 -- The stores of a thread.
 use Rattle.std.proofs.Common.{◌≡◌, ◌≢◌, ◌⊎◌, inl, inr, ℕ, ◌+◌, ◌*◌, ◌^◌, ◌<◌, ◌==◌, ◌&&◌, Bool, true, false, Option, Some, None, List, ◌∷◌, refl, sym, ap, ◌∙◌, subst, if◌then◌else◌, arith}
+use Rattle.lemmas.specs.Numbers.{test_true, test_yes}
 use Rattle.colours.specs.declared.place.Place.TheVariants.{Word}
 use Rattle.pools.specs.Heap.{Setup, kind_of}
 use Rattle.pools.specs.declared.word_kind.WordKind.{WordKind}
@@ -10,7 +11,6 @@ use Rattle.colours.specs.Steps.{Step, StoreBehindBarrier, StorePlain}
 use Rattle.colours.specs.Mutator.{Phase, Ready, MarkingNew, Writing, stage_of, phase_of, MayFollow, MayStore, Held, IsDisciplined}
 use Rattle.colours.specs.Collector.{Collection, posted_of}
 use Rattle.colours.specs.Runs.{Event, ByThread, log_of, turns_of, word_after, births_after, MayHappen, IsRun}
-use Rattle.colours.proofs.Tests.{test_true, test_yes}
 use Rattle.colours.specs.Stages.{handshake}
 use Rattle.collector_law.specs.Invariant as law
 use Rattle.collector_law.proofs.Puts.{put_word, here_or_not, put_word-here, put_word-other}

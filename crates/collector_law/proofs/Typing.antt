@@ -1,5 +1,7 @@
 -- Each word fits its kind.
 use Rattle.std.proofs.Common.{◌≡◌, inl, inr, ℕ, zero, suc, ◌==◌, ◌&&◌, Bool, true, false, Option, Some, None, List, [], ◌∷◌, slice_index, refl, if◌then◌else◌, pow_pos}
+use Rattle.lemmas.specs.Numbers.{test_true}
+use Rattle.lemmas.specs.Bools.{and_parts}
 use Rattle.colours.specs.declared.place.Place.TheVariants.{Word}
 use Rattle.pools.specs.Heap.{Setup, IsSetup, IsStartOf, kind_of}
 use Rattle.pools.specs.declared.word_kind.WordKind.{WordKind}
@@ -10,7 +12,6 @@ use Rattle.colours.specs.declared.turn.Turn.TheVariants.{ClearWord}
 use Rattle.colours.specs.Mutator.{MayStore, IsDisciplined}
 use Rattle.colours.specs.Runs.{Event, ByThread, ByCollector, log_of, word_after, IsRun, KeepsDiscipline, puts, value_put}
 use Rattle.collector_law.specs.Laws.{FitsKind}
-use Rattle.colours.proofs.Tests.{and_parts, test_true}
 use Rattle.colours.specs.Frames.{word_left}
 
 -- the globals fit at the start

@@ -1,4 +1,3 @@
-pub mod Tests
 pub mod Barriers
 pub mod Tries
 mod FirstTurns

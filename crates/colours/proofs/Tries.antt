@@ -1,12 +1,12 @@
 -- The tries of an allocation, from a pool's first cell on, are those of the order of a thread's steps.
 use Rattle.std.proofs.Common.{◌≡◌, ℕ, zero, suc, ◌+◌, ◌-◌, ◌<◌, ◌==◌, inl, inr, Bool, true, false, List, [], ◌∷◌, length, slice_index, if◌then◌else◌, refl, sym, arith}
+use Rattle.lemmas.specs.Numbers.{test_yes, test_no}
 use Rattle.pools.specs.Heap.{Setup, layout_of, IsOfLayout}
 use Rattle.pools.specs.Pools.{first_cell}
 use Rattle.pools.specs.Ends.{in_pool, pool_ends}
 use Rattle.colours.specs.Steps.{Step, Claim}
 use Rattle.colours.specs.Mutator.{Phase, Ready, Trying, IsAmong, MayFollow, after_loss, phase_after}
 use Rattle.colours.specs.Calls.{Trying as Tries, Steps, tries_behind, Makes, AreEntries, MakesExactly, Ends, TriesFrom, IsAllocation}
-use Rattle.colours.proofs.Tests.{test_yes, test_no}
 use Rattle.colours.specs.Lists.{listed, list_entries}
 
 module _ (s : Setup) (stage layout : ℕ) (is_layout : layout < length s.pools) where

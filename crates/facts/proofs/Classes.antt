@@ -1,13 +1,14 @@
 -- What is known of a class changes: what is said of the values of the class changes, and nothing else.
 use Rattle.std.proofs.Common.{◌≡◌, ◌<◌, ◌⊎◌, inl, inr, ℕ, List, length, refl, sym, ap, ◌∙◌, subst, true, false, Bool, Option, Some, None, slice_set}
 use Rattle.std.specs.Prelude.{◌==◌, ◌||◌, ◌↔◌}
+use Rattle.lemmas.specs.Numbers.{test_true, test_yes}
 use Rattle.facts.specs.declared.known.Class.{Class}
 use Rattle.facts.specs.declared.known.Known.{Known}
 use Rattle.facts.specs.declared.known.Known.TheVariants.{Nothing, Number, Cell, Null, Address, GlobalAddress}
 use Rattle.facts.specs.declared.known.SlotFact.{SlotFact}
 use Rattle.facts.specs.Facts.{FactSet, known_at, slot_at, class_at, lost_class, holds_class, held_nonnull, slot_nonnull, drop_fresh, drop_fresh_of, learn_nonnull, learn_known_nonnull}
 use Rattle.facts.specs.Statements.{Statement, IsNumber, IsBelow, RefersTo, IsCurrent, IsNonnull, IsFresh, IsSame, IsAddress, IsGlobal, SlotNonnull, SlotHolds, NumberOf, BelowOf, RefersOf, CurrentOf, OfClass, AddressOf, GlobalOf, Says, FreshOf, PublishEndsFresh, IsWithin, NonnullOf, LearnAddsNonnull}
-use Rattle.facts.proofs.Sets.{equal, equal_test, set_other, set_part, set_is, set_within, or_true}
+use Rattle.facts.proofs.Sets.{set_other, set_part, set_is, set_within, or_true}
 use Rattle.facts.proofs.Forgets.{class_map, class_any}
 
 -- what does not follow for the class of a value is not so of it
@@ -130,8 +131,8 @@ module _ (classes : List Class) (c : ℕ) where
   learned_less : (d : ℕ) → (class_at learned d).nonnull ≡ true → ((class_at classes d).nonnull ≡ true) ⊎ (c ≡ d)
   learned_less d h = pick (c == d) refl where
     pick : (b : Bool) → (c == d) ≡ b → ((class_at classes d).nonnull ≡ true) ⊎ (c ≡ d)
-    pick true e = inr (equal c d e)
-    pick false e = inl (sym (ap (λ x. x.nonnull) (set_other classes c d (record (class_at classes c) { nonnull = (class_at classes c).nonnull || true }) lost_class (λ same. let test = equal_test c d same in absurd cc))) ∙ h)
+    pick true e = inr (test_true c d e)
+    pick false e = inl (sym (ap (λ x. x.nonnull) (set_other classes c d (record (class_at classes c) { nonnull = (class_at classes c).nonnull || true }) lost_class (λ same. let test = test_yes c d same in absurd cc))) ∙ h)
 
   learned_here : c < length classes → (d : ℕ) → c ≡ d → (class_at learned d).nonnull ≡ true
   learned_here lt d e = subst (λ x. (class_at learned x).nonnull ≡ true) e (set_within (λ x. x.nonnull) classes c (record (class_at classes c) { nonnull = (class_at classes c).nonnull || true }) lost_class true lt (or_true (class_at classes c).nonnull))
@@ -140,15 +141,15 @@ module _ (classes : List Class) (c : ℕ) where
   learned_more lt d (inr e) = learned_here lt d e
   learned_more lt d (inl h) = pick (c == d) refl where
     pick : (b : Bool) → (c == d) ≡ b → (class_at learned d).nonnull ≡ true
-    pick true e = learned_here lt d (equal c d e)
-    pick false e = ap (λ x. x.nonnull) (set_other classes c d (record (class_at classes c) { nonnull = (class_at classes c).nonnull || true }) lost_class (λ same. let test = equal_test c d same in absurd cc)) ∙ h
+    pick true e = learned_here lt d (test_true c d e)
+    pick false e = ap (λ x. x.nonnull) (set_other classes c d (record (class_at classes c) { nonnull = (class_at classes c).nonnull || true }) lost_class (λ same. let test = test_yes c d same in absurd cc)) ∙ h
 
   slot_less : (slot : SlotFact) → slot_nonnull learned slot ≡ true → (slot_nonnull classes slot ≡ true) ⊎ (holds_class c slot.holds ≡ true)
   slot_less slot = pick slot.nonnull slot.holds where
     pick : (nonnull : Bool) (holds : Option ℕ) → (nonnull || held_nonnull learned holds) ≡ true → ((nonnull || held_nonnull classes holds) ≡ true) ⊎ (holds_class c holds ≡ true)
     pick true holds h = inl refl
     pick false None h = inl h
-    pick false (Some d) h = elim (learned_less d h) [ inl x ↦ inl x | inr e ↦ inr (equal_test d c (sym e)) ]
+    pick false (Some d) h = elim (learned_less d h) [ inl x ↦ inl x | inr e ↦ inr (test_yes d c (sym e)) ]
 
   slot_more : c < length classes → (slot : SlotFact) → (slot_nonnull classes slot ≡ true) ⊎ (holds_class c slot.holds ≡ true) → slot_nonnull learned slot ≡ true
   slot_more lt slot = pick slot.nonnull slot.holds where
@@ -157,7 +158,7 @@ module _ (classes : List Class) (c : ℕ) where
     pick false None (inl h) = h
     pick false None (inr h) = absurd cc
     pick false (Some d) (inl h) = learned_more lt d (inl h)
-    pick false (Some d) (inr h) = learned_more lt d (inr (sym (equal d c h)))
+    pick false (Some d) (inr h) = learned_more lt d (inr (sym (test_true d c h)))
 
 -- what is said as before, and not besides
 plain : (P : Type 0) → P ↔ (P ⊎ ⊥)

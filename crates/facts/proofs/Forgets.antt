@@ -2,13 +2,16 @@
 use Rattle.std.proofs.Common.{◌≡◌, ◌⊎◌, inl, inr, ℕ, List, map, refl, sym, ap, ◌∙◌, subst, true, false, Bool, Option, Some, None}
 use Rattle.std.specs.Prelude.{◌==◌, ◌||◌, if◌then◌else◌, ◌↔◌}
 use Rattle.std.specs.List.{list_any}
+use Rattle.lemmas.specs.Lists.{at_map}
+use Rattle.lemmas.specs.Numbers.{test_true, test_yes}
+use Rattle.lemmas.specs.Bools.{or_false}
 use Rattle.facts.specs.declared.known.Class.{Class}
 use Rattle.facts.specs.declared.known.Known.{Known}
 use Rattle.facts.specs.declared.known.Known.TheVariants.{Nothing, Number, Cell, Null, Address, GlobalAddress}
 use Rattle.facts.specs.declared.known.SlotFact.{SlotFact}
 use Rattle.facts.specs.Facts.{FactSet, known_at, slot_at, class_at, open_slot, is_of, holds_class, held_nonnull, slot_nonnull, let_go, slots_without, is_on, off_base, values_without, forget}
 use Rattle.facts.specs.Statements.{IsNumber, IsBelow, RefersTo, IsCurrent, IsNonnull, IsFresh, IsSame, IsAddress, IsGlobal, SlotNonnull, SlotHolds, NumberOf, BelowOf, RefersOf, CurrentOf, OfClass, AddressOf, GlobalOf, ForgetEndsNames}
-use Rattle.facts.proofs.Sets.{equal, equal_test, set_other, set_empty, at_map, found}
+use Rattle.facts.proofs.Sets.{set_other, set_empty, found}
 
 module _ (v : ℕ) (values : List Known) where
   gone : known_at (values_without v values) v ≡ Nothing
@@ -92,7 +95,7 @@ off_global v g Null e h = h
 off_global v g (GlobalAddress x) e h = absurd cc
 
 off_address : (v base : ℕ) (words : List Bool) → (base ≡ v → ⊥) → (k : Known) → is_on v k ≡ true → AddressOf base words k → ⊥
-off_address v base words ne (Address x known) e h = ne (sym h.0 ∙ equal x v e)
+off_address v base words ne (Address x known) e h = ne (sym h.0 ∙ test_true x v e)
 off_address v base words ne Nothing e h = h
 off_address v base words ne (Number bits below) e h = h
 off_address v base words ne (Cell c layout stale) e h = h
@@ -104,7 +107,7 @@ on_other : (v base : ℕ) (words : List Bool) (k : Known) → AddressOf base wor
 on_other v base words (Address x known) h e = pick (x == v) refl where
   pick : (b : Bool) → (x == v) ≡ b → ⊥
   pick true is = subst (AddressOf base words) (ap (λ b. if b then Nothing else Address x known) is) h
-  pick false is = let right = subst (AddressOf base words) (ap (λ b. if b then Nothing else Address x known) is) h in let same = equal_test x v (right.0 ∙ e) in absurd cc
+  pick false is = let right = subst (AddressOf base words) (ap (λ b. if b then Nothing else Address x known) is) h in let same = test_yes x v (right.0 ∙ e) in absurd cc
 on_other v base words Nothing h e = h
 on_other v base words (Number bits below) h e = h
 on_other v base words (Cell c layout stale) h e = h
@@ -113,10 +116,6 @@ on_other v base words (GlobalAddress x) h e = h
 
 -- ---- slots
 
-or_false : (a : Bool) → (a || false) ≡ a
-or_false true = refl
-or_false false = refl
-
 -- a slot that lets a class go is as null as before
 let_go_nonnull : (classes : List Class) (c : ℕ) (slot : SlotFact) → slot_nonnull classes (let_go c (class_at classes c).nonnull slot) ≡ slot_nonnull classes slot
 let_go_nonnull classes c slot = pick slot.holds (holds_class c slot.holds) refl refl where
@@ -124,7 +123,7 @@ let_go_nonnull classes c slot = pick slot.holds (holds_class c slot.holds) refl 
   pick holds false is e = refl
   pick None true is e = let bad = sym e ∙ ap (holds_class c) is in absurd cc
   pick (Some d) true is e =
-      let same = equal d c (sym (ap (holds_class c) is) ∙ e) in
+      let same = test_true d c (sym (ap (holds_class c) is) ∙ e) in
       or_false (slot.nonnull || (class_at classes c).nonnull) ∙ ap (λ x. slot.nonnull || (class_at classes x).nonnull) (sym same) ∙ sym (ap (λ h. slot.nonnull || held_nonnull classes h) is)
 
 -- a slot that lets a class go holds no other than before
@@ -137,7 +136,7 @@ let_go_less c d nonnull slot = pick (holds_class c slot.holds) where
 -- a slot holds one class
 one_class : (c d : ℕ) (holds : Option ℕ) → holds_class c holds ≡ true → holds_class d holds ≡ true → c ≡ d
 one_class c d None e f = absurd cc
-one_class c d (Some x) e f = sym (equal x c e) ∙ equal x d f
+one_class c d (Some x) e f = sym (test_true x c e) ∙ test_true x d f
 
 -- and a class other than the one that it lets go
 let_go_other : (c d : ℕ) (nonnull : Bool) (slot : SlotFact) → (c ≡ d → ⊥) → holds_class d slot.holds ≡ true → holds_class d (let_go c nonnull slot).holds ≡ true
@@ -185,7 +184,7 @@ module _ (values : List Known) (classes : List Class) (slots : List SlotFact) (s
 
 -- a value is of its class
 class_found : (values : List Known) (u : ℕ) (P : ℕ → Type 0) (k : Known) → known_at values u ≡ k → OfClass P k → OfClass (λ c. P c × (list_any (is_of c) values ≡ true)) k
-class_found values u P (Cell c layout stale) e h = (h, found (is_of c) values u Nothing refl (ap (is_of c) e ∙ equal_test c c refl))
+class_found values u P (Cell c layout stale) e h = (h, found (is_of c) values u Nothing refl (ap (is_of c) e ∙ test_yes c c refl))
 class_found values u P Nothing e h = h
 class_found values u P (Number bits below) e h = h
 class_found values u P Null e h = h

@@ -6,6 +6,8 @@ use Rattle.std.proofs.lemmas.List.{ext_get_or, get_or_past, get_or-set_same, get
 use Rattle.std.proofs.lemmas.List as lists
 use Rattle.std.proofs.Math.Seq.{map-set_same}
 use Rattle.std.specs.Prelude.{◌||◌, replicate}
+use Rattle.lemmas.specs.Numbers.{test_true}
+use Rattle.lemmas.specs.Bools.{or_second, or_first, or_parts}
 use Rattle.facts.specs.declared.known.Class.{Class}
 use Rattle.facts.specs.declared.known.Known.{Known}
 use Rattle.facts.specs.declared.known.Known.TheVariants.{Nothing, Number, Cell, Null, Address, GlobalAddress}
@@ -14,7 +16,6 @@ use Rattle.facts.specs.declared.row.Row.{Row}
 use Rattle.facts.specs.Facts.{is_on}
 use Rattle.facts.specs.Sheets.{blank, row_at, known_of, class_of, test_of, tests, names, OnlyNamed, EachRow}
 use Rattle.facts.specs.Values.{the_facts, facts_of_rows, ended_row, name_row, with_base, with_tested}
-use Rattle.facts.proofs.Sets.{equal, first_true, other_true}
 use Rattle.facts.proofs.Sheets.{same_or_not, blank_at}
 
 -- ---- values that are named
@@ -121,7 +122,7 @@ name_named : (v w : ℕ) (rows : List Row) → v ≡ w → w < length (name_row 
 name_named v w rows e lt = subst (λ x. (row_at (name_row v rows) x).named ≡ true) e (ap (λ r. r.named) (get_or-set_same rows v (record (row_at rows v) { named = true }) blank (rw (e, ← length-set rows v (record (row_at rows v) { named = true })) lt)))
 
 base_named : (known : Known) (rows : List Row) (w : ℕ) → is_on w known ≡ true → w < length (with_base known rows) → (row_at (with_base known rows) w).named ≡ true
-base_named (Address base words) rows w e lt = name_named base w rows (equal base w e) lt
+base_named (Address base words) rows w e lt = name_named base w rows (test_true base w e) lt
 base_named Nothing rows w e lt = absurd cc
 base_named (Number bits below) rows w e lt = absurd cc
 base_named (Cell c layout stale) rows w e lt = absurd cc
@@ -130,12 +131,7 @@ base_named (GlobalAddress g) rows w e lt = absurd cc
 
 tested_named : (test : Option Test) (rows : List Row) (w : ℕ) → tests w test ≡ true → w < length (with_tested test rows) → (row_at (with_tested test rows) w).named ≡ true
 tested_named None rows w e lt = absurd cc
-tested_named (Some test) rows w e lt = name_named test.tested w rows (equal test.tested w e) lt
-
--- one of two tests passes
-either : (a b : Bool) → (a || b) ≡ true → (a ≡ true) ⊎ (b ≡ true)
-either true b e = inl refl
-either false b e = inr e
+tested_named (Some test) rows w e lt = name_named test.tested w rows (test_true test.tested w e) lt
 
 pub known_only : (known : Known) (rows : List Row) (v : ℕ) → OnlyNamed rows → OnlyNamed (slice_set (with_base known rows) v (record (row_at (with_base known rows) v) { known = known }))
 known_only known rows v only = named_set between v (record (row_at between v) { known = known }) base (λ e. e) says where
@@ -146,9 +142,9 @@ known_only known rows v only = named_set between v (record (row_at between v) { 
   base = base_only known rows only
 
   says : (w : ℕ) → (is_on w known || tests w (row_at between v).test) ≡ true → w < length between → (row_at between w).named ≡ true
-  says w e lt = elim (either (is_on w known) (tests w (row_at between v).test) e) [
+  says w e lt = elim (or_parts (is_on w known) (tests w (row_at between v).test) e) [
     | inl on ↦ base_named known rows w on lt
-    | inr tested ↦ base v w (other_true (is_on w (row_at between v).known) (tests w (row_at between v).test) tested) lt
+    | inr tested ↦ base v w (or_second (is_on w (row_at between v).known) (tests w (row_at between v).test) tested) lt
   ]
 
 pub test_only : (test : Option Test) (rows : List Row) (v : ℕ) → OnlyNamed rows → OnlyNamed (slice_set (with_tested test rows) v (record (row_at (with_tested test rows) v) { test = test }))
@@ -160,8 +156,8 @@ test_only test rows v only = named_set between v (record (row_at between v) { te
   base = tested_only test rows only
 
   says : (w : ℕ) → (is_on w (row_at between v).known || tests w test) ≡ true → w < length between → (row_at between w).named ≡ true
-  says w e lt = elim (either (is_on w (row_at between v).known) (tests w test) e) [
-    | inl on ↦ base v w (first_true (is_on w (row_at between v).known) (tests w (row_at between v).test) on) lt
+  says w e lt = elim (or_parts (is_on w (row_at between v).known) (tests w test) e) [
+    | inl on ↦ base v w (or_first (is_on w (row_at between v).known) (tests w (row_at between v).test) on) lt
     | inr tested ↦ tested_named test rows w tested lt
   ]
 

@@ -3,12 +3,7 @@ use Rattle.std.proofs.Common.{◌≡◌, ◌<◌, ℕ, length, zero, suc, List, 
 use Rattle.std.proofs.lemmas.Bool.Decides.{Decides-eqb}
 use Rattle.std.specs.Prelude.{◌==◌, ◌||◌}
 use Rattle.std.specs.List.{list_any}
-
-pub equal : (x y : ℕ) → (x == y) ≡ true → x ≡ y
-equal x y e = (Decides-eqb x y).0 e
-
-pub equal_test : (x y : ℕ) → x ≡ y → (x == y) ≡ true
-equal_test x y e = (Decides-eqb x y).1 e
+use Rattle.lemmas.specs.Bools.{or_second, or_first}
 
 -- another place is as before
 pub set_other : {X : Type 0} (xs : List X) (i j : ℕ) (a d : X) → (i ≡ j → ⊥) → get_or (slice_set xs i a) j d ≡ get_or xs j d
@@ -24,24 +19,11 @@ set_empty [] i d = refl
 set_empty (x ∷ xs) zero d = refl
 set_empty (x ∷ xs) (suc i) d = set_empty xs i d
 
-pub at_map : {X : Type 0} (g : X → X) (xs : List X) (j : ℕ) (d : X) → g d ≡ d → get_or (map g xs) j d ≡ g (get_or xs j d)
-at_map g [] j d e = sym e
-at_map g (x ∷ xs) zero d e = refl
-at_map g (x ∷ xs) (suc j) d e = at_map g xs j d e
-
-pub other_true : (a b : Bool) → b ≡ true → (a || b) ≡ true
-other_true true b e = refl
-other_true false b e = e
-
-pub first_true : (a b : Bool) → a ≡ true → (a || b) ≡ true
-first_true true b e = refl
-first_true false b e = absurd cc
-
 -- what passes at a place passes somewhere
 pub found : {X : Type 0} (p : X → Bool) (xs : List X) (i : ℕ) (d : X) → p d ≡ false → p (get_or xs i d) ≡ true → list_any p xs ≡ true
 found p [] i d fails e = absurd cc
-found p (x ∷ xs) zero d fails e = first_true (p x) (list_any p xs) e
-found p (x ∷ xs) (suc i) d fails e = other_true (p x) (list_any p xs) (found p xs i d fails e)
+found p (x ∷ xs) zero d fails e = or_first (p x) (list_any p xs) e
+found p (x ∷ xs) (suc i) d fails e = or_second (p x) (list_any p xs) (found p xs i d fails e)
 
 -- a part of an element that is written as it was is as it was everywhere
 pub set_part : {X Y : Type 0} (q : X → Y) (xs : List X) (i j : ℕ) (a d : X) → q a ≡ q (get_or xs i d) → q (get_or (slice_set xs i a) j d) ≡ q (get_or xs j d)

@@ -3,6 +3,8 @@ use Rattle.std.proofs.Common.{◌≡◌, ℕ, zero, suc, List, [], ◌∷◌, le
 use Rattle.std.proofs.lemmas.Bool.{leb-true, le-leb}
 use Rattle.std.specs.Prelude.{◌==◌, ◌&&◌, not, ◌↔◌}
 use Rattle.std.specs.List.{list_all, zip}
+use Rattle.lemmas.specs.Numbers.{test_true, test_yes}
+use Rattle.lemmas.specs.Bools.{and_parts, not_true, and_true}
 use Rattle.pools.specs.WordSets.{has_all}
 use Rattle.shadow_stack.specs.Slots.{slot_of}
 use Rattle.certs.specs.declared.section.Age.{Age}
@@ -15,17 +17,8 @@ use Rattle.facts.specs.Facts.{FactSet, known_at, slot_at, class_at, open_slot, i
 use Rattle.facts.specs.Lines.{is_stale, is_fresh, implied, is_below, covers_value, covers_slot, covers, covers_known, is_fresh_in, is_same, is_alone, shows_reference, shows_number, shows_address, shows_global, shows_fact, holds_known, holds_value, shows_slot}
 use Rattle.facts.specs.Statements.{NumberOf, UpTo, BelowOf, RefersOf, CurrentOf, OfClass, AddressOf, GlobalOf}
 use Rattle.facts.specs.Shown.{IfAsked, IfNamed, Named, FactShown, ShowsWhatIsSaid}
-use Rattle.facts.proofs.Sets.{equal, equal_test}
 
 -- ---- tests
-
-and_there : (a b : Bool) → (a && b) ≡ true → (a ≡ true) × (b ≡ true)
-and_there true b e = (refl, e)
-and_there false b e = absurd cc
-
-and_back : (a b : Bool) → a ≡ true → b ≡ true → (a && b) ≡ true
-and_back true b e h = h
-and_back false b e h = absurd cc
 
 implied_there : (asked holds : Bool) → implied asked holds ≡ true → IfAsked asked (holds ≡ true)
 implied_there true true e = refl
@@ -42,10 +35,6 @@ asked_map : (asked : Bool) (P Q : Type 0) → (P → Q) → IfAsked asked P → 
 asked_map true P Q g h = g h
 asked_map false P Q g h = tt
 
-not_true : (b : Bool) → not b ≡ true → b ≡ false
-not_true true e = absurd cc
-not_true false e = refl
-
 not_false : (b : Bool) → b ≡ false → not b ≡ true
 not_false true e = absurd cc
 not_false false e = refl
@@ -56,18 +45,18 @@ all_there : {X Y : Type 0} (p : X × Y → Bool) (xs : List X) (ys : List Y) (dx
 all_there p [] [] dx dy len ends e u = ends
 all_there p [] (y ∷ ys) dx dy len ends e u = absurd (omega arith)
 all_there p (x ∷ xs) [] dx dy len ends e u = absurd (omega arith)
-all_there p (x ∷ xs) (y ∷ ys) dx dy len ends e zero = (and_there (p (x, y)) (list_all p (zip xs ys)) e).0
-all_there p (x ∷ xs) (y ∷ ys) dx dy len ends e (suc u) = all_there p xs ys dx dy (omega arith) ends (and_there (p (x, y)) (list_all p (zip xs ys)) e).1 u
+all_there p (x ∷ xs) (y ∷ ys) dx dy len ends e zero = (and_parts (p (x, y)) (list_all p (zip xs ys)) e).0
+all_there p (x ∷ xs) (y ∷ ys) dx dy len ends e (suc u) = all_there p xs ys dx dy (omega arith) ends (and_parts (p (x, y)) (list_all p (zip xs ys)) e).1 u
 
 all_back : {X Y : Type 0} (p : X × Y → Bool) (xs : List X) (ys : List Y) (dx : X) (dy : Y) → length xs ≡ length ys → ((u : ℕ) → p (get_or xs u dx, get_or ys u dy) ≡ true) → list_all p (zip xs ys) ≡ true
 all_back p [] [] dx dy len h = refl
 all_back p [] (y ∷ ys) dx dy len h = absurd (omega arith)
 all_back p (x ∷ xs) [] dx dy len h = absurd (omega arith)
-all_back p (x ∷ xs) (y ∷ ys) dx dy len h = and_back (p (x, y)) (list_all p (zip xs ys)) (h zero) (all_back p xs ys dx dy (omega arith) (λ u. h (suc u)))
+all_back p (x ∷ xs) (y ∷ ys) dx dy len h = and_true (p (x, y)) (list_all p (zip xs ys)) (h zero) (all_back p xs ys dx dy (omega arith) (λ u. h (suc u)))
 
 -- a reference of this class
 of_there : (c : ℕ) (k : Known) → is_of c k ≡ true → OfClass (λ d. c ≡ d) k
-of_there c (Cell d layout stale) e = sym (equal d c e)
+of_there c (Cell d layout stale) e = sym (test_true d c e)
 of_there c Nothing e = absurd cc
 of_there c (Number bits below) e = absurd cc
 of_there c Null e = absurd cc
@@ -75,7 +64,7 @@ of_there c (Address base words) e = absurd cc
 of_there c (GlobalAddress g) e = absurd cc
 
 of_back : (c : ℕ) (k : Known) → OfClass (λ d. c ≡ d) k → is_of c k ≡ true
-of_back c (Cell d layout stale) e = equal_test d c (sym e)
+of_back c (Cell d layout stale) e = test_yes d c (sym e)
 of_back c Nothing e = absurd e
 of_back c (Number bits below) e = absurd e
 of_back c Null e = absurd e
@@ -85,7 +74,7 @@ of_back c (GlobalAddress g) e = absurd e
 value_there : (c d : ℕ) (h t : Known) → covers_value c d (h, t) ≡ true → OfClass (λ x. c ≡ x) h → OfClass (λ x. Unit {0}) t → OfClass (λ x. d ≡ x) t
 value_there c d h (Cell x layout stale) e here there = pick (is_of c h) (of_back c h here) e where
   pick : (b : Bool) → b ≡ true → implied b (x == d) ≡ true → d ≡ x
-  pick true is e = sym (equal x d (implied_there true (x == d) e))
+  pick true is e = sym (test_true x d (implied_there true (x == d) e))
   pick false is e = absurd cc
 value_there c d h Nothing e here there = there
 value_there c d h (Number bits below) e here there = there
@@ -96,7 +85,7 @@ value_there c d h (GlobalAddress g) e here there = there
 value_back : (c d : ℕ) (h t : Known) → (OfClass (λ x. c ≡ x) h → OfClass (λ x. Unit {0}) t → OfClass (λ x. d ≡ x) t) → covers_value c d (h, t) ≡ true
 value_back c d h (Cell x layout stale) g = pick (is_of c h) refl where
   pick : (b : Bool) → is_of c h ≡ b → implied b (x == d) ≡ true
-  pick true is = implied_back true (x == d) (equal_test x d (sym (g (of_there c h is) tt)))
+  pick true is = implied_back true (x == d) (test_yes x d (sym (g (of_there c h is) tt)))
   pick false is = implied_back false (x == d) tt
 value_back c d h Nothing g = refl
 value_back c d h (Number bits below) g = refl
@@ -120,14 +109,14 @@ module _ (here there : FactSet) (values : length here.values ≡ length there.va
 
   covers_there : (c d : ℕ) → covers here there c d ≡ true → Covered c d
   covers_there c d e =
-      let parts = and_there (list_all (covers_value c d) (zip here.values there.values)) (list_all (covers_slot c d) (zip here.slots there.slots)) e in (
+      let parts = and_parts (list_all (covers_value c d) (zip here.values there.values)) (list_all (covers_slot c d) (zip here.slots there.slots)) e in (
         λ u. value_there c d (known_at here.values u) (known_at there.values u) (all_there (covers_value c d) here.values there.values Nothing Nothing values refl parts.0 u),
         λ s. slot_there (holds_class c (slot_at here.slots s).holds) (holds_class d (slot_at there.slots s).holds) (all_there (covers_slot c d) here.slots there.slots open_slot open_slot slots refl parts.1 s),
       )
 
   covers_back : (c d : ℕ) → Covered c d → covers here there c d ≡ true
   covers_back c d h =
-      and_back (list_all (covers_value c d) (zip here.values there.values)) (list_all (covers_slot c d) (zip here.slots there.slots))
+      and_true (list_all (covers_value c d) (zip here.values there.values)) (list_all (covers_slot c d) (zip here.slots there.slots))
       (all_back (covers_value c d) here.values there.values Nothing Nothing values (λ u. value_back c d (known_at here.values u) (known_at there.values u) (h.0 u)))
       (all_back (covers_slot c d) here.slots there.slots open_slot open_slot slots (λ s. slot_back (holds_class c (slot_at here.slots s).holds) (holds_class d (slot_at there.slots s).holds) (h.1 s)))
 
@@ -182,18 +171,18 @@ module _ (here there : FactSet) (values : length here.values ≡ length there.va
       let B = implied nonnull N in
       let C = implied (not (is_stale age)) (not stale) in
       let D = implied (is_fresh age) F in
-      let four = and_there (A && B && C && D) (is_same here.values c same) e in
-      let three = and_there (A && B && C) D four.0 in
-      let two = and_there (A && B) C three.0 in
-      let one = and_there A B two.0 in (
-        equal known layout one.0,
+      let four = and_parts (A && B && C && D) (is_same here.values c same) e in
+      let three = and_parts (A && B && C) D four.0 in
+      let two = and_parts (A && B) C three.0 in
+      let one = and_parts A B two.0 in (
+        test_true known layout one.0,
         (
           implied_there nonnull N one.1,
           (
             asked_map (not (is_stale age)) (not stale ≡ true) (stale ≡ false) (not_true stale) (implied_there (not (is_stale age)) (not stale) two.1),
             (
               asked_map (is_fresh age) (F ≡ true) (((class_at here.classes c).fresh ≡ true) × Lists c (known_at there.values v))
-                  (λ h. let parts = and_there (class_at here.classes c).fresh (covers_known here there c (known_at there.values v)) h in (parts.0, lists_there c (known_at there.values v) parts.1))
+                  (λ h. let parts = and_parts (class_at here.classes c).fresh (covers_known here there c (known_at there.values v)) h in (parts.0, lists_there c (known_at there.values v) parts.1))
                   (implied_there (is_fresh age) F three.1),
               same_there c same four.1,
             ),
@@ -224,12 +213,12 @@ module _ (here there : FactSet) (values : length here.values ≡ length there.va
       let B = implied nonnull N in
       let C = implied (not (is_stale age)) (not stale) in
       let D = implied (is_fresh age) F in
-      and_back (A && B && C && D) (is_same here.values c same)
-      (and_back (A && B && C) D
-      (and_back (A && B) C (and_back A B (equal_test known layout h.0) (implied_back nonnull N h.1.0))
+      and_true (A && B && C && D) (is_same here.values c same)
+      (and_true (A && B && C) D
+      (and_true (A && B) C (and_true A B (test_yes known layout h.0) (implied_back nonnull N h.1.0))
       (implied_back (not (is_stale age)) (not stale) (asked_map (not (is_stale age)) (stale ≡ false) (not stale ≡ true) (not_false stale) h.1.1.0)))
       (implied_back (is_fresh age) F (asked_map (is_fresh age) (((class_at here.classes c).fresh ≡ true) × Lists c (known_at there.values v)) (F ≡ true)
-      (λ x. and_back (class_at here.classes c).fresh (covers_known here there c (known_at there.values v)) x.0 (lists_back c (known_at there.values v) x.1)) h.1.1.1.0)))
+      (λ x. and_true (class_at here.classes c).fresh (covers_known here there c (known_at there.values v)) x.0 (lists_back c (known_at there.values v) x.1)) h.1.1.1.0)))
       (same_back c same h.1.1.1.1)
   reference_back v layout nonnull age same Null h = pick _ nonnull (is_fresh age) same h.1.0 h.1.1.1.0 h.1.1.1.1 where
     pick : (P : Type 0) (n fresh : Bool) (same : Option ℕ) → IfAsked n ⊥ → IfAsked fresh (⊥ × P) → IfNamed same (λ w. ⊥) → (not n && not fresh && is_alone same) ≡ true
@@ -256,7 +245,7 @@ below_back None (Some n) h = absurd h
 below_back (Some m) (Some n) h = le-leb m n h
 
 number_there : (bits : ℕ) (asked : Option ℕ) (k : Known) → shows_number bits asked k ≡ true → NumberOf bits k × IfNamed asked (λ n. BelowOf n k)
-number_there bits asked (Number n below) e = let parts = and_there (n == bits) (is_below below asked) e in (equal n bits parts.0, below_there below asked parts.1)
+number_there bits asked (Number n below) e = let parts = and_parts (n == bits) (is_below below asked) e in (test_true n bits parts.0, below_there below asked parts.1)
 number_there bits asked Nothing e = absurd cc
 number_there bits asked (Cell c layout stale) e = absurd cc
 number_there bits asked Null e = absurd cc
@@ -264,7 +253,7 @@ number_there bits asked (Address base words) e = absurd cc
 number_there bits asked (GlobalAddress g) e = absurd cc
 
 number_back : (bits : ℕ) (asked : Option ℕ) (k : Known) → NumberOf bits k × IfNamed asked (λ n. BelowOf n k) → shows_number bits asked k ≡ true
-number_back bits asked (Number n below) h = and_back (n == bits) (is_below below asked) (equal_test n bits h.0) (below_back below asked h.1)
+number_back bits asked (Number n below) h = and_true (n == bits) (is_below below asked) (test_yes n bits h.0) (below_back below asked h.1)
 number_back bits asked Nothing h = absurd h.0
 number_back bits asked (Cell c layout stale) h = absurd h.0
 number_back bits asked Null h = absurd h.0
@@ -272,7 +261,7 @@ number_back bits asked (Address base words) h = absurd h.0
 number_back bits asked (GlobalAddress g) h = absurd h.0
 
 address_there : (base : ℕ) (words : List Bool) (k : Known) → shows_address base words k ≡ true → AddressOf base words k
-address_there base words (Address x known) e = let parts = and_there (x == base) (has_all words known.members) e in (equal x base parts.0, parts.1)
+address_there base words (Address x known) e = let parts = and_parts (x == base) (has_all words known.members) e in (test_true x base parts.0, parts.1)
 address_there base words Nothing e = absurd cc
 address_there base words (Number bits below) e = absurd cc
 address_there base words (Cell c layout stale) e = absurd cc
@@ -280,7 +269,7 @@ address_there base words Null e = absurd cc
 address_there base words (GlobalAddress g) e = absurd cc
 
 address_back : (base : ℕ) (words : List Bool) (k : Known) → AddressOf base words k → shows_address base words k ≡ true
-address_back base words (Address x known) h = and_back (x == base) (has_all words known.members) (equal_test x base h.0) h.1
+address_back base words (Address x known) h = and_true (x == base) (has_all words known.members) (test_yes x base h.0) h.1
 address_back base words Nothing h = absurd h
 address_back base words (Number bits below) h = absurd h
 address_back base words (Cell c layout stale) h = absurd h
@@ -288,7 +277,7 @@ address_back base words Null h = absurd h
 address_back base words (GlobalAddress g) h = absurd h
 
 global_there : (g : ℕ) (k : Known) → shows_global g k ≡ true → GlobalOf g k
-global_there g (GlobalAddress x) e = equal x g e
+global_there g (GlobalAddress x) e = test_true x g e
 global_there g Nothing e = absurd cc
 global_there g (Number bits below) e = absurd cc
 global_there g (Cell c layout stale) e = absurd cc
@@ -296,7 +285,7 @@ global_there g Null e = absurd cc
 global_there g (Address base words) e = absurd cc
 
 global_back : (g : ℕ) (k : Known) → GlobalOf g k → shows_global g k ≡ true
-global_back g (GlobalAddress x) h = equal_test x g h
+global_back g (GlobalAddress x) h = test_yes x g h
 global_back g Nothing h = absurd h
 global_back g (Number bits below) h = absurd h
 global_back g (Cell c layout stale) h = absurd h
@@ -336,8 +325,8 @@ module _ (here : FactSet) where
   slot_shown (Some s) nonnull holds =
       let slot = slot_at here.slots s in
       let null = slot_nonnull here.classes slot in (
-        λ e. let parts = and_there (implied nonnull null) (holds_value here.values slot.holds holds) e in (implied_there nonnull null parts.0, asked_there slot.holds holds parts.1),
-        λ h. and_back (implied nonnull null) (holds_value here.values slot.holds holds) (implied_back nonnull null h.0) (asked_back slot.holds holds h.1),
+        λ e. let parts = and_parts (implied nonnull null) (holds_value here.values slot.holds holds) e in (implied_there nonnull null parts.0, asked_there slot.holds holds parts.1),
+        λ h. and_true (implied nonnull null) (holds_value here.values slot.holds holds) (implied_back nonnull null h.0) (asked_back slot.holds holds h.1),
       )
 
 fact_shown : (here there : FactSet) (v : ℕ) (fact : Fact) → length here.values ≡ length there.values → length here.slots ≡ length there.slots → (shows_fact here there v fact ≡ true) ↔ FactShown here there v fact

@@ -2,12 +2,13 @@
 use Rattle.std.proofs.Common.{◌≡◌, ◌<◌, ◌≤◌, ◌+◌, ℕ, zero, suc, List, [], ◌∷◌, length, map, refl, sym, ap, ◌∙◌, subst, arith, true, false, Bool}
 use Rattle.std.specs.Prelude.{◌||◌, ◌↔◌}
 use Rattle.std.specs.List.{enumerate_from, zip}
+use Rattle.lemmas.specs.Lists.{at_map}
+use Rattle.lemmas.specs.Bools.{or_false}
 use Rattle.facts.specs.declared.known.Class.{Class}
 use Rattle.facts.specs.declared.known.Known.{Known}
 use Rattle.facts.specs.declared.known.Known.TheVariants.{Nothing, Number, Cell, Null, Address, GlobalAddress}
 use Rattle.facts.specs.Facts.{FactSet, known_at, slot_at, class_at, open_slot, holds_class, slot_nonnull, stale_of, stale_class, end_hold, make_stale}
 use Rattle.facts.specs.Statements.{IsNumber, IsBelow, RefersTo, IsCurrent, IsNonnull, IsFresh, IsSame, IsAddress, IsGlobal, SlotNonnull, SlotHolds, NumberOf, BelowOf, RefersOf, CurrentOf, OfClass, AddressOf, GlobalOf, SafepointEndsCurrent}
-use Rattle.facts.proofs.Sets.{at_map}
 use Rattle.facts.proofs.Forgets.{class_any}
 
 -- what is known of a value, from the value with number n on
@@ -75,10 +76,6 @@ class_is_own P u (Number bits below) h = absurd h
 class_is_own P u Null h = absurd h
 class_is_own P u (Address base words) h = absurd h
 class_is_own P u (GlobalAddress g) h = absurd h
-
-or_false : (a : Bool) → (a || false) ≡ a
-or_false true = refl
-or_false false = refl
 
 module _ (f : FactSet) where
   abbrev now : ℕ → Known

@@ -1,5 +1,7 @@
 -- In runs without the collector's steps everything that is held or stored is alive.
 use Rattle.std.proofs.Common.{◌≡◌, ◌≢◌, ℕ, zero, suc, ◌%◌, ◌^◌, ◌<◌, ◌==◌, ◌⊎◌, inl, inr, Bool, true, false, not, ◌&&◌, Option, Some, None, List, [], ◌∷◌, if◌then◌else◌, refl, arith, sym, ◌∙◌, subst, IsTrue, slice_index, pow_pos}
+use Rattle.lemmas.specs.Numbers.{test_true, test_yes, test_false, not_null}
+use Rattle.lemmas.specs.Bools.{and_parts}
 use Rattle.colours.specs.declared.place.Place.TheVariants.{Colour, Word}
 use Rattle.pools.specs.Heap.{Setup, IsSetup, IsStartOf, kind_of, IsOfLayout}
 use Rattle.pools.specs.declared.word_kind.WordKind.{WordKind}
@@ -9,7 +11,6 @@ use Rattle.colours.specs.Colours.{claim_at, is_async}
 use Rattle.colours.specs.Steps.{Step, ReadWord, ReadOldValue, Mark, StoreBehindBarrier, StorePlain, Claim, ReadPosted, StoreStage, ReadPostedFirst, EnterStage, ReadPostedAgain}
 use Rattle.colours.specs.Mutator.{Phase, Ready, MarkingOld, MarkingNew, Writing, Trying, Answering, Ended, Absent, Arriving, Entering, Leaving, stage_of, phase_of, MayFollow, Held, Fresh, gains, Keeps, wins, stores, is_answer, IsDisciplined, MayUse, MayStore, IsPossible, MayFind}
 use Rattle.colours.specs.Runs.{Event, ByThread, ByCollector, log_of, word_after, births_after, given, puts, value_put, IsAlive, MayHappen, IsRun, KeepsDiscipline, IsHeapRun, HasNoTurn, Kept, globals, held, further, birth_used, TouchesAlive}
-use Rattle.colours.proofs.Tests.{and_parts, test_true, test_false, test_yes, not_null}
 use Rattle.colours.specs.Frames.{word_left, won_blue, alive_stays}
 
 -- what a word of this kind holds: an integer that fits, or null or a reference that is alive

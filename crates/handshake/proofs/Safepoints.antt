@@ -2,12 +2,12 @@
 use Rattle.std.proofs.Common.{◌≡◌, ◌≢◌, ℕ, zero, suc, ◌==◌, Bool, true, false, List, [], ◌∷◌, ◌++◌, map, reverse, if◌then◌else◌, IsTrue, refl, sym, ◌∙◌, ap, append_assoc}
 use Rattle.std.proofs.lemmas.List.{append-nil}
 use Rattle.std.proofs.lemmas.Grind.{reverse_onto}
+use Rattle.lemmas.specs.Numbers.{test_no}
 use Rattle.pools.specs.Heap.{Setup}
 use Rattle.colours.specs.Colours.{is_async, done}
 use Rattle.colours.specs.Steps.{Step, Mark, ReadPosted, StoreStage}
 use Rattle.colours.specs.Mutator.{Ready, Ended, Answering, is_between, non_null}
 use Rattle.colours.specs.Calls.{marks_of_all, marks_of_roots, answer_to, Polling, Makes, AreEntries, MakesExactly, Ends, IsCall, Names, IsSafepoint}
-use Rattle.colours.proofs.Tests.{test_no}
 use Rattle.colours.specs.Lists.{Silent, listed, list_made, list_entries}
 
 -- ---- lists of roots

@@ -3,6 +3,7 @@ use Rattle.std.proofs.Common.{◌≡◌, ℕ, zero, suc, ◌+◌, ◌<◌, ◌�
 use Rattle.std.specs.Prelude.{codes, nat_lt, ◌==◌}
 use Rattle.std.specs.Fmt as text
 use Rattle.std.proofs.lemmas.Bool.Decides.{nat_tests}
+use Rattle.lemmas.specs.Numbers.{test_same}
 use Rattle.grammar.specs.Grammar.{◌>>◌}
 use Rattle.ir_ast.specs.Names.{place_of}
 use Rattle.ir_ast.specs.declared.function.Function.{Function}
@@ -47,10 +48,6 @@ EndsAgain rest = IsSeam rest × Comes no_round rest
 comma_no_end : k.Comma ≡ k.End → ⊥
 comma_no_end x = cc
 
--- a number is itself
-same_number : (n : ℕ) → n == n ≡ true
-same_number n = grind (arith, nat_tests)
-
 -- a star ends a type that is written again
 pub star_ends : (rest : Text) → EndsAgain (42 ∷ rest)
 unfolding class_of
@@ -76,14 +73,14 @@ integer_said : (bits : ℕ) (i : Input) → kind i.cursor ≡ k.IntegerType → 
 unfolding w.integer_again integer
 integer_said bits i is h =
     let value : bits_at i ≡ bits = ap bits_at h.2.1 ∙ h.3.0 in
-    let same : bits_at i == bits ≡ true = ap (λ n. n == bits) value ∙ same_number bits in
+    let same : bits_at i == bits ≡ true = ap (λ n. n == bits) value ∙ test_same bits in
     (tt, i, (tt, i, (tt, i, (seen k.IntegerType i is, refl), (h.2.0, refl)), (same, refl)), (refl, refl))
 
 -- the name of a struct is the same again
 name_said : (name : Text) (n : ℕ) (i : Input) → kind i.cursor ≡ k.LocalName → spelled i.cursor ≡ name → place_of name i.struct_names.names ≡ Some n → (w.name_again n).says i tt (advanced i)
 unfolding w.name_again w.is_named
 name_said name n i is e place =
-    let there : w.is_named n i ≡ true = ap (λ (x : Text). is_at n (place_of x i.struct_names.names)) e ∙ ap (is_at n) place ∙ same_number n in
+    let there : w.is_named n i ≡ true = ap (λ (x : Text). is_at n (place_of x i.struct_names.names)) e ∙ ap (is_at n) place ∙ test_same n in
     (tt, i, (tt, i, (seen k.LocalName i is, refl), (there, refl)), (refl, refl))
 
 -- the length of an array is the same again
@@ -96,7 +93,7 @@ length_again_said count i is h =
     (tt, i, (tt, i, (tt, i, (seen k.Number i is, refl), (has, refl)), (at_by (w.length_at i) has value, refl)), (refl, refl)) where
       at_by : (x : Option ℕ) → is_some x ≡ true → unwrap_or x 0 ≡ count → is_at count x ≡ true
       at_by None e v = absurd cc
-      at_by (Some n) e v = ap (λ k. k == count) v ∙ same_number count
+      at_by (Some n) e v = ap (λ k. k == count) v ∙ test_same count
 
 module _ {m : Module} {f : Function} (v : Invariant m f) where
   -- a type of this shape is read again

@@ -1,5 +1,6 @@
 -- Instructions that end a block, as they are read.
 use Rattle.std.proofs.Common.{◌≡◌, ℕ, Bool, true, false, not, [], Option, refl, sym, subst, ◌∙◌}
+use Rattle.lemmas.specs.Bools.{not_true}
 use Rattle.grammar.specs.Grammar.{pure, ◌>>◌}
 use Rattle.ir_ast.specs.declared.function.Function.{Function}
 use Rattle.ir_ast.specs.declared.module.Module.{Module}
@@ -32,10 +33,6 @@ use Rattle.ir_print_law.proofs.Looks.{bits_are}
 use Rattle.ir_print_law.proofs.Operands.{AreBits, operand_keeps, constant_keeps, target_keeps}
 use Rattle.ir_print_law.proofs.Passes.{again_passes}
 use Rattle.ir_print_law.proofs.TypesThat.{scalar_of, scalar_keeps}
-
-none : (t : Bool) → not t ≡ true → t ≡ false
-none true e = absurd cc
-none false e = refl
 
 module _ {m : Module} {f : Function} (v : Within m f) where
   -- an operation that ends its block
@@ -109,7 +106,7 @@ module _ {m : Module} {f : Function} (v : Within m f) where
             let db = d.1 eb.0 in
             let bb = b.1 (subst r.Back (sym same) db.0) in
             let ab = a.1 bb.0 in
-            let apart : is_among (value_of t.2.0) c.seen ≡ false = none (is_among (value_of t.2.0) c.seen) rule.2.0 in
+            let apart : is_among (value_of t.2.0) c.seen ≡ false = not_true (is_among (value_of t.2.0) c.seen) rule.2.0 in
             let good : AreBits (bits_of c.written) → FitsType (bits_of c.written) t.0 × (is_among (value_of t.0) c.seen ≡ false) × IsTarget f w.0 =
             λ fit. (subst (FitsType (bits_of c.written)) rule.3.0 (bb.1 fit), subst (λ (y : Constant). is_among (value_of y) c.seen ≡ false) rule.3.0 apart, eb.1) in
             (ab.0, subst (IsCase c) w.3.0 good),

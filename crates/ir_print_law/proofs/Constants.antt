@@ -25,14 +25,14 @@ use Rattle.ir_print.specs.Fits.{FitsType, constant_shown}
 use Rattle.ir_print.specs.Standing.{Stands, IsSeam, AreBlanks, AreDigits}
 use Rattle.std.specs.Prelude.{◌&&◌, ◌||◌}
 use Rattle.std.proofs.Common.{drop}
+use Rattle.lemmas.specs.Bools.{and_parts, or_second}
 use Rattle.ir_tokens.specs.Bytes.{is_letter}
 use Rattle.ir_tokens.specs.Keywords.{kind_in, other_word}
 use Rattle.ir_forms.specs.Cursor.{name}
 use Rattle.ir_forms.specs.Written.{integer, bits_at}
 use Rattle.ir_print_law.specs.Readings.{ConstantsAreRead, IntegerTypesAreRead}
-use Rattle.name_text.specs.Seams.{both}
 use Rattle.name_text.specs.Spelled.{number_is}
-use Rattle.ir_print_law.proofs.Words.{second_of, word_comes, number_comes}
+use Rattle.ir_print_law.proofs.Words.{word_comes, number_comes}
 
 -- ---- numbers
 
@@ -43,13 +43,13 @@ pub are_digits : (n : ℕ) → n < 2 ^ 64 → AreDigits (text.decimal n)
 are_digits n less = (decimal_nonempty n less, digits_decimal model n less)
 
 no_minus : (b : ℕ) → is_digit b ≡ true → b == 45 ≡ false
-no_minus b e = let low : nat_le 48 b ≡ true = (both (nat_le 48 b) (nat_le b 57) e).0 in grind (arith, nat_tests)
+no_minus b e = let low : nat_le 48 b ≡ true = (and_parts (nat_le 48 b) (nat_le b 57) e).0 in grind (arith, nat_tests)
 
 number_value : (digits : Text) (n bits : ℕ) → AreDigits digits → numbers.decimal digits ≡ n → n < 2 ^ 64 → n < 2 * numbers.half_of bits → numbers.constant digits bits ≡ Some n
 unfolding numbers.constant
 number_value [] n bits own is less fits = absurd (omega (arith, own.0))
 number_value (b ∷ digits) n bits own is less fits =
-    let minus = no_minus b (both (is_digit b) (list_all is_digit digits) own.1).0 in
+    let minus = no_minus b (and_parts (is_digit b) (list_all is_digit digits) own.1).0 in
     let small : nat_lt n 18446744073709551616 ≡ true = grind (arith, nat_tests) in
     let within : nat_lt n (2 * numbers.half_of bits) ≡ true = grind (arith, nat_tests) in
     rw (minus, is, small, within) refl
@@ -134,8 +134,8 @@ constants_are_read bits x i fits = λ gap rest blanks seam at. constant_is_read 
 plain_digits : (digits : Text) → list_all is_digit digits ≡ true → list_all (λ byte. is_letter byte || is_digit byte) digits ≡ true
 plain_digits [] e = refl
 plain_digits (b ∷ digits) e =
-    let parts = both (is_digit b) (list_all is_digit digits) e in
-    rw (second_of (is_letter b) (is_digit b) parts.0) (plain_digits digits parts.1)
+    let parts = and_parts (is_digit b) (list_all is_digit digits) e in
+    rw (or_second (is_letter b) (is_digit b) parts.0) (plain_digits digits parts.1)
 
 integer_kind : (digits : Text) → AreDigits digits → word_kind (105 ∷ digits) ≡ k.IntegerType
 unfolding word_kind

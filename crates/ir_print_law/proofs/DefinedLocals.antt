@@ -4,6 +4,7 @@ use Rattle.std.specs.Prelude.{nat_lt, slice_set, ◌==◌}
 use Rattle.std.specs.Fmt.{decimal}
 use Rattle.std.proofs.lemmas.Bool.Decides.{nat_tests}
 use Rattle.std.proofs.lemmas.Option.{slice_get_within}
+use Rattle.lemmas.specs.Lists.{get_end}
 use Rattle.ir_ast.specs.declared.function.LocalSort.{LocalSort}
 use Rattle.ir_ast.specs.declared.function.LocalSort.TheVariants as local
 use Rattle.ir_forms.specs.Table.{defined}
@@ -16,7 +17,7 @@ use Rattle.ir_print_law.specs.Shapes.{IsIn}
 use Rattle.ir_print_law.proofs.DefinedNames.{Defines, IsNameKey, defines_name, defines_number, number_is_new}
 use Rattle.ir_print_law.proofs.LocalNames.{Locals, IsSortOf, keys_at, keys_more, key_is_new, in_or_end, in_at_end, set_length, set_there, set_was, set_known}
 use Rattle.ir_print_law.proofs.Reading.{Progress, with_named_value, with_named_label, IsValueSort}
-use Rattle.ir_print_law.proofs.Tables.{begins_with, stays, at_end}
+use Rattle.ir_print_law.proofs.Tables.{begins_with, stays}
 
 -- the table in which a name stands for this
 sorted_as : (n : ℕ) (sort : LocalSort) (t : Table LocalSort) → n < length t.sorts → (P : Table LocalSort → Type 0) → P (record { names = t.names; sorts = slice_set t.sorts n sort }) → P (defined n sort t)
@@ -77,7 +78,7 @@ labelled g t unnamed next n within h defines =
       defines = defines;
       sorted = λ k x there. elim (set_was t.sorts n sort k x there) [
         | inl p ↦ label_further g n k x (h.sorted k x p)
-        | inr p ↦ subst (λ (j : ℕ). IsSortOf (with_named_label g n) j x) (sym p.0) (subst (IsSortOf (with_named_label g n) n) p.1 (at_end g.labels n))
+        | inr p ↦ subst (λ (j : ℕ). IsSortOf (with_named_label g n) j x) (sym p.0) (subst (IsSortOf (with_named_label g n) n) p.1 (get_end g.labels n))
       ];
       known = λ k there. elim (in_or_end g.names n k there) [
         | inl p ↦ elim (h.known k p) [

@@ -2,6 +2,7 @@
 use Rattle.std.proofs.Common.{◌≡◌, ℕ, suc, Bool, true, false, not, List, [], ◌∷◌, ◌++◌, length, slice_get, Option, None, Some, refl, sym, ap, subst, ◌∙◌, arith, inl, inr}
 use Rattle.std.specs.Prelude.{drop, ◌==◌}
 use Rattle.std.proofs.lemmas.Bool.Decides.{nat_tests}
+use Rattle.lemmas.specs.Bools.{not_true}
 use Rattle.ir_ast.specs.Names.{place_of, number_of, numbered}
 use Rattle.ir_ast.specs.declared.function.Function.{Function}
 use Rattle.ir_ast.specs.declared.function.LocalSort.{LocalSort}
@@ -25,10 +26,6 @@ use Rattle.ir_print_law.specs.Definitions.{defined_globals}
 use Rattle.ir_print_law.specs.Shapes.{IsIn}
 use Rattle.ir_print_law.proofs.Named.{sort_at, sort_number, even_defined, place_numbered}
 use Rattle.ir_print_law.proofs.Known.{in_front, in_last, is_last, Tells, tells_defined, known_keys, StructsKnown, SymbolsKnown, LocalsKnown, structs_mentioned, symbols_mentioned, locals_mentioned}
-
-not_true : (b : Bool) → not b ≡ true → b ≡ false
-not_true true e = absurd cc
-not_true false e = refl
 
 -- an element before the last one
 before_last : (xs : List Text) (k name : Text) → IsIn (xs ++ k ∷ []) name → (name ≡ k → ⊥) → IsIn xs name

@@ -3,6 +3,7 @@ use Rattle.std.proofs.Common.{◌≡◌, ℕ, ◌+◌, ◌<◌, Bool, true, fals
 use Rattle.std.specs.Prelude.{nat_lt}
 use Rattle.std.specs.Fmt as text
 use Rattle.std.proofs.lemmas.Bool.Decides.{nat_tests}
+use Rattle.lemmas.specs.Bools.{not_true}
 use Rattle.ir_ast.specs.LocalKeys.{key_of_name, key_of_digits}
 use Rattle.ir_ast.specs.Names.{numbered, number_of}
 use Rattle.ir_ast.specs.declared.function.Function.{Function}
@@ -30,10 +31,6 @@ use Rattle.ir_print_law.proofs.Reading.{Progress, with_named_value, with_named_l
 use Rattle.ir_print_law.proofs.Tables.{begins_itself, name_there}
 
 -- ---- what the rules say
-
-is_no : (t : Bool) → not t ≡ true → t ≡ false
-is_no true e = absurd cc
-is_no false e = refl
 
 -- a number that is written is the next one
 abbrev pub IsTaken : Input → Input → Type 0
@@ -63,7 +60,7 @@ new_value_is i n o h =
     let second = first ∙ new.3.1 in
     let same = second ∙ rules.3.1 in
     let few : nat_lt i.values 1000000 ≡ true = ap (λ (j : Input). nat_lt j.values 1000000) second ∙ rules.3.0 in
-    (is_no (is_known_local i) (ap (λ (j : Input). not (is_known_local j)) first ∙ new.3.0), grind (arith, nat_tests), ap local_number same ∙ h.3.0, ap with_value same ∙ h.3.1)
+    (not_true (is_known_local i) (ap (λ (j : Input). not (is_known_local j)) first ∙ new.3.0), grind (arith, nat_tests), ap local_number same ∙ h.3.0, ap with_value same ∙ h.3.1)
 
 -- a label that was not defined before
 abbrev IsNewLabel : (block : ℕ) → Input → ℕ → Input → Type 0
@@ -75,7 +72,7 @@ new_label_is block i n o h =
     let rules = h.2 in
     let first = rules.2.1 in
     let same = first ∙ rules.3.1 in
-    (is_no (is_known_local i) (ap (λ (j : Input). not (is_known_local j)) first ∙ rules.3.0), ap local_number same ∙ h.3.0, ap (with_label block) same ∙ h.3.1)
+    (not_true (is_known_local i) (ap (λ (j : Input). not (is_known_local j)) first ∙ rules.3.0), ap local_number same ∙ h.3.0, ap (with_label block) same ∙ h.3.1)
 
 -- ---- keys
 

@@ -4,6 +4,7 @@ use Rattle.std.specs.Prelude.{drop}
 use Rattle.std.specs.List.{AllByRecursion}
 use Rattle.std.specs.Str.{bytes_eq}
 use Rattle.std.proofs.lemmas.Slice.Eq.{bytes_eq-Decides}
+use Rattle.lemmas.specs.Bools.{not_true}
 use Rattle.ir_ast.specs.Names.{place_of, number_of, numbered}
 use Rattle.ir_ast.specs.declared.function.Function.{Function}
 use Rattle.ir_ast.specs.declared.function.LocalSort.{LocalSort}
@@ -181,10 +182,6 @@ Holds m f far i =
     × Counted far i.values i.unnamed i.missing i.structs i.globals i.declares i.functions
 
 -- ---- a mention of a name
-
-pub not_true : (b : Bool) → not b ≡ true → b ≡ false
-not_true true e = absurd cc
-not_true false e = refl
 
 struct_test : names.is_struct None ≡ names.is_struct (Some None)
 struct_test = refl

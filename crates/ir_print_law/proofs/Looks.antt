@@ -2,6 +2,7 @@
 use Rattle.std.proofs.Common.{◌≡◌, ℕ, zero, suc, ◌+◌, true, false, refl, ap, ◌∙◌, arith}
 use Rattle.std.specs.Prelude.{◌==◌, nat_lt}
 use Rattle.std.proofs.lemmas.Bool.Decides.{nat_tests}
+use Rattle.lemmas.specs.Numbers.{suc_not_null}
 use Rattle.ir_ast.specs.declared.module.Module.{Module}
 use Rattle.ir_forms.specs.declared.written.Base.{Base}
 use Rattle.ir_forms.specs.declared.written.Base.TheVariants as base
@@ -58,9 +59,6 @@ starred_written structs (suc count) shape h = starred_written structs count (Poi
 
 -- ---- what kind of type it is
 
-suc_zero : (n : ℕ) → suc n == 0 ≡ false
-suc_zero n = grind (arith, nat_tests)
-
 suc_one : (n : ℕ) → suc (suc n) == 1 ≡ false
 suc_one n = grind (arith, nat_tests)
 
@@ -76,7 +74,7 @@ by_looks g m most w shape same h = same w.id w.room w.base w.stars ∙ ap (λ b.
 
 bits_looks : (shape : Shape) → bits_of (looking (base_of shape) (stars_of shape)) ≡ bits_of_shape shape
 bits_looks (Integer bits) = refl
-bits_looks (Pointer part) = let no_zero = suc_zero (stars_of part) in rw no_zero refl
+bits_looks (Pointer part) = let no_zero = suc_not_null (stars_of part) in rw no_zero refl
 bits_looks (Array count part) = refl
 bits_looks Empty = refl
 bits_looks (Struct first rest) = refl
@@ -108,7 +106,7 @@ pub pointer_is : (m : Module) (most : ℕ) (w : WrittenType) (shape : Shape) →
 pointer_is m most w shape h = ap (nat_lt 0) h.stars_are ∙ pointer_looks shape
 
 passed_deep : (b : Base) (n : ℕ) → is_passed (looking b (suc (suc n))) ≡ false
-passed_deep (base.Integer bits) n = let a = suc_zero (suc n) in let c = suc_one n in rw (a, c) refl
+passed_deep (base.Integer bits) n = let a = suc_not_null (suc n) in let c = suc_one n in rw (a, c) refl
 passed_deep base.Named n = suc_one n
 passed_deep base.Aggregate n = refl
 
@@ -129,7 +127,7 @@ pub passed_is : (m : Module) (most : ℕ) (w : WrittenType) (shape : Shape) → 
 passed_is m most w shape h = by_looks is_passed m most w shape (λ id room b stars. refl) h ∙ passed_looks shape
 
 held_deep : (b : Base) (n : ℕ) → is_held (looking b (suc (suc n))) ≡ false
-held_deep (base.Integer bits) n = suc_zero (suc n)
+held_deep (base.Integer bits) n = suc_not_null (suc n)
 held_deep base.Named n = suc_one n
 held_deep base.Aggregate n = refl
 

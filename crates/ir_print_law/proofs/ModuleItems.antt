@@ -3,6 +3,7 @@ use Rattle.std.proofs.Common.{◌≡◌, ℕ, suc, ◌+◌, ◌<◌, ◌≤◌, 
 use Rattle.std.specs.Prelude.{nat_lt}
 use Rattle.std.proofs.lemmas.Bool.Decides.{nat_tests}
 use Rattle.std.proofs.lemmas.List.{append-nil}
+use Rattle.lemmas.specs.Bools.{not_true}
 use Rattle.ir_ast.specs.declared.block.Block.{Block}
 use Rattle.ir_ast.specs.declared.function.Function.{Function}
 use Rattle.ir_ast.specs.declared.function.Parameter.{Parameter}
@@ -45,10 +46,6 @@ added_length xs x most le = let e = length-append xs (x ∷ []) in omega (arith,
 
 fits_one : (n most : ℕ) → nat_lt n most ≡ true → n + 1 ≤ most
 fits_one n most less = let l : n < most = grind (arith, nat_tests) in omega (arith, l)
-
-not_true : (t : Bool) → not t ≡ true → t ≡ false
-not_true true e = absurd cc
-not_true false e = refl
 
 -- ---- struct names
 

@@ -3,6 +3,7 @@ use Rattle.std.proofs.Common.{◌≡◌, ℕ, zero, suc, ◌+◌, ◌<◌, Bool,
 use Rattle.std.specs.Prelude.{nat_lt, slice_set}
 use Rattle.std.proofs.lemmas.Bool.Decides.{nat_tests}
 use Rattle.std.proofs.lemmas.Option.{slice_get_within}
+use Rattle.lemmas.specs.Lists.{get_end}
 use Rattle.ir_ast.specs.Names.{place_of}
 use Rattle.ir_ast.specs.declared.items_of_module.SymbolSort.{SymbolSort}
 use Rattle.ir_ast.specs.declared.items_of_module.SymbolSort.TheVariants as symbol
@@ -13,7 +14,7 @@ use Rattle.ir_tokens.specs.Bytes.{Text}
 use Rattle.name_text.specs.Readings.{AreBytes}
 use Rattle.ir_print_law.specs.Printable.{IsSymbol}
 use Rattle.ir_print_law.proofs.LocalNames.{set_length, set_there, set_was}
-use Rattle.ir_print_law.proofs.Tables.{begins_with, stays, at_end, at_end_or_before, place_there, place_stays}
+use Rattle.ir_print_law.proofs.Tables.{begins_with, stays, at_end_or_before, place_there, place_stays}
 
 -- Each name is bytes and stands at its first place. A name that stands for something owns what it stands for, and what is owned stands there under a good name.
 pub record IsTable {S : Type 0} (nothing : S) (Owns : S → ℕ → Type 0) (Good : Text → Type 0) (t : Table S) : Type 0 where
@@ -132,7 +133,7 @@ struct_defines own t n name at none is h =
     let less = slice_get_within t.names n name at in
     let within : n < length t.sorts = (let s = h.same in omega (arith, less, s)) in
     table_defines None (OwnsStruct own) (OwnsStruct (own ++ n ∷ [])) AreBytes t n (Some (length own)) name at (no_struct t.sorts n within none) is (λ k o. o)
-    up (at_end own n) down h where
+    up (get_end own n) down h where
       up : (k : ℕ) (x : Option ℕ) → OwnsStruct own x k → OwnsStruct (own ++ n ∷ []) x k
       up k None o = o
       up k (Some layout) o = stays own (own ++ n ∷ []) layout k (begins_with own (n ∷ [])) o
@@ -201,7 +202,7 @@ more_functions own n = record own { functions = own.functions ++ n ∷ [] }
 
 -- one more of each sort
 global_more : (own : Owned) (n : ℕ) → IsMore own (more_globals own n) (symbol.Global (length own.globals)) n
-global_more own n = (up, at_end own.globals n, down) where
+global_more own n = (up, get_end own.globals n, down) where
   up : (k : ℕ) (x : SymbolSort) → OwnsSymbol own x k → OwnsSymbol (more_globals own n) x k
   up k symbol.Unknown o = o
   up k (symbol.Global g) o = longer own.globals n g k o
@@ -215,7 +216,7 @@ global_more own n = (up, at_end own.globals n, down) where
   down k (symbol.Defined f) o = inl o
 
 declared_more : (own : Owned) (n : ℕ) → IsMore own (more_declares own n) (symbol.Declared (length own.declares)) n
-declared_more own n = (up, at_end own.declares n, down) where
+declared_more own n = (up, get_end own.declares n, down) where
   up : (k : ℕ) (x : SymbolSort) → OwnsSymbol own x k → OwnsSymbol (more_declares own n) x k
   up k symbol.Unknown o = o
   up k (symbol.Global g) o = o
@@ -229,7 +230,7 @@ declared_more own n = (up, at_end own.declares n, down) where
   down k (symbol.Defined f) o = inl o
 
 defined_more : (own : Owned) (n : ℕ) → IsMore own (more_functions own n) (symbol.Defined (length own.functions)) n
-defined_more own n = (up, at_end own.functions n, down) where
+defined_more own n = (up, get_end own.functions n, down) where
   up : (k : ℕ) (x : SymbolSort) → OwnsSymbol own x k → OwnsSymbol (more_functions own n) x k
   up k symbol.Unknown o = o
   up k (symbol.Global g) o = o

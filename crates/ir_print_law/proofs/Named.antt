@@ -5,6 +5,7 @@ use Rattle.std.specs.List.{position_or_len}
 use Rattle.std.specs.Str.{bytes_eq}
 use Rattle.std.proofs.lemmas.Bool.Decides.{nat_tests}
 use Rattle.std.proofs.lemmas.Slice.Eq.{bytes_eq-Decides}
+use Rattle.lemmas.specs.Lists.{get_end}
 use Rattle.ir_ast.specs.Names.{place_of, number_of, numbered}
 use Rattle.ir_tokens.specs.Bytes.{Text}
 use Rattle.ir_forms.specs.declared.table.Table.{Table}
@@ -113,10 +114,6 @@ get_front : {A : Type 0} (xs more : List A) (n : ℕ) → n < length xs → slic
 get_front [] more n less = absurd (omega (arith, less))
 get_front (x ∷ xs) more zero less = refl
 get_front (x ∷ xs) more (suc n) less = get_front xs more n (omega (arith, less))
-
-get_end : {A : Type 0} (xs : List A) (x : A) → slice_get (xs ++ x ∷ []) (length xs) ≡ Some x
-get_end [] x = refl
-get_end (y ∷ xs) x = get_end xs x
 
 get_set : {A : Type 0} (xs : List A) (n : ℕ) (x : A) → n < length xs → slice_get (slice_set xs n x) n ≡ Some x
 get_set [] n x less = absurd (omega (arith, less))

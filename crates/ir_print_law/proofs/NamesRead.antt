@@ -22,6 +22,7 @@ use Rattle.name_text.specs.Names.{name_text}
 use Rattle.name_text.specs.declared.blank.Blank.TheVariants as blank
 use Rattle.ir_print.specs.Names.{key_text}
 use Rattle.std.specs.Prelude.{codes}
+use Rattle.lemmas.specs.Bools.{and_parts}
 use Rattle.ir_ast.specs.declared.function.LocalSort.TheVariants.{Unknown}
 use Rattle.ir_forms.specs.Table.{mentioned}
 use Rattle.ir_forms.specs.Input.{advanced}
@@ -30,7 +31,6 @@ use Rattle.ir_tokens.specs.Keywords.{word_kind, keywords}
 use Rattle.ir_print.specs.Names.{local_text}
 use Rattle.ir_print_law.specs.Readings.{IsKey, LocalsAreRead, LocalOperandsAreRead, TargetsAreRead, NewValuesAreRead, LabelsAreRead, CollectorsAreRead, GlobalOperandsAreRead, CalleesAreRead, StructNamesAreRead}
 use Rattle.ir_print.specs.Standing.{Stands, IsSeam, AreBlanks, AreDigits}
-use Rattle.name_text.specs.Seams.{both}
 use Rattle.name_text.specs.Reading.{name_spelled, digits_spelled}
 use Rattle.ir_print_law.proofs.Spelled.{label_spelled, quoted_spelled}
 use Rattle.ir_print_law.proofs.Words.{global_comes, local_comes, local_number_comes, word_comes, expected, quoted_comes, label_comes, seen}
@@ -40,7 +40,7 @@ use Rattle.ir_print_law.proofs.Words.{global_comes, local_comes, local_number_co
 -- a number is printed as it is
 pub digits_text : (key : Text) → AreDigits key → key_text key ≡ key
 digits_text [] own = absurd (omega (arith, own.0))
-digits_text (b ∷ key) own = let digit = (both (is_digit b) (list_all is_digit key) own.1).0 in rw digit refl
+digits_text (b ∷ key) own = let digit = (and_parts (is_digit b) (list_all is_digit key) own.1).0 in rw digit refl
 
 -- the key of a name is printed as that name
 pub name_key_text : (name : Text) → key_text (key_of_name name) ≡ name_text blank.Kept name

@@ -5,6 +5,7 @@ use Rattle.std.specs.Fmt as text
 use Rattle.std.specs.List.{list_all}
 use Rattle.std.proofs.lemmas.Bool.Decides.{nat_tests}
 use Rattle.std.proofs.lemmas.Fmt.{decimal_by_steps}
+use Rattle.lemmas.specs.Bools.{and_parts, not_true, or_second}
 use Rattle.ir_ast.specs.LocalKeys.{key_of_digits}
 use Rattle.ir_ast.specs.Names.{number_of}
 use Rattle.ir_ast.specs.declared.function.LocalSort.TheVariants as local
@@ -21,16 +22,15 @@ use Rattle.ir_print_law.specs.Readings.{IsKey}
 use Rattle.ir_print.specs.Standing.{Stands, AreDigits}
 use Rattle.name_text.specs.Spelled.{number_is}
 use Rattle.ir_print_law.proofs.Constants.{are_digits}
-use Rattle.name_text.specs.Seams.{both}
 use Rattle.ir_print_law.proofs.Spelled.{label_number_read, label_number_spelled}
 use Rattle.ir_print_law.proofs.Standing.{Comes, comes}
-use Rattle.ir_print_law.proofs.Words.{no_gap, second_of}
+use Rattle.ir_print_law.proofs.Words.{no_gap}
 use Rattle.ir_print_law.proofs.WholeForms.{few}
 
 -- ---- labels that are numbers
 
 digit_begins : (b : ℕ) (bytes : Text) → is_digit b ≡ true → begins_gap (b ∷ bytes) ≡ false
-digit_begins b bytes e = no_gap b bytes (second_of (is_letter b) (is_digit b) e)
+digit_begins b bytes e = no_gap b bytes (or_second (is_letter b) (is_digit b) e)
 
 past_line : (b : ℕ) (bytes : Text) → begins_gap (b ∷ bytes) ≡ false → past_gap false (10 ∷ b ∷ bytes) ≡ b ∷ bytes
 unfolding past_gap
@@ -43,7 +43,7 @@ past_line b bytes e = by (b == 59) (b == 32 || b == 9 || b == 10 || b == 13) ref
 pub label_number_comes : (place : Place) (digits rest : Text) → AreDigits digits → Stands place (10 ∷ (digits ++ 58 ∷ rest)) → Comes place k.LabelNumber (digits ++ 58 ∷ []) rest
 label_number_comes place [] rest own at = absurd (omega (arith, own.0))
 label_number_comes place (b ∷ digits) rest own at =
-    let digit = (both (is_digit b) (list_all is_digit digits) own.1).0 in
+    let digit = (and_parts (is_digit b) (list_all is_digit digits) own.1).0 in
     let bytes = digits ++ 58 ∷ rest in
     comes place (10 ∷ []) b bytes ((b ∷ digits) ++ 58 ∷ []) rest k.LabelNumber (past_line b bytes (digit_begins b bytes digit)) (label_number_read (b ∷ digits) rest own)
     (sym (append_assoc (b ∷ digits) (58 ∷ []) rest)) (omega arith) at
@@ -52,14 +52,10 @@ abbrev no_zero : Text → Bool
 no_zero [] = false
 no_zero (b ∷ bytes) = not (b == 48)
 
-is_false : (a : Bool) → not a ≡ true → a ≡ false
-is_false true e = absurd cc
-is_false false e = refl
-
 kept_by : (digits : Text) → no_zero digits ≡ true → key_of_digits digits ≡ digits
 kept_by [] e = absurd cc
 kept_by (b ∷ []) e = refl
-kept_by (b ∷ d ∷ digits) e = rw (is_false (b == 48) e) refl
+kept_by (b ∷ d ∷ digits) e = rw (not_true (b == 48) e) refl
 
 no_zero_on : (digits : Text) (d : ℕ) → no_zero digits ≡ true → no_zero (digits ++ d ∷ []) ≡ true
 no_zero_on [] d e = absurd cc

@@ -5,6 +5,7 @@ use Rattle.std.specs.List.{list_all, AllByRecursion}
 use Rattle.std.specs.Str.{bytes_eq}
 use Rattle.std.proofs.lemmas.List.{take_at, drop_at}
 use Rattle.std.proofs.Math.Seq.{take-append_seam}
+use Rattle.lemmas.specs.Bools.{and_parts, not_true}
 use Rattle.ir_tokens.specs.declared.class.Class.{Class}
 use Rattle.ir_tokens.specs.declared.class.Class.TheVariants as c
 use Rattle.ir_tokens.specs.declared.token.Kind.{Kind}
@@ -18,7 +19,6 @@ use Rattle.ir_tokens.specs.Names.{spelling, bare, unquoted, name_of}
 use Rattle.ir_tokens.specs.Tokens.{token, token_by, word, number, quote, local, local_by, global, global_by, group, group_by, metadata, metadata_by, name, digits, quotation, sign, label_or, Cut, IsLexed}
 use Rattle.ir_forms.specs.Cursor.{is_local_number}
 use Rattle.ir_print.specs.Standing.{AreDigits}
-use Rattle.name_text.specs.Seams.{both}
 use Rattle.name_text.specs.Reading.{digits_spelled}
 
 -- a number in place of a local name spells digits
@@ -125,11 +125,6 @@ quoted_leaves i a o h = (ends_quoted i h.0 o h.1, tt)
 
 -- ---- the kinds of words
 
--- a test that is not true is false
-is_false : (a : Bool) → not a ≡ true → a ≡ false
-is_false true e = absurd cc
-is_false false e = refl
-
 -- either of two kinds
 either_other : (t : Bool) (x y : Kind) → is_local_number x ≡ false → is_local_number y ≡ false → is_local_number (if t then x else y) ≡ false
 either_other true x y e f = e
@@ -159,7 +154,7 @@ kind_in_is (entry ∷ entries) w y h e = entry_by (bytes_eq entry.0 w) entry.1 y
 -- a test of each entry tells it of all
 all_other : (entries : List (Text × Kind)) → list_all (λ entry. not (is_local_number entry.1)) entries ≡ true → AreOther entries
 all_other [] e = tt
-all_other (entry ∷ entries) e = let parts = both (not (is_local_number entry.1)) _ e in (is_false (is_local_number entry.1) parts.0, all_other entries parts.1)
+all_other (entry ∷ entries) e = let parts = and_parts (not (is_local_number entry.1)) _ e in (not_true (is_local_number entry.1) parts.0, all_other entries parts.1)
 
 -- no keyword is such a number
 keywords_other : list_all (λ entry. not (is_local_number entry.1)) keywords ≡ true

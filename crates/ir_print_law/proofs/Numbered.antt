@@ -4,6 +4,7 @@ use Rattle.std.specs.Prelude.{◌==◌, nat_lt, slice_get}
 use Rattle.std.specs.Fmt as text
 use Rattle.std.proofs.lemmas.Bool.Decides.{nat_tests}
 use Rattle.std.proofs.lemmas.Fmt.{decimal_by_steps}
+use Rattle.lemmas.specs.Bools.{not_true}
 use Rattle.ir_tokens.specs.Bytes.{Text}
 use Rattle.ir_ast.specs.LocalKeys.{key_of_digits}
 use Rattle.ir_ast.specs.Names.{number_of}
@@ -25,14 +26,10 @@ abbrev no_zero : Text → Bool
 no_zero [] = false
 no_zero (b ∷ bytes) = not (b == 48)
 
-is_false : (a : Bool) → not a ≡ true → a ≡ false
-is_false true e = absurd cc
-is_false false e = refl
-
 kept_by : (digits : Text) → no_zero digits ≡ true → key_of_digits digits ≡ digits
 kept_by [] e = absurd cc
 kept_by (b ∷ []) e = refl
-kept_by (b ∷ d ∷ digits) e = rw (is_false (b == 48) e) refl
+kept_by (b ∷ d ∷ digits) e = rw (not_true (b == 48) e) refl
 
 no_zero_on : (digits : Text) (d : ℕ) → no_zero digits ≡ true → no_zero (digits ++ d ∷ []) ≡ true
 no_zero_on [] d e = absurd cc

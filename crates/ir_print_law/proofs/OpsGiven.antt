@@ -1,6 +1,7 @@
 -- The types and the operations of a printed module are read as they are needed.
 use Rattle.std.proofs.Common.{◌≡◌, ℕ, Bool, true, false, not, List, [], ◌∷◌, ◌++◌, Option, Some, None, refl, sym, subst, ◌∙◌}
 use Rattle.std.specs.Prelude.{slice_get, codes}
+use Rattle.lemmas.specs.Bools.{not_true, not_false}
 use Rattle.ir_ast.specs.declared.function.Function.{Function}
 use Rattle.ir_ast.specs.declared.function.LocalSort.{LocalSort}
 use Rattle.ir_ast.specs.declared.function.LocalSort.TheVariants as local
@@ -84,26 +85,18 @@ value_sort (local.Value shown) e = tt
 value_sort (local.Element block place) e = tt
 value_sort (local.Block number) e = absurd cc
 
-no_void : (b : Bool) → not b ≡ true → b ≡ false
-no_void true e = absurd cc
-no_void false e = refl
-
-yes_void : (b : Bool) → not b ≡ false → b ≡ true
-yes_void true e = refl
-yes_void false e = absurd cc
-
 void_there : (x : Option IrType) → is_void x ≡ true → x ≡ Some type.Void
 void_there (Some type.Void) e = refl
 void_there _ e = absurd cc
 
 is_named : (m : Module) (x : Op) → ends_block x ≡ false → gives_value m x ≡ true → IsNamed m x
 is_named m (op.Store stored value place_type place) ends gives = absurd cc
-is_named m (op.Call returned callee arguments) ends gives = no_void (is_void (slice_get m.types returned)) gives
+is_named m (op.Call returned callee arguments) ends gives = not_true (is_void (slice_get m.types returned)) gives
 is_named m _ ends gives = ends
 
 is_unnamed : (m : Module) (x : Op) → ends_block x ≡ false → gives_value m x ≡ false → IsUnnamed m x
 is_unnamed m (op.Store stored value place_type place) ends gives = tt
-is_unnamed m (op.Call returned callee arguments) ends gives = void_there (slice_get m.types returned) (yes_void (is_void (slice_get m.types returned)) gives)
+is_unnamed m (op.Call returned callee arguments) ends gives = void_there (slice_get m.types returned) (not_false (is_void (slice_get m.types returned)) gives)
 is_unnamed m (op.Alloca held) ends gives = absurd cc
 is_unnamed m (op.Bitcast from x to) ends gives = absurd cc
 is_unnamed m (op.Load loaded place_type place) ends gives = absurd cc

@@ -3,6 +3,7 @@ use Rattle.std.proofs.Common.{◌≡◌, ℕ, zero, suc, ◌+◌, ◌≤◌, Boo
 use Rattle.std.specs.Prelude.{codes, ◌==◌, nat_lt}
 use Rattle.std.specs.Fmt.{decimal}
 use Rattle.std.proofs.lemmas.Bool.Decides.{nat_tests}
+use Rattle.lemmas.specs.Numbers.{suc_not_null}
 use Rattle.ir_ast.specs.declared.ir_type.IrType.{IrType}
 use Rattle.ir_tokens.specs.Bytes.{Text}
 use Rattle.ir_forms.specs.declared.input.Input.{Input}
@@ -105,10 +106,6 @@ some_level (Named name) = omega arith
 
 -- ---- what kind of type was read
 
--- no number behind another is 0
-suc_zero : (n : ℕ) → suc n == 0 ≡ false
-suc_zero n = grind (arith, nat_tests)
-
 -- 0 is less than a number behind another
 zero_less : (n : ℕ) → nat_lt 0 (suc n) ≡ true
 zero_less n = grind (arith, nat_tests)
@@ -125,7 +122,7 @@ by_looks g shape most w o same h = same w.id w.room w.base w.stars ∙ ap (λ b.
 -- how many bits, by the shape
 bits_looks : (shape : Shape) → bits_of (looking (base_of shape) (stars_of shape)) ≡ bits_of_shape shape
 bits_looks (Integer bits) = refl
-bits_looks (Pointer part) = let no_zero = suc_zero (stars_of part) in rw no_zero refl
+bits_looks (Pointer part) = let no_zero = suc_not_null (stars_of part) in rw no_zero refl
 bits_looks (Array count part) = refl
 bits_looks Empty = refl
 bits_looks (Struct first rest) = refl
@@ -168,7 +165,7 @@ eight n = grind (arith, nat_tests)
 -- one behind a number is 1 where the number is 0
 one_star : (n : ℕ) → suc n == 1 ≡ n == 0
 one_star zero = refl
-one_star (suc n) = eight n ∙ sym (suc_zero n)
+one_star (suc n) = eight n ∙ sym (suc_not_null n)
 
 -- whether a function may take it, by the shape
 passed_looks : (shape : Shape) → is_passed (looking (base_of shape) (stars_of shape)) ≡ is_passed_shape shape
@@ -176,7 +173,7 @@ passed_looks (Integer bits) = refl
 passed_looks (Pointer (Integer bits)) = refl
 passed_looks (Pointer (Pointer part)) = deep (base_of part) (stars_of part) where
   deep : (b : Base) (n : ℕ) → is_passed (looking b (suc (suc n))) ≡ false
-  deep (base.Integer bits) n = rw (suc_zero (suc n), eight n) refl
+  deep (base.Integer bits) n = rw (suc_not_null (suc n), eight n) refl
   deep base.Named n = eight n
   deep base.Aggregate n = refl
 passed_looks (Pointer (Array count part)) = refl
@@ -202,7 +199,7 @@ held_looks (Integer bits) = refl
 held_looks (Pointer (Integer bits)) = refl
 held_looks (Pointer (Pointer part)) = deep (base_of part) (stars_of part) where
   deep : (b : Base) (n : ℕ) → is_held (looking b (suc (suc n))) ≡ false
-  deep (base.Integer bits) n = suc_zero (suc n)
+  deep (base.Integer bits) n = suc_not_null (suc n)
   deep base.Named n = eight n
   deep base.Aggregate n = refl
 held_looks (Pointer (Array count part)) = refl

@@ -2,6 +2,7 @@
 use Rattle.std.proofs.Common.{◌≡◌, ℕ, ◌-◌, Bool, true, false, if◌then◌else◌, [], ◌∷◌, ◌++◌, length, take, Some, refl, ap, sym, subst, ◌∙◌, arith, length-append}
 use Rattle.std.specs.List.{list_all, flat_map}
 use Rattle.std.proofs.Math.Seq.{take-append_seam}
+use Rattle.lemmas.specs.Bools.{and_parts}
 use Rattle.ir_tokens.specs.declared.class.Class.{Class}
 use Rattle.ir_tokens.specs.declared.class.Class.TheVariants as c
 use Rattle.ir_tokens.specs.declared.token.Kind.TheVariants as k
@@ -14,7 +15,6 @@ use Rattle.name_text.specs.Readings.{AreBytes}
 use Rattle.name_text.specs.declared.blank.Blank.TheVariants as blank
 use Rattle.name_text.specs.Reading.{quotes_read, passes, first_letter, in_quotes, global_token, local_token, quotes_spelled, name_spelled, digits_pass, digit_class, number_token, digits_spelled}
 use Rattle.ir_print.specs.Standing.{IsSeam, AreDigits}
-use Rattle.name_text.specs.Seams.{both}
 use Rattle.ir_print_law.proofs.Seams.{no_name, no_digit, no_label}
 
 -- ---- words and numbers
@@ -23,13 +23,13 @@ use Rattle.ir_print_law.proofs.Seams.{no_name, no_digit, no_label}
 pub word_read : (w rest : Text) → is_plain w ≡ true → IsSeam rest → token.read (w ++ rest) ≡ Some (word_kind w, rest)
 unfolding token word
 word_read w rest plain seam =
-    let parts = both (begins_plain w) _ plain in
+    let parts = and_parts (begins_plain w) _ plain in
     let said : word.says (w ++ rest) (word_kind w) rest = (w, rest, (refl, passes w parts.1, no_name rest seam), no_label rest seam k.LabelName (word_kind w)) in
     token.again (w ++ rest) (word_kind w) rest (subst (λ (x : Class). (token_by x).says (w ++ rest) (word_kind w) rest) (sym (first_letter w rest parts.0)) said)
 
 pub first_digit : (digits rest : Text) → AreDigits digits → first_class (digits ++ rest) ≡ c.Digit
 first_digit [] rest own = absurd (omega (arith, own.0))
-first_digit (b ∷ digits) rest own = let digit = (both (is_digit b) (list_all is_digit digits) own.1).0 in digit_class b digit
+first_digit (b ∷ digits) rest own = let digit = (and_parts (is_digit b) (list_all is_digit digits) own.1).0 in digit_class b digit
 
 pub number_read : (digits rest : Text) → AreDigits digits → IsSeam rest → token.read (digits ++ rest) ≡ Some (k.Number, rest)
 unfolding token number
@@ -65,7 +65,7 @@ local_number_read (b ∷ digits) rest own seam = number_token b digits rest own.
 label_by : (name rest : Text) → AreBytes name → (t : Bool) → is_plain name ≡ t → token.read ((if t then name else quoted_text blank.Kept name) ++ 58 ∷ rest) ≡ Some (k.LabelName, rest)
 unfolding token word quote class_of is_name
 label_by name rest own true e =
-    let parts = both (begins_plain name) _ e in
+    let parts = and_parts (begins_plain name) _ e in
     let said : word.says (name ++ 58 ∷ rest) k.LabelName rest = (name, 58 ∷ rest, (refl, passes name parts.1, refl), (tt, rest, (refl, refl), (refl, refl))) in
     token.again (name ++ 58 ∷ rest) k.LabelName rest (subst (λ (x : Class). (token_by x).says (name ++ 58 ∷ rest) k.LabelName rest) (sym (first_letter name (58 ∷ rest) parts.0)) said)
 label_by name rest own false e =

@@ -10,6 +10,7 @@ use Rattle.std.proofs.lemmas.Slice.Eq.{bytes_eq-Decides}
 use Rattle.std.proofs.lemmas.List.{append-nil}
 use Rattle.std.proofs.lemmas.List.Quantifiers.{position-Some}
 use Rattle.std.specs.Str.{bytes_eq}
+use Rattle.lemmas.specs.Lists.{get_end}
 use Rattle.ir_ast.specs.Names.{place_of, number_of, numbered}
 use Rattle.ir_ast.specs.Types.{place_of_type, number_of_type, numbered_type, is_same_type}
 use Rattle.ir_ast.specs.declared.ir_type.IrType.{IrType}
@@ -54,11 +55,6 @@ in_front (y ∷ xs) more (suc n) x e = in_front xs more n x e
 pub stays : {A : Type 0} (xs ys : List A) (n : ℕ) (x : A) → Begins xs ys → slice_get xs n ≡ Some x → slice_get ys n ≡ Some x
 stays xs ys n x b e = ap (λ l. slice_get l n) b.1 ∙ in_front xs b.0 n x e
 
--- the last element
-pub at_end : {A : Type 0} (xs : List A) (x : A) → slice_get (xs ++ x ∷ []) (length xs) ≡ Some x
-at_end [] x = refl
-at_end (y ∷ xs) x = at_end xs x
-
 -- what stands at a place of a list with one element more stood there before, or is that element
 pub at_end_or_before : {A : Type 0} (xs : List A) (y : A) (n : ℕ) (x : A) → slice_get (xs ++ y ∷ []) n ≡ Some x → (slice_get xs n ≡ Some x) ⊎ ((n ≡ length xs) × (y ≡ x))
 at_end_or_before [] y zero x e = inr (refl, cc)
@@ -82,7 +78,7 @@ type_begins t types = by (is_some (place_of_type t types)) where
 pub type_there : (t : IrType) (types : List IrType) → slice_get (numbered_type t types) (number_of_type t types) ≡ Some t
 type_there t types = by (place_of_type t types) refl where
   by : (place : Option ℕ) → place_of_type t types ≡ place → slice_get (if is_some place then types else types ++ t ∷ []) (unwrap_or place (length types)) ≡ Some t
-  by None e = at_end types t
+  by None e = get_end types t
   by (Some n) e = stands t types n e
 
 -- the table stays in order
@@ -136,7 +132,7 @@ number_within name names = by (place_of name names) refl where
 pub name_there : (name : Text) (names : List Text) → slice_get (numbered name names) (number_of name names) ≡ Some name
 name_there name names = by (place_of name names) refl where
   by : (place : Option ℕ) → place_of name names ≡ place → slice_get (if is_some place then names else names ++ name ∷ []) (unwrap_or place (length names)) ≡ Some name
-  by None e = at_end names name
+  by None e = get_end names name
   by (Some n) e =
       let found = position-Some (bytes_eq name) names n name e in
       slice_get-get_or names n name found.0 ∙ ap Some (sym ((bytes_eq-Decides name (get_or names n name)).0 found.1))

@@ -4,6 +4,7 @@ use Rattle.std.specs.Prelude.{◌==◌, nat_lt, nat_le}
 use Rattle.std.specs.List.{list_all}
 use Rattle.std.specs.Fmt as text
 use Rattle.std.proofs.lemmas.Bool.Decides.{nat_tests}
+use Rattle.lemmas.specs.Bools.{and_parts}
 use Rattle.grammar.specs.Grammar.{pure, refuse, ◌>>=◌, ◌>>◌}
 use Rattle.ir_ast.specs.Names.{number_of, numbered, place_of}
 use Rattle.ir_ast.specs.declared.function.Function.{Function}
@@ -31,7 +32,6 @@ use Rattle.ir_print_law.specs.Stars.{stars}
 use Rattle.name_text.specs.Spelled.{number_is}
 use Rattle.ir_print_law.proofs.Constants.{integer_types_are_read, are_digits}
 use Rattle.ir_print_law.proofs.NamesRead.{struct_names_are_read}
-use Rattle.name_text.specs.Seams.{both}
 use Rattle.ir_print_law.proofs.Words.{local_comes, seen}
 use Rattle.ir_print_law.specs.Definitions.{defined_structs}
 use Rattle.ir_print_law.specs.Shapes.{IsIn, Shape, Integer, Pointer, Named, HasShape, levels}
@@ -66,14 +66,14 @@ name_text_some name = by name (is_plain name) refl where
 
 -- a digit is no minus
 no_minus : (b : ℕ) → is_digit b ≡ true → b == 45 ≡ false
-no_minus b e = let low : nat_le 48 b ≡ true = (both (nat_le 48 b) (nat_le b 57) e).0 in grind (arith, nat_tests)
+no_minus b e = let low : nat_le 48 b ≡ true = (and_parts (nat_le 48 b) (nat_le b 57) e).0 in grind (arith, nat_tests)
 
 -- digits spell their number
 natural_of : (digits : Text) (n : ℕ) → AreDigits digits → numbers.decimal digits ≡ n → n < 2 ^ 64 → numbers.natural digits ≡ Some n
 unfolding numbers.natural
 natural_of [] n own is less = absurd (let h = own.0 in omega (arith, h))
 natural_of (b ∷ digits) n own is less =
-    let minus = no_minus b (both (is_digit b) (list_all is_digit digits) own.1).0 in
+    let minus = no_minus b (and_parts (is_digit b) (list_all is_digit digits) own.1).0 in
     let small : nat_lt n 18446744073709551616 ≡ true = grind (arith, nat_tests) in
     rw (minus, is, small) refl
 

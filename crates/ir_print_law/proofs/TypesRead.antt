@@ -3,6 +3,7 @@ use Rattle.std.proofs.Common.{◌≡◌, ℕ, zero, suc, ◌+◌, ◌<◌, ◌�
 use Rattle.std.specs.Prelude.{nat_lt, nat_le, max, min, ◌&&◌, ◌==◌, option_and_then}
 use Rattle.std.specs.List.{AllByRecursion}
 use Rattle.std.proofs.lemmas.Bool.Decides.{nat_tests}
+use Rattle.lemmas.specs.Bools.{and_parts}
 use Rattle.grammar.specs.Grammar.{pure, refuse, step, ◌>>=◌, ◌>>◌}
 use Rattle.ir_ast.specs.declared.ir_type.IrType.{IrType}
 use Rattle.ir_ast.specs.declared.ir_type.IrType.TheVariants as type
@@ -26,11 +27,6 @@ use Rattle.ir_print_law.proofs.Forms.{Keeps, Same, Any, stepped, where_true, all
 use Rattle.ir_print_law.proofs.Looks.{starred, base_of, stars_of, IsTypeOf, IsShaped, starred_levels, starred_base, starred_stars, starred_written}
 use Rattle.ir_print_law.proofs.Reading.{Reading}
 use Rattle.ir_print_law.proofs.Tokens.{IsAt, IsInterned, Has, skip_keeps, expect_keeps, intern_goes, interned_keeps, struct_name_keeps}
-
-both : (a b : Bool) → (a && b) ≡ true → (a ≡ true) × (b ≡ true)
-both true true e = (refl, refl)
-both true false e = absurd cc
-both false b e = absurd cc
 
 -- so many bits as an integer type may have
 abbrev AreBits : ℕ → Type 0
@@ -121,7 +117,7 @@ module _ {m : Module} (r : Reading m) where
       (λ f. (
         r.on_token i f,
         λ b.
-            let t = both (nat_le 1 (bits_at i)) (nat_le (bits_at i) 64) e in
+            let t = and_parts (nat_le 1 (bits_at i)) (nat_le (bits_at i) 64) e in
             let low = t.0 in
             let high = t.1 in
             (r.from_token i b, (grind (arith, nat_tests), grind (arith, nat_tests))),

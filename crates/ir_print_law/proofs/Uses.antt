@@ -1,6 +1,7 @@
 -- Uses of names that are right in the end.
 use Rattle.std.proofs.Common.{◌≡◌, ℕ, Bool, true, false, not, List, [], ◌∷◌, ◌++◌, slice_get, Option, None, Some, refl, sym, ap, subst, ◌∙◌, inl, inr}
 use Rattle.std.specs.Prelude.{find, option_map, if◌then◌else◌}
+use Rattle.lemmas.specs.Bools.{not_false}
 use Rattle.ir_ast.specs.declared.function.LocalSort.{LocalSort}
 use Rattle.ir_forms.specs.declared.fault.Fault.{Fault}
 use Rattle.ir_forms.specs.declared.table.Table.{Table}
@@ -26,10 +27,6 @@ none_found p (y ∷ xs) e x there = by (p y) refl e (λ h there. none_found p xs
 none_mapped : {A B : Type 0} (g : A → B) (x : Option A) → option_map g x ≡ None → x ≡ None
 none_mapped g None e = refl
 none_mapped g (Some x) e = absurd cc
-
-not_false : (t : Bool) → not t ≡ false → t ≡ true
-not_false true e = refl
-not_false false e = absurd cc
 
 pub in_further : {A : Type 0} (xs more : List A) (x : A) → IsIn xs x → IsIn (xs ++ more) x
 in_further [] more x there = absurd there

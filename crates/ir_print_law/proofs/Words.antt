@@ -2,6 +2,7 @@
 use Rattle.std.proofs.Common.{◌≡◌, ℕ, Bool, true, false, if◌then◌else◌, [], ◌∷◌, ◌++◌, Some, refl, sym, arith, append_assoc}
 use Rattle.std.specs.Prelude.{◌==◌, ◌||◌}
 use Rattle.std.specs.List.{list_all, flat_map}
+use Rattle.lemmas.specs.Bools.{and_parts, or_second, or_first}
 use Rattle.ir_tokens.specs.declared.class.Class.TheVariants as c
 use Rattle.ir_tokens.specs.declared.token.Kind.{Kind}
 use Rattle.ir_tokens.specs.declared.token.Kind.TheVariants as k
@@ -17,7 +18,7 @@ use Rattle.name_text.specs.Names.{is_plain, quoted_byte, quoted_text, name_text}
 use Rattle.name_text.specs.Readings.{AreBytes}
 use Rattle.name_text.specs.declared.blank.Blank.TheVariants as blank
 use Rattle.ir_print.specs.Standing.{Stands, IsSeam, AreBlanks, AreDigits}
-use Rattle.name_text.specs.Seams.{both, is_no}
+use Rattle.name_text.specs.Seams.{is_no}
 use Rattle.ir_print_law.proofs.Seams.{apart}
 use Rattle.ir_print_law.proofs.Spelled.{word_read, number_read, global_read, local_read, local_number_read, quoted_read, label_read}
 use Rattle.ir_print_law.proofs.Standing.{Comes, comes}
@@ -34,35 +35,27 @@ past_blanks [] (b ∷ bs) blanks begins = none_by (b == 59) (is_blank b) refl re
   none_by false true e f h = absurd cc
   none_by false false e f h = rw (e, f) refl
 past_blanks (b ∷ gap) at blanks begins =
-    let parts = both (is_blank b) (list_all is_blank gap) blanks in
+    let parts = and_parts (is_blank b) (list_all is_blank gap) blanks in
     rw (apart is_blank 59 b refl parts.0, parts.0) (past_blanks gap at parts.1 begins)
 
 -- no gap begins with a letter or a digit
 pub no_gap : (b : ℕ) (bs : Text) → (is_letter b || is_digit b) ≡ true → begins_gap (b ∷ bs) ≡ false
 no_gap b bs e = rw (is_no b 59 refl e, is_no b 32 refl e, is_no b 9 refl e, is_no b 10 refl e, is_no b 13 refl e) refl
 
-first_of : (a b : Bool) → a ≡ true → (a || b) ≡ true
-first_of true b e = refl
-first_of false b e = absurd cc
-
-pub second_of : (a b : Bool) → b ≡ true → (a || b) ≡ true
-second_of true b e = refl
-second_of false b e = e
-
 -- ---- what comes
 
 pub word_comes : (place : Place) (gap w rest : Text) → AreBlanks gap → is_plain w ≡ true → IsSeam rest → Stands place (gap ++ (w ++ rest)) → Comes place (word_kind w) w rest
 word_comes place gap [] rest blanks plain seam at = absurd cc
 word_comes place gap (b ∷ w) rest blanks plain seam at =
-    let letter = (both (is_letter b) _ plain).0 in
-    comes place gap b (w ++ rest) (b ∷ w) rest (word_kind (b ∷ w)) (past_blanks gap (b ∷ (w ++ rest)) blanks (no_gap b (w ++ rest) (first_of (is_letter b) (is_digit b) letter)))
+    let letter = (and_parts (is_letter b) _ plain).0 in
+    comes place gap b (w ++ rest) (b ∷ w) rest (word_kind (b ∷ w)) (past_blanks gap (b ∷ (w ++ rest)) blanks (no_gap b (w ++ rest) (or_first (is_letter b) (is_digit b) letter)))
     (word_read (b ∷ w) rest plain seam) refl (omega arith) at
 
 pub number_comes : (place : Place) (gap digits rest : Text) → AreBlanks gap → AreDigits digits → IsSeam rest → Stands place (gap ++ (digits ++ rest)) → Comes place k.Number digits rest
 number_comes place gap [] rest blanks own seam at = absurd (omega (arith, own.0))
 number_comes place gap (b ∷ digits) rest blanks own seam at =
-    let digit = (both (is_digit b) (list_all is_digit digits) own.1).0 in
-    comes place gap b (digits ++ rest) (b ∷ digits) rest k.Number (past_blanks gap (b ∷ (digits ++ rest)) blanks (no_gap b (digits ++ rest) (second_of (is_letter b) (is_digit b) digit)))
+    let digit = (and_parts (is_digit b) (list_all is_digit digits) own.1).0 in
+    comes place gap b (digits ++ rest) (b ∷ digits) rest k.Number (past_blanks gap (b ∷ (digits ++ rest)) blanks (no_gap b (digits ++ rest) (or_second (is_letter b) (is_digit b) digit)))
     (number_read (b ∷ digits) rest own seam) refl (omega arith) at
 
 pub sign_comes : (place : Place) (gap : Text) (b : ℕ) (rest : Text) (x : Kind) → AreBlanks gap → class_of b ≡ c.Sign x → begins_gap (b ∷ rest) ≡ false → Stands place (gap ++ b ∷ rest) → Comes place x (b ∷ []) rest
@@ -111,9 +104,9 @@ label_comes place gap name rest blanks own at = by name (is_plain name) refl (la
       comes place gap 34 bytes (quoted_text blank.Kept name ++ 58 ∷ []) rest k.LabelName (past_blanks gap (34 ∷ bytes) blanks refl) read (sym (append_assoc (quoted_text blank.Kept name) (58 ∷ []) rest)) (omega arith) at
   by [] true e read at = absurd cc
   by (b ∷ name) true e read at =
-      let letter = (both (is_letter b) _ e).0 in
+      let letter = (and_parts (is_letter b) _ e).0 in
       let bytes = name ++ 58 ∷ rest in
-      comes place gap b bytes ((b ∷ name) ++ 58 ∷ []) rest k.LabelName (past_blanks gap (b ∷ bytes) blanks (no_gap b bytes (first_of (is_letter b) (is_digit b) letter))) read
+      comes place gap b bytes ((b ∷ name) ++ 58 ∷ []) rest k.LabelName (past_blanks gap (b ∷ bytes) blanks (no_gap b bytes (or_first (is_letter b) (is_digit b) letter))) read
       (sym (append_assoc (b ∷ name) (58 ∷ []) rest)) (omega arith) at
 
 -- ---- a token of a kind

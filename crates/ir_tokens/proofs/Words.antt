@@ -6,6 +6,7 @@ use Rattle.std.proofs.lemmas.Slice.Eq.{bytes_eq-Decides}
 use Rattle.std.specs.List.{range_with_len, list_all}
 use Rattle.std.specs.Str.{bytes_eq}
 use Rattle.std.proofs.lemmas.Bool.{leb-true}
+use Rattle.lemmas.specs.Numbers.{test_same}
 use Rattle.ir_tokens.specs.Bytes.{Text}
 use Rattle.ir_tokens.specs.Keywords.{keywords, kind_in, is_lowercase}
 use Rattle.ir_tokens.specs.declared.token.Kind.{Kind}
@@ -31,11 +32,8 @@ table_is = refl
 same_word : (a b : Text) → bytes_eq a b ≡ true → a ≡ b
 same_word a b e = (bytes_eq-Decides a b).0 e
 
-itself : (n : ℕ) → n == n ≡ true
-itself n = search rules
-
 same_start : (entry : Text × Kind) (word : Text) → bytes_eq entry.0 word ≡ true → starts (slice_index word 0) entry ≡ true
-same_start entry word e = rw (same_word entry.0 word e) (itself (slice_index word 0))
+same_start entry word e = rw (same_word entry.0 word e) (test_same (slice_index word 0))
 
 -- the words that begin with other letters can be passed over
 filter_by : (t u : Bool) (entry : Text × Kind) (entries : Entries) (word : Text) → bytes_eq entry.0 word ≡ t → starts (slice_index word 0) entry ≡ u

@@ -4,6 +4,7 @@ use Rattle.std.specs.Prelude.{IfOk, ◌||◌, ◌==◌}
 use Rattle.std.specs.declared.alloc.AllocError.{AllocError}
 use Rattle.std.proofs.lemmas.Bool.{eqb-true}
 use Rattle.std.proofs.lemmas.List.{append-nil, take_at}
+use Rattle.lemmas.specs.Bools.{or_neither}
 use Rattle.ir_tokens.specs.declared.class.Class.{Class}
 use Rattle.ir_tokens.specs.declared.class.Class.TheVariants as c
 use Rattle.ir_tokens.specs.declared.token.Kind.{Kind}
@@ -16,10 +17,6 @@ use Rattle.ir_tokens.specs.Keywords.{word_kind}
 use Rattle.ir_tokens.specs.Tokens.{token, token_by, local, local_by, global, global_by, group, group_by, metadata, metadata_by, label_or, word, number, quote, is_blank, IsGap, begins_gap, ends_line, past_gap, Cut, IsLexed, make, ended, lex_at, lex_from, lexed_of, before}
 
 -- ---- gaps
-
-pub false_false : (a b : Bool) → (a || b) ≡ false → (a ≡ false) × (b ≡ false)
-false_false true b e = absurd cc
-false_false false b e = (refl, e)
 
 gap_step : (t u : Bool) (b : ℕ) (bs x y : Text) → b == 59 ≡ t → is_blank b ≡ u → ((gap : Text) × (bs ≡ gap ++ x) × IsGap true gap x) → ((gap : Text) × (bs ≡ gap ++ y) × IsGap false gap y)
     → (gap : Text) × (b ∷ bs ≡ gap ++ cond t x (cond u y (b ∷ bs))) × IsGap false gap (cond t x (cond u y (b ∷ bs)))
@@ -54,7 +51,7 @@ gap_again : (flag : Bool) (gap rest : Text) → IsGap flag gap rest → begins_g
 unfolding past_gap
 gap_again true [] rest h e = rw h refl
 gap_again false [] [] h e = refl
-gap_again false [] (b ∷ bs) h e = let p = false_false (b == 59) (is_blank b) e in rw (p.0, p.1) refl
+gap_again false [] (b ∷ bs) h e = let p = or_neither (b == 59) (is_blank b) e in rw (p.0, p.1) refl
 gap_again true (b ∷ gap) rest h e = gap_again (not (b == 10)) gap rest h e
 gap_again false (b ∷ gap) rest (inl h) e = rw h.0 (gap_again true gap rest h.1 e)
 gap_again false (b ∷ gap) rest (inr h) e = let q = blank_no_comment (b == 59) b refl h.0 in rw (q, h.0) (gap_again false gap rest h.1 e)

@@ -4,6 +4,7 @@ use Rattle.std.specs.List.{list_any}
 use Rattle.std.specs.Prelude.{slice_get}
 use Rattle.std.proofs.lemmas.List.Quantifiers.{position-Some}
 use Rattle.std.proofs.lemmas.Option.{slice_get-get_or, get_or_from_slice_get, slice_get_within}
+use Rattle.lemmas.specs.Bools.{or_neither}
 use Rattle.ir_ast.specs.Places.{none_passes, map-length}
 use Rattle.ir_ast.specs.declared.module.Module.{Module}
 use Rattle.ir_ast.specs.declared.items_of_module.StructType.{StructType}
@@ -23,14 +24,10 @@ use Rattle.layout.proofs.Searches.{order, ring_has_no_end, one_first, none_first
 use Rattle.layout.proofs.Turns.{length_at}
 use Rattle.types.specs.Elements.{body_in, body_of_layout}
 
-both_false : (a b : Bool) → (a || b) ≡ false → (a ≡ false) × (b ≡ false)
-both_false true b e = absurd cc
-both_false false b e = (refl, e)
-
 none_at : {A : Type 0} (p : A → Bool) (xs : List A) (i : ℕ) (x : A) → list_any p xs ≡ false → slice_get xs i ≡ Some x → p x ≡ false
 none_at p [] i x e at = absurd cc
-none_at p (y ∷ xs) zero x e at = let same : y ≡ x = cc in subst (λ z. p z ≡ false) same (both_false (p y) (list_any p xs) e).0
-none_at p (y ∷ xs) (suc i) x e at = none_at p xs i x (both_false (p y) (list_any p xs) e).1 at
+none_at p (y ∷ xs) zero x e at = let same : y ≡ x = cc in subst (λ z. p z ≡ false) same (or_neither (p y) (list_any p xs) e).0
+none_at p (y ∷ xs) (suc i) x e at = none_at p xs i x (or_neither (p y) (list_any p xs) e).1 at
 
 true_or_false : (b : Bool) → b ≡ true → b ≡ false → ⊥
 true_or_false b e f = cc
@@ -95,7 +92,7 @@ known (Some w) e = refl
 are_words : (m : Module) (fields : List ℕ) → list_any (λ field. is_none (word_of m field)) fields ≡ false → AreWords m fields (map (known_word m) fields)
 are_words m [] e = tt
 are_words m (field ∷ fields) e =
-    let b = both_false (is_none (word_of m field)) (list_any (λ field. is_none (word_of m field)) fields) e in
+    let b = or_neither (is_none (word_of m field)) (list_any (λ field. is_none (word_of m field)) fields) e in
     (known (word_of m field) b.0, are_words m fields b.1)
 
 are_known : (m : Module) (fields : List ℕ) (words : List WordKind) → AreWords m fields words
@@ -241,9 +238,9 @@ module _ (m : Module) (marks : List Mark) (fields : List ℕ) (settled : IsSettl
       → AreLayoutsOf m structs (map (words_of m marks fields) structs)
   laid_out_from [] endless large nowhere = tt
   laid_out_from (s ∷ ss) endless large nowhere =
-      let a = both_false (struct_is_endless marks s) (list_any (struct_is_endless marks) ss) endless in
-      let b = both_false (struct_is_large marks s) (list_any (struct_is_large marks) ss) large in
-      let c = both_false (points_nowhere m marks fields s) (list_any (points_nowhere m marks fields) ss) nowhere in
+      let a = or_neither (struct_is_endless marks s) (list_any (struct_is_endless marks) ss) endless in
+      let b = or_neither (struct_is_large marks s) (list_any (struct_is_large marks) ss) large in
+      let c = or_neither (points_nowhere m marks fields s) (list_any (points_nowhere m marks fields) ss) nowhere in
       let k = known_type s.body (mark_at marks s.body) refl a.0 b.0 in
       (record { fields = struct_fields marks fields s; scalars = k.0; few = k.1; words_are = are_words m (struct_fields marks fields s) c.0 }, laid_out_from ss a.1 b.1 c.1)
 

@@ -2,6 +2,7 @@
 use Rattle.std.proofs.Common.{◌≡◌, ◌≢◌, ◌<◌, ◌≤◌, ◌+◌, ◌⊎◌, inl, inr, ℕ, zero, suc, Bool, true, false, if◌then◌else◌, List, [], ◌∷◌, ◌++◌, length, Option, None, Some, refl, sym, ap, ◌∙◌, subst, arith, length-append}
 use Rattle.std.specs.Prelude.{slice_get, slice_set, replicate}
 use Rattle.std.proofs.lemmas.Option.{slice_get_past}
+use Rattle.lemmas.specs.Numbers.{some_same}
 use Rattle.ir_ast.specs.declared.module.Module.{Module}
 use Rattle.ir_ast.specs.declared.ir_type.IrType.{IrType}
 use Rattle.ir_ast.specs.declared.ir_type.IrType.TheVariants.{Void, Integer, Pointer, Array, EmptyStruct, Struct, Named}
@@ -111,9 +112,6 @@ record MeetsParts (m : Module) (o : Option IrType) (met : List Bool) (stack : Li
 
 no_parts : (m : Module) (o : Option IrType) (met : List Bool) (stack : List ℕ) → ((part : ℕ) → IsPartOf m o part → ⊥) → MeetsParts m o met stack met stack
 no_parts m o met stack none = record { grows = grows_not (IsPartOf m o) met stack; parts = λ part ip. absurd (none part ip) }
-
-some_same : (a b : ℕ) → Some a ≡ Some b → a ≡ b
-some_same a b e = cc
 
 meets_body : (m : Module) (name : ℕ) (met : List Bool) (stack : List ℕ) (body : Option ℕ) → body_named m name ≡ body
     → MeetsParts m (Some (Named name)) met stack (met_body met body) (stack_body met stack body)

@@ -3,6 +3,7 @@ use Rattle.std.proofs.Common.{◌≡◌, ◌≢◌, ◌⊎◌, inl, inr, ◌<◌
 use Rattle.std.specs.Prelude.{slice_get}
 use Rattle.std.proofs.lemmas.List.{append-nil, nil_from_length}
 use Rattle.std.proofs.lemmas.Bool.Decides.{nat_tests}
+use Rattle.lemmas.specs.Numbers.{test_true, test_false, lt_true, lt_false}
 use Rattle.ir_ast.specs.declared.module.Module.{Module}
 use Rattle.ir_ast.specs.declared.ir_type.IrType.{IrType}
 use Rattle.ir_ast.specs.declared.ir_type.IrType.TheVariants.{Void, Integer, Pointer, Array, EmptyStruct, Struct, Named}
@@ -16,26 +17,10 @@ use Rattle.layout.specs.declared.survey.Turn.TheVariants.{Done, Join, Repeat}
 use Rattle.layout.specs.Rings.{no_end_in_ring, expected}
 use Rattle.types.specs.Elements.{body_named}
 
-decide : (b : Bool) → (b ≡ true) ⊎ (b ≡ false)
-decide true = inl refl
-decide false = inr refl
-
 -- in a turn at a test
 tested : {A : Type 0} (P : A → Type 0) (b : Bool) (x y : A) → (b ≡ true → P x) → (b ≡ false → P y) → P (if b then x else y)
 tested P true x y first second = first refl
 tested P false x y first second = second refl
-
-eq_true : (a b : ℕ) → (a == b) ≡ true → a ≡ b
-eq_true a b e = grind (arith, nat_tests)
-
-eq_false : (a b : ℕ) → (a == b) ≡ false → a ≢ b
-eq_false a b e = grind (arith, nat_tests)
-
-lt_true : (a b : ℕ) → nat_lt a b ≡ true → a < b
-lt_true a b e = grind (arith, nat_tests)
-
-lt_false : (a b : ℕ) → nat_lt a b ≡ false → b ≤ a
-lt_false a b e = grind (arith, nat_tests)
 
 pub length_at : (fields : List ℕ) (span : Span) → IsWithin fields span → length (fields_at fields span) ≡ span.count
 length_at fields span w = let i = w.inside in simp (length-take, length-drop) (omega arith)
@@ -91,8 +76,8 @@ module _ (m : Module) (marks : List Mark) (fields : List ℕ) (top : ℕ) (ready
       let l : IsLarge m part = mark_is part Large e in
       let s : Scalars m top (copies n l.fields) = Elements top n part l.fields is l.scalars in
       tested (TurnFits m marks fields top) (n == 0) (Done (Known no_fields)) (Done Large)
-      (λ b. nothing (subst (Scalars m top) (no_copies n l.fields (let z = eq_true n 0 b in rw z (omega arith))) s))
-      (λ b. record { fields = copies n l.fields; scalars = s; many = rw (copies_length n l.fields) (many_copies n (length l.fields) (eq_false n 0 b) l.many) })
+      (λ b. nothing (subst (Scalars m top) (no_copies n l.fields (let z = test_true n 0 b in rw z (omega arith))) s))
+      (λ b. record { fields = copies n l.fields; scalars = s; many = rw (copies_length n l.fields) (many_copies n (length l.fields) (test_false n 0 b) l.many) })
   arrayed n part (Known span) is e =
       let k = mark_is part (Known span) e in
       let fs : List ℕ = fields_at fields span in
@@ -102,9 +87,9 @@ module _ (m : Module) (marks : List Mark) (fields : List ℕ) (top : ℕ) (ready
       tested (TurnFits m marks fields top) (nat_lt 64 (n * span.count)) (Done Large) (if n * span.count == 0 then Done (Known no_fields) else if n == 1 then Done (Known span) else Repeat n span)
       (λ b. record { fields = copies n fs; scalars = s; many = rw size (lt_true 64 (n * span.count) b) })
       (λ b. tested (TurnFits m marks fields top) (n * span.count == 0) (Done (Known no_fields)) (if n == 1 then Done (Known span) else Repeat n span)
-      (λ z. nothing (subst (Scalars m top) (nil_from_length (copies n fs) (size ∙ eq_true (n * span.count) 0 z)) s))
+      (λ z. nothing (subst (Scalars m top) (nil_from_length (copies n fs) (size ∙ test_true (n * span.count) 0 z)) s))
       (λ z. tested (TurnFits m marks fields top) (n == 1) (Done (Known span)) (Repeat n span)
-      (λ o. (k.0, subst (Scalars m top) (one_copy n fs (eq_true n 1 o)) s))
+      (λ o. (k.0, subst (Scalars m top) (one_copy n fs (test_true n 1 o)) s))
       (λ o. (k.0, lt_false 64 (n * span.count) b, s))))
 
   -- a struct
@@ -122,9 +107,9 @@ module _ (m : Module) (marks : List Mark) (fields : List ℕ) (top : ℕ) (ready
       tested (TurnFits m marks fields top) (nat_lt 64 (one.count + other.count)) (Done Large) (if other.count == 0 then Done (Known one) else if one.count == 0 then Done (Known other) else Join one other)
       (λ b. record { fields = xs ++ ys; scalars = s; many = rw size (lt_true 64 (one.count + other.count) b) })
       (λ b. tested (TurnFits m marks fields top) (other.count == 0) (Done (Known one)) (if one.count == 0 then Done (Known other) else Join one other)
-      (λ z. (k.0, subst (Scalars m top) (ap (λ l. xs ++ l) (nil_from_length ys (lens ∙ eq_true other.count 0 z)) ∙ append-nil xs) s))
+      (λ z. (k.0, subst (Scalars m top) (ap (λ l. xs ++ l) (nil_from_length ys (lens ∙ test_true other.count 0 z)) ∙ append-nil xs) s))
       (λ z. tested (TurnFits m marks fields top) (one.count == 0) (Done (Known other)) (Join one other)
-      (λ o. (l.0, subst (Scalars m top) (ap (λ l. l ++ ys) (nil_from_length xs (len ∙ eq_true one.count 0 o))) s))
+      (λ o. (l.0, subst (Scalars m top) (ap (λ l. l ++ ys) (nil_from_length xs (len ∙ test_true one.count 0 o))) s))
       (λ o. (k.0, l.0, lt_false 64 (one.count + other.count) b, s))))
 
   endless_first : (first rest : ℕ) → slice_get m.types top ≡ Some (Struct first rest) → IsEndless m first → IsEndless m top

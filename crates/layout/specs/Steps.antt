@@ -3,6 +3,7 @@ use Rattle.std.proofs.Common.{◌≡◌, ◌≢◌, ◌⊎◌, inl, inr, ◌<◌
 use Rattle.std.proofs.lemmas.List.{take-append-le, drop-append-le}
 use Rattle.std.proofs.Math.Seq.{drop-append_seam, take-length}
 use Rattle.std.specs.Prelude.{slice_get, slice_set}
+use Rattle.lemmas.specs.Numbers.{some_same}
 use Rattle.ir_ast.specs.declared.module.Module.{Module}
 use Rattle.layout.specs.Words.{Scalars}
 use Rattle.layout.specs.Layouts.{IsPart, Holds, Itself, Deeper}
@@ -38,9 +39,6 @@ get_some : (xs : List ℕ) (i : ℕ) → i < length xs → (q : ℕ) × (slice_g
 get_some [] i lt = absurd (omega arith)
 get_some (x ∷ xs) zero lt = (x, refl)
 get_some (x ∷ xs) (suc i) lt = get_some xs i (omega arith)
-
-some_same : (a b : ℕ) → Some a ≡ Some b → a ≡ b
-some_same a b e = cc
 
 -- ---- marks
 

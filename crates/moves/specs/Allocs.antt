@@ -1,8 +1,8 @@
 -- The first move of an alloc.
 use Rattle.std.proofs.Common.{◌≡◌, ◌≢◌, ◌<◌, ℕ, zero, suc, Some, List, [], ◌∷◌, length, slice_index, refl, arith}
+use Rattle.lemmas.specs.Numbers.{test_no}
 use Rattle.pools.specs.Heap.{Setup}
 use Rattle.colours.specs.Mutator.{Ready}
-use Rattle.colours.proofs.Tests.{test_no}
 use Rattle.runs.specs.Machine.{Reference, Alloc}
 use Rattle.runs.specs.Moves.{Works}
 use Rattle.runs.specs.NextMoves.{Sight, next_move, try_of}

@@ -1,5 +1,7 @@
 -- The run that a list of actors makes is a run, and the collector stands behind its share of it.
 use Rattle.std.proofs.Common.{◌≡◌, ◌<◌, ◌⊎◌, inl, inr, ℕ, ◌==◌, Bool, true, false, Option, Some, None, List, [], ◌∷◌, refl, sym, ap, subst, if◌then◌else◌, MatchOption, nat_lt, length, is_some}
+use Rattle.lemmas.specs.Numbers.{test_true}
+use Rattle.lemmas.specs.Bools.{yes_or_no}
 use Rattle.pools.specs.Heap.{Setup, words_of_cell}
 use Rattle.colours.specs.declared.place.Place.{Place}
 use Rattle.colours.specs.declared.ask.Ask.{Ask}
@@ -7,7 +9,6 @@ use Rattle.colours.specs.declared.turn.Turn.{Turn}
 use Rattle.colours.specs.Steps.{Step, place_of}
 use Rattle.colours.specs.Collector.{Collection, Posting, Waiting, ShadingGlobals, Passing, Scanning, Shading, Sweeping, Clearing, reference_from}
 use Rattle.colours.specs.Runs.{Event, word_after, turns_of}
-use Rattle.colours.proofs.Tests.{test_true}
 use Rattle.trace_sweep.specs.Collecting.{Collecting, ask_of, turn_of, moved, stored_by}
 use Rattle.trace_sweep.specs.Stands.{StandsBehind}
 use Rattle.trace_sweep.specs.Order.{next-step, took-stands}
@@ -22,11 +23,6 @@ use Rattle.runs.specs.TryLemmas.{keeps_order}
 use Rattle.moves.specs.declared.actor.Actor.{Actor}
 use Rattle.moves.specs.declared.actor.Actor.TheVariants.{Thread, Collector}
 use Rattle.moves.specs.Runs.{found_in, collector_behind, turn_for, by_thread, by_collector, next_by, with_next, run_by, AreActors}
-
--- a test answers true or false
-yes_or_no : (b : Bool) → (b ≡ true) ⊎ (b ≡ false)
-yes_or_no true = inl refl
-yes_or_no false = inr refl
 
 -- what a step found, by its entry, leads to the same place
 pub moved-found : (c : Collecting) (found : ℕ) → moved c (found_in (turn_of c found)) ≡ moved c found

@@ -2,6 +2,7 @@
 use Rattle.std.specs.Prelude.{◌≡◌, ℕ, zero, suc, nat_eq, refl, ◌-◌, ◌<◌, ◌≤◌, Bool, true, false, cond, not, ◌||◌, ◌&&◌, ◌==◌, [], ◌∷◌, length, take}
 use Rattle.std.proofs.Common.{arith, ap}
 use Rattle.std.specs.Str.{bytes_eq}
+use Rattle.lemmas.specs.Bools.{and_second}
 use Rattle.ir_tokens.specs.Bytes.{Text}
 use Rattle.name_text.specs.Words.{ends_word, turned, past_word, word_at, past_comment, past_blanks, past_lines, ends_line}
 
@@ -41,17 +42,12 @@ past_lines_len false (byte ∷ bytes) =
     let rest = past_lines_len (byte == 59) bytes in
     one_of (byte == 32 || byte == 59 || ends_line (byte ∷ bytes)) (length (byte ∷ bytes)) (past_lines (byte == 59) bytes) (byte ∷ bytes) (omega (arith, rest)) (omega arith)
 
--- the second of two conditions that both hold
-and_true : (a b : Bool) → (a && b) ≡ true → b ≡ true
-and_true true b e = e
-and_true false b e = absurd cc
-
 -- texts with the same bytes are equally long
 same_len : (a b : Text) → bytes_eq a b ≡ true → length a ≡ length b
 same_len [] [] e = refl
 same_len [] (y ∷ ys) e = absurd cc
 same_len (x ∷ xs) [] e = absurd cc
-same_len (x ∷ xs) (y ∷ ys) e = ap suc (same_len xs ys (and_true (nat_eq x y) (bytes_eq xs ys) e))
+same_len (x ∷ xs) (y ∷ ys) e = ap suc (same_len xs ys (and_second (nat_eq x y) (bytes_eq xs ys) e))
 
 -- no more than n bytes are among the first n
 take_len : (n : ℕ) (bytes : Text) → length (take n bytes) ≤ n

@@ -3,13 +3,14 @@ use Rattle.std.proofs.Common.{◌≡◌, ℕ, ◌+◌, ◌/◌, ◌%◌, Bool, t
 use Rattle.std.specs.Prelude.{◌==◌, nat_lt}
 use Rattle.std.specs.List.{flat_map}
 use Rattle.std.proofs.lemmas.Bool.Decides.{nat_tests}
+use Rattle.lemmas.specs.Bools.{and_parts}
 use Rattle.ir_tokens.specs.Bytes.{Text}
 use Rattle.name_text.specs.Names.{begins_plain, is_plain, is_shown, hexadecimal, quoted_byte, quoted_text}
 use Rattle.name_text.specs.Readings.{NamesAreWords}
 use Rattle.name_text.specs.Words.{closes, is_word}
 use Rattle.name_text.specs.declared.blank.Blank.{Blank}
 use Rattle.name_text.specs.Reading.{shown_is}
-use Rattle.name_text.specs.Seams.{both, bytes_close, plain_bytes}
+use Rattle.name_text.specs.Seams.{bytes_close, plain_bytes}
 
 -- a byte other than a quote leaves the quotes open
 stays_open : (b : ℕ) (rest : Text) → (b == 34) ≡ false → closes true (b ∷ rest) ≡ closes true rest
@@ -39,7 +40,7 @@ module _ (blank : Blank) where
 
   plain_word : (name : Text) → is_plain name ≡ true → is_word name ≡ true
   plain_word [] e = absurd cc
-  plain_word (b ∷ name) e = bytes_close (b ∷ name) (plain_bytes (b ∷ name) (both (begins_plain (b ∷ name)) _ e).1)
+  plain_word (b ∷ name) e = bytes_close (b ∷ name) (plain_bytes (b ∷ name) (and_parts (begins_plain (b ∷ name)) _ e).1)
 
   name_by : (name : Text) (t : Bool) → is_plain name ≡ t → is_word (if t then name else quoted_text blank name) ≡ true
   name_by name true e = plain_word name e

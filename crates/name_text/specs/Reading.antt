@@ -5,6 +5,7 @@ use Rattle.std.specs.List.{list_all, flat_map}
 use Rattle.std.proofs.lemmas.Bool.Decides.{nat_tests}
 use Rattle.std.proofs.lemmas.List.{append-nil}
 use Rattle.std.proofs.Math.Seq.{take-append_seam, take-length}
+use Rattle.lemmas.specs.Bools.{and_parts, not_true}
 use Rattle.ir_tokens.specs.declared.class.Class.{Class}
 use Rattle.ir_tokens.specs.declared.class.Class.TheVariants as c
 use Rattle.ir_tokens.specs.declared.token.Kind.{Kind}
@@ -18,7 +19,6 @@ use Rattle.ir_tokens.specs.Names.{begins_quote, bare, unescaped, unescaped_from,
 use Rattle.name_text.specs.Names.{begins_plain, is_plain, first_shown, is_shown, hexadecimal, quoted_byte, quoted_text, name_text}
 use Rattle.name_text.specs.Readings.{AreBytes, whole, GlobalsAreRead, LocalsAreRead, NumbersAreRead}
 use Rattle.name_text.specs.declared.blank.Blank.{Blank}
-use Rattle.name_text.specs.Seams.{both, is_false}
 
 -- ---- bytes between quotes
 
@@ -65,9 +65,9 @@ module _ (blank : Blank) where
   -- a byte that stands for itself is no quote and no backslash
   pub shown_is : (b : ℕ) → is_shown blank b ≡ true → ((b == 34) ≡ false) × ((b == 92) ≡ false)
   shown_is b e =
-      let shown = both (nat_le (first_shown blank) b && nat_le b 126 && not (b == 34)) (not (b == 92)) e in
-      let no_quote = both (nat_le (first_shown blank) b && nat_le b 126) (not (b == 34)) shown.0 in
-      (is_false (b == 34) no_quote.1, is_false (b == 92) shown.1)
+      let shown = and_parts (nat_le (first_shown blank) b && nat_le b 126 && not (b == 34)) (not (b == 92)) e in
+      let no_quote = and_parts (nat_le (first_shown blank) b && nat_le b 126) (not (b == 34)) shown.0 in
+      (not_true (b == 34) no_quote.1, not_true (b == 92) shown.1)
 
   byte_by : (b : ℕ) (rest : Text) (t : Bool) → is_shown blank b ≡ t → b < 256 → next ((if t then b ∷ [] else 92 ∷ hexadecimal (b / 16) ∷ hexadecimal (b % 16) ∷ []) ++ rest) ≡ Some (b, rest)
   unfolding next
@@ -114,7 +114,7 @@ is_name_by b false e plain = let digit : is_digit b ≡ true = rw e at plain in 
 -- the bytes of a plain name are those of a name
 pub passes : (name : Text) → list_all (λ byte. is_letter byte || is_digit byte) name ≡ true → Passes is_name name
 passes [] e = tt
-passes (b ∷ name) e = let parts = both (is_letter b || is_digit b) _ e in (is_name_by b (is_letter b) refl parts.0, passes name parts.1)
+passes (b ∷ name) e = let parts = and_parts (is_letter b || is_digit b) _ e in (is_name_by b (is_letter b) refl parts.0, passes name parts.1)
 
 -- a plain name begins with a letter
 pub first_letter : (name rest : Text) → begins_plain name ≡ true → first_class (name ++ rest) ≡ c.Letter
@@ -145,7 +145,7 @@ module _ (blank : Blank) (name : Text) (own : AreBytes name) where
       → ((i : Text) → (f c.Quote).read i ≡ (quotation x).read i) → (t : Bool) → is_plain name ≡ t → (f (first_class (written t ++ rest))).read (written t ++ rest) ≡ Some (x, rest)
   unfolding class_of
   behind_sign rest ends f x letter quote true e =
-      let parts = both (begins_plain name) _ e in
+      let parts = and_parts (begins_plain name) _ e in
       let read = (tokens.name x).again (name ++ rest) x rest (name, rest, (refl, passes name parts.1, ends), (refl, refl)) in
       ap (λ (class : Class). (f class).read (name ++ rest)) (first_letter name rest parts.0) ∙ letter (name ++ rest) ∙ read
   behind_sign rest ends f x letter quote false e =
@@ -171,7 +171,7 @@ module _ (blank : Blank) (name : Text) (own : AreBytes name) where
       ap unescaped (ap (λ (n : ℕ). take n (shown ++ 34 ∷ [])) long ∙ take-append_seam shown (34 ∷ [])) ∙ unescaped_is blank (length shown) name own (omega arith)
 
   spelled_by : (t : Bool) → is_plain name ≡ t → unquoted (written t) ≡ name
-  spelled_by true e = rw (no_quote_by name (both (begins_plain name) _ e).0) refl
+  spelled_by true e = rw (no_quote_by name (and_parts (begins_plain name) _ e).0) refl
   spelled_by false e = quotes_spelled
 
   -- a printed name spells that name
@@ -196,14 +196,14 @@ digit_class b e = rw (no_letter b e, e) refl
 
 pub digits_pass : (digits : Text) → list_all is_digit digits ≡ true → Passes is_digit digits
 digits_pass [] e = tt
-digits_pass (b ∷ digits) e = let parts = both (is_digit b) (list_all is_digit digits) e in (parts.0, digits_pass digits parts.1)
+digits_pass (b ∷ digits) e = let parts = and_parts (is_digit b) (list_all is_digit digits) e in (parts.0, digits_pass digits parts.1)
 
 -- a number behind `%` is one token, where no digit goes on behind it
 pub number_token : (b : ℕ) (digits rest : Text) → list_all is_digit (b ∷ digits) ≡ true → begins is_digit rest ≡ false → token.read (37 ∷ b ∷ (digits ++ rest)) ≡ Some (k.LocalNumber, rest)
 unfolding token local class_of
 number_token b digits rest e ends =
     let number = b ∷ digits in
-    let first = (both (is_digit b) (list_all is_digit digits) e).0 in
+    let first = (and_parts (is_digit b) (list_all is_digit digits) e).0 in
     let read = (tokens.digits k.LocalNumber).again (number ++ rest) k.LocalNumber rest (number, rest, (refl, digits_pass number e, ends), (refl, refl)) in
     ap (λ (class : Class). (local_by class).read (number ++ rest)) (digit_class b first) ∙ read
 
@@ -213,7 +213,7 @@ digit_no_quote b digit = grind (arith, nat_tests)
 -- digits spell themselves
 pub digits_spelled : (digits : Text) → list_all is_digit digits ≡ true → unquoted digits ≡ digits
 digits_spelled [] e = refl
-digits_spelled (b ∷ digits) e = rw (digit_no_quote b (both (is_digit b) (list_all is_digit digits) e).0) refl
+digits_spelled (b ∷ digits) e = rw (digit_no_quote b (and_parts (is_digit b) (list_all is_digit digits) e).0) refl
 
 -- ---- the one token of a text
 

@@ -4,16 +4,9 @@ use Rattle.std.specs.Prelude.{◌==◌}
 use Rattle.std.specs.List.{list_all}
 use Rattle.std.proofs.lemmas.Bool.{cases_eq, ne_eqb}
 use Rattle.std.proofs.lemmas.List.{take_at}
+use Rattle.lemmas.specs.Bools.{and_parts, not_true}
 use Rattle.ir_tokens.specs.Bytes.{Text, is_letter, is_digit}
 use Rattle.name_text.specs.Words.{ends_word, turned, past_word, word_at, past_blanks, past_lines, closes, is_word, stops}
-
-pub both : (a b : Bool) → (a && b) ≡ true → (a ≡ true) × (b ≡ true)
-both true b e = (refl, e)
-both false b e = absurd cc
-
-pub is_false : (a : Bool) → not a ≡ true → a ≡ false
-is_false true e = absurd cc
-is_false false e = refl
 
 -- ---- words
 
@@ -22,8 +15,8 @@ past_word_on true [] t e s = absurd cc
 past_word_on false [] [] e s = refl
 past_word_on false [] (b ∷ t) e s = rw s refl
 past_word_on quoted (b ∷ w) t e s =
-    let parts = both (not (not quoted && ends_word b)) (closes (turned quoted b) w) e in
-    rw (is_false (not quoted && ends_word b) parts.0) (past_word_on (turned quoted b) w t parts.1 s)
+    let parts = and_parts (not (not quoted && ends_word b)) (closes (turned quoted b) w) e in
+    rw (not_true (not quoted && ends_word b) parts.0) (past_word_on (turned quoted b) w t parts.1 s)
 
 pub all_bytes : (w : Text) → is_word w ≡ true → closes false w ≡ true
 all_bytes [] e = refl
@@ -47,14 +40,14 @@ five false false false false false h = (refl, refl, refl, refl)
 pub blanks_on : (w t : Text) → is_word w ≡ true → past_blanks (w ++ t) ≡ w ++ t
 blanks_on [] t e = absurd cc
 blanks_on (b ∷ w) t e =
-    let inside = is_false (ends_word b) (both (not (ends_word b)) (closes (turned false b) w) e).0 in
+    let inside = not_true (ends_word b) (and_parts (not (ends_word b)) (closes (turned false b) w) e).0 in
     let no = five (b == 32) (b == 9) (b == 10) (b == 13) (b == 59) inside in
     rw (no.3, no.0) refl
 
 pub lines_on : (w t : Text) → is_word w ≡ true → past_lines false (w ++ t) ≡ w ++ t
 lines_on [] t e = absurd cc
 lines_on (b ∷ w) t e =
-    let inside = is_false (ends_word b) (both (not (ends_word b)) (closes (turned false b) w) e).0 in
+    let inside = not_true (ends_word b) (and_parts (not (ends_word b)) (closes (turned false b) w) e).0 in
     let no = five (b == 32) (b == 9) (b == 10) (b == 13) (b == 59) inside in
     rw (no.3, no.0, no.1, no.2) refl
 
@@ -68,9 +61,9 @@ is_word_byte b = not (ends_word b) && not (b == 34)
 pub bytes_close : (w : Text) → list_all is_word_byte w ≡ true → closes false w ≡ true
 bytes_close [] e = refl
 bytes_close (b ∷ w) e =
-    let parts = both (is_word_byte b) (list_all is_word_byte w) e in
-    let kinds = both (not (ends_word b)) (not (b == 34)) parts.0 in
-    rw (is_false (ends_word b) kinds.0, is_false (b == 34) kinds.1) (bytes_close w parts.1)
+    let parts = and_parts (is_word_byte b) (list_all is_word_byte w) e in
+    let kinds = and_parts (not (ends_word b)) (not (b == 34)) parts.0 in
+    rw (not_true (ends_word b) kinds.0, not_true (b == 34) kinds.1) (bytes_close w parts.1)
 
 -- a letter or a digit is none of the other bytes
 pub is_no : (b c : ℕ) → (is_letter c || is_digit c) ≡ false → (is_letter b || is_digit b) ≡ true → (b == c) ≡ false
@@ -86,5 +79,5 @@ plain_byte b e = rw (is_no b 32 refl e, is_no b 9 refl e, is_no b 10 refl e, is_
 pub plain_bytes : (w : Text) → list_all (λ byte. is_letter byte || is_digit byte) w ≡ true → list_all is_word_byte w ≡ true
 plain_bytes [] e = refl
 plain_bytes (b ∷ w) e =
-    let parts = both (is_letter b || is_digit b) (list_all (λ byte. is_letter byte || is_digit byte) w) e in
+    let parts = and_parts (is_letter b || is_digit b) (list_all (λ byte. is_letter byte || is_digit byte) w) e in
     rw (plain_byte b parts.0) (plain_bytes w parts.1)

@@ -7,6 +7,7 @@ use Rattle.std.proofs.lemmas.Bool.{eq-eqb, le-leb}
 use Rattle.std.proofs.lemmas.Bool.Decides.{nat_tests}
 use Rattle.std.proofs.lemmas.Fmt.{digits_decimal, digits_value-decimal, decimal_nonempty}
 use Rattle.std.proofs.lemmas.Str.Parse.{IsNumeralModel, numerals_by_fold}
+use Rattle.lemmas.specs.Bools.{and_parts, or_second}
 use Rattle.ir_ast.specs.LocalKeys.{key_of_name, key_of_digits}
 use Rattle.ir_tokens.specs.Bytes.{Text, is_letter, is_digit}
 use Rattle.ir_tokens.specs.declared.token.Kind.{Kind}
@@ -21,7 +22,7 @@ use Rattle.name_text.specs.declared.blank.Blank.{Blank}
 use Rattle.name_text.specs.declared.naming.Sigil.{Sigil}
 use Rattle.name_text.specs.declared.naming.Sigil.TheVariants as sigil
 use Rattle.name_text.specs.Reading.{globals_are_read, locals_are_read, numbers_are_read}
-use Rattle.name_text.specs.Seams.{both, is_word_byte, bytes_close, plain_bytes}
+use Rattle.name_text.specs.Seams.{is_word_byte, bytes_close, plain_bytes}
 
 -- ---- names
 
@@ -51,15 +52,11 @@ digits_spelled digits some are short = token_named sigil.Local k.LocalNumber (37
 
 -- ---- letters and digits
 
-either : (a b : Bool) → b ≡ true → (a || b) ≡ true
-either true b e = refl
-either false b e = e
-
 digits_are_plain : (w : Text) → list_all is_digit w ≡ true → list_all (λ byte. is_letter byte || is_digit byte) w ≡ true
 digits_are_plain [] e = refl
 digits_are_plain (byte ∷ w) e =
-    let parts = both (is_digit byte) (list_all is_digit w) e in
-    rw (either (is_letter byte) (is_digit byte) parts.0, digits_are_plain w parts.1) refl
+    let parts = and_parts (is_digit byte) (list_all is_digit w) e in
+    rw (or_second (is_letter byte) (is_digit byte) parts.0, digits_are_plain w parts.1) refl
 
 -- no digit ends a word or begins quoted text
 pub digits_are_inner : (w : Text) → list_all is_digit w ≡ true → list_all is_word_byte w ≡ true

@@ -4,11 +4,9 @@ use Rattle.std.proofs.Common.{add-one, take, slice_index, ◌≡◌, ℕ, zero, 
 use Rattle.std.proofs.lemmas.Bool.Decides.{nat_tests}
 use Rattle.std.proofs.lemmas.List.Sums.{sum_by-cons}
 use Rattle.std.specs.List.Sorted.{IsPartitionPoint}
+use Rattle.lemmas.specs.Lists.{sum_cons}
 use Rattle.pools.specs.Heap.{layout_at, cells_in}
 use Rattle.pools.specs.Pools.{ends_from, first_cell, ArePools}
-
-sum-cons : (c : ℕ) (cs : List ℕ) → sum (c ∷ cs) ≡ c + sum cs
-sum-cons c cs = sum_by-cons (λ x. x) c cs
 
 pub ends-length : (first : ℕ) (counts : List ℕ) → length (ends_from first counts) ≡ length counts
 ends-length first [] = refl
@@ -32,7 +30,7 @@ ends_rise first (count ∷ counts) (suc i) (suc j) d le lt = ends_rise (first + 
 pub ends_push : (first : ℕ) (counts : List ℕ) (count : ℕ) → ends_from first (counts ++ count ∷ []) ≡ ends_from first counts ++ (first + sum counts + count) ∷ []
 ends_push first [] count = ap (λ n. n ∷ []) (omega arith)
 ends_push first (c ∷ counts) count =
-    let parts : sum (c ∷ counts) ≡ c + sum counts = sum-cons c counts in
+    let parts : sum (c ∷ counts) ≡ c + sum counts = sum_cons c counts in
     let e : first + c + sum counts + count ≡ first + sum (c ∷ counts) + count = omega arith in
     ap (λ l. (first + c) ∷ l) (ends_push (first + c) counts count ∙ ap (λ n. ends_from (first + c) counts ++ n ∷ []) e)
 
@@ -51,7 +49,7 @@ point_is_layout first (count ∷ counts) cell (suc k) le lt below above =
     let at_most : first + count ≤ cell = grind (arith, nat_tests) in
     let further : nat_lt (cell - first) count ≡ false = grind (arith, nat_tests) in
     let place : cell - first - count ≡ cell - (first + count) = omega arith in
-    let parts : sum (count ∷ counts) ≡ count + sum counts = sum-cons count counts in
+    let parts : sum (count ∷ counts) ≡ count + sum counts = sum_cons count counts in
     let rest = point_is_layout (first + count) counts cell k at_most (omega arith) (λ i d z lt. below (suc i) d (omega arith) (omega arith)) (λ i d ge lt. above (suc i) d (omega arith) (omega arith)) in
     rw (further, place) (ap suc rest.0, omega (arith, rest.1))
 
@@ -78,7 +76,7 @@ pub end_at : (first : ℕ) (counts : List ℕ) (layout : ℕ) → layout < lengt
 end_at first [] layout lt = omega arith
 end_at first (count ∷ counts) zero lt = omega arith
 end_at first (count ∷ counts) (suc layout) lt =
-    let parts : sum (count ∷ take layout counts) ≡ count + sum (take layout counts) = sum-cons count (take layout counts) in
+    let parts : sum (count ∷ take layout counts) ≡ count + sum (take layout counts) = sum_cons count (take layout counts) in
     let rest = end_at (first + count) counts layout (omega arith) in
     omega arith
 
@@ -88,16 +86,16 @@ pub in_pool : (counts : List ℕ) (layout place : ℕ) → layout < length count
 in_pool [] layout place lt ge before = omega arith
 in_pool (count ∷ counts) zero place lt ge before = let here : nat_lt place count ≡ true = grind (arith, nat_tests) in rw here refl
 in_pool (count ∷ counts) (suc layout) place lt ge before =
-    let parts : sum (count ∷ take layout counts) ≡ count + sum (take layout counts) = sum-cons count (take layout counts) in
+    let parts : sum (count ∷ take layout counts) ≡ count + sum (take layout counts) = sum_cons count (take layout counts) in
     let further : nat_lt place count ≡ false = grind (arith, nat_tests) in
     rw further (ap suc (in_pool counts layout (place - count) (omega arith) (omega arith) (omega arith)))
 
 pub pool_ends : (counts : List ℕ) (layout : ℕ) → layout < length counts → sum (take layout counts) + slice_index counts layout ≤ sum counts
 pool_ends [] layout lt = omega arith
-pool_ends (count ∷ counts) zero lt = let parts = sum-cons count counts in omega arith
+pool_ends (count ∷ counts) zero lt = let parts = sum_cons count counts in omega arith
 pool_ends (count ∷ counts) (suc layout) lt =
-    let parts : sum (count ∷ take layout counts) ≡ count + sum (take layout counts) = sum-cons count (take layout counts) in
-    let all : sum (count ∷ counts) ≡ count + sum counts = sum-cons count counts in
+    let parts : sum (count ∷ take layout counts) ≡ count + sum (take layout counts) = sum_cons count (take layout counts) in
+    let all : sum (count ∷ counts) ≡ count + sum counts = sum_cons count counts in
     let rest = pool_ends counts layout (omega arith) in
     omega arith
 

@@ -2,6 +2,7 @@
 use Rattle.std.proofs.Common.{◌≡◌, ◌≢◌, ℕ, zero, suc, List, [], ◌∷◌, length, refl, sym, subst, arith, true, false, Bool, Option, Some, None, slice_get, inl, inr}
 use Rattle.std.proofs.lemmas.Bool.Decides.{Decides-eqb}
 use Rattle.std.specs.Prelude.{◌&&◌, IsTrue, if◌then◌else◌}
+use Rattle.lemmas.specs.Bools.{and_parts}
 use Rattle.ir_ast.specs.declared.function.Function.{Function}
 use Rattle.ir_ast.specs.declared.instr.Instr.{Instr}
 use Rattle.ir_ast.specs.declared.ir_type.IrType.{IrType}
@@ -37,7 +38,7 @@ use Rattle.machine.specs.Machine.{State, Onward, Next, Way, Into, Back, Nowhere,
 use Rattle.moves.specs.Kinds.{MayHold, AsksByKind}
 use Rattle.program_safety.specs.Threads.{stored, asked_as}
 use Rattle.program_runner.specs.Kinds.{FitsHeap, FrameFits, FramesFit, IsHeapWith}
-use Rattle.program_runner.specs.Values.{both, PlaceFits, value_fits, address_fits}
+use Rattle.program_runner.specs.Values.{PlaceFits, value_fits, address_fits}
 use Rattle.program_runner.specs.Given.{kind_there, kind_global, read_there}
 
 -- a word that takes a value is there
@@ -60,7 +61,7 @@ not_bytes test bits (Some (type.Named n)) e i = cc
 takes_reference : (m : Module) (written : ℕ) (k : Option WordKind) (v : Value) → is_byte_pointer m written ≡ true → takes_value m written k v ≡ true → IsTrue (is_reference_kind k)
 takes_reference m written None v bytes e = absurd cc
 takes_reference m written (Some (kind.Integer bits)) v bytes e =
-    absurd (not_bytes (λ part. is_integer_of 8 (slice_get m.types part)) bits (slice_get m.types written) bytes (both (is_integer_of bits (slice_get m.types written)) (is_number v) e).0)
+    absurd (not_bytes (λ part. is_integer_of 8 (slice_get m.types part)) bits (slice_get m.types written) bytes (and_parts (is_integer_of bits (slice_get m.types written)) (is_number v) e).0)
 takes_reference m written (Some (kind.Reference layout)) v bytes e = refl
 
 module _ (s : Setup) where
@@ -83,8 +84,8 @@ module _ (s : Setup) where
   -- a word may hold the values that it takes
   may_hold : (m : Module) (written : ℕ) (k : Option WordKind) (v : Value) → takes_value m written k v ≡ true → FitsHeap s v → MayHold s k (stored v)
   may_hold m written None v e h = absurd cc
-  may_hold m written (Some (kind.Integer bits)) v e h = number_held bits v (both (is_integer_of bits (slice_get m.types written)) (is_number v) e).1 h
-  may_hold m written (Some (kind.Reference layout)) v e h = reference_held layout v (both (refers_to m layout written) (fits_layout layout v) e).1 h
+  may_hold m written (Some (kind.Integer bits)) v e h = number_held bits v (and_parts (is_integer_of bits (slice_get m.types written)) (is_number v) e).1 h
+  may_hold m written (Some (kind.Reference layout)) v e h = reference_held layout v (and_parts (refers_to m layout written) (fits_layout layout v) e).1 h
 
   -- under a condition the same is asked for, or nothing
   only_asks : (b : Bool) (asked : Action) → (b ≡ true → AsksByKind s (asked_as asked)) → AsksByKind s (asked_as (only_if b asked))
@@ -182,7 +183,7 @@ module _ (s : Setup) where
 
       -- the value of a gcwrite is of type i8*
       bytes_written : (returned v object place : ℕ) → are_gcwrite_types p.of_module returned (v ∷ (object ∷ (place ∷ []))) ≡ true → is_byte_pointer p.of_module v ≡ true
-      bytes_written returned v object place e = (both (is_byte_pointer p.of_module v) _ (both _ _ e).1).0
+      bytes_written returned v object place e = (and_parts (is_byte_pointer p.of_module v) _ (and_parts _ _ e).1).0
 
       -- gcwrite stores a reference that the word may hold
       gcwrite_asks : (returned : ℕ) (arguments : List Argument) → AsksByKind s (asked_as (gcwrite_action p f slots registers returned arguments))
@@ -192,7 +193,7 @@ module _ (s : Setup) where
       gcwrite_asks returned (v ∷ (object ∷ (place ∷ []))) =
           only_asks _ (barrier_action p v.written (value_of p.of_module registers v.written v.operand) (address_at_place p.of_module f slots registers place.written place.operand))
           (λ e. barrier_asks v.written (value_of p.of_module registers v.written v.operand) (address_at_place p.of_module f slots registers place.written place.operand)
-          (bytes_written returned v.written object.written place.written (both _ _ e).0) (operand_fits v.written v.operand) (place_fits place.written place.operand))
+          (bytes_written returned v.written object.written place.written (and_parts _ _ e).0) (operand_fits v.written v.operand) (place_fits place.written place.operand))
       gcwrite_asks returned (v ∷ (object ∷ (place ∷ (other ∷ arguments)))) = tt
 
       -- a safepoint touches no word

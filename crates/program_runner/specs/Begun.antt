@@ -2,6 +2,7 @@
 use Rattle.std.proofs.Common.{◌≡◌, ℕ, zero, suc, ◌<◌, ◌^◌, List, [], ◌∷◌, length, map, refl, subst, arith, true, false, Bool, Option, Some, None, slice_get, slice_set, unwrap_or}
 use Rattle.std.proofs.lemmas.Bool.Decides.{Decides-eqb}
 use Rattle.std.specs.Prelude.{replicate, if◌then◌else◌}
+use Rattle.lemmas.specs.Bools.{and_parts}
 use Rattle.ir_ast.specs.declared.function.Function.{Function}
 use Rattle.ir_ast.specs.declared.function.Parameter.{Parameter}
 use Rattle.ir_ast.specs.declared.items_of_module.Global.{Global}
@@ -22,7 +23,7 @@ use Rattle.machine.specs.Start.{takes_reference, argument_fits, arguments_fit, a
 use Rattle.trace_text.specs.declared.trace.Setup.{Setup as Begin}
 use Rattle.program_runner.specs.Heaps.{heap_of}
 use Rattle.program_runner.specs.Kinds.{FitsHeap, FrameFits, FramesFit, IsHeapWith}
-use Rattle.program_runner.specs.Values.{both, wrapped_below, set_fits, unset_fits}
+use Rattle.program_runner.specs.Values.{wrapped_below, set_fits, unset_fits}
 
 module _ (s : Setup) where
   -- each of these values fits
@@ -60,7 +61,7 @@ module _ (s : Setup) where
   numbers_fit m [] (argument ∷ arguments) e = absurd cc
   numbers_fit m (parameter ∷ parameters) [] e = absurd cc
   numbers_fit m (parameter ∷ parameters) (argument ∷ arguments) e =
-      let parts = both (argument_fits m parameter argument) (arguments_fit m parameters arguments) e in
+      let parts = and_parts (argument_fits m parameter argument) (arguments_fit m parameters arguments) e in
       let same : wrapped (bits_at m parameter.written) argument ≡ argument = (Decides-eqb _ _).0 parts.0 in
       (subst (λ n. n < 2 ^ 64) same (wrapped_below (bits_at m parameter.written) argument), numbers_fit m parameters arguments parts.1)
 

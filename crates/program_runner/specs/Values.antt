@@ -3,6 +3,7 @@ use Rattle.std.proofs.Common.{◌≡◌, ℕ, zero, suc, ◌+◌, ◌<◌, ◌�
 use Rattle.std.proofs.lemmas.Bool.{cases_lt}
 use Rattle.std.proofs.lemmas.Nat.{mod_below, pow_below, pow_pos}
 use Rattle.std.specs.Prelude.{◌⊎◌, ◌&&◌, ◌==◌, ◌%◌, nat_lt, is_some, replicate, if◌then◌else◌}
+use Rattle.lemmas.specs.Numbers.{lt_yes, lt_no}
 use Rattle.ir_ast.specs.declared.module.Module.{Module}
 use Rattle.ir_ast.specs.declared.op.Arithmetic.{Arithmetic as Operation}
 use Rattle.ir_ast.specs.declared.op.Arithmetic.TheVariants.{Add, Sub, Mul, And, Or, Xor}
@@ -28,20 +29,7 @@ use Rattle.machine.specs.Kinds.{wrapped, number_in, register_at, constant_value,
 use Rattle.machine.specs.Machine.{compared, selected}
 use Rattle.program_runner.specs.Kinds.{FitsHeap}
 
--- each of two tests that hold together
-pub both : (a b : Bool) → (a && b) ≡ true → (a ≡ true) × (b ≡ true)
-both true b e = (refl, e)
-both false b e = absurd cc
-
 -- ---- numbers
-
--- a number that is below another one
-lt_true : (x y : ℕ) → x < y → nat_lt x y ≡ true
-lt_true x y lt = grind (arith, lt)
-
--- and one that is not
-lt_false : (x y : ℕ) → y ≤ x → nat_lt x y ≡ false
-lt_false x y le = grind (arith, le)
 
 -- a number of at most 64 bits
 pub wrapped_below : (bits n : ℕ) → wrapped bits n < 2 ^ 64
@@ -50,8 +38,8 @@ wrapped_below bits n = pick (cases_lt bits 64) where
   pick (inl lt) =
       let own : n % 2 ^ bits < 2 ^ bits = mod_below n (2 ^ bits) (pow_pos bits) in
       let all = pow_below bits 64 lt in
-      rw (lt_true bits 64 lt) (omega (arith, own, all))
-  pick (inr le) = rw (lt_false bits 64 le) (mod_below n (2 ^ 64) (pow_pos 64))
+      rw (lt_yes bits 64 lt) (omega (arith, own, all))
+  pick (inr le) = rw (lt_no bits 64 le) (mod_below n (2 ^ 64) (pow_pos 64))
 
 -- what arithmetic gives
 pub computed_below : (kind : Operation) (bits a b : ℕ) → computed kind bits a b < 2 ^ 64

@@ -1,13 +1,13 @@
 -- What a share bears out of a log, it bears out behind one more call of both; and what the call was answered is possible.
 use Rattle.std.proofs.Common.{◌≡◌, ◌≢◌, ◌<◌, ℕ, ◌==◌, ◌⊎◌, inl, inr, Bool, true, false, ◌&&◌, Option, Some, None, List, ◌∷◌, map, if◌then◌else◌, refl, sym, ap, subst, arith, IsTrue, IsFalse}
 use Rattle.std.specs.List.{Contains}
+use Rattle.lemmas.specs.Numbers.{test_yes, test_false, test_no}
 use Rattle.pools.specs.declared.word_kind.WordKind.{WordKind}
 use Rattle.pools.specs.declared.word_kind.WordKind.TheVariants as kind
 use Rattle.pools.specs.Heap.{Setup, kind_of, IsOfLayout}
 use Rattle.pools.specs.Layouts.{is_reference_kind}
 use Rattle.colours.specs.Mutator.{MayFind}
 use Rattle.colours.specs.Mutator as mutator
-use Rattle.colours.proofs.Tests.{test_false, test_yes, test_no}
 use Rattle.machine.specs.declared.action.Action.{Action}
 use Rattle.machine.specs.declared.action.Action.TheVariants.{Local, Read, StorePlain, Write, Alloc, Safepoint, End, Wrong}
 use Rattle.machine.specs.declared.answer.Answer.{Answer}

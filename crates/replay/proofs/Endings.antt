@@ -1,11 +1,12 @@
 -- How the threads of a run have ended, kept from step to step.
 use Rattle.std.proofs.Common.{◌≡◌, ◌≢◌, ◌<◌, ◌⊎◌, inl, inr, ◌==◌, Bool, true, false, ℕ, zero, suc, Option, Some, None, List, [], ◌∷◌, length, slice_get, slice_set, unwrap_or, refl, sym, ap, ◌∙◌, subst, arith}
 use Rattle.std.proofs.lemmas.List.{length-set}
+use Rattle.lemmas.specs.Lists.{get_some}
+use Rattle.lemmas.specs.Numbers.{test_true, test_yes, test_false}
 use Rattle.pools.specs.Heap.{Setup, is_late}
 use Rattle.colours.specs.Runs.{turns_of, word_after}
 use Rattle.colours.specs.Mutator as order
 use Rattle.colours.specs.Mutator.{phase_of}
-use Rattle.colours.proofs.Tests.{test_true, test_false, test_yes}
 use Rattle.runs.specs.Machine.{Reference, Machine}
 use Rattle.runs.specs.Machine as machine
 use Rattle.runs.specs.Moves.{Move, steps_of}
@@ -37,7 +38,7 @@ use Rattle.replay.specs.Worlds.{AreEndings, ending_at, ending_of, run_of}
 
 -- ---- lists
 
--- what was put at a place stands there
+-- what was put at a place stands get_some
 set_same : {A : Type 0} (xs : List A) (i : ℕ) (x : A) → i < length xs → slice_get (slice_set xs i x) i ≡ Some x
 set_same [] i x within = absurd (omega arith)
 set_same (y ∷ xs) zero x within = refl
@@ -50,12 +51,6 @@ set_other (y ∷ xs) zero zero x other = absurd (other refl)
 set_other (y ∷ xs) zero (suc j) x other = refl
 set_other (y ∷ xs) (suc i) zero x other = refl
 set_other (y ∷ xs) (suc i) (suc j) x other = set_other xs i j x (λ e. other (ap suc e))
-
--- something stands at each place of a list
-pub there : {A : Type 0} (xs : List A) (i : ℕ) → i < length xs → (x : A) × (slice_get xs i ≡ Some x)
-there [] i within = absurd (omega arith)
-there (x ∷ xs) zero within = (x, refl)
-there (x ∷ xs) (suc i) within = there xs i (omega arith)
 
 -- ---- one thread
 
@@ -143,7 +138,7 @@ unfolding run_by
 kept p setup before threads shared c endings t end is_thread are =
     let s = heaps.heap_of p setup in
     let run = run_of p setup before in
-    let found = there threads t (subst (λ (n : ℕ). t < n) (sym end.count) is_thread) in
+    let found = get_some threads t (subst (λ (n : ℕ). t < n) (sym end.count) is_thread) in
     let stands = end.stands t found.0 found.1 in
     let next = next_move_of s program_machine (sight_in s shared) (standing names found.0) in
     let by = next_in_words s program_machine (starts_of p setup) run t (standing names found.0) shared end.words.behind stands in

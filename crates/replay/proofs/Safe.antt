@@ -2,6 +2,8 @@
 use Rattle.std.proofs.Common.{◌≡◌, ◌<◌, ◌≤◌, ◌⊎◌, inl, inr, Bool, true, false, ℕ, zero, suc, Option, Some, List, [], ◌∷◌, ◌++◌, length, map, take, slice_get, refl, sym, ap, ◌∙◌, subst, arith}
 use Rattle.std.proofs.lemmas.Option.{slice_get_within}
 use Rattle.std.specs.List.{AllByRecursion}
+use Rattle.lemmas.specs.Lists.{get_some}
+use Rattle.lemmas.specs.Bools.{never_true}
 use Rattle.ir_ast.specs.declared.function.Function.{Function}
 use Rattle.types.specs.Globals.{held_in}
 use Rattle.layout.specs.Globals.{word_held}
@@ -18,7 +20,6 @@ use Rattle.trace_text.specs.declared.trace.Start.{Start}
 use Rattle.replay.specs.declared.setup_fault.SetupFault.{SetupFault}
 use Rattle.replay.specs.declared.setup_fault.SetupFault.TheVariants.{WrongArguments, ReferenceParameter, Memory}
 use Rattle.replay.specs.Setups.{IsSetupOf, IsSetupFault, IsFaultOf, HasNoFault, MayBegin, MayBeginBefore, IsCertifiedSetup, CertifiedSetupIsSafe, begun_at, starts_of}
-use Rattle.replay.proofs.Endings.{there}
 use Rattle.replay.proofs.Setups.{is_setup}
 
 -- what holds of each start holds of the one at a place
@@ -65,14 +66,14 @@ one_more p starts t begun before at may u other lt found = elim (below_next u t 
       subst (MayBegin p) is may
 ]
 
--- a thread may begin where there is no fault and each before it may
+-- a thread may begin where get_some is no fault and each before it may
 may_begin : (p : LaidOut) (setup : Setup) (t : ℕ) (begun : Start) → HasNoFault p setup → MayBeginBefore p setup.starts t → slice_get setup.starts t ≡ Some begun → MayBegin p begun
 may_begin p setup t begun none before at = record {
   takes_integers = λ by_reference. none (ReferenceParameter t) (before, (begun, at, by_reference));
   takes_these = λ wrongly. none (WrongArguments t) (before, (begun, at, wrongly));
 }
 
--- so where there is no fault, each thread may begin
+-- so where get_some is no fault, each thread may begin
 all_before : (p : LaidOut) (setup : Setup) → HasNoFault p setup → (t : ℕ) → MayBeginBefore p setup.starts t
 all_before p setup none zero u begun lt at = absurd (omega arith)
 all_before p setup none (suc t) u begun lt at = elim (below_next u t lt) [
@@ -83,7 +84,7 @@ all_before p setup none (suc t) u begun lt at = elim (below_next u t lt) [
 pub each_may_begin : (p : LaidOut) (setup : Setup) → HasNoFault p setup → (t : ℕ) (begun : Start) → slice_get setup.starts t ≡ Some begun → MayBegin p begun
 each_may_begin p setup none t begun at = may_begin p setup t begun none (all_before p setup none t) at
 
--- and where each thread may begin, there is no fault
+-- and where each thread may begin, get_some is no fault
 pub no_fault : (p : LaidOut) (setup : Setup) → ((t : ℕ) (begun : Start) → slice_get setup.starts t ≡ Some begun → MayBegin p begun) → HasNoFault p setup
 no_fault p setup may (ReferenceParameter t) fault = (may t fault.1.0 fault.1.1).takes_integers fault.1.2
 no_fault p setup may (WrongArguments t) fault = (may t fault.1.0 fault.1.1).takes_these fault.1.2
@@ -104,11 +105,6 @@ first_fault p setup t begun Memory before at is = absurd is
 
 -- ---- safety
 
--- what is not true is false
-not_true : (b : Bool) → (b ≡ true → ⊥) → b ≡ false
-not_true true never = absurd (never refl)
-not_true false never = refl
-
 -- and what is not false is true
 not_false : (b : Bool) → (b ≡ false → ⊥) → b ≡ true
 not_false true never = refl
@@ -118,11 +114,11 @@ not_false false never = absurd (never refl)
 begun : (p : LaidOut) (setup : Setup) (certs : List Section) → IsSetupOf p setup → HasNoFault p setup → IsCertifiedSetup p setup certs → (t : ℕ) → t < length setup.starts
     → IsBegun (heap_of p setup) p certs (starts_of p setup t)
 begun p setup certs is none c t within =
-    let at = there setup.starts t within in
+    let at = get_some setup.starts t within in
     let begins : Start = at.0 in
-    let function = there p.of_module.functions begins.function (at_place (IsStartOf p) setup.starts t begins is.starts at.1).0 in
+    let function = get_some p.of_module.functions begins.function (at_place (IsStartOf p) setup.starts t begins is.starts at.1).0 in
     let may = each_may_begin p setup none t begins at.1 in
-    let integers = not_true (takes_reference p.of_module function.0) (λ e. may.takes_integers (function.0, function.1, e)) in
+    let integers = never_true (takes_reference p.of_module function.0) (λ e. may.takes_integers (function.0, function.1, e)) in
     record {
       func = begins.function;
       function = function.0;

@@ -1,5 +1,6 @@
 -- What is told of where the threads of a world stand.
 use Rattle.std.proofs.Common.{◌≡◌, ◌<◌, ◌≤◌, ◌⊎◌, inl, inr, ℕ, zero, suc, ◌+◌, Option, Some, List, [], ◌∷◌, ◌++◌, length, slice_get, unwrap_or, refl, sym, ap, ◌∙◌, subst, arith}
+use Rattle.lemmas.specs.Lists.{get_some, get_end}
 use Rattle.colours.specs.Mutator as order
 use Rattle.colours.specs.Mutator.{stage_of, phase_of}
 use Rattle.runs.specs.Machine.{Reference}
@@ -20,7 +21,6 @@ use Rattle.replay.specs.Setups.{starts_of}
 use Rattle.replay.specs.ThreadEnds.{AreEndsOf, end_in, end_of}
 use Rattle.replay.specs.Worlds.{World, IsBehind, ending_of, run_of}
 use Rattle.replay.specs.WorldView.{world_seen}
-use Rattle.replay.proofs.Endings.{there}
 
 -- ---- lists
 
@@ -29,11 +29,6 @@ at_front : {A : Type 0} (xs : List A) (x : A) (k : ℕ) → k < length xs → sl
 at_front [] x k within = absurd (omega arith)
 at_front (y ∷ xs) x zero within = refl
 at_front (y ∷ xs) x (suc k) within = at_front xs x k (omega arith)
-
--- and the one more stands at the end
-at_end : {A : Type 0} (xs : List A) (x : A) → slice_get (xs ++ x ∷ []) (length xs) ≡ Some x
-at_end [] x = refl
-at_end (y ∷ xs) x = at_end xs x
 
 longer : {A : Type 0} (xs : List A) (x : A) → length (xs ++ x ∷ []) ≡ suc (length xs)
 longer [] x = refl
@@ -51,7 +46,7 @@ one_more_told ends count told last are is = record {
   each = λ k lt. elim (below k count lt) [
     | inl l ↦ at_front ends last k (subst (λ (n : ℕ). k < n) (sym are.many) l) ∙ are.each k l
     | inr e ↦ subst (λ (n : ℕ). slice_get (ends ++ last ∷ []) n ≡ Some (told n)) (sym e)
-        (subst (λ (n : ℕ). slice_get (ends ++ last ∷ []) n ≡ Some last) are.many (at_end ends last) ∙ ap (λ (x : ThreadEnd). Some x) is)
+        (subst (λ (n : ℕ). slice_get (ends ++ last ∷ []) n ≡ Some last) are.many (get_end ends last) ∙ ap (λ (x : ThreadEnd). Some x) is)
   ];
 }
   where
@@ -82,7 +77,7 @@ told_is w before b t few =
     let s = heap_of w.program w.setup in
     let share = share_of t (run_of w.program w.setup before) in
     let end = b.ends.is_end in
-    let found = there w.threads t (subst (λ (n : ℕ). t < n) (sym end.count) few) in
+    let found = get_some w.threads t (subst (λ (n : ℕ). t < n) (sym end.count) few) in
     let stands = end.stands t found.0 found.1 in
     let ending = ending_of s t (starts_of w.program w.setup t) share in
     let same = λ (e : phase_at (names found.0.state) found.0.stance ≡ order.Ended). ap (λ (o : Option ThreadEnd). unwrap_or o thread.Ended) (b.ends.endings.each t few (sym stands.phase ∙ e)) in

@@ -1,5 +1,7 @@
 -- A cell is claimed once at the start, and once behind each free of it.
 use Rattle.std.proofs.Common.{◌≡◌, ◌≢◌, ℕ, suc, ◌*◌, ◌-◌, ◌%◌, ◌^◌, ◌<◌, ◌≤◌, ◌==◌, Bool, true, false, List, [], ◌∷◌, if◌then◌else◌, refl, arith, sym}
+use Rattle.lemmas.specs.Numbers.{test_true, test_yes}
+use Rattle.lemmas.specs.Bools.{and_parts}
 use Rattle.pools.specs.Heap.{Setup}
 use Rattle.colours.specs.declared.place.Place.TheVariants.{Colour}
 use Rattle.colours.specs.declared.turn.Turn.{Turn}
@@ -10,7 +12,6 @@ use Rattle.colours.specs.Mutator.{stage_of, wins}
 use Rattle.colours.specs.Collector.{Collection, Posting, posted_of, Collects}
 use Rattle.colours.specs.Runs.{Event, ByThread, ByCollector, log_of, turns_of, word_after, births_after, IsRun}
 use Rattle.colours.specs.Safety.{IsFree}
-use Rattle.colours.proofs.Tests.{test_true, test_yes, and_parts}
 use Rattle.colours.specs.Frames.{won_blue}
 use Rattle.colours.specs.Stages.{handshake, colour_grows}
 use Rattle.run_law.proofs.Frees.{frees, freed_below}

@@ -1,12 +1,12 @@
 -- What the next move of a thread is, by what its action asks for and where it stands in the call.
 use Rattle.std.proofs.Common.{◌≡◌, ◌<◌, ◌⊎◌, ◌+◌, inl, inr, ℕ, zero, suc, ◌==◌, ◌||◌, not, Bool, true, false, Option, Some, None, List, [], ◌∷◌, length, filter, slice_index, if◌then◌else◌, refl, sym, ap, ◌∙◌, subst, IsTrue, MatchOption, arith}
+use Rattle.lemmas.specs.Numbers.{test_false}
 use Rattle.pools.specs.Heap.{Setup, cells, kind_of, IsOfLayout}
 use Rattle.pools.specs.declared.word_kind.WordKind.{WordKind}
 use Rattle.pools.specs.declared.word_kind.WordKind.TheVariants as kind
 use Rattle.pools.specs.Layouts.{is_reference_kind}
 use Rattle.pools.specs.Pools.{first_cell}
 use Rattle.colours.specs.Colours.{is_async}
-use Rattle.colours.proofs.Tests.{test_false}
 use Rattle.runs.specs.Machine.{Reference, Action, Read, StorePlain, Write, Alloc, Safepoint}
 use Rattle.runs.specs.Moves.{Move, Works, ReadsWord, ReadsOldValue, Marks, StoresBehindBarrier, StoresPlain, Claims, StoresStage, IsIn, next_root}
 use Rattle.runs.specs.NextMoves.{next_move, try_of, mark_or_answer}

@@ -1,11 +1,11 @@
 -- How often the collector frees a cell: in each cycle at most once.
 use Rattle.std.proofs.Common.{◌≡◌, ◌≢◌, ℕ, suc, ◌*◌, ◌%◌, ◌<◌, ◌≤◌, ◌==◌, nat_lt, inl, inr, Bool, true, false, List, [], ◌∷◌, if◌then◌else◌, refl, arith}
+use Rattle.lemmas.specs.Numbers.{test_true, test_false}
 use Rattle.pools.specs.Heap.{Setup, cells}
 use Rattle.colours.specs.Colours.{cycle_of, grey}
 use Rattle.colours.specs.declared.turn.Turn.{Turn}
 use Rattle.colours.specs.declared.turn.Turn.TheVariants.{PostStage, ReadStage, MarkFound, ReadColour, ScanWord, Blacken, ClearWord, Free}
 use Rattle.colours.specs.Collector.{Pass, Collection, Posting, Waiting, ShadingGlobals, Passing, Scanning, Shading, Sweeping, Clearing, posted_of, first_pass, sweep_from, pass_from, after_wait, wait_from, has_answered, in_turn, out_of_turn, with_grey, looked, is_white, Turns, Collects}
-use Rattle.colours.proofs.Tests.{test_true, test_false}
 
 -- how often a log frees the cell
 abbrev pub frees : ℕ → List Turn → ℕ

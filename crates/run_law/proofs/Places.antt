@@ -1,10 +1,11 @@
 -- What a place holds where another number was put.
 use Rattle.std.proofs.Common.{◌≡◌, ℕ, suc, ◌==◌, ◌&&◌, max, Bool, true, false, Option, Some, None, List, slice_index, slice_set, if◌then◌else◌, refl, ap, ◌∙◌}
+use Rattle.lemmas.specs.Numbers.{test_true}
+use Rattle.lemmas.specs.Bools.{and_parts}
 use Rattle.colours.specs.declared.place.Place.{Place}
 use Rattle.colours.specs.declared.place.Place.TheVariants.{Posted, Stage, Colour, Word}
 use Rattle.colours.specs.Colours.{mark_at, claim_at, done}
 use Rattle.colours.specs.Steps.{Step, ask_of, same_place, left_by}
-use Rattle.colours.proofs.Tests.{test_true, and_parts}
 use Rattle.runs.specs.Machine.{Reference}
 use Rattle.runs.specs.Moves.{step_of}
 use Rattle.moves.specs.declared.moves.Move.{Move}

@@ -2,7 +2,7 @@
 use Rattle.std.proofs.Common.{◌≡◌, ◌<◌, ℕ, ◌==◌, ◌&&◌, Bool, true, false, List, [], length, slice_index_or, slice_set, if◌then◌else◌, refl, sym, ap, ◌∙◌}
 use Rattle.std.proofs.lemmas.List.{length-set, get_or-set_other}
 use Rattle.std.proofs.lemmas.Grind.{get_or-set_at}
-use Rattle.colours.proofs.Tests.{test_true, test_false}
+use Rattle.lemmas.specs.Numbers.{test_true, test_false}
 use Rattle.runs.specs.Machine.{Reference}
 use Rattle.runs.specs.Moves.{null}
 use Rattle.moves.specs.Rows.{word_at, with_word}

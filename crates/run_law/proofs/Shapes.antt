@@ -1,10 +1,11 @@
 -- The words keep their shape where a place takes what fits it.
 use Rattle.std.proofs.Common.{◌≡◌, ◌<◌, ℕ, ◌==◌, ◌&&◌, Bool, true, false, Some, [], slice_index_or, slice_set, if◌then◌else◌, refl, sym, ap, ◌∙◌, subst}
 use Rattle.std.proofs.lemmas.List.{length-set}
+use Rattle.lemmas.specs.Numbers.{test_true}
+use Rattle.lemmas.specs.Bools.{and_parts}
 use Rattle.pools.specs.Heap.{Setup, cells, kind_of}
 use Rattle.pools.specs.declared.word_kind.WordKind.{WordKind}
 use Rattle.colours.specs.declared.place.Place.TheVariants.{Word}
-use Rattle.colours.proofs.Tests.{test_true, and_parts}
 use Rattle.runs.specs.Machine.{Reference}
 use Rattle.moves.specs.declared.moves.Move.{Move}
 use Rattle.moves.specs.declared.moves.Move.TheVariants as made

@@ -2,12 +2,13 @@
 use Rattle.std.proofs.Common.{◌≡◌, ◌≢◌, ◌≤◌, ◌<◌, ◌⊎◌, ◌+◌, ◌-◌, inl, inr, ℕ, suc, ◌==◌, Bool, true, false, List, [], ◌∷◌, length, sum, slice_index, if◌then◌else◌, nat_lt, refl, ap, ◌∙◌, subst, arith}
 use Rattle.std.proofs.lemmas.Bool.Decides.{nat_tests}
 use Rattle.std.proofs.lemmas.List.Sums.{sum_by-cons}
+use Rattle.lemmas.specs.Lists.{sum_cons}
+use Rattle.lemmas.specs.Numbers.{test_false}
 use Rattle.pools.specs.Heap.{Setup, IsOfLayout, layout_of, layout_at, cells, is_late}
 use Rattle.pools.specs.Pools.{first_cell}
 use Rattle.pools.specs.Ends.{in_pool, pool_ends}
 use Rattle.colours.specs.Colours.{done}
 use Rattle.colours.specs.Mutator.{Phase, Ready, MarkingOld, MarkingNew, Writing, Trying, Answering, Ended, Absent, Arriving, Entering, Leaving, stage_of, phase_of}
-use Rattle.colours.proofs.Tests.{test_false}
 use Rattle.runs.specs.Machine.{Reference, Action, Local, Read, StorePlain, Write, Alloc, Safepoint, End, Wrong, Machine}
 use Rattle.runs.specs.Moves.{Move, Works, GoesWrong, ReadsWord, ReadsOldValue, Marks, StoresBehindBarrier, StoresPlain, Claims, ReadsPosted, StoresStage, ReadsPostedFirst, EntersStage, ReadsPostedAgain, step_of, steps_of, phase_behind, ends_call, answer_of, state_after, old_of, IsOfTry, AsksFor, IsShare}
 use Rattle.runs.specs.Tries.{lowest, IsLowest, TriesLowest}
@@ -18,9 +19,6 @@ use Rattle.moves.specs.Allocs.{within}
 
 -- ---- pools
 
-sum-cons : (c : ℕ) (cs : List ℕ) → sum (c ∷ cs) ≡ c + sum cs
-sum-cons c cs = sum_by-cons (λ x. x) c cs
-
 -- a cell's pool has cells
 has-cells : (counts : List ℕ) (place : ℕ) → place < sum counts → slice_index counts (layout_at counts place) ≢ 0
 has-cells [] place lt = absurd (omega (arith, lt))
@@ -30,7 +28,7 @@ has-cells (count ∷ counts) place lt = go (has-cells counts (place - count)) (n
     go rest true e = λ z. let lt1 : place < count = grind (arith, nat_tests) in absurd (omega (arith, z, lt1))
     go rest false e =
         let ge : count ≤ place = grind (arith, nat_tests) in
-        let parts = sum-cons count counts in
+        let parts = sum_cons count counts in
         rest (omega (arith, ge, parts, lt))
 
 -- the pool of a cell is not empty

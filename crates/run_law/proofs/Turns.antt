@@ -2,6 +2,7 @@
 use Rattle.std.proofs.Common.{◌≡◌, ◌≤◌, ◌<◌, ◌^◌, ◌+◌, ◌-◌, ℕ, zero, suc, ◌==◌, ◌%◌, nat_lt, Bool, true, false, List, [], length, slice_index_or, if◌then◌else◌, refl, sym, ap, subst, IsTrue, arith}
 use Rattle.std.proofs.lemmas.Bool.Decides.{nat_tests}
 use Rattle.std.proofs.lemmas.List.{get_or_past}
+use Rattle.lemmas.specs.Numbers.{lt_true}
 use Rattle.pools.specs.Heap.{Setup, cells, kind_of, layout_of, words_of_cell}
 use Rattle.pools.specs.Layouts.{is_reference_kind}
 use Rattle.colours.specs.declared.turn.Turn.TheVariants.{ScanWord, Blacken, ClearWord, Free}
@@ -18,10 +19,6 @@ use Rattle.moves.specs.Shared.{held_at, HasShape, CanHold}
 use Rattle.run_law.specs.Growth.{IsInHeap}
 use Rattle.run_law.proofs.Chosen.{cell-held}
 use Rattle.run_law.proofs.Moves.{word-there, word-fits, reference-there}
-
--- a test of order that holds
-below : (a b : ℕ) → nat_lt a b ≡ true → a < b
-below a b e = grind (arith, nat_tests)
 
 -- a word at which the search for a reference ends is one
 reference-at : (s : Setup) (cell word left : ℕ) → skip_integers s cell word left < word + left → is_reference_kind (kind_of s cell (skip_integers s cell word left)) ≡ true
@@ -65,7 +62,7 @@ names-cells s h few shape cell word is = go (nat_lt cell (cells s)) refl
   where
     go : (b : Bool) → nat_lt cell (cells s) ≡ b → (word_at h.words cell word).cell < 2 ^ 32
     go true e =
-        let value = cell-found s h cell word shape (below cell (cells s) e) (subst (λ k. IsTrue (is_reference_kind k)) (same-kind s cell word) is) in
+        let value = cell-found s h cell word shape (lt_true cell (cells s) e) (subst (λ k. IsTrue (is_reference_kind k)) (same-kind s cell word) is) in
         omega (arith, value, few)
     go false e =
         let rows = shape.rows in
@@ -85,7 +82,7 @@ wait-in s stage thread = go (nat_lt thread s.threads) refl
     behind-last false false = omega arith
 
     go : (b : Bool) → nat_lt thread s.threads ≡ b → IsInHeap s (in_order (if b then Waiting thread else after_wait stage))
-    go true e = below thread s.threads e
+    go true e = lt_true thread s.threads e
     go false e = behind-last (stage % 3 == 1) (stage % 3 == 2)
 
 -- the sweep from a cell on
@@ -93,7 +90,7 @@ sweep-in : (s : Setup) (cell : ℕ) → IsInHeap s (in_order (sweep_from (plan_o
 sweep-in s cell = go (nat_lt cell (cells s)) refl
   where
     go : (b : Bool) → nat_lt cell (cells s) ≡ b → IsInHeap s (in_order (if b then Sweeping cell else Posting))
-    go true e = below cell (cells s) e
+    go true e = lt_true cell (cells s) e
     go false e = tt
 
 -- a pass
@@ -102,7 +99,7 @@ pass-in s p = go (nat_lt p.next (cells s)) refl p.met_grey
   where
     go : (b : Bool) → nat_lt p.next (cells s) ≡ b → (grey : Bool)
         → IsInHeap s (in_order (if b then Passing p else (if grey then Passing (record { next = 0; met_grey = false; shaded = p.shaded }) else sweep_from (plan_of s) 1)))
-    go true e grey = below p.next (cells s) e
+    go true e grey = lt_true p.next (cells s) e
     go false e true = omega arith
     go false e false = sweep-in s 1
 
@@ -123,7 +120,7 @@ place-there s h stage (Scanning cell word p) found shape is = go (nat_lt at (len
     go : (b : Bool) → nat_lt at (length (words_of_cell (plan_of s) cell)) ≡ b → CanHold h (place_of (turn_of (cycle_of stage) (if b then ScanWord cell at found else Blacken cell)))
     go true e =
         let count = ap length (same-words s cell) in
-        let within = below at (length (words_of_cell (plan_of s) cell)) e in
+        let within = lt_true at (length (words_of_cell (plan_of s) cell)) e in
         word-there s h cell at shape is (omega (arith, count, within))
     go false e = let count = shape.colours in omega (arith, count, is)
 place-there s h stage (Shading value cell word p) found shape is = let count = shape.colours in let value_is = is.0 in omega (arith, count, value_is)
@@ -133,7 +130,7 @@ place-there s h stage (Clearing cell word) found shape is = go (nat_lt word (len
     go : (b : Bool) → nat_lt word (length (words_of_cell (plan_of s) cell)) ≡ b → CanHold h (place_of (turn_of (cycle_of stage) (if b then ClearWord cell word else Free cell)))
     go true e =
         let count = ap length (same-words s cell) in
-        let within = below word (length (words_of_cell (plan_of s) cell)) e in
+        let within = lt_true word (length (words_of_cell (plan_of s) cell)) e in
         word-there s h cell word shape is (omega (arith, count, within))
     go false e = let count = shape.colours in omega (arith, count, is)
 
@@ -161,7 +158,7 @@ in-heap-behind s h stage (Scanning cell word p) found shape is e = go (nat_lt at
         → (z : Bool) → IsInHeap s (in_order (if b then (if z then Scanning cell (at + 1) p else Shading found cell (at + 1) p) else pass_from (plan_of s) p))
     go true x same true = is
     go true x same false =
-        let within = below at (length (words_of_cell (plan_of s) cell)) x in
+        let within = lt_true at (length (words_of_cell (plan_of s) cell)) x in
         let ref : is_reference_kind (kind_of (plan_of s) cell at) ≡ true = reference-at (plan_of s) cell word (length (words_of_cell (plan_of s) cell) - word) (omega (arith, within)) in
         let value = cell-found s h cell at shape is (subst (λ k. IsTrue (is_reference_kind k)) (same-kind s cell at) ref) in
         (subst (λ n. n < cells s) (sym same) value, is)

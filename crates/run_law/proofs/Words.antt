@@ -1,11 +1,11 @@
 -- The words and births behind a thread's move are those of the longer run.
 use Rattle.std.proofs.Common.{◌≡◌, ℕ, suc, ◌==◌, ◌&&◌, Bool, true, false, Option, Some, None, List, ◌∷◌, slice_index, slice_set, if◌then◌else◌, refl, sym, ap, ◌∙◌}
+use Rattle.lemmas.specs.Numbers.{test_true, test_yes, test_false, test_no}
 use Rattle.pools.specs.Heap.{Setup}
 use Rattle.colours.specs.declared.place.Place.{Place}
 use Rattle.colours.specs.Steps.{Step, ask_of, left_by}
 use Rattle.colours.specs.Mutator.{stage_of, wins}
 use Rattle.colours.specs.Runs.{Event, log_of, word_after, births_after}
-use Rattle.colours.proofs.Tests.{test_true, test_false, test_yes, test_no}
 use Rattle.runs.specs.Machine.{Reference}
 use Rattle.runs.specs.Moves.{step_of, steps_of}
 use Rattle.runs.specs.ModuleRuns.{Happening, OfThread, share_of, with_step, heap_of, birth_in, left_birth}

@@ -1,10 +1,10 @@
 -- The births that a thread's references have are those with which the heap gave it the cells.
 use Rattle.std.proofs.Common.{◌≡◌, ℕ, ◌==◌, true, false, List, ◌∷◌, if◌then◌else◌, refl, sym, ◌∙◌, subst, IsTrue}
+use Rattle.lemmas.specs.Numbers.{test_yes, test_no}
 use Rattle.pools.specs.Heap.{Setup}
 use Rattle.colours.specs.Steps.{Step, ReadWord, ReadOldValue, Mark, StoreBehindBarrier, StorePlain, Claim, ReadPosted, StoreStage, ReadPostedFirst, EnterStage, ReadPostedAgain}
 use Rattle.colours.specs.Mutator.{Held, gains, IsPossible}
 use Rattle.colours.specs.Runs.{Event, ByThread, log_of, births_after, given, puts, value_put, IsAlive, IsHeapRun, held}
-use Rattle.colours.proofs.Tests.{test_yes, test_no}
 use Rattle.runs.specs.Promises.{HeapLaw}
 
 own_log : (t : ℕ) (step : Step) (h : List Event) → log_of t (ByThread t step ∷ h) ≡ step ∷ log_of t h

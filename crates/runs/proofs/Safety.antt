@@ -1,6 +1,8 @@
 -- No run of a module is broken: what one thread promises and what the heap promises feed each other, one step at a time.
 use Rattle.std.proofs.Common.{◌≡◌, ◌≢◌, ℕ, suc, ◌==◌, inl, inr, Bool, true, false, ◌&&◌, Option, Some, None, List, [], ◌∷◌, if◌then◌else◌, refl, sym, ◌∙◌, subst, IsTrue, MatchOption}
 use Rattle.std.proofs.Math.Path.{ap}
+use Rattle.lemmas.specs.Numbers.{test_true}
+use Rattle.lemmas.specs.Bools.{and_parts}
 use Rattle.pools.specs.declared.word_kind.WordKind.{WordKind}
 use Rattle.pools.specs.declared.word_kind.WordKind.TheVariants as kind
 use Rattle.pools.specs.Heap.{Setup, IsSetup, kind_of}
@@ -11,7 +13,6 @@ use Rattle.colours.specs.declared.turn.Turn.TheVariants.{PostStage, ReadStage, M
 use Rattle.colours.specs.Steps.{Step, ReadWord, ReadOldValue, Mark, StoreBehindBarrier, StorePlain, Claim, ReadPosted, StoreStage, ReadPostedFirst, EnterStage, ReadPostedAgain}
 use Rattle.colours.specs.Mutator.{Held, Keeps, IsDisciplined, IsPossible, phase_of}
 use Rattle.colours.specs.Runs.{Event, ByThread, ByCollector, log_of, word_after, births_after, puts, value_put, IsAlive, IsHeapRun, MayHappen, KeepsDiscipline, Kept, globals, held, further}
-use Rattle.colours.proofs.Tests.{and_parts, test_true}
 use Rattle.colours.specs.Frames.{word_left}
 use Rattle.runs.specs.Machine.{Reference, Machine}
 use Rattle.runs.specs.Moves.{Move, Works, GoesWrong, ReadsWord, ReadsOldValue, Marks, StoresBehindBarrier, StoresPlain, Claims, ReadsPosted, StoresStage, ReadsPostedFirst, EntersStage, ReadsPostedAgain, step_of, steps_of, state_after, old_of, AsksFor}

@@ -4,12 +4,12 @@ use Rattle.std.proofs.Math.Path.{ap}
 use Rattle.std.proofs.lemmas.Option.{slice_get_within, get_or_from_slice_get, slice_get_cases}
 use Rattle.std.proofs.Math.Seq.{take-suc}
 use Rattle.std.proofs.lemmas.List.{take_all, reverse-append}
+use Rattle.lemmas.specs.Numbers.{test_true, test_false, not_null}
 use Rattle.pools.specs.Heap.{Setup, layout_of, is_late}
 use Rattle.colours.specs.Colours.{is_async, done}
 use Rattle.colours.specs.Steps.{Step, Found, ask_of, place_of}
 use Rattle.colours.specs.Mutator.{Phase, Ready, MarkingOld, MarkingNew, Writing, Trying, Answering, Ended, Absent, Arriving, Entering, Leaving, is_between, MayFollow, non_null, stage_of, phase_of}
 use Rattle.colours.specs.Runs.{ByThread, log_of, word_after, MayHappen}
-use Rattle.colours.proofs.Tests.{test_true, test_false, not_null}
 use Rattle.runs.specs.Machine.{Reference, Action, Local, Read, StorePlain, Write, Alloc, Safepoint, End, Wrong, Machine}
 use Rattle.runs.specs.Moves.{Move, Works, GoesWrong, ReadsWord, ReadsOldValue, Marks, StoresBehindBarrier, StoresPlain, Claims, ReadsPosted, StoresStage, ReadsPostedFirst, EntersStage, ReadsPostedAgain, null, cells_of, IsIn, step_of, steps_of, phase_behind, ends_call, answer_of, state_after, next_root, old_of, IsOfTry, AsksFor, Follows, IsShare}
 use Rattle.runs.specs.ModuleRuns.{Happening, OfThread, share_of, heap_of, FindsBirth, IsNext}

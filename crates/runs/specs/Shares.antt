@@ -1,6 +1,7 @@
 -- Shares and logs, and what forgetting the births leaves of the discipline.
 use Rattle.std.proofs.Common.{◌≡◌, ◌≢◌, ℕ, ◌==◌, inl, inr, Bool, true, false, not, ◌&&◌, Option, Some, None, List, [], ◌∷◌, if◌then◌else◌, refl, sym, ◌∙◌, subst, IsTrue, MatchOption}
 use Rattle.std.proofs.Math.Path.{ap}
+use Rattle.lemmas.specs.Numbers.{test_true, test_yes, test_no}
 use Rattle.pools.specs.declared.word_kind.WordKind.{WordKind}
 use Rattle.pools.specs.declared.word_kind.WordKind.TheVariants as kind
 use Rattle.pools.specs.Heap.{Setup, kind_of}
@@ -8,7 +9,6 @@ use Rattle.pools.specs.Layouts.{is_reference_kind}
 use Rattle.colours.specs.Steps.{Step}
 use Rattle.colours.specs.Mutator.{Held, IsAmong, Keeps, gains, IsDisciplined, MayUse, MayStore}
 use Rattle.colours.specs.Runs.{Event, ByThread, log_of, IsRun, MayHappen}
-use Rattle.colours.proofs.Tests.{test_true, test_yes, test_no}
 use Rattle.runs.specs.Machine.{Reference, Machine}
 use Rattle.runs.specs.Moves.{Move, Works, GoesWrong, ReadsWord, ReadsOldValue, Marks, StoresBehindBarrier, StoresPlain, Claims, ReadsPosted, StoresStage, ReadsPostedFirst, EntersStage, ReadsPostedAgain, cells_of, IsIn, step_of, logged, steps_of, IsShare, IsAsked}
 use Rattle.runs.specs.Discipline.{Brings, Leaves, Holds, MayTouch, MayName, MayPut, KeepsTo}

@@ -1,10 +1,10 @@
 -- Where a thread stands behind a run, and how it goes on from there.
 use Rattle.std.proofs.Common.{◌≡◌, ◌≢◌, ℕ, List, [], ◌∷◌, if◌then◌else◌, refl, sym, ◌∙◌, subst}
 use Rattle.std.proofs.Math.Path.{ap}
+use Rattle.lemmas.specs.Numbers.{test_yes, test_no}
 use Rattle.pools.specs.Heap.{Setup}
 use Rattle.colours.specs.Steps.{Step}
 use Rattle.colours.specs.Mutator.{Phase, stage_of, phase_of}
-use Rattle.colours.proofs.Tests.{test_yes, test_no}
 use Rattle.runs.specs.Machine.{Reference, Machine}
 use Rattle.runs.specs.Moves.{Move, Works, GoesWrong, ReadsWord, ReadsOldValue, Marks, StoresBehindBarrier, StoresPlain, Claims, ReadsPosted, StoresStage, ReadsPostedFirst, EntersStage, ReadsPostedAgain, step_of, steps_of, phase_behind, ends_call, answer_of, state_after, old_of}
 use Rattle.runs.specs.ModuleRuns.{Happening, OfThread, OfCollector, share_of}

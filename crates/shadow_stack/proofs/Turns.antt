@@ -2,6 +2,7 @@
 use Rattle.std.proofs.Common.{◌≡◌, ◌<◌, ◌≤◌, ℕ, zero, suc, ◌+◌, ◌-◌, Bool, true, false, List, [], ◌∷◌, length, slice_index_or, refl, ap, sym, ◌∙◌, subst, arith, rules, inl, inr, ◌⊎◌, zero-add}
 use Rattle.std.proofs.lemmas.Option.{unwrap_or-slice_get}
 use Rattle.std.specs.Prelude.{map, Option, Some, None, is_some, slice_get, unwrap_or}
+use Rattle.lemmas.specs.Bools.{yes_or_no}
 use Rattle.shadow_stack.specs.declared.draft.Origin.{Origin}
 use Rattle.shadow_stack.specs.declared.draft.Origin.TheVariants.{Nowhere, Slot, Same}
 use Rattle.shadow_stack.specs.Slots.{origin_at, NamesSlot, Given, Renamed, hop, hops, slot_at, names_of, NamesAreExact}
@@ -67,10 +68,6 @@ done origins k o = is_some (slot_at (hops origins k o))
 no_true : false ≡ true → ⊥
 no_true e = search (rules, e)
 
-bool_cases : (b : Bool) → (b ≡ true) ⊎ (b ≡ false)
-bool_cases true = inl refl
-bool_cases false = inr refl
-
 is_some_value : (w : Option ℕ) → is_some w ≡ true → (s : ℕ) × (w ≡ Some s)
 is_some_value None e = absurd (no_true e)
 is_some_value (Some s) e = (s, refl)
@@ -132,9 +129,9 @@ same_or_more : (f g : Origin → Bool) (xs : List Origin) → ((o : Origin) → 
 same_or_more f g [] imp nowhere = inl (λ v e. nowhere e)
 same_or_more f g (x ∷ xs) imp nowhere =
     elim (same_or_more f g xs imp nowhere) [
-      | inl same ↦ elim (bool_cases (f x)) [
+      | inl same ↦ elim (yes_or_no (f x)) [
         | inl passes ↦ inl (same_at f g x xs (λ _. passes) same)
-        | inr fails ↦ elim (bool_cases (g x)) [
+        | inr fails ↦ elim (yes_or_no (g x)) [
           | inl more ↦ inr (more_at (f x) (g x) (count f xs) (count g xs) (count_le f g xs imp) fails more)
           | inr neither ↦ inl (same_at f g x xs (λ e. absurd (no_true (sym neither ∙ e))) same)
         ]

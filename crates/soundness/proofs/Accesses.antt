@@ -1,6 +1,8 @@
 -- Calls of gcread and gcwrite.
 use Rattle.std.proofs.Common.{◌≡◌, ℕ, List, [], ◌∷◌, length, refl, sym, ap, ◌∙◌, subst, true, false, Bool, Option, Some, None}
 use Rattle.std.specs.Prelude.{◌==◌, ◌&&◌, not, is_some}
+use Rattle.lemmas.specs.Numbers.{test_true}
+use Rattle.lemmas.specs.Bools.{and_parts}
 use Rattle.ir_ast.specs.declared.function.Function.{Function}
 use Rattle.ir_ast.specs.declared.items_of_module.Declare.{Declare}
 use Rattle.ir_ast.specs.declared.module.Module.{Module}
@@ -39,7 +41,6 @@ use Rattle.machine.specs.Log.{Log, IsFresh}
 use Rattle.machine.specs.Machine as mc
 use Rattle.soundness.specs.Meaning.{Cells, Guarded, Holds}
 use Rattle.soundness.proofs.KindLemmas.{pointer_same}
-use Rattle.soundness.proofs.Lists.{both, equal}
 use Rattle.soundness.specs.Goes.{Goes, HaveMembers}
 use Rattle.soundness.proofs.Callees.{two_parameters, three_parameters, read_types, read_declared, write_types, write_declared}
 use Rattle.soundness.proofs.WordReads.{read_goes}
@@ -76,7 +77,7 @@ no_constant m f written (operand.CastGlobal from symbol to) typed e some = refl
 access_place : (p : LaidOut) (f : Function) (table : SlotTable) (facts : FactSet) (written : ℕ) (x : Operand) → o.is_available table facts x ≡ true → o.is_typed p.of_module f written x ≡ true → o.is_current facts (o.known_of facts x) ≡ true → o.is_based facts x ≡ true
     → o.is_no_slot table x ≡ true → casts_operand p.of_module x ≡ true → is_any_reference (place_kind p.of_module written) ≡ true → IsPlace p f table facts written x
 access_place p f table facts written x k1 k2 k3 k4 k10 k19 type =
-    let k = both (not (o.is_null x)) (o.base_nonnull facts (o.known_of facts x)) k4 in
+    let k = and_parts (not (o.is_null x)) (o.base_nonnull facts (o.known_of facts x)) k4 in
     record { there = k1; typed = k2; current = k3; based = k.1; casts = k19; varies = no_constant p.of_module f written x k2 type k.0; no_slot = none_of (o.slot_named table x) k10 }
 
 module _ (heap : Setup) (p : LaidOut) (certs : List Section) (reaches : Bool) (f : Function) (table : SlotTable) (guarded : Guarded) (log : Log) (guards : (cell : ℕ) → guarded cell → IsFresh log cell) (fits : IsHeapFor heap p) (here : Standing) (cells : Cells) (facts : FactSet) (frame : Frame)
@@ -105,15 +106,15 @@ module _ (heap : Setup) (p : LaidOut) (certs : List Section) (reaches : Bool) (f
       → Goes heap p table frame.slots reaches guarded log (after_read_call p result (object ∷ place ∷ []) facts) (asked (object ∷ place ∷ []) runtime.GcRead) (behind (object ∷ place ∷ []) runtime.GcRead)
   read_pair object place declared e =
       let all = all_hold (read_conditions p f table here facts returned object place) e in
-      let k1 = both (o.is_available table facts object.operand) (o.is_available table facts place.operand) all.0 in
-      let k2 = both (o.is_value p.of_module f facts object.written object.operand && o.is_typed p.of_module f place.written place.operand && may_read p table facts place.operand) (is_written_as p.of_module returned (object ∷ place ∷ []) runtime.GcRead) all.1.0 in
-      let m = both (o.is_value p.of_module f facts object.written object.operand && o.is_typed p.of_module f place.written place.operand) (may_read p table facts place.operand) k2.0 in
-      let t = both (o.is_value p.of_module f facts object.written object.operand) (o.is_typed p.of_module f place.written place.operand) m.0 in
-      let k3 = both (o.is_current facts (o.known_of facts object.operand)) (o.is_current facts (o.known_of facts place.operand)) all.1.1.0 in
-      let k10 = both (o.is_no_slot table object.operand) (o.is_no_slot table place.operand) all.1.1.1.1.1.0 in
-      let w = both (is_runtime_type p.of_module returned types.Pointer) (is_runtime_type p.of_module object.written types.Pointer && (is_runtime_type p.of_module place.written types.PointerToPointer && true)) k2.1 in
-      let w2 = both (is_runtime_type p.of_module object.written types.Pointer) (is_runtime_type p.of_module place.written types.PointerToPointer && true) w.1 in
-      let w3 = both (is_runtime_type p.of_module place.written types.PointerToPointer) true w2.1 in
+      let k1 = and_parts (o.is_available table facts object.operand) (o.is_available table facts place.operand) all.0 in
+      let k2 = and_parts (o.is_value p.of_module f facts object.written object.operand && o.is_typed p.of_module f place.written place.operand && may_read p table facts place.operand) (is_written_as p.of_module returned (object ∷ place ∷ []) runtime.GcRead) all.1.0 in
+      let m = and_parts (o.is_value p.of_module f facts object.written object.operand && o.is_typed p.of_module f place.written place.operand) (may_read p table facts place.operand) k2.0 in
+      let t = and_parts (o.is_value p.of_module f facts object.written object.operand) (o.is_typed p.of_module f place.written place.operand) m.0 in
+      let k3 = and_parts (o.is_current facts (o.known_of facts object.operand)) (o.is_current facts (o.known_of facts place.operand)) all.1.1.0 in
+      let k10 = and_parts (o.is_no_slot table object.operand) (o.is_no_slot table place.operand) all.1.1.1.1.1.0 in
+      let w = and_parts (is_runtime_type p.of_module returned types.Pointer) (is_runtime_type p.of_module object.written types.Pointer && (is_runtime_type p.of_module place.written types.PointerToPointer && true)) k2.1 in
+      let w2 = and_parts (is_runtime_type p.of_module object.written types.Pointer) (is_runtime_type p.of_module place.written types.PointerToPointer && true) w.1 in
+      let w3 = and_parts (is_runtime_type p.of_module place.written types.PointerToPointer) true w2.1 in
       let s = access_place p f table facts place.written place.operand k1.1 t.1 k3.1 all.1.1.1.0 k10.1 all.1.1.1.1.1.1.1.0 w3.0 in
       read_by object place (read_declared p.of_module d declared) (read_types p.of_module returned object.written place.written w.0 w2.0 w3.0)
       (usable heap p certs reaches f table guarded log cells facts frame h object.written object.operand k1.0 t.0 (none_of (o.slot_named table object.operand) k10.0))
@@ -125,7 +126,7 @@ module _ (heap : Setup) (p : LaidOut) (certs : List Section) (reaches : Bool) (f
   pub gcread_goes : (arguments : List Argument) → is_declared_as p.of_module d runtime.GcRead ≡ true → (length arguments == 2) ≡ true → first_failing (read_call_conditions p f table here facts returned arguments) ≡ None
       → Goes heap p table frame.slots reaches guarded log (after_read_call p result arguments facts) (asked arguments runtime.GcRead) (behind arguments runtime.GcRead)
   gcread_goes arguments declared arity e =
-      let parts = two_parameters arguments (equal (length arguments) 2 arity) in
+      let parts = two_parameters arguments (test_true (length arguments) 2 arity) in
       subst (λ x. Goes heap p table frame.slots reaches guarded log (after_read_call p result x facts) (asked x runtime.GcRead) (behind x runtime.GcRead)) (sym parts.2)
       (read_pair parts.0 parts.1 declared (subst (λ x. first_failing (read_call_conditions p f table here facts returned x) ≡ None) parts.2 e))
 
@@ -146,22 +147,22 @@ module _ (heap : Setup) (p : LaidOut) (certs : List Section) (reaches : Bool) (f
       → Goes heap p table frame.slots reaches guarded log (after_write (stored ∷ object ∷ place ∷ []) facts) (asked (stored ∷ object ∷ place ∷ []) runtime.GcWrite) (behind (stored ∷ object ∷ place ∷ []) runtime.GcWrite)
   write_triple stored object place declared e =
       let all = all_hold (write_conditions p f table here facts returned stored object place) e in
-      let k1 = both (o.is_available table facts stored.operand && o.is_available table facts object.operand) (o.is_available table facts place.operand) all.0 in
-      let k1s = both (o.is_available table facts stored.operand) (o.is_available table facts object.operand) k1.0 in
-      let k2 = both (o.is_value p.of_module f facts stored.written stored.operand && o.is_value p.of_module f facts object.written object.operand && o.is_typed p.of_module f place.written place.operand && may_write p table facts stored.operand place.operand)
+      let k1 = and_parts (o.is_available table facts stored.operand && o.is_available table facts object.operand) (o.is_available table facts place.operand) all.0 in
+      let k1s = and_parts (o.is_available table facts stored.operand) (o.is_available table facts object.operand) k1.0 in
+      let k2 = and_parts (o.is_value p.of_module f facts stored.written stored.operand && o.is_value p.of_module f facts object.written object.operand && o.is_typed p.of_module f place.written place.operand && may_write p table facts stored.operand place.operand)
       (is_written_as p.of_module returned (stored ∷ object ∷ place ∷ []) runtime.GcWrite) all.1.0 in
-      let m = both (o.is_value p.of_module f facts stored.written stored.operand && o.is_value p.of_module f facts object.written object.operand && o.is_typed p.of_module f place.written place.operand) (may_write p table facts stored.operand place.operand) k2.0 in
-      let t = both (o.is_value p.of_module f facts stored.written stored.operand && o.is_value p.of_module f facts object.written object.operand) (o.is_typed p.of_module f place.written place.operand) m.0 in
-      let v = both (o.is_value p.of_module f facts stored.written stored.operand) (o.is_value p.of_module f facts object.written object.operand) t.0 in
-      let k3 = both (o.is_current facts (o.known_of facts stored.operand) && o.is_current facts (o.known_of facts object.operand)) (o.is_current facts (o.known_of facts place.operand)) all.1.1.0 in
-      let k3s = both (o.is_current facts (o.known_of facts stored.operand)) (o.is_current facts (o.known_of facts object.operand)) k3.0 in
-      let k10 = both (o.is_no_slot table stored.operand && o.is_no_slot table object.operand) (o.is_no_slot table place.operand) all.1.1.1.1.1.0 in
-      let k10s = both (o.is_no_slot table stored.operand) (o.is_no_slot table object.operand) k10.0 in
-      let w = both (is_runtime_type p.of_module returned types.Void)
+      let m = and_parts (o.is_value p.of_module f facts stored.written stored.operand && o.is_value p.of_module f facts object.written object.operand && o.is_typed p.of_module f place.written place.operand) (may_write p table facts stored.operand place.operand) k2.0 in
+      let t = and_parts (o.is_value p.of_module f facts stored.written stored.operand && o.is_value p.of_module f facts object.written object.operand) (o.is_typed p.of_module f place.written place.operand) m.0 in
+      let v = and_parts (o.is_value p.of_module f facts stored.written stored.operand) (o.is_value p.of_module f facts object.written object.operand) t.0 in
+      let k3 = and_parts (o.is_current facts (o.known_of facts stored.operand) && o.is_current facts (o.known_of facts object.operand)) (o.is_current facts (o.known_of facts place.operand)) all.1.1.0 in
+      let k3s = and_parts (o.is_current facts (o.known_of facts stored.operand)) (o.is_current facts (o.known_of facts object.operand)) k3.0 in
+      let k10 = and_parts (o.is_no_slot table stored.operand && o.is_no_slot table object.operand) (o.is_no_slot table place.operand) all.1.1.1.1.1.0 in
+      let k10s = and_parts (o.is_no_slot table stored.operand) (o.is_no_slot table object.operand) k10.0 in
+      let w = and_parts (is_runtime_type p.of_module returned types.Void)
       (is_runtime_type p.of_module stored.written types.Pointer && (is_runtime_type p.of_module object.written types.Pointer && (is_runtime_type p.of_module place.written types.PointerToPointer && true))) k2.1 in
-      let w1 = both (is_runtime_type p.of_module stored.written types.Pointer) (is_runtime_type p.of_module object.written types.Pointer && (is_runtime_type p.of_module place.written types.PointerToPointer && true)) w.1 in
-      let w2 = both (is_runtime_type p.of_module object.written types.Pointer) (is_runtime_type p.of_module place.written types.PointerToPointer && true) w1.1 in
-      let w3 = both (is_runtime_type p.of_module place.written types.PointerToPointer) true w2.1 in
+      let w1 = and_parts (is_runtime_type p.of_module stored.written types.Pointer) (is_runtime_type p.of_module object.written types.Pointer && (is_runtime_type p.of_module place.written types.PointerToPointer && true)) w.1 in
+      let w2 = and_parts (is_runtime_type p.of_module object.written types.Pointer) (is_runtime_type p.of_module place.written types.PointerToPointer && true) w1.1 in
+      let w3 = and_parts (is_runtime_type p.of_module place.written types.PointerToPointer) true w2.1 in
       let none = none_of (o.slot_named table stored.operand) k10s.0 in
       let s = access_place p f table facts place.written place.operand k1.1 t.1 k3.1 all.1.1.1.0 k10.1 all.1.1.1.1.1.1.1.0 w3.0 in
       write_by stored object place (write_declared p.of_module d declared) (write_types p.of_module returned stored.written object.written place.written w.0 w1.0 w2.0 w3.0)
@@ -175,6 +176,6 @@ module _ (heap : Setup) (p : LaidOut) (certs : List Section) (reaches : Bool) (f
   pub gcwrite_goes : (arguments : List Argument) → is_declared_as p.of_module d runtime.GcWrite ≡ true → (length arguments == 3) ≡ true → first_failing (write_call_conditions p f table here facts returned arguments) ≡ None
       → Goes heap p table frame.slots reaches guarded log (after_write arguments facts) (asked arguments runtime.GcWrite) (behind arguments runtime.GcWrite)
   gcwrite_goes arguments declared arity e =
-      let parts = three_parameters arguments (equal (length arguments) 3 arity) in
+      let parts = three_parameters arguments (test_true (length arguments) 3 arity) in
       subst (λ x. Goes heap p table frame.slots reaches guarded log (after_write x facts) (asked x runtime.GcWrite) (behind x runtime.GcWrite)) (sym parts.3)
       (write_triple parts.0 parts.1 parts.2 declared (subst (λ x. first_failing (write_call_conditions p f table here facts returned x) ≡ None) parts.3 e))

@@ -2,6 +2,8 @@
 use Rattle.std.proofs.Common.{◌≡◌, ℕ, List, [], ◌∷◌, length, refl, sym, ap, ◌∙◌, subst, arith, true, false, Bool, Option, Some, None, slice_get}
 use Rattle.std.specs.Prelude.{◌==◌, ◌&&◌, if◌then◌else◌, not}
 use Rattle.std.specs.List.{list_all, zip}
+use Rattle.lemmas.specs.Numbers.{test_true}
+use Rattle.lemmas.specs.Bools.{and_parts}
 use Rattle.ir_ast.specs.declared.function.Function.{Function}
 use Rattle.ir_ast.specs.declared.items_of_module.Declare.{Declare}
 use Rattle.ir_ast.specs.declared.items_of_module.SymbolSort.{SymbolSort}
@@ -16,7 +18,6 @@ use Rattle.block_rules.specs.Signature.{signature_of, is_runtime_type, is_of_typ
 use Rattle.block_rules.specs.RuntimeNames.{names_runtime}
 use Rattle.machine.specs.Asks as a
 use Rattle.soundness.proofs.KindLemmas.{bits_same, void_same, bytes_same, place_bytes_same}
-use Rattle.soundness.proofs.Lists.{both, equal}
 
 -- ---- which function a call is of
 
@@ -36,7 +37,7 @@ module _ (m : Module) (callee count : ℕ) (called : Runtime) where
     pick false t e = absurd cc
     pick true t e =
         let same : own ≡ called = cc in
-        let b = both (is_declared_as m declared own) (count == length (signature_of own).parameters) t in (
+        let b = and_parts (is_declared_as m declared own) (count == length (signature_of own).parameters) t in (
           record { declare = declared; is_declared = refl; types = subst (λ x. is_declared_as m declared x ≡ true) same b.0; arity = subst (λ x. (count == length (signature_of x).parameters) ≡ true) same b.1 },
           is ∙ ap Some same,
         )
@@ -103,7 +104,7 @@ module _ (m : Module) (callee count number : ℕ) where
               there = subst (λ n. slice_get m.functions n ≡ Some function) same at;
               named = ap a.number_of_sort is ∙ ap Some same;
               no_runtime = ap (runtime_of_sort m) is;
-              arity = (both (count == length function.parameters) (not (names_runtime (slice_get m.symbols callee))) t).0;
+              arity = (and_parts (count == length function.parameters) (not (names_runtime (slice_get m.symbols callee))) t).0;
             }
 
 -- ---- the types of the runtime's functions
@@ -137,10 +138,10 @@ module _ (m : Module) where
   -- so are those with which it is declared
   pub alloc_declared : (d : Declare) → is_declared_as m d runtime.Alloc ≡ true → a.are_alloc_types m d.returned d.parameters ≡ true
   alloc_declared d e =
-      let a = both (is_runtime_type m d.returned types.Pointer) ((length d.parameters == 1) && list_all (is_of_type m) (zip d.parameters (types.Number ∷ []))) e in
-      let b = both (length d.parameters == 1) (list_all (is_of_type m) (zip d.parameters (types.Number ∷ []))) a.1 in
-      let p = one_parameter d.parameters (equal (length d.parameters) 1 b.0) in
-      let c = both (is_runtime_type m p.0 types.Number) true (subst (λ x. list_all (is_of_type m) (zip x (types.Number ∷ [])) ≡ true) p.1 b.1) in
+      let a = and_parts (is_runtime_type m d.returned types.Pointer) ((length d.parameters == 1) && list_all (is_of_type m) (zip d.parameters (types.Number ∷ []))) e in
+      let b = and_parts (length d.parameters == 1) (list_all (is_of_type m) (zip d.parameters (types.Number ∷ []))) a.1 in
+      let p = one_parameter d.parameters (test_true (length d.parameters) 1 b.0) in
+      let c = and_parts (is_runtime_type m p.0 types.Number) true (subst (λ x. list_all (is_of_type m) (zip x (types.Number ∷ [])) ≡ true) p.1 b.1) in
       rw p.1 (alloc_types d.returned p.0 a.0 c.0)
 
   -- the types of gcroot are those of the machine
@@ -151,12 +152,12 @@ module _ (m : Module) where
   pub root_declared : (d : Declare) → is_declared_as m d runtime.GcRoot ≡ true → a.are_gcroot_types m d.returned d.parameters ≡ true
   root_declared d e =
       let expected = types.PointerToPointer ∷ types.Pointer ∷ [] in
-      let a = both (is_runtime_type m d.returned types.Void) ((length d.parameters == 2) && list_all (is_of_type m) (zip d.parameters expected)) e in
-      let b = both (length d.parameters == 2) (list_all (is_of_type m) (zip d.parameters expected)) a.1 in
-      let p = two_parameters d.parameters (equal (length d.parameters) 2 b.0) in
+      let a = and_parts (is_runtime_type m d.returned types.Void) ((length d.parameters == 2) && list_all (is_of_type m) (zip d.parameters expected)) e in
+      let b = and_parts (length d.parameters == 2) (list_all (is_of_type m) (zip d.parameters expected)) a.1 in
+      let p = two_parameters d.parameters (test_true (length d.parameters) 2 b.0) in
       let all = subst (λ x. list_all (is_of_type m) (zip x expected) ≡ true) p.2 b.1 in
-      let c = both (is_runtime_type m p.0 types.PointerToPointer) (is_runtime_type m p.1 types.Pointer && true) all in
-      let g = both (is_runtime_type m p.1 types.Pointer) true c.1 in
+      let c = and_parts (is_runtime_type m p.0 types.PointerToPointer) (is_runtime_type m p.1 types.Pointer && true) all in
+      let g = and_parts (is_runtime_type m p.1 types.Pointer) true c.1 in
       rw p.2 (root_types d.returned p.0 p.1 a.0 c.0 g.0)
 
   -- the types of gcread are those of the machine
@@ -167,12 +168,12 @@ module _ (m : Module) where
   pub read_declared : (d : Declare) → is_declared_as m d runtime.GcRead ≡ true → a.are_gcread_types m d.returned d.parameters ≡ true
   read_declared d e =
       let expected = types.Pointer ∷ types.PointerToPointer ∷ [] in
-      let a = both (is_runtime_type m d.returned types.Pointer) ((length d.parameters == 2) && list_all (is_of_type m) (zip d.parameters expected)) e in
-      let b = both (length d.parameters == 2) (list_all (is_of_type m) (zip d.parameters expected)) a.1 in
-      let p = two_parameters d.parameters (equal (length d.parameters) 2 b.0) in
+      let a = and_parts (is_runtime_type m d.returned types.Pointer) ((length d.parameters == 2) && list_all (is_of_type m) (zip d.parameters expected)) e in
+      let b = and_parts (length d.parameters == 2) (list_all (is_of_type m) (zip d.parameters expected)) a.1 in
+      let p = two_parameters d.parameters (test_true (length d.parameters) 2 b.0) in
       let all = subst (λ x. list_all (is_of_type m) (zip x expected) ≡ true) p.2 b.1 in
-      let c = both (is_runtime_type m p.0 types.Pointer) (is_runtime_type m p.1 types.PointerToPointer && true) all in
-      let g = both (is_runtime_type m p.1 types.PointerToPointer) true c.1 in
+      let c = and_parts (is_runtime_type m p.0 types.Pointer) (is_runtime_type m p.1 types.PointerToPointer && true) all in
+      let g = and_parts (is_runtime_type m p.1 types.PointerToPointer) true c.1 in
       rw p.2 (read_types d.returned p.0 p.1 a.0 c.0 g.0)
 
   -- the types of gcwrite are those of the machine
@@ -184,11 +185,11 @@ module _ (m : Module) where
   pub write_declared : (d : Declare) → is_declared_as m d runtime.GcWrite ≡ true → a.are_gcwrite_types m d.returned d.parameters ≡ true
   write_declared d e =
       let expected = types.Pointer ∷ types.Pointer ∷ types.PointerToPointer ∷ [] in
-      let a = both (is_runtime_type m d.returned types.Void) ((length d.parameters == 3) && list_all (is_of_type m) (zip d.parameters expected)) e in
-      let b = both (length d.parameters == 3) (list_all (is_of_type m) (zip d.parameters expected)) a.1 in
-      let p = three_parameters d.parameters (equal (length d.parameters) 3 b.0) in
+      let a = and_parts (is_runtime_type m d.returned types.Void) ((length d.parameters == 3) && list_all (is_of_type m) (zip d.parameters expected)) e in
+      let b = and_parts (length d.parameters == 3) (list_all (is_of_type m) (zip d.parameters expected)) a.1 in
+      let p = three_parameters d.parameters (test_true (length d.parameters) 3 b.0) in
       let all = subst (λ x. list_all (is_of_type m) (zip x expected) ≡ true) p.3 b.1 in
-      let c = both (is_runtime_type m p.0 types.Pointer) (is_runtime_type m p.1 types.Pointer && (is_runtime_type m p.2 types.PointerToPointer && true)) all in
-      let g = both (is_runtime_type m p.1 types.Pointer) (is_runtime_type m p.2 types.PointerToPointer && true) c.1 in
-      let k = both (is_runtime_type m p.2 types.PointerToPointer) true g.1 in
+      let c = and_parts (is_runtime_type m p.0 types.Pointer) (is_runtime_type m p.1 types.Pointer && (is_runtime_type m p.2 types.PointerToPointer && true)) all in
+      let g = and_parts (is_runtime_type m p.1 types.Pointer) (is_runtime_type m p.2 types.PointerToPointer && true) c.1 in
+      let k = and_parts (is_runtime_type m p.2 types.PointerToPointer) true g.1 in
       rw p.3 (write_types d.returned p.0 p.1 p.2 a.0 c.0 g.0 k.0)

@@ -2,6 +2,8 @@
 use Rattle.std.proofs.Common.{◌≡◌, ◌≢◌, ℕ, List, [], ◌∷◌, length, refl, sym, ap, ◌∙◌, subst, arith, true, false, Bool, Option, Some, None, inl, inr}
 use Rattle.std.specs.Prelude.{◌==◌, ◌⊎◌}
 use Rattle.std.specs.List.{list_all, zip}
+use Rattle.lemmas.specs.Numbers.{test_true}
+use Rattle.lemmas.specs.Bools.{and_parts}
 use Rattle.ir_ast.specs.declared.function.Function.{Function}
 use Rattle.ir_ast.specs.declared.function.Parameter.{Parameter}
 use Rattle.ir_ast.specs.declared.op.Argument.{Argument}
@@ -29,7 +31,6 @@ use Rattle.machine.specs.Kinds.{value_of}
 use Rattle.machine.specs.Machine.{values_of}
 use Rattle.machine.specs.Log.{Log, IsFresh, RefersToCell}
 use Rattle.soundness.specs.Meaning.{Cells, Guarded, IsOwn, IsNullOrFresh, AreApart, Holds}
-use Rattle.soundness.proofs.Lists.{both, equal}
 use Rattle.soundness.proofs.Named.{IsNamed, named_cells, by_named, named_keeps}
 use Rattle.soundness.proofs.PhiFacts.{drop_one, drop_of_values, drop_of_keeps}
 use Rattle.soundness.proofs.Stale.{IsStill, stale_cells, stale_keeps, stale_still, stale_unfresh}
@@ -152,10 +153,10 @@ module _ (heap : Setup) (p : LaidOut) (certs : List Section) (f : Function) (tab
   pub all_pass : (arguments : List Argument) → all_available table facts arguments ≡ true → all_values p.of_module f facts arguments ≡ true → all_current facts arguments ≡ true → no_slots table arguments ≡ true → AllPass arguments
   all_pass [] k1 k2 k3 k10 = tt
   all_pass (argument ∷ arguments) k1 k2 k3 k10 =
-      let a = both (o.is_available table facts argument.operand) (all_available table facts arguments) k1 in
-      let b = both (o.is_value p.of_module f facts argument.written argument.operand) (all_values p.of_module f facts arguments) k2 in
-      let c = both (o.is_current facts (o.known_of facts argument.operand)) (all_current facts arguments) k3 in
-      let d = both (o.is_no_slot table argument.operand) (no_slots table arguments) k10 in
+      let a = and_parts (o.is_available table facts argument.operand) (all_available table facts arguments) k1 in
+      let b = and_parts (o.is_value p.of_module f facts argument.written argument.operand) (all_values p.of_module f facts arguments) k2 in
+      let c = and_parts (o.is_current facts (o.known_of facts argument.operand)) (all_current facts arguments) k3 in
+      let d = and_parts (o.is_no_slot table argument.operand) (no_slots table arguments) k10 in
       (record { there = a.0; typed = b.0; current = c.0; no_slot = none_of (o.slot_named table argument.operand) d.0 }, all_pass arguments a.1 b.1 c.1 d.1)
 
   -- the machine lets them pass
@@ -165,7 +166,7 @@ module _ (heap : Setup) (p : LaidOut) (certs : List Section) (f : Function) (tab
   machine_pass [] (argument ∷ arguments) all same written = absurd (omega (arith, same))
   machine_pass (parameter ∷ parameters) [] all same written = absurd (omega (arith, same))
   machine_pass (parameter ∷ parameters) (argument ∷ arguments) all same written =
-      let b = both (argument.written == parameter.written) (list_all is_written_for (zip arguments parameters)) written in
+      let b = and_parts (argument.written == parameter.written) (list_all is_written_for (zip arguments parameters)) written in
       rw (
         b.0,
         usable heap p certs false f table guarded log cells facts frame h argument.written argument.operand all.0.there all.0.typed all.0.no_slot,
@@ -204,21 +205,21 @@ module _ (heap : Setup) (p : LaidOut) (certs : List Section) (f : Function) (tab
   all_given arguments [] promises (argument ∷ rest) all none same written shown = absurd (omega (arith, same))
   all_given arguments (parameter ∷ parameters) promises [] all none same written shown = absurd (omega (arith, same))
   all_given arguments (parameter ∷ parameters) [] (argument ∷ rest) all none same written shown =
-      let b = both (argument.written == parameter.written) (list_all is_written_for (zip rest parameters)) written in
+      let b = and_parts (argument.written == parameter.written) (list_all is_written_for (zip rest parameters)) written in
       let first = value_given heap p certs f table guarded log cells facts frame h argument.written (Waiting arguments) argument.operand None
       (λ c l is own. may_give arguments argument.operand (λ d fr. (none d fr).0) c l is (cells c) refl own) all.0 refl in (
-        subst (λ t. IsGiven heap (Waiting arguments) log (given_by (kind_of p.of_module t)) None (value_of p.of_module frame.registers argument.written argument.operand)) (equal argument.written parameter.written b.0) first,
+        subst (λ t. IsGiven heap (Waiting arguments) log (given_by (kind_of p.of_module t)) None (value_of p.of_module frame.registers argument.written argument.operand)) (test_true argument.written parameter.written b.0) first,
         all_given arguments parameters [] rest all.1 (λ c fr. (none c fr).1) (omega (arith, same)) b.1 (no_promises rest),
       ) where
         no_promises : (rest : List Argument) → list_all (shows_promise facts) (zip rest []) ≡ true
         no_promises [] = refl
         no_promises (argument ∷ rest) = refl
   all_given arguments (parameter ∷ parameters) (promise ∷ promises) (argument ∷ rest) all none same written shown =
-      let b = both (argument.written == parameter.written) (list_all is_written_for (zip rest parameters)) written in
-      let s = both (keeps_promise facts promise argument.operand) (show_promises facts rest promises) shown in
+      let b = and_parts (argument.written == parameter.written) (list_all is_written_for (zip rest parameters)) written in
+      let s = and_parts (keeps_promise facts promise argument.operand) (show_promises facts rest promises) shown in
       let first = value_given heap p certs f table guarded log cells facts frame h argument.written (Waiting arguments) argument.operand promise
       (λ c l is own. may_give arguments argument.operand (λ d fr. (none d fr).0) c l is (cells c) refl own) all.0 s.0 in (
-        subst (λ t. IsGiven heap (Waiting arguments) log (given_by (kind_of p.of_module t)) promise (value_of p.of_module frame.registers argument.written argument.operand)) (equal argument.written parameter.written b.0) first,
+        subst (λ t. IsGiven heap (Waiting arguments) log (given_by (kind_of p.of_module t)) promise (value_of p.of_module frame.registers argument.written argument.operand)) (test_true argument.written parameter.written b.0) first,
         all_given arguments parameters promises rest all.1 (λ c fr. (none c fr).1) (omega (arith, same)) b.1 s.1,
       )
 

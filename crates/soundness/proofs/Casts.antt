@@ -1,6 +1,9 @@
 -- Bitcasts.
 use Rattle.std.proofs.Common.{◌≡◌, ◌≢◌, ℕ, ◌<◌, ◌^◌, length, map, refl, sym, ap, ◌∙◌, subst, arith, true, false, Bool, Option, Some, None, slice_set, List}
 use Rattle.std.specs.Prelude.{◌==◌, ◌||◌, if◌then◌else◌}
+use Rattle.lemmas.specs.Lists.{at_map}
+use Rattle.lemmas.specs.Numbers.{test_true, test_false}
+use Rattle.lemmas.specs.Bools.{and_parts, or_first}
 use Rattle.ir_ast.specs.declared.function.Function.{Function}
 use Rattle.ir_ast.specs.declared.op.Op.TheVariants.{Bitcast}
 use Rattle.ir_ast.specs.declared.operand.Constant.{Constant}
@@ -34,9 +37,9 @@ use Rattle.machine.specs.Kinds.{register_at, wrapped, bits_at, value_of, constan
 use Rattle.machine.specs.Machine as mc
 use Rattle.machine.specs.Log.{Log}
 use Rattle.soundness.specs.Meaning.{Cells, Guarded, IsReferenceTo, IsOwn, IsAddressOf, IsGlobal, AreApart, Means, Holds}
-use Rattle.soundness.proofs.Lists.{both, either_true, equal, at_other, at_map}
+use Rattle.soundness.proofs.Lists.{at_other}
 use Rattle.soundness.proofs.KindLemmas.{refers_same, leads_same, constant_passes, bits_are}
-use Rattle.soundness.proofs.Keep.{Beside, unequal, forget_cell, off_cell, without_same, means_without, known_within}
+use Rattle.soundness.proofs.Keep.{Beside, forget_cell, off_cell, without_same, means_without, known_within}
 use Rattle.soundness.proofs.Change.{apart_turned, define_keeps, define_plain, new_keeps}
 use Rattle.machine.specs.WrappedFits.{wrapped_fits}
 use Rattle.soundness.proofs.Edges.{wrapped_le}
@@ -89,7 +92,7 @@ module _ (heap : Setup) (p : LaidOut) (certs : List Section) (reaches : Bool) (f
 
     constant_keeps : (v : ℕ) (x : Constant) → c.may_cast p table facts from to (operand.Constant x) ≡ true
         → (more : Cells) × Holds heap p table guarded log more (c.cast_constant p.of_module v from to x facts) (slice_set frame.registers v (constant_value p.of_module from x)) frame.slots
-    constant_keeps v (constant.Number n) k19 = (cells, number_keeps v n (equal from to (first_holds (from == to) k19)))
+    constant_keeps v (constant.Number n) k19 = (cells, number_keeps v n (test_true from to (first_holds (from == to) k19)))
     constant_keeps v (constant.Truth b) k19 = (cells, define_plain heap p table guarded log cells facts frame.registers frame.slots h v Nothing value.Unset (λ d l s e. cc) tt)
     constant_keeps v constant.Null k19 = null_keeps v (c.layout_of_null (kind_of p.of_module from) (kind_of p.of_module to))
 
@@ -124,16 +127,16 @@ module _ (heap : Setup) (p : LaidOut) (certs : List Section) (reaches : Bool) (f
     reference_casts : (layout : ℕ) (v : Value) → IsReferenceTo heap layout v → fits_layout layout (kind_of p.of_module to) ≡ true → a.may_cast_value p from to v ≡ true
     reference_casts layout value.Unset r e = absurd r
     reference_casts layout (value.Number n) r e = absurd r
-    reference_casts layout value.Null r e = either_true (k.may_refer p.of_module to) _ (sym (refers_same p.of_module to) ∙ layout_refers p.of_module layout (kind_of p.of_module to) e)
+    reference_casts layout value.Null r e = or_first (k.may_refer p.of_module to) _ (sym (refers_same p.of_module to) ∙ layout_refers p.of_module layout (kind_of p.of_module to) e)
     reference_casts layout (value.Cell own at) r e = part_refers p.of_module own to (subst (λ l. fits_layout l (kind_of p.of_module to) ≡ true) (sym r.0) e)
     reference_casts layout (value.Address at) r e = absurd r
 
     address_casts : (layout : ℕ) (words : WordSet) (base v : Value) → IsReferenceTo heap layout base → IsAddressOf p words.members base v → c.casts_words p.layouts layout words (place_kind p.of_module to) ≡ true → a.may_cast_value p from to v ≡ true
     address_casts layout words value.Unset v r is e = absurd r
     address_casts layout words (value.Number n) v r is e = absurd r
-    address_casts layout words value.Null v r is e = ap (a.may_cast_value p from to) is ∙ sym (leads_same p.of_module to) ∙ (both (may_be_reference (place_kind p.of_module to)) _ e).0
+    address_casts layout words value.Null v r is e = ap (a.may_cast_value p from to) is ∙ sym (leads_same p.of_module to) ∙ (and_parts (may_be_reference (place_kind p.of_module to)) _ e).0
     address_casts layout words (value.Cell own at) v r is e =
-        let b = both (may_be_reference (place_kind p.of_module to)) (each_word (wanted_by_load (place_kind p.of_module to) (first_layout p.layouts layout words cell_words)) p.layouts layout words) e in
+        let b = and_parts (may_be_reference (place_kind p.of_module to)) (each_word (wanted_by_load (place_kind p.of_module to) (first_layout p.layouts layout words cell_words)) p.layouts layout words) e in
         let w = holds_as_asked heap p table guarded log cells facts frame.registers frame.slots fits h (wanted_by_load (place_kind p.of_module to) (first_layout p.layouts layout words cell_words)) layout is.0 words is.3 is.2 b.1 in
         ap (a.may_cast_value p from to) is.1 ∙ ap (λ l. k.may_cast_word p.of_module to (kind_of_word p.layouts l is.0)) r.0 ∙ word_casts p.of_module to (place_kind p.of_module to) (first_layout p.layouts layout words cell_words) (kind_of_word p.layouts layout is.0) refl w b.0
     address_casts layout words (value.Address at) v r is e = absurd r
@@ -147,7 +150,7 @@ module _ (heap : Setup) (p : LaidOut) (certs : List Section) (reaches : Bool) (f
     known_casts Nothing v means is e = absurd cc
     known_casts (Number bits below) v means is e = absurd cc
     known_casts (Cell d l s) v means is e = reference_casts l v means.refers e
-    known_casts Null v means is e = ap (a.may_cast_value p from to) means ∙ either_true (k.may_refer p.of_module to) _ (sym (refers_same p.of_module to) ∙ e)
+    known_casts Null v means is e = ap (a.may_cast_value p from to) means ∙ or_first (k.may_refer p.of_module to) _ (sym (refers_same p.of_module to) ∙ e)
     known_casts (Address base words) v means is e =
         let b = base_is heap p certs reaches f table guarded log cells facts frame h base (known_at facts.values base) refl is in
         let member = known_within heap p table guarded log cells facts frame.registers frame.slots h base b.0 b.1 b.2 b.3 in
@@ -187,9 +190,9 @@ module _ (heap : Setup) (p : LaidOut) (certs : List Section) (reaches : Bool) (f
 
           -- what is named as itself stays
           named_so : (v : ℕ) (b : Bool) → (u == v) ≡ b → Holds heap p table guarded log cells (if b then facts else define v (off_base v (known_at facts.values u)) facts) (slice_set frame.registers v (register_at frame.registers u)) frame.slots
-          named_so v true e = subst (λ w. Holds heap p table guarded log cells facts (slice_set frame.registers w (register_at frame.registers u)) frame.slots) (equal u v e)
+          named_so v true e = subst (λ w. Holds heap p table guarded log cells facts (slice_set frame.registers w (register_at frame.registers u)) frame.slots) (test_true u v e)
               (subst (λ xs. Holds heap p table guarded log cells facts xs frame.slots) (sym (same_written frame.registers u value.Unset)) h)
-          named_so v false e = copy_keeps u v (unequal u v e)
+          named_so v false e = copy_keeps u v (test_false u v e)
 
           kept : (result : Option ℕ) → (more : Cells) × Holds heap p table guarded log more (after_op p certs table result (Bitcast from (operand.Local u) to) facts) (mc.set_register result (register_at frame.registers u) frame).registers (mc.set_register result (register_at frame.registers u) frame).slots
           kept None = (cells, h)

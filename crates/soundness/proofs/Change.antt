@@ -2,6 +2,8 @@
 use Rattle.std.proofs.Common.{◌≡◌, ◌≢◌, ℕ, zero, suc, ◌<◌, List, [], ◌∷◌, ◌++◌, length, get_or, refl, sym, ap, ◌∙◌, subst, arith, true, false, Bool, slice_set, inl, inr}
 use Rattle.std.proofs.lemmas.List.{length-set}
 use Rattle.std.specs.Prelude.{◌==◌, ◌||◌, ◌⊎◌, if◌then◌else◌}
+use Rattle.lemmas.specs.Numbers.{test_true, test_yes}
+use Rattle.lemmas.specs.Bools.{or_parts}
 use Rattle.pools.specs.Heap.{Setup}
 use Rattle.layout.specs.Layouts.{LaidOut}
 use Rattle.shadow_stack.specs.Slots.{SlotTable}
@@ -14,7 +16,7 @@ use Rattle.machine.specs.declared.value.Value.TheVariants as value
 use Rattle.machine.specs.Machine.{slot_value}
 use Rattle.machine.specs.Log.{Log}
 use Rattle.soundness.specs.Meaning.{Cells, Guarded, IsReferenceTo, IsOwn, AreApart, IsMember, Means, ClassMeans, Holds}
-use Rattle.soundness.proofs.Lists.{at_set, at_old, at_end, longer, got_set, equal, equal_test, either}
+use Rattle.soundness.proofs.Lists.{at_set, at_old, at_end, longer, got_set}
 use Rattle.soundness.proofs.Keep.{forget_cell, forget_keeps, put_keeps, Beside, plain_beside, classes_keep, known_within}
 
 -- a class more, with this value
@@ -24,11 +26,11 @@ extend cells n v c = if c == n then v else cells c
 pub extend_old : (cells : Cells) (n : ℕ) (v : Value) (c : ℕ) → c < n → extend cells n v c ≡ cells c
 extend_old cells n v c lt = pick (c == n) refl where
   pick : (b : Bool) → (c == n) ≡ b → (if b then v else cells c) ≡ cells c
-  pick true e = let z = equal c n e in absurd (omega arith)
+  pick true e = let z = test_true c n e in absurd (omega arith)
   pick false e = refl
 
 pub extend_new : (cells : Cells) (n : ℕ) (v : Value) → extend cells n v n ≡ v
-extend_new cells n v = rw (equal_test n n refl) refl
+extend_new cells n v = rw (test_yes n n refl) refl
 
 -- a property of the elements of a list with one more
 pub at_more : {X : Type 0} (P : ℕ → X → Type 0) (xs : List X) (y d : X) (j : ℕ) → (j < length xs → P j (get_or xs j d)) → (j ≡ length xs → P j y) → P j d → P j (get_or (xs ++ y ∷ []) j d)
@@ -79,7 +81,7 @@ module _ (heap : Setup) (p : LaidOut) (table : SlotTable) (guarded : Guarded) (l
   learn_keeps c nonnull known = classes_keep heap p table guarded log cells facts registers slots h cells (slice_set facts.classes c class)
       (omega (arith, length-set facts.classes c class)) (λ d lt. refl)
       (λ d. at_set (λ x. ClassMeans log x (cells d)) facts.classes c d class lost_class
-      (λ e lt. subst (λ y. ClassMeans log class (cells y)) e (record { nonnull = λ z. by (either (class_at facts.classes c).nonnull nonnull z); fresh = (h.classes c).fresh }))
+      (λ e lt. subst (λ y. ClassMeans log class (cells y)) e (record { nonnull = λ z. by (or_parts (class_at facts.classes c).nonnull nonnull z); fresh = (h.classes c).fresh }))
       (λ ne. h.classes d) (record { nonnull = λ z. absurd cc; fresh = λ z. absurd cc }))
       (λ d lt. at_set (λ x. x.fresh ≡ true → (class_at facts.classes d).fresh ≡ true) facts.classes c d class lost_class (λ e lt z. subst (λ y. (class_at facts.classes y).fresh ≡ true) e z) (λ ne z. z) (λ z. absurd cc)) where
         class : Class

@@ -1,6 +1,8 @@
 -- The choice between two values.
 use Rattle.std.proofs.Common.{◌≡◌, ◌≢◌, ℕ, length, refl, sym, ap, ◌∙◌, subst, true, false, Bool, Option, Some, None, slice_set, List}
 use Rattle.std.specs.Prelude.{◌==◌, ◌&&◌, if◌then◌else◌}
+use Rattle.lemmas.specs.Numbers.{test_true, test_yes}
+use Rattle.lemmas.specs.Bools.{and_parts, or_second, or_first}
 use Rattle.ir_ast.specs.declared.function.Function.{Function}
 use Rattle.ir_ast.specs.declared.op.Op.TheVariants.{Select}
 use Rattle.ir_ast.specs.declared.operand.Constant.TheVariants as constant
@@ -29,7 +31,6 @@ use Rattle.machine.specs.Kinds.{register_at, number_in, value_of}
 use Rattle.machine.specs.Machine as mc
 use Rattle.machine.specs.Log.{Log}
 use Rattle.soundness.specs.Meaning.{Cells, Guarded, IsReferenceTo, IsBelow, IsInteger, AreApart, Means, FitsReference, Holds}
-use Rattle.soundness.proofs.Lists.{both, either_true, other_true, equal, equal_test}
 use Rattle.soundness.proofs.KindLemmas.{bits_same}
 use Rattle.soundness.proofs.Change.{apart_turned}
 use Rattle.soundness.proofs.PhiFacts.{drop_one, drop_of_values, drop_of_keeps}
@@ -42,7 +43,7 @@ use Rattle.soundness.proofs.Sums.{defines, numbers_usable, references_usable}
 -- a kind that passes as one of some bits is it
 bits_are_so : (n : ℕ) (x : TypeKind) → is_bits n x ≡ true → x ≡ Bits n
 bits_are_so n NoValue e = absurd cc
-bits_are_so n (Bits bits) e = ap Bits (equal bits n e)
+bits_are_so n (Bits bits) e = ap Bits (test_true bits n e)
 bits_are_so n (Reference l) e = absurd cc
 bits_are_so n AnyReference e = absurd cc
 bits_are_so n AddressKind e = absurd cc
@@ -60,7 +61,7 @@ module _ (heap : Setup) (guarded : Guarded) (log : Log) where
   other_fits (Some l) chosen other v e h = h
   other_fits None None other v e h = h
   other_fits None (Some l) None v e h = null_fits heap guarded log (Some l) v h
-  other_fits None (Some l) (Some m) v e h = subst (λ x. FitsReference heap guarded log (Some x) v) (sym (equal l m e)) h
+  other_fits None (Some l) (Some m) v e h = subst (λ x. FitsReference heap guarded log (Some x) v) (sym (test_true l m e)) h
 
   -- two such values are of one layout
   stand_beside : (layout : Option ℕ) (v w : Value) → FitsReference heap guarded log layout v → FitsReference heap guarded log layout w → k.are_of_one_layout v w ≡ true
@@ -78,7 +79,7 @@ module _ (heap : Setup) (guarded : Guarded) (log : Log) where
     by (value.Cell m at) value.Unset a b = absurd b
     by (value.Cell m at) (value.Number n) a b = absurd b
     by (value.Cell m at) value.Null a b = refl
-    by (value.Cell m at) (value.Cell n there) a b = equal_test n m (b.0 ∙ sym a.0)
+    by (value.Cell m at) (value.Cell n there) a b = test_yes n m (b.0 ∙ sym a.0)
     by (value.Cell m at) (value.Address x) a b = absurd b
 
 module _ (heap : Setup) (p : LaidOut) (certs : List Section) (reaches : Bool) (f : Function) (table : SlotTable) (guarded : Guarded) (log : Log) (cells : Cells) (facts : FactSet) (frame : Frame) (h : Holds heap p table guarded log cells facts frame.registers frame.slots) where
@@ -95,7 +96,7 @@ module _ (heap : Setup) (p : LaidOut) (certs : List Section) (reaches : Bool) (f
   known_fits kind (Cell c l true) v e means is fits current = absurd cc
   known_fits NoValue (Cell c l false) v e means is fits current = absurd cc
   known_fits (Bits m) (Cell c l false) v e means is fits current = absurd cc
-  known_fits (Reference m) (Cell c l false) v e means is fits current = (subst (λ x. IsReferenceTo heap x v) (sym (equal m l fits)) means.refers, means.own refl)
+  known_fits (Reference m) (Cell c l false) v e means is fits current = (subst (λ x. IsReferenceTo heap x v) (sym (test_true m l fits)) means.refers, means.own refl)
   known_fits AnyReference (Cell c l false) v e means is fits current = (means.refers, means.own refl)
   known_fits AddressKind (Cell c l false) v e means is fits current = absurd cc
   known_fits Other (Cell c l false) v e means is fits current = absurd cc
@@ -113,11 +114,11 @@ module _ (heap : Setup) (p : LaidOut) (certs : List Section) (reaches : Bool) (f
   -- an operand of a choice of references fits its layout
   operand_fits : (written : ℕ) (x : Operand) → may_be_reference (kind_of p.of_module written) ≡ true → IsChoice written x
       → FitsReference heap guarded log (r.or_else (layout_of_kind (kind_of p.of_module written)) (r.known_layout (o.known_of facts x))) (value_of p.of_module frame.registers written x)
-  operand_fits written (operand.Constant (constant.Number n)) e i = absurd (no_number n (kind_of p.of_module written) (both (o.fits_bits n (kind_of p.of_module written)) true i.typed).0 e)
+  operand_fits written (operand.Constant (constant.Number n)) e i = absurd (no_number n (kind_of p.of_module written) (and_parts (o.fits_bits n (kind_of p.of_module written)) true i.typed).0 e)
   operand_fits written (operand.Constant (constant.Truth b)) e i = absurd (let t = i.typed in cc)
   operand_fits written (operand.Constant constant.Null) e i = null_fits heap guarded log _ value.Null refl
   operand_fits written (operand.Local u) e i =
-      let b = both (has_type p.of_module f written u) (o.known_fits (kind_of p.of_module written) (known_at facts.values u)) i.typed in
+      let b = and_parts (has_type p.of_module f written u) (o.known_fits (kind_of p.of_module written) (known_at facts.values u)) i.typed in
       known_fits (kind_of p.of_module written) (known_at facts.values u) (register_at frame.registers u) e (h.values u) (available heap p certs reaches f table guarded log cells facts frame h u i.no_slot i.there) b.1 i.current
   operand_fits written (operand.Global g) e i = absurd (no_value _ i.typed)
   operand_fits written (operand.CastGlobal x y z) e i = absurd (no_value _ i.typed)
@@ -131,7 +132,7 @@ module _ (heap : Setup) (p : LaidOut) (certs : List Section) (reaches : Bool) (f
   operand_apart written (operand.Global g) i w d l s is fr other = absurd (no_value _ i.typed)
   operand_apart written (operand.CastGlobal x y z) i w d l s is fr other = absurd (no_value _ i.typed)
   operand_apart written (operand.Local u) i w d l s is fr other =
-      let b = both (has_type p.of_module f written u) (o.known_fits (kind_of p.of_module written) (known_at facts.values u)) i.typed in
+      let b = and_parts (has_type p.of_module f written u) (o.known_fits (kind_of p.of_module written) (known_at facts.values u)) i.typed in
       by (known_at facts.values u) refl (h.values u) (available heap p certs reaches f table guarded log cells facts frame h u i.no_slot i.there) b.1 i.current where
         by : (known : Known) → known_at facts.values u ≡ known → Means heap p guarded log cells (length facts.classes) frame.registers known (register_at frame.registers u) → o.is_known facts known ≡ true → o.known_fits (kind_of p.of_module written) known ≡ true → o.is_current facts known ≡ true
             → AreApart (cells d) (register_at frame.registers u)
@@ -164,7 +165,7 @@ module _ (heap : Setup) (p : LaidOut) (certs : List Section) (reaches : Bool) (f
   reference_chosen v written chosen other e a b one first =
       held_keeps heap p certs reaches f table guarded log cells (drop_fresh_of (o.known_of facts other) rest) frame stands v (r.chosen_layout (kind_of p.of_module written) (o.known_of facts chosen) (o.known_of facts other))
       (o.is_nonnull facts (o.known_of facts chosen) && o.is_nonnull facts (o.known_of facts other)) (given first) (λ l is. subst (λ x. FitsReference heap guarded log x (given first)) is (fits first))
-      (λ z. nonnull first (both (o.is_nonnull facts (o.known_of facts chosen)) (o.is_nonnull facts (o.known_of facts other)) z)) (λ w d l s is fr. apart first w d l s (values w d l s is) (drop_one (o.known_of facts other) rest d fr)) where
+      (λ z. nonnull first (and_parts (o.is_nonnull facts (o.known_of facts chosen)) (o.is_nonnull facts (o.known_of facts other)) z)) (λ w d l s is fr. apart first w d l s (values w d l s is) (drop_one (o.known_of facts other) rest d fr)) where
         -- where the one that is chosen is fresh no more
         rest : FactSet
         rest = drop_fresh_of (o.known_of facts chosen) facts
@@ -199,14 +200,14 @@ module _ (heap : Setup) (p : LaidOut) (certs : List Section) (reaches : Bool) (f
   select_goes result condition_type condition written chosen other k1 bit k2 none may x y one =
       goes_local heap p table frame.slots reaches guarded log _ _ _ (rw (sym (bits_same p.of_module 1 condition_type) ∙ bit, number_usable heap p certs reaches f table guarded log cells facts frame h condition_type 1 condition (bits_are_so 1 (kind_of p.of_module condition_type) bit) k1 k2 none, selects (kind_of p.of_module written) refl may) refl) (kept result) where
         of_references : (may_be_reference (kind_of p.of_module written) ≡ true) → a.may_select p.of_module f table frame.registers written chosen other ≡ true
-        of_references e = other_true (a.are_numbers p.of_module f table frame.registers written chosen other) _
+        of_references e = or_second (a.are_numbers p.of_module f table frame.registers written chosen other) _
             (rw (references_usable heap p certs reaches f table guarded log cells facts frame h written chosen other e x.there y.there x.typed y.typed x.no_slot y.no_slot) (stand_beside heap guarded log (r.chosen_layout (kind_of p.of_module written) (o.known_of facts chosen) (o.known_of facts other)) (value_of p.of_module frame.registers written chosen) (value_of p.of_module frame.registers written other)
             (first_fits heap guarded log (layout_of_kind (kind_of p.of_module written)) (r.known_layout (o.known_of facts chosen)) (r.known_layout (o.known_of facts other)) (value_of p.of_module frame.registers written chosen) (operand_fits written chosen e x))
             (other_fits heap guarded log (layout_of_kind (kind_of p.of_module written)) (r.known_layout (o.known_of facts chosen)) (r.known_layout (o.known_of facts other)) (value_of p.of_module frame.registers written other) one (operand_fits written other e y))))
 
         selects : (z : TypeKind) → kind_of p.of_module written ≡ z → r.may_choose z ≡ true → a.may_select p.of_module f table frame.registers written chosen other ≡ true
         selects NoValue is e = absurd cc
-        selects (Bits bits) is e = either_true (a.are_numbers p.of_module f table frame.registers written chosen other) _ (numbers_usable heap p certs reaches f table guarded log cells facts frame h written bits chosen other is x.there y.there x.typed y.typed x.no_slot y.no_slot)
+        selects (Bits bits) is e = or_first (a.are_numbers p.of_module f table frame.registers written chosen other) _ (numbers_usable heap p certs reaches f table guarded log cells facts frame h written bits chosen other is x.there y.there x.typed y.typed x.no_slot y.no_slot)
         selects (Reference l) is e = of_references (ap may_be_reference is)
         selects AnyReference is e = of_references (ap may_be_reference is)
         selects AddressKind is e = absurd cc

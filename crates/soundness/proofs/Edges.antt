@@ -6,6 +6,7 @@ use Rattle.std.proofs.lemmas.Bool.{cases_lt}
 use Rattle.std.proofs.lemmas.Grind.{common_steps}
 use Rattle.std.specs.Prelude.{◌⊎◌, ◌==◌, ◌%◌, nat_lt, not, if◌then◌else◌, position}
 use Rattle.std.specs.List.{take_while, prefix_len, position_or_len}
+use Rattle.lemmas.specs.Numbers.{lt_yes, lt_no}
 use Rattle.ir_ast.specs.declared.function.Function.{Function}
 use Rattle.ir_ast.specs.declared.instr.Instr.{Instr}
 use Rattle.ir_ast.specs.declared.module.Module.{Module}
@@ -43,7 +44,6 @@ use Rattle.machine.specs.Jumps.{is_phi_op, is_phi, is_block, entry_for, entry_va
 use Rattle.machine.specs.Log.{Log}
 use Rattle.soundness.specs.Meaning.{Cells, Guarded, IsBelow, IsInteger, Means, Holds}
 use Rattle.soundness.proofs.PhiFacts.{entries_of, copied, ComesIn, AllComeIn, phis_keep}
-use Rattle.soundness.proofs.Lists.{lt_true, lt_false}
 use Rattle.soundness.proofs.Listed.{AllShown, names, shown_holds}
 
 -- an integer of so many bits as the type says them
@@ -200,7 +200,7 @@ front_is_all test x xs le = pick (test x) refl le where
 none_found : {X : Type 0} (test : X → Bool) (xs : List X) → position test xs ≡ None → length xs ≤ position_or_len test xs
 none_found test xs e = pick (cases_lt (position_or_len test xs) (length xs)) where
   pick : (position_or_len test xs < length xs) ⊎ (length xs ≤ position_or_len test xs) → length xs ≤ position_or_len test xs
-  pick (inl lt) = let z = rw (lt_true (position_or_len test xs) (length xs) lt) at e in absurd cc
+  pick (inl lt) = let z = rw (lt_yes (position_or_len test xs) (length xs) lt) at e in absurd cc
   pick (inr le) = le
 
 twice : (b : Bool) → not (not b) ≡ true → b ≡ true

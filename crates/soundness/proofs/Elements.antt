@@ -5,6 +5,8 @@ use Rattle.std.proofs.lemmas.List.{length-set}
 use Rattle.std.proofs.lemmas.Nat.{mul-le, pow_below, pow_pos}
 use Rattle.std.specs.Prelude.{◌⊎◌, ◌==◌, ◌&&◌, ◌||◌, cond, not, if◌then◌else◌, nat_lt, nat_le, is_some, filter}
 use Rattle.std.specs.List.{list_all, range_with_len}
+use Rattle.lemmas.specs.Numbers.{test_true, lt_yes, lt_no}
+use Rattle.lemmas.specs.Bools.{and_parts}
 use Rattle.ir_ast.specs.declared.function.Function.{Function}
 use Rattle.ir_ast.specs.declared.ir_type.IrType.{IrType}
 use Rattle.ir_ast.specs.declared.ir_type.IrType.TheVariants.{Void, Integer, Pointer, Array, EmptyStruct, Struct, Named}
@@ -53,7 +55,7 @@ use Rattle.machine.specs.Kinds.{modulus, wrapped, bits_at, register_at, number_i
 use Rattle.machine.specs.Machine as mc
 use Rattle.machine.specs.Log.{Log}
 use Rattle.soundness.specs.Meaning.{Cells, Guarded, IsReferenceTo, IsInteger, IsAddressOf, IsGlobal, Means, Holds}
-use Rattle.soundness.proofs.Lists.{both, equal, by_equal, at_same, at_other, each_below, lt_true, lt_false}
+use Rattle.soundness.proofs.Lists.{by_equal, at_same, at_other, each_below}
 use Rattle.soundness.proofs.KindLemmas.{integer_same, constant_passes, bits_are}
 use Rattle.soundness.proofs.Keep.{off_cell, means_without, known_within}
 use Rattle.soundness.proofs.Change.{define_plain}
@@ -71,12 +73,12 @@ half bits m low e = pick (cases_lt bits 64) where
   narrow zero lt e = let x = ltb-true m 1 e in omega (arith, x)
   narrow (suc b) lt e =
       let one : suc b - 1 ≡ b = omega arith in
-      let x = ltb-true m (2 ^ b) (subst (λ n. nat_lt m (2 ^ n) ≡ true) one (rw (lt_false 64 (suc b) (omega (arith, lt))) at e)) in
+      let x = ltb-true m (2 ^ b) (subst (λ n. nat_lt m (2 ^ n) ≡ true) one (rw (lt_no 64 (suc b) (omega (arith, lt))) at e)) in
       omega (arith, x, pow-suc 2 b)
 
   pick : (bits < 64) ⊎ (64 ≤ bits) → 2 * m < modulus bits
-  pick (inl lt) = rw (lt_true bits 64 lt) (narrow bits lt e)
-  pick (inr le) = rw (lt_false bits 64 le) (let q = pow_below 7 64 (omega arith) in omega (arith, low, q))
+  pick (inl lt) = rw (lt_yes bits 64 lt) (narrow bits lt e)
+  pick (inr le) = rw (lt_no bits 64 le) (let q = pow_below 7 64 (omega arith) in omega (arith, low, q))
 
 -- a number that an integer of so many bits may say is the same as one
 wrapped_same : (bits m : ℕ) → m < modulus bits → wrapped bits m ≡ m
@@ -176,7 +178,7 @@ strode_has stride from to e w n lt has le less =
 
 -- a test of all holds of each
 all_first : {X : Type 0} (test : X → Bool) (x : X) (xs : List X) → list_all test (x ∷ xs) ≡ true → (test x ≡ true) × (list_all test xs ≡ true)
-all_first test x xs e = both (test x) (list_all test xs) e
+all_first test x xs e = and_parts (test x) (list_all test xs) e
 
 -- ---- the parts of types
 
@@ -289,7 +291,7 @@ fits_below : (bits m n : ℕ) → m < n → (nat_lt 64 bits || nat_le n (2 ^ (bi
 fits_below bits m n lt e = pick (nat_lt 64 bits) e where
   pick : (b : Bool) → (b || nat_le n (2 ^ (bits - 1))) ≡ true → (b || nat_lt m (2 ^ (bits - 1))) ≡ true
   pick true e = refl
-  pick false e = let x = leb-true n (2 ^ (bits - 1)) e in lt_true m (2 ^ (bits - 1)) (omega (arith, lt, x))
+  pick false e = let x = leb-true n (2 ^ (bits - 1)) e in lt_yes m (2 ^ (bits - 1)) (omega (arith, lt, x))
 
 -- an index that the rules let stand
 record Fit (p : LaidOut) (f : Function) (table : SlotTable) (facts : FactSet) (index : Argument) : Type 0 where
@@ -310,7 +312,7 @@ all_fit p f table facts (index ∷ indices) k1 k2 none =
     let a = all_first (λ index. o.is_available table facts index.operand) index indices k1 in
     let b = all_first (r.is_index p.of_module f facts) index indices k2 in
     let c = all_first (λ index. o.is_no_slot table index.operand) index indices none in
-    let d = both (o.is_value p.of_module f facts index.written index.operand) (is_integer (kind_of p.of_module index.written)) b.0 in
+    let d = and_parts (o.is_value p.of_module f facts index.written index.operand) (is_integer (kind_of p.of_module index.written)) b.0 in
     (record { available = a.0; value = d.0; integer = d.1; none = none_of (o.slot_named table index.operand) c.0 }, all_fit p f table facts indices a.1 b.1 c.1)
 
 module _ (heap : Setup) (p : LaidOut) (certs : List Section) (reaches : Bool) (f : Function) (table : SlotTable) (guarded : Guarded) (log : Log) (cells : Cells) (facts : FactSet) (frame : Frame) (h : Holds heap p table guarded log cells facts frame.registers frame.slots) where
@@ -327,8 +329,8 @@ module _ (heap : Setup) (p : LaidOut) (certs : List Section) (reaches : Bool) (f
   bounded_leads size count part bits at v stride same None i e = absurd cc
   bounded_leads size count part bits at v stride same (Some n) i e =
       let c = of_test (nat_le n count && (nat_lt 64 bits || nat_le n (2 ^ (bits - 1))) && (size == 0 || nat_le n 64)) (record { size = size; first = 0; count = r.places_below size n }) stride e in
-      let tests = both (nat_le n count && (nat_lt 64 bits || nat_le n (2 ^ (bits - 1)))) (size == 0 || nat_le n 64) c.0 in
-      let first = both (nat_le n count) (nat_lt 64 bits || nat_le n (2 ^ (bits - 1))) tests.0 in
+      let tests = and_parts (nat_le n count && (nat_lt 64 bits || nat_le n (2 ^ (bits - 1)))) (size == 0 || nat_le n 64) c.0 in
+      let first = and_parts (nat_le n count) (nat_lt 64 bits || nat_le n (2 ^ (bits - 1))) tests.0 in
       subst (λ s. Leads s (Elements count size part) (wrapped 64 (sign_extended at 64 (number_in v)))) c.1 (by size tests.1 first.1) where
         reads : i.number < 64 → (nat_lt 64 bits || nat_le n (2 ^ (bits - 1))) ≡ true → wrapped 64 (sign_extended at 64 (number_in v)) ≡ i.number
         reads low e = rw (same, ap number_in i.is) (read_same bits i.number low (fits_below bits i.number n i.under e))
@@ -352,7 +354,7 @@ module _ (heap : Setup) (p : LaidOut) (certs : List Section) (reaches : Bool) (f
       → Leads stride (Elements count size part) (wrapped 64 (sign_extended (bits_at p.of_module written) 64 (number_in (value_of p.of_module frame.registers written x))))
   array_leads size count part written bits (operand.Constant (constant.Number n)) stride is k1 k2 none e =
       let c = of_test (nat_lt n count && (nat_lt 64 bits || nat_lt n (2 ^ (bits - 1)))) (record { size = size; first = n; count = 1 }) stride e in
-      let tests = both (nat_lt n count) (nat_lt 64 bits || nat_lt n (2 ^ (bits - 1))) c.0 in
+      let tests = and_parts (nat_lt n count) (nat_lt 64 bits || nat_lt n (2 ^ (bits - 1))) c.0 in
       let index = wrapped 64 (sign_extended (bits_at p.of_module written) 64 (wrapped (bits_at p.of_module written) n)) in
       subst (λ s. Leads s (Elements count size part) index) c.1
       (elements_lead size n 1 count part index n (omega arith) (omega arith)
@@ -437,11 +439,11 @@ module _ (heap : Setup) (p : LaidOut) (certs : List Section) (reaches : Bool) (f
     fits bits = pick (nat_lt 64 bits) where
       pick : (b : Bool) → (b || nat_lt 0 (2 ^ (bits - 1))) ≡ true
       pick true = refl
-      pick false = lt_true 0 (2 ^ (bits - 1)) (pow_pos (bits - 1))
+      pick false = lt_yes 0 (2 ^ (bits - 1)) (pow_pos (bits - 1))
 
     by : (x : Operand) → r.is_zero (o.number_of x) ≡ true → wrapped 64 (sign_extended (bits_at p.of_module first.written) 64 (number_in (value_of p.of_module frame.registers first.written x))) ≡ 0
     by (operand.Constant (constant.Number n)) e =
-        subst (λ m. wrapped 64 (sign_extended (bits_at p.of_module first.written) 64 (wrapped (bits_at p.of_module first.written) m)) ≡ 0) (sym (equal n 0 e)) (number_same (bits_at p.of_module first.written) 0 (omega arith) (fits (bits_at p.of_module first.written)))
+        subst (λ m. wrapped 64 (sign_extended (bits_at p.of_module first.written) 64 (wrapped (bits_at p.of_module first.written) m)) ≡ 0) (sym (test_true n 0 e)) (number_same (bits_at p.of_module first.written) 0 (omega arith) (fits (bits_at p.of_module first.written)))
     by (operand.Constant (constant.Truth b)) e = absurd cc
     by (operand.Constant constant.Null) e = absurd cc
     by (operand.Local v) e = absurd cc
@@ -632,4 +634,4 @@ module _ (heap : Setup) (p : LaidOut) (certs : List Section) (reaches : Bool) (f
     by (operand.Global symbol) k1 k2 may k5 none k19 = of_global (operand.Global symbol) symbol (typed_so p f table base_type (operand.Global symbol) k2 k19 refl) (has_address p.of_module base_type symbol k2) k5 (λ v. refl)
     by (operand.CastGlobal from symbol to) k1 k2 may k5 none k19 =
         of_global (operand.CastGlobal from symbol to) symbol (typed_so p f table base_type (operand.CastGlobal from symbol to) k2 k19 refl)
-        (has_address p.of_module from symbol (both (base_type == to) (points_to_global p.of_module from symbol) k2).1) k5 (λ v. refl)
+        (has_address p.of_module from symbol (and_parts (base_type == to) (points_to_global p.of_module from symbol) k2).1) k5 (λ v. refl)

@@ -3,6 +3,9 @@ use Rattle.std.proofs.Common.{◌≡◌, ◌≢◌, ℕ, zero, suc, ◌<◌, ◌
 use Rattle.std.proofs.lemmas.List.{length-map, length-set}
 use Rattle.std.specs.Prelude.{◌==◌, ◌||◌, ◌⊎◌, if◌then◌else◌}
 use Rattle.std.specs.List.{list_any}
+use Rattle.lemmas.specs.Lists.{at_map}
+use Rattle.lemmas.specs.Numbers.{test_true, test_yes, test_false}
+use Rattle.lemmas.specs.Bools.{or_parts}
 use Rattle.pools.specs.Heap.{Setup}
 use Rattle.layout.specs.Layouts.{LaidOut}
 use Rattle.types.specs.References.{referenced_layout}
@@ -20,7 +23,7 @@ use Rattle.machine.specs.Kinds.{register_at, bits_at, constant_value}
 use Rattle.machine.specs.Machine.{slot_value, compared}
 use Rattle.machine.specs.Log.{Log, Held, IsFresh}
 use Rattle.soundness.specs.Meaning.{Cells, Guarded, IsOwn, IsNullOrFresh, AreApart, IsAddressOf, IsMember, Means, ClassMeans, WasTested, FitsReference, FitsSlot, SlotMeans, Holds}
-use Rattle.soundness.proofs.Lists.{at_set2, at_set, at_map, equal, equal_test, either, not_both, got}
+use Rattle.soundness.proofs.Lists.{at_set2, at_set, not_both, got}
 
 -- another place than the one written, by `slice_get`
 pub got_other : {X : Type 0} (xs : List X) (i j : ℕ) (a d : X) → i ≢ j → got d (slice_set xs i a) j ≡ got d xs j
@@ -29,9 +32,6 @@ got_other (x ∷ xs) zero zero a d ne = absurd (ne refl)
 got_other (x ∷ xs) zero (suc j) a d ne = refl
 got_other (x ∷ xs) (suc i) zero a d ne = refl
 got_other (x ∷ xs) (suc i) (suc j) a d ne = got_other xs i j a d (λ e. ne (ap suc e))
-
-pub unequal : (x y : ℕ) → (x == y) ≡ false → x ≢ y
-unequal x y e z = let t = equal_test x y z in absurd cc
 
 -- a value that is a reference behind a write is the one written, or was one
 pub set_cell : (values : List Known) (v j : ℕ) (k : Known) (c l : ℕ) (s : Bool) → known_at (slice_set values v k) j ≡ Cell c l s → ((v ≡ j) × (k ≡ Cell c l s)) ⊎ (known_at values j ≡ Cell c l s)
@@ -59,7 +59,7 @@ forget_cell v values j c l s =
 -- a class with a known value is found
 pub found : (values : List Known) (j c l : ℕ) (s : Bool) → known_at values j ≡ Cell c l s → list_any (is_of c) values ≡ true
 found [] j c l s e = absurd cc
-found (x ∷ values) zero c l s e = ap (λ b. b || list_any (is_of c) values) (ap (is_of c) e ∙ equal_test c c refl)
+found (x ∷ values) zero c l s e = ap (λ b. b || list_any (is_of c) values) (ap (is_of c) e ∙ test_yes c c refl)
 found (x ∷ values) (suc j) c l s e = or_true (is_of c x) _ (found values j c l s e) where
   or_true : (a b : Bool) → b ≡ true → (a || b) ≡ true
   or_true true b h = refl
@@ -81,14 +81,14 @@ module _ (log : Log) (cells : Cells) (count : ℕ) (classes : List Class) (class
   let_go_means c slot v m = pick (holds_class c slot.holds) refl where
     of_class : (holds : Option ℕ) → slot.holds ≡ holds → holds_class c holds ≡ true → v ≡ cells c
     of_class None is e = absurd cc
-    of_class (Some d) is e = (m.holds d is).0 ∙ ap cells (equal d c e)
+    of_class (Some d) is e = (m.holds d is).0 ∙ ap cells (test_true d c e)
 
     lost : holds_class c slot.holds ≡ true → (slot.nonnull ≡ true) ⊎ ((class_at classes c).nonnull ≡ true) → v ≢ value.Null
     lost e (inl z) = m.nonnull z
     lost e (inr z) = λ w. (classes_mean c).nonnull z (sym (of_class slot.holds refl e) ∙ w)
 
     pick : (b : Bool) → holds_class c slot.holds ≡ b → SlotMeans cells count (if b then record slot { nonnull = slot.nonnull || (class_at classes c).nonnull; holds = None } else slot) v
-    pick true e = record { nonnull = λ z. lost e (either slot.nonnull (class_at classes c).nonnull z); holds = λ d z. absurd cc }
+    pick true e = record { nonnull = λ z. lost e (or_parts slot.nonnull (class_at classes c).nonnull z); holds = λ d z. absurd cc }
     pick false e = m
 
   pub without_means : (k : Known) (values : List Known) (slots : List SlotFact) (s : ℕ) (v : Value) → SlotMeans cells count (slot_at slots s) v → SlotMeans cells count (slot_at (slots_without k values classes slots) s) v
@@ -113,7 +113,7 @@ without_same (Cell d k t) values classes slots s j c l st is e = pick (list_any 
     by (Some x) is2 y = other (x == c) refl where
       other : (b : Bool) → (x == c) ≡ b → holds_class c (slot_at slots s).holds ≡ false
       other false q = ap (holds_class c) is2 ∙ q
-      other true q = let dc : c ≡ d = sym (equal x c q) ∙ equal x d y in absurd (not_both (list_any (is_of d) values) (subst (λ y. list_any (is_of y) values ≡ true) dc (found values j c l st is)) none)
+      other true q = let dc : c ≡ d = sym (test_true x c q) ∙ test_true x d y in absurd (not_both (list_any (is_of d) values) (subst (λ y. list_any (is_of y) values ≡ true) dc (found values j c l st is)) none)
 
   pick : (b : Bool) → list_any (is_of d) values ≡ b → holds_class c (slot_at (if b then slots else map (let_go d (class_at classes d).nonnull) slots) s).holds ≡ false → holds_class c (slot_at slots s).holds ≡ false
   pick true z w = w
@@ -134,7 +134,7 @@ module _ (heap : Setup) (p : LaidOut) (table : SlotTable) (guarded : Guarded) wh
   means_without log cells count registers v new (Address x w) register h = pick (x == v) refl where
     pick : (b : Bool) → (x == v) ≡ b → Means heap p guarded log cells count (slice_set registers v new) (if b then Nothing else Address x w) register
     pick true e = tt
-    pick false e = subst (λ y. IsAddressOf p w.members y register) (sym (got_other registers v x new value.Unset (λ z. unequal x v e (sym z)))) h
+    pick false e = subst (λ y. IsAddressOf p w.members y register) (sym (got_other registers v x new value.Unset (λ z. test_false x v e (sym z)))) h
   means_without log cells count registers v new (GlobalAddress g) register h = h
 
   tested_without : (registers : List Value) (v : ℕ) (new : Value) (t : Option Test) (register : Value) → WasTested p.of_module registers t register → WasTested p.of_module (slice_set registers v new) (off_test v t) register
@@ -142,7 +142,7 @@ module _ (heap : Setup) (p : LaidOut) (table : SlotTable) (guarded : Guarded) wh
   tested_without registers v new (Some t) register h = pick (t.tested == v) refl where
     pick : (b : Bool) → (t.tested == v) ≡ b → WasTested p.of_module (slice_set registers v new) (if b then None else Some t) register
     pick true e = tt
-    pick false e = subst (λ y. (written : ℕ) × (register ≡ compared t.kind (bits_at p.of_module written) y (constant_value p.of_module written t.constant))) (sym (got_other registers v t.tested new value.Unset (λ z. unequal t.tested v e (sym z)))) h
+    pick false e = subst (λ y. (written : ℕ) × (register ≡ compared t.kind (bits_at p.of_module written) y (constant_value p.of_module written t.constant))) (sym (got_other registers v t.tested new value.Unset (λ z. test_false t.tested v e (sym z)))) h
 
   module _ (log : Log) (cells : Cells) (facts : FactSet) (registers slots : List Value) where
     -- the statements that name v end, and its register is written

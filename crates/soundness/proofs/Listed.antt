@@ -3,6 +3,9 @@ use Rattle.std.proofs.Common.{◌≡◌, ◌≢◌, ℕ, ◌<◌, ◌≤◌, Lis
 use Rattle.std.proofs.lemmas.List.{length-map, length-set, length-replicate}
 use Rattle.std.specs.Prelude.{◌==◌, ◌||◌, ◌&&◌, ◌⊎◌, not, if◌then◌else◌, replicate}
 use Rattle.std.specs.List.{list_all, zip}
+use Rattle.lemmas.specs.Lists.{at_map}
+use Rattle.lemmas.specs.Numbers.{test_true, test_yes}
+use Rattle.lemmas.specs.Bools.{and_parts, not_true, or_parts}
 use Rattle.pools.specs.Heap.{Setup}
 use Rattle.pools.specs.WordSets.{has_word, has_all, has_too}
 use Rattle.layout.specs.Layouts.{LaidOut}
@@ -24,7 +27,7 @@ use Rattle.machine.specs.Kinds.{register_at}
 use Rattle.machine.specs.Machine.{slot_value}
 use Rattle.machine.specs.Log.{Log}
 use Rattle.soundness.specs.Meaning.{Cells, Guarded, IsReferenceTo, IsOwn, IsNullOrFresh, AreApart, IsBelow, IsInteger, IsAddressOf, IsGlobal, Means, ClassMeans, WasTested, SlotMeans, Holds}
-use Rattle.soundness.proofs.Lists.{both, negated, equal, equal_test, at_set, at_map, by_equal, at_other, at_same, replicated, all_zip, as_implied, either, not_both, within_list, each_below}
+use Rattle.soundness.proofs.Lists.{at_set, by_equal, at_other, at_same, replicated, all_zip, as_implied, not_both, within_list, each_below}
 
 -- a smaller bound shows a larger one
 pub below_shown : (n : ℕ) (known asked : Option ℕ) → is_below known asked ≡ true → IsBelow n known → IsBelow n asked
@@ -167,8 +170,8 @@ module _ (heap : Setup) (p : LaidOut) (table : SlotTable) (guarded : Guarded) (l
 
   number_shown : (v bits : ℕ) (below : Option ℕ) (k : Known) → shows_number bits below k ≡ true → Means heap p guarded log cells (length here.classes) registers k (names v) → IsInteger bits below (names v)
   number_shown v bits below (Number n known) e m =
-      let b = both (n == bits) (is_below known below) e in
-      let i = subst (λ x. IsInteger x known (names v)) (equal n bits b.0) m in
+      let b = and_parts (n == bits) (is_below known below) e in
+      let i = subst (λ x. IsInteger x known (names v)) (test_true n bits b.0) m in
       record { number = i.number; is = i.is; fits = i.fits; under = below_shown i.number known below b.1 i.under }
   number_shown v bits below Nothing e m = absurd cc
   number_shown v bits below (Cell c l s) e m = absurd cc
@@ -186,7 +189,7 @@ module _ (heap : Setup) (p : LaidOut) (table : SlotTable) (guarded : Guarded) (l
   global_plain symbol k c l s e z = let t = subst (λ x. shows_global symbol x ≡ true) z e in absurd cc
 
   global_shown : (v symbol : ℕ) (k : Known) → shows_global symbol k ≡ true → Means heap p guarded log cells (length here.classes) registers k (names v) → IsGlobal p.of_module symbol (names v)
-  global_shown v symbol (GlobalAddress known) e m = subst (λ x. IsGlobal p.of_module x (names v)) (equal known symbol e) m
+  global_shown v symbol (GlobalAddress known) e m = subst (λ x. IsGlobal p.of_module x (names v)) (test_true known symbol e) m
   global_shown v symbol Nothing e m = absurd cc
   global_shown v symbol (Number n b) e m = absurd cc
   global_shown v symbol (Cell c l s) e m = absurd cc
@@ -212,8 +215,8 @@ module _ (heap : Setup) (p : LaidOut) (table : SlotTable) (guarded : Guarded) (l
 
   address_shown : (v base : ℕ) (words : List Bool) (k : Known) → shows_address base words k ≡ true → Means heap p guarded log cells (length here.classes) registers k (names v) → IsAddressOf p words (names base) (names v)
   address_shown v base words (Address x known) e m =
-      let b = both (x == base) (has_all words known.members) e in
-      subst (λ z. IsAddressOf p words (names z) (names v)) (equal x base b.0) (address_grows words known.members (names x) (names v) b.1 m)
+      let b = and_parts (x == base) (has_all words known.members) e in
+      subst (λ z. IsAddressOf p words (names z) (names v)) (test_true x base b.0) (address_grows words known.members (names x) (names v) b.1 m)
   address_shown v base words Nothing e m = absurd cc
   address_shown v base words (Number n b) e m = absurd cc
   address_shown v base words (Cell c l s) e m = absurd cc
@@ -234,7 +237,7 @@ module _ (heap : Setup) (p : LaidOut) (table : SlotTable) (guarded : Guarded) (l
   alone_none (Some x) w e z = absurd cc
 
   same_class : (q w : ℕ) (k : Known) → known_at here.values w ≡ k → is_of q k ≡ true → names w ≡ cells q
-  same_class q w (Cell c l s) is e = let m = subst (λ k. Means heap p guarded log cells (length here.classes) registers k (names w)) is (h.values w) in m.is ∙ ap cells (equal c q e)
+  same_class q w (Cell c l s) is e = let m = subst (λ k. Means heap p guarded log cells (length here.classes) registers k (names w)) is (h.values w) in m.is ∙ ap cells (test_true c q e)
   same_class q w Nothing is e = absurd cc
   same_class q w (Number n b) is e = absurd cc
   same_class q w Null is e = absurd cc
@@ -244,20 +247,20 @@ module _ (heap : Setup) (p : LaidOut) (table : SlotTable) (guarded : Guarded) (l
   cell_shown : (v layout : ℕ) (nonnull : Bool) (a : Age) (same : Option ℕ) (k : Known) → known_at here.values v ≡ k → shows_reference here there v layout nonnull a same k ≡ true → ShownCell v layout nonnull a same
   cell_shown v layout nonnull a same (Cell c known stale) is e =
       let m = subst (λ k. Means heap p guarded log cells (length here.classes) registers k (names v)) is (h.values v) in
-      let b4 = both (known == layout && implied nonnull (class_at here.classes c).nonnull && implied (not (is_stale a)) (not stale) && implied (is_fresh a) (is_fresh_in here there c v)) (is_same here.values c same) e in
-      let b3 = both (known == layout && implied nonnull (class_at here.classes c).nonnull && implied (not (is_stale a)) (not stale)) (implied (is_fresh a) (is_fresh_in here there c v)) b4.0 in
-      let b2 = both (known == layout && implied nonnull (class_at here.classes c).nonnull) (implied (not (is_stale a)) (not stale)) b3.0 in
-      let b1 = both (known == layout) (implied nonnull (class_at here.classes c).nonnull) b2.0 in
-      let current : is_stale a ≡ false → stale ≡ false = λ z. negated stale (as_implied (not (is_stale a)) (not stale) b2.1 (ap not z)) in
+      let b4 = and_parts (known == layout && implied nonnull (class_at here.classes c).nonnull && implied (not (is_stale a)) (not stale) && implied (is_fresh a) (is_fresh_in here there c v)) (is_same here.values c same) e in
+      let b3 = and_parts (known == layout && implied nonnull (class_at here.classes c).nonnull && implied (not (is_stale a)) (not stale)) (implied (is_fresh a) (is_fresh_in here there c v)) b4.0 in
+      let b2 = and_parts (known == layout && implied nonnull (class_at here.classes c).nonnull) (implied (not (is_stale a)) (not stale)) b3.0 in
+      let b1 = and_parts (known == layout) (implied nonnull (class_at here.classes c).nonnull) b2.0 in
+      let current : is_stale a ≡ false → stale ≡ false = λ z. not_true stale (as_implied (not (is_stale a)) (not stale) b2.1 (ap not z)) in
       record {
-        refers = subst (λ l. IsReferenceTo heap l (names v)) (equal known layout b1.0) m.refers;
+        refers = subst (λ l. IsReferenceTo heap l (names v)) (test_true known layout b1.0) m.refers;
         own = λ z. m.own (current z);
         backed = inr (record { class = c; layout = known; was = stale; is = is; current = current });
         class = record {
           nonnull = λ z w. (h.classes c).nonnull (as_implied nonnull (class_at here.classes c).nonnull b1.1 z) (sym m.is ∙ w);
-          fresh = λ z. subst (IsNullOrFresh log) (sym m.is) ((h.classes c).fresh (both (class_at here.classes c).fresh _ (as_implied (is_fresh a) _ b3.1 z)).0);
+          fresh = λ z. subst (IsNullOrFresh log) (sym m.is) ((h.classes c).fresh (and_parts (class_at here.classes c).fresh _ (as_implied (is_fresh a) _ b3.1 z)).0);
         };
-        fresh = λ z. let f = both (class_at here.classes c).fresh _ (as_implied (is_fresh a) _ b3.1 z) in record { class = c; layout = known; stale = stale; is = is; fresh = f.0; covered = f.1 };
+        fresh = λ z. let f = and_parts (class_at here.classes c).fresh _ (as_implied (is_fresh a) _ b3.1 z) in record { class = c; layout = known; stale = stale; is = is; fresh = f.0; covered = f.1 };
         sames = sames m.is same b4.1;
       } where
         sames : names v ≡ cells c → (same : Option ℕ) → is_same here.values c same ≡ true → (w : ℕ) → same ≡ Some w → names v ≡ names w
@@ -265,14 +268,14 @@ module _ (heap : Setup) (p : LaidOut) (table : SlotTable) (guarded : Guarded) (l
         sames mine (Some x) e w z = let q : x ≡ w = cc in mine ∙ sym (same_class c x (known_at here.values x) refl e) ∙ ap names q
   cell_shown v layout nonnull a same Null is e =
       let m = subst (λ k. Means heap p guarded log cells (length here.classes) registers k (names v)) is (h.values v) in
-      let b2 = both (not nonnull && not (is_fresh a)) (is_alone same) e in
-      let b1 = both (not nonnull) (not (is_fresh a)) b2.0 in
+      let b2 = and_parts (not nonnull && not (is_fresh a)) (is_alone same) e in
+      let b1 = and_parts (not nonnull) (not (is_fresh a)) b2.0 in
       record {
         refers = subst (IsReferenceTo heap layout) (sym m) tt;
         own = λ z. subst (IsOwn log guarded) (sym m) tt;
         backed = inl is;
-        class = record { nonnull = λ z. absurd (not_both nonnull z (negated nonnull b1.0)); fresh = λ z. absurd (not_both (is_fresh a) z (negated (is_fresh a) b1.1)) };
-        fresh = λ z. absurd (not_both (is_fresh a) z (negated (is_fresh a) b1.1));
+        class = record { nonnull = λ z. absurd (not_both nonnull z (not_true nonnull b1.0)); fresh = λ z. absurd (not_both (is_fresh a) z (not_true (is_fresh a) b1.1)) };
+        fresh = λ z. absurd (not_both (is_fresh a) z (not_true (is_fresh a) b1.1));
         sames = λ w z. absurd (alone_none same w b2.1 z);
       }
   cell_shown v layout nonnull a same Nothing is e = absurd cc
@@ -303,7 +306,7 @@ module _ (heap : Setup) (p : LaidOut) (table : SlotTable) (guarded : Guarded) (l
 
   -- a slot is listed
   held_not_null : (slot : SlotFact) (v : Value) → SlotMeans cells (length here.classes) slot v → slot_nonnull here.classes slot ≡ true → v ≢ value.Null
-  held_not_null slot v m e = pick (either slot.nonnull (held_nonnull here.classes slot.holds) e) where
+  held_not_null slot v m e = pick (or_parts slot.nonnull (held_nonnull here.classes slot.holds) e) where
     by : (holds : Option ℕ) → slot.holds ≡ holds → held_nonnull here.classes holds ≡ true → v ≢ value.Null
     by None is z = absurd cc
     by (Some c) is z = λ w. (h.classes c).nonnull z (sym (m.holds c is).0 ∙ w)
@@ -315,7 +318,7 @@ module _ (heap : Setup) (p : LaidOut) (table : SlotTable) (guarded : Guarded) (l
   slot_listed : (f : FactSet) (slot : Option ℕ) (nonnull : Bool) (holds : Option ℕ) → shows_slot here slot nonnull holds ≡ true → Given f → OwnClasses f → Given (list_slot slot nonnull f) × OwnClasses (list_slot slot nonnull f)
   slot_listed f None nonnull holds e g own = (g, own)
   slot_listed f (Some s) nonnull holds e g own =
-      let b = both (implied nonnull (slot_nonnull here.classes (slot_at here.slots s))) (holds_value here.values (slot_at here.slots s).holds holds) e in (
+      let b = and_parts (implied nonnull (slot_nonnull here.classes (slot_at here.slots s))) (holds_value here.values (slot_at here.slots s).holds holds) e in (
         record {
           values_size = g.values_size;
           classes_size = g.classes_size;
@@ -361,7 +364,7 @@ module _ (heap : Setup) (p : LaidOut) (table : SlotTable) (guarded : Guarded) (l
   nothing_own : OwnClasses (nothing_known (length registers) (length slots))
   nothing_own v c l s e = let z = sym (replicated (length registers) v Nothing) ∙ e in absurd cc
 
-  -- ---- equal values are of one class
+  -- ---- test_true values are of one class
 
   module _ (from to : ℕ) (f : FactSet) (g : Given f) (equal_names : names from ≡ names to) (within : to < length registers) (a b la lb : ℕ) (sa sb : Bool) (of_from : known_at f.values a ≡ Cell from la sa) (of_to : known_at f.values b ≡ Cell to lb sb) where
     abbrev merged : Class
@@ -370,7 +373,7 @@ module _ (heap : Setup) (p : LaidOut) (table : SlotTable) (guarded : Guarded) (l
     moved_name : (c : ℕ) → names (moved from to c) ≡ names c
     moved_name c = pick (c == from) refl where
       pick : (b : Bool) → (c == from) ≡ b → names (if b then to else c) ≡ names c
-      pick true e = sym equal_names ∙ ap names (sym (equal c from e))
+      pick true e = sym equal_names ∙ ap names (sym (test_true c from e))
       pick false e = refl
 
     moved_within : (c : ℕ) → c < length registers → moved from to c < length registers
@@ -380,7 +383,7 @@ module _ (heap : Setup) (p : LaidOut) (table : SlotTable) (guarded : Guarded) (l
       pick false = lt
 
     moved_here : moved from to from ≡ to
-    moved_here = rw (equal_test from from refl) refl
+    moved_here = rw (test_yes from from refl) refl
 
     moved_to : moved from to to ≡ to
     moved_to = pick (to == from) where
@@ -398,8 +401,8 @@ module _ (heap : Setup) (p : LaidOut) (table : SlotTable) (guarded : Guarded) (l
 
     merged_means : ClassMeans log merged (names to)
     merged_means = record {
-      nonnull = λ z. nonnull (either (class_at f.classes from).nonnull (class_at f.classes to).nonnull z);
-      fresh = λ z. fresh (either (class_at f.classes from).fresh (class_at f.classes to).fresh z);
+      nonnull = λ z. nonnull (or_parts (class_at f.classes from).nonnull (class_at f.classes to).nonnull z);
+      fresh = λ z. fresh (or_parts (class_at f.classes from).fresh (class_at f.classes to).fresh z);
     } where
       nonnull : ((class_at f.classes from).nonnull ≡ true) ⊎ ((class_at f.classes to).nonnull ≡ true) → names to ≢ value.Null
       nonnull (inl z) = λ w. (g.classes from).nonnull z (equal_names ∙ w)
@@ -441,7 +444,7 @@ module _ (heap : Setup) (p : LaidOut) (table : SlotTable) (guarded : Guarded) (l
       at_to : to ≡ c → Origin next c
       at_to e =
           let fresh : merged.fresh ≡ true = sym (ap (λ x. x.fresh) (at_same f.classes to merged lost_class size)) ∙ subst (λ y. (class_at (slice_set f.classes to merged) y).fresh ≡ true) (sym e) fr in
-          pick (either (class_at f.classes from).fresh (class_at f.classes to).fresh fresh) where
+          pick (or_parts (class_at f.classes from).fresh (class_at f.classes to).fresh fresh) where
             pick : ((class_at f.classes from).fresh ≡ true) ⊎ ((class_at f.classes to).fresh ≡ true) → Origin next c
             pick (inl z) = carried c from (g.fresh a from la sa of_from z) (moved_here ∙ e)
             pick (inr z) = carried c to (g.fresh b to lb sb of_to z) (moved_to ∙ e)
@@ -529,11 +532,11 @@ module _ (heap : Setup) (p : LaidOut) (table : SlotTable) (guarded : Guarded) (l
   slot_held s x (Address y w) f is same g = g
   slot_held s x (GlobalAddress y) f is same g = g
 
-  -- a slot that holds a class here is equal to a value of it
+  -- a slot that holds a class here is test_true to a value of it
   holds_same : (s x : ℕ) (holds : Option ℕ) (k : Known) → (slot_at here.slots s).holds ≡ holds → known_at here.values x ≡ k → holds_known holds k ≡ true → slot_value slots s ≡ names x
   holds_same s x (Some d) (Cell c l st) iss is e =
       let m = subst (λ k. Means heap p guarded log cells (length here.classes) registers k (names x)) is (h.values x) in
-      ((h.slot_facts s).holds d iss).0 ∙ ap cells (equal d c e) ∙ sym m.is
+      ((h.slot_facts s).holds d iss).0 ∙ ap cells (test_true d c e) ∙ sym m.is
   holds_same s x None (Cell c l st) iss is e = absurd cc
   holds_same s x holds Nothing iss is e = absurd cc
   holds_same s x holds (Number n b) iss is e = absurd cc
@@ -543,7 +546,7 @@ module _ (heap : Setup) (p : LaidOut) (table : SlotTable) (guarded : Guarded) (l
 
   value_held : (slot holds : Option ℕ) (nonnull : Bool) (f : FactSet) → shows_slot here slot nonnull holds ≡ true → Given f → Given (hold_value slot holds f)
   value_held (Some s) (Some x) nonnull f e g =
-      let b = both (implied nonnull (slot_nonnull here.classes (slot_at here.slots s))) (holds_value here.values (slot_at here.slots s).holds (Some x)) e in
+      let b = and_parts (implied nonnull (slot_nonnull here.classes (slot_at here.slots s))) (holds_value here.values (slot_at here.slots s).holds (Some x)) e in
       slot_held s x (known_at f.values x) f refl (holds_same s x (slot_at here.slots s).holds (known_at here.values x) refl refl b.1) g
   value_held (Some s) None nonnull f e g = g
   value_held None holds nonnull f e g = g
@@ -572,13 +575,13 @@ module _ (heap : Setup) (p : LaidOut) (table : SlotTable) (guarded : Guarded) (l
     -- a value that is listed as a reference of another class than a fresh one is not of the class that is fresh here
     covered_value : (q c w d k : ℕ) (st : Bool) (hc hl : ℕ) (hs : Bool) → covers here there q c ≡ true → known_at here.values w ≡ Cell hc hl hs → known_at there.values w ≡ Cell d k st → hc ≡ q → d ≡ c
     covered_value q c w d k st hc hl hs cover hw tw e =
-        let b = both (list_all (covers_value q c) (zip here.values there.values)) (list_all (covers_slot q c) (zip here.slots there.slots)) cover in
+        let b = and_parts (list_all (covers_value q c) (zip here.values there.values)) (list_all (covers_slot q c) (zip here.slots there.slots)) cover in
         let lh : w < length here.values = within_list here.values w Nothing (λ z. let y = sym hw ∙ z in absurd cc) in
         let lt : w < length there.values = within_list there.values w Nothing (λ z. let y = sym tw ∙ z in absurd cc) in
         let at = all_zip (covers_value q c) here.values there.values w Nothing Nothing lh lt b.0 in
         let at2 = subst (λ x. covers_value q c (x, known_at there.values w) ≡ true) hw at in
         let at3 = subst (λ x. covers_value q c (Cell hc hl hs, x) ≡ true) tw at2 in
-        equal d c (as_implied (hc == q) (d == c) at3 (equal_test hc q e))
+        test_true d c (as_implied (hc == q) (d == c) at3 (test_yes hc q e))
 
     covered_class : (q c : ℕ) (k : Known) (layout : ℕ) (st : Bool) → k ≡ Cell c layout st → covers_known here there q k ≡ true → covers here there q c ≡ true
     covered_class q c k layout st is e = subst (λ x. covers_known here there q x ≡ true) is e
@@ -616,7 +619,7 @@ module _ (heap : Setup) (p : LaidOut) (table : SlotTable) (guarded : Guarded) (l
           pick : {u : ℕ} (q : FreshHere u) → covers here there q.class c ≡ true → (b : Bool) → holds_class q.class (slot_at here.slots s).holds ≡ b → AreApart (cells q.class) (slot_value slots s)
           pick q cover false e = h.alone_in_slots _ s q.class q.layout q.stale q.is q.fresh e
           pick q cover true e =
-              let b = both (list_all (covers_value q.class c) (zip here.values there.values)) (list_all (covers_slot q.class c) (zip here.slots there.slots)) cover in
+              let b = and_parts (list_all (covers_value q.class c) (zip here.values there.values)) (list_all (covers_slot q.class c) (zip here.slots there.slots)) cover in
               let lh : s < length here.slots = within_list here.slots s open_slot (λ z. let y = ap (λ x. holds_class q.class x.holds) (sym z) ∙ e in absurd cc) in
               let at = all_zip (covers_slot q.class c) here.slots there.slots s open_slot open_slot lh (omega (arith, lh, given.slots_size, h.slots_size)) b.1 in
               absurd (not_both (holds_class c (slot_at there.slots s).holds) (as_implied (holds_class q.class (slot_at here.slots s).holds) _ at e) out)

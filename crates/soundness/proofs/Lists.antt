@@ -3,32 +3,12 @@ use Rattle.std.proofs.Common.{inl, inr, ◌≡◌, ◌≢◌, ℕ, zero, suc, �
 use Rattle.std.proofs.lemmas.Bool.Decides.{Decides-eqb}
 use Rattle.std.specs.Prelude.{◌==◌, ◌&&◌, ◌||◌, ◌⊎◌, not, replicate, nat_lt}
 use Rattle.std.specs.List.{list_all, zip, range_with_len}
+use Rattle.lemmas.specs.Numbers.{test_true, test_yes}
+use Rattle.lemmas.specs.Bools.{and_parts}
 use Rattle.facts.specs.Lines.{implied}
 
-pub both : (a b : Bool) → (a && b) ≡ true → (a ≡ true) × (b ≡ true)
-both true b e = (refl, e)
-both false b e = absurd cc
-
-pub negated : (b : Bool) → not b ≡ true → b ≡ false
-negated true e = absurd cc
-negated false e = refl
-
-pub either_true : (a b : Bool) → a ≡ true → (a || b) ≡ true
-either_true true b e = refl
-either_true false b e = absurd cc
-
-pub other_true : (a b : Bool) → b ≡ true → (a || b) ≡ true
-other_true true b e = refl
-other_true false b e = e
-
-pub equal : (x y : ℕ) → (x == y) ≡ true → x ≡ y
-equal x y e = (Decides-eqb x y).0 e
-
-pub equal_test : (x y : ℕ) → x ≡ y → (x == y) ≡ true
-equal_test x y e = (Decides-eqb x y).1 e
-
 pub turned : (x y : ℕ) → (x == y) ≡ true → (y == x) ≡ true
-turned x y e = equal_test y x (sym (equal x y e))
+turned x y e = test_yes y x (sym (test_true x y e))
 
 -- the element of a list at a place, by `slice_get`
 abbrev pub got : {X : Type 0} → X → List X → ℕ → X
@@ -75,11 +55,6 @@ got_set [] i a d lt = absurd (omega arith)
 got_set (x ∷ xs) zero a d lt = refl
 got_set (x ∷ xs) (suc i) a d lt = got_set xs i a d (omega arith)
 
-pub at_map : {X : Type 0} (g : X → X) (xs : List X) (j : ℕ) (d : X) → g d ≡ d → get_or (map g xs) j d ≡ g (get_or xs j d)
-at_map g [] j d e = sym e
-at_map g (x ∷ xs) zero d e = refl
-at_map g (x ∷ xs) (suc j) d e = at_map g xs j d e
-
 -- one element more at the end
 pub at_old : {X : Type 0} (xs : List X) (y : X) (j : ℕ) (d : X) → j < length xs → get_or (xs ++ y ∷ []) j d ≡ get_or xs j d
 at_old [] y j d lt = absurd (omega arith)
@@ -98,8 +73,8 @@ longer (x ∷ xs) y = ap suc (longer xs y)
 pub by_equal : {A : Type 0} (x y : ℕ) → (x ≡ y → A) → (x ≢ y → A) → A
 by_equal {A} x y same other = pick (x == y) refl where
   pick : (b : Bool) → (x == y) ≡ b → A
-  pick true e = same (equal x y e)
-  pick false e = other (λ z. let t = equal_test x y z in absurd cc)
+  pick true e = same (test_true x y e)
+  pick false e = other (λ z. let t = test_yes x y z in absurd cc)
 
 -- another place than the one written
 pub at_other : {X : Type 0} (xs : List X) (i j : ℕ) (a d : X) → i ≢ j → get_or (slice_set xs i a) j d ≡ get_or xs j d
@@ -123,19 +98,14 @@ replicated (suc n) (suc i) x = replicated n i x
 pub all_zip : {X Y : Type 0} (g : X × Y → Bool) (xs : List X) (ys : List Y) (j : ℕ) (d : X) (e : Y) → j < length xs → j < length ys → list_all g (zip xs ys) ≡ true → g (get_or xs j d, get_or ys j e) ≡ true
 all_zip g [] ys j d e lx ly all = absurd (omega arith)
 all_zip g (x ∷ xs) [] j d e lx ly all = absurd (omega arith)
-all_zip g (x ∷ xs) (y ∷ ys) zero d e lx ly all = (both (g (x, y)) (list_all g (zip xs ys)) all).0
-all_zip g (x ∷ xs) (y ∷ ys) (suc j) d e lx ly all = all_zip g xs ys j d e (omega arith) (omega arith) (both (g (x, y)) (list_all g (zip xs ys)) all).1
+all_zip g (x ∷ xs) (y ∷ ys) zero d e lx ly all = (and_parts (g (x, y)) (list_all g (zip xs ys)) all).0
+all_zip g (x ∷ xs) (y ∷ ys) (suc j) d e lx ly all = all_zip g xs ys j d e (omega arith) (omega arith) (and_parts (g (x, y)) (list_all g (zip xs ys)) all).1
 
 -- where it is asked, it holds
 pub as_implied : (asked holds : Bool) → implied asked holds ≡ true → asked ≡ true → holds ≡ true
 as_implied asked true e z = refl
 as_implied true false e z = absurd cc
 as_implied false false e z = absurd cc
-
--- one of two holds
-pub either : (a b : Bool) → (a || b) ≡ true → (a ≡ true) ⊎ (b ≡ true)
-either true b e = inl refl
-either false b e = inr e
 
 pub not_both : {A : Type 0} (b : Bool) → b ≡ true → b ≡ false → A
 not_both true e z = absurd cc
@@ -151,14 +121,8 @@ within_list (x ∷ xs) (suc j) d ne = let r = within_list xs j d ne in omega ari
 pub each_from : (test : ℕ → Bool) (first count w : ℕ) → first ≤ w → w < first + count → list_all test (range_with_len first count) ≡ true → test w ≡ true
 each_from test first zero w le lt e = absurd (omega arith)
 each_from test first (suc count) w le lt e = by_equal first w
-    (λ z. subst (λ y. test y ≡ true) z (both (test first) (list_all test (range_with_len (first + 1) count)) e).0)
-    (λ ne. each_from test (first + 1) count w (omega (arith, le, ne)) (omega arith) (both (test first) (list_all test (range_with_len (first + 1) count)) e).1)
+    (λ z. subst (λ y. test y ≡ true) z (and_parts (test first) (list_all test (range_with_len (first + 1) count)) e).0)
+    (λ ne. each_from test (first + 1) count w (omega (arith, le, ne)) (omega arith) (and_parts (test first) (list_all test (range_with_len (first + 1) count)) e).1)
 
 pub each_below : (test : ℕ → Bool) (count w : ℕ) → w < count → list_all test (range_with_len 0 count) ≡ true → test w ≡ true
 each_below test count w lt e = each_from test 0 count w (omega arith) (omega arith) e
-
-pub lt_true : (x y : ℕ) → x < y → nat_lt x y ≡ true
-lt_true x y lt = grind (arith, lt)
-
-pub lt_false : (x y : ℕ) → y ≤ x → nat_lt x y ≡ false
-lt_false x y le = grind (arith, le)

@@ -4,6 +4,8 @@ use Rattle.std.proofs.lemmas.List.{length-map, length-replicate, length-set}
 use Rattle.std.proofs.lemmas.List.FromFn.{length-enumerate_from}
 use Rattle.std.specs.Prelude.{◌==◌, ◌||◌, ◌&&◌, if◌then◌else◌, nat_lt}
 use Rattle.std.specs.List.{enumerate_from, list_any, zip}
+use Rattle.lemmas.specs.Lists.{at_map}
+use Rattle.lemmas.specs.Numbers.{test_true, test_yes}
 use Rattle.ir_ast.specs.declared.module.Module.{Module}
 use Rattle.ir_ast.specs.declared.op.Argument.{Argument}
 use Rattle.ir_ast.specs.declared.op.Comparison.{Comparison}
@@ -51,7 +53,7 @@ use Rattle.block_rules.specs.Elements.{element_words, start_of, define_element, 
 use Rattle.block_rules.specs.Integers.{below_of, larger, arithmetic_below, define_number, resized_below, after_compare, chosen_layout, choose_reference, after_select}
 use Rattle.block_rules.specs.Calls.{after_root, after_root_call, alloc_numbered, alloc_layout, after_alloc_call, drop_arguments, receive_result, after_defined, after_call}
 use Rattle.block_rules.specs.Rules.{after_alloca, after_named, after_op}
-use Rattle.soundness.proofs.Lists.{at_set, at_other, at_map, at_old, at_end, longer, equal, equal_test, by_equal, replicated}
+use Rattle.soundness.proofs.Lists.{at_set, at_other, at_old, at_end, longer, by_equal, replicated}
 use Rattle.soundness.specs.Goes.{IsNamed, HasMember, HaveClasses, HaveMembers, MembersStay}
 
 -- where some value passes as one of a class, one is of it
@@ -69,7 +71,7 @@ any_found c (x ∷ values) e = by x e (any_found c values) where
   by (GlobalAddress g) e rest = later (GlobalAddress g) rest e
   by (Cell d l s) e rest = pick (d == c) refl e where
     pick : (b : Bool) → (d == c) ≡ b → (b || list_any (is_of c) values) ≡ true → IsNamed (Cell d l s ∷ values) c
-    pick true t e = (zero, l, s, ap (λ x. Cell x l s) (equal d c t))
+    pick true t e = (zero, l, s, ap (λ x. Cell x l s) (test_true d c t))
     pick false t e = later (Cell d l s) rest e
 
 -- another value than the one that is forgotten is of the same class
@@ -102,7 +104,7 @@ forget_members v facts members =
         let_go_is slot n e = choose (holds_class d slot.holds) refl e where
           choose : (b : Bool) → holds_class d slot.holds ≡ b → (if b then record slot { nonnull = slot.nonnull || n; holds = None } else slot).holds ≡ Some c → (slot.holds ≡ Some c) × (c ≢ d)
           choose true q e = absurd cc
-          choose false q e = (e, λ z. let y = sym q ∙ ap (holds_class d) e ∙ equal_test c d z in absurd cc)
+          choose false q e = (e, λ z. let y = sym q ∙ ap (holds_class d) e ∙ test_yes c d z in absurd cc)
 
         pick : (b : Bool) → list_any (is_of d) (values_without v facts.values) ≡ b → (slot_at (if b then facts.slots else map (let_go d (class_at facts.classes d).nonnull) facts.slots) s).holds ≡ Some c → HasMember (forget v facts) c
         pick true any e = other c (λ l t z. inl (subst (IsNamed (values_without v facts.values)) (sym (same_class l t z)) (any_found d (values_without v facts.values) any))) (members.0 s c e)
@@ -582,7 +584,7 @@ all_listed_held : (table : SlotTable) (lines : List Line) (facts : FactSet) → 
 all_listed_held table [] facts none = none
 all_listed_held table (line ∷ lines) facts none = all_listed_held table lines (list_line table line facts) (listed_held table line facts none)
 
--- nor where two values are said to be equal
+-- nor where two values are said to be test_true
 joined_held : (first second : Known) (facts : FactSet) → NoneHeld facts → NoneHeld (join_values first second facts)
 joined_held (Cell c l s) (Cell d k t) facts none =
     let a = class_at facts.classes c in
@@ -599,7 +601,7 @@ joined_held Null second facts none = none
 joined_held (Address b w) second facts none = none
 joined_held (GlobalAddress g) second facts none = none
 
--- nor behind what a line says of equal values
+-- nor behind what a line says of test_true values
 tied_held : (line : Line) (facts : FactSet) → NoneHeld facts → NoneHeld (tie_line line facts)
 tied_held (line.Value v (fact.Number bits below)) facts none = none
 tied_held (line.Value v (fact.Reference layout nonnull age None)) facts none = none

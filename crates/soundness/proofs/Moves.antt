@@ -2,6 +2,8 @@
 use Rattle.std.proofs.Common.{◌≡◌, ◌≢◌, ℕ, ◌<◌, List, length, refl, sym, ap, ◌∙◌, subst, arith, true, false, Bool, Option, Some, None, inl, inr, slice_set}
 use Rattle.std.specs.Prelude.{◌==◌, ◌||◌, ◌&&◌, is_some}
 use Rattle.std.proofs.lemmas.List.{length-set}
+use Rattle.lemmas.specs.Numbers.{test_true, test_yes}
+use Rattle.lemmas.specs.Bools.{and_parts, or_second, or_first}
 use Rattle.ir_ast.specs.declared.function.Function.{Function}
 use Rattle.ir_ast.specs.declared.op.Op.TheVariants.{Load, Store}
 use Rattle.ir_ast.specs.declared.operand.Constant.TheVariants as constant
@@ -33,7 +35,7 @@ use Rattle.machine.specs.Machine as mc
 use Rattle.machine.specs.Machine.{slot_value}
 use Rattle.machine.specs.Log.{Log}
 use Rattle.soundness.specs.Meaning.{Cells, Guarded, IsReferenceTo, IsOwn, IsInteger, IsMember, AreApart, Means, FitsReference, FitsHeld, FitsSlot, Holds}
-use Rattle.soundness.proofs.Lists.{both, either_true, other_true, equal, equal_test, turned, got_set, longer, at_end}
+use Rattle.soundness.proofs.Lists.{turned, got_set, longer, at_end}
 use Rattle.soundness.proofs.KindLemmas.{integer_same, layout_same, bytes_same, bits_are}
 use Rattle.soundness.proofs.Keep.{forget_keeps, put_keeps}
 use Rattle.soundness.proofs.Change.{apart_turned, extend, extend_new, define_plain, learn_keeps, add_keeps}
@@ -52,11 +54,11 @@ module _ (p : LaidOut) (f : Function) (table : SlotTable) where
   moves_is written held e = by (kind_of p.of_module held) refl e where
     by : (x : TypeKind) → kind_of p.of_module held ≡ x → r.moves_kind (written == held) (kind_of p.of_module written) x ≡ true → a.is_slot_type p.of_module held written ≡ true
     by NoValue is e = absurd cc
-    by (Bits bits) is e = either_true (held == written) (is_some (referenced_layout p.of_module held) && k.is_byte_pointer p.of_module written) (turned written held e)
+    by (Bits bits) is e = or_first (held == written) (is_some (referenced_layout p.of_module held) && k.is_byte_pointer p.of_module written) (turned written held e)
     by (Reference layout) is e = pick (written == held) refl e where
       pick : (b : Bool) → (written == held) ≡ b → (b || is_any_reference (kind_of p.of_module written)) ≡ true → a.is_slot_type p.of_module held written ≡ true
-      pick true same e = either_true (held == written) (is_some (referenced_layout p.of_module held) && k.is_byte_pointer p.of_module written) (turned written held same)
-      pick false same e = other_true (held == written) (is_some (referenced_layout p.of_module held) && k.is_byte_pointer p.of_module written)
+      pick true same e = or_first (held == written) (is_some (referenced_layout p.of_module held) && k.is_byte_pointer p.of_module written) (turned written held same)
+      pick false same e = or_second (held == written) (is_some (referenced_layout p.of_module held) && k.is_byte_pointer p.of_module written)
           (rw (sym (layout_same p.of_module held) ∙ ap layout_of_kind is, sym (bytes_same p.of_module written) ∙ e) refl)
     by AnyReference is e = absurd cc
     by AddressKind is e = absurd cc
@@ -202,7 +204,7 @@ module _ (heap : Setup) (p : LaidOut) (certs : List Section) (reaches : Bool) (f
     by Other e z = absurd cc
 
     pick : (b : Bool) → (stored == held) ≡ b → (b || is_any_reference (kind_of p.of_module stored)) ≡ true → ⊥
-    pick true same e = let x : o.fits_bits n (Reference layout) ≡ true = subst (λ y. o.fits_bits n y ≡ true) (ap (kind_of p.of_module) (equal stored held same) ∙ is) fits in absurd cc
+    pick true same e = let x : o.fits_bits n (Reference layout) ≡ true = subst (λ y. o.fits_bits n y ≡ true) (ap (kind_of p.of_module) (test_true stored held same) ∙ is) fits in absurd cc
     pick false same e = by (kind_of p.of_module stored) fits e
 
   -- what is known as a current reference to a layout is one, and is own
@@ -211,7 +213,7 @@ module _ (heap : Setup) (p : LaidOut) (certs : List Section) (reaches : Bool) (f
   known_reference layout Nothing v means is fits current = absurd cc
   known_reference layout (Number bits below) v means is fits current = absurd cc
   known_reference layout (Cell c l true) v means is fits current = absurd cc
-  known_reference layout (Cell c l false) v means is fits current = (subst (λ x. IsReferenceTo heap x v) (sym (equal layout l fits)) means.refers, means.own refl)
+  known_reference layout (Cell c l false) v means is fits current = (subst (λ x. IsReferenceTo heap x v) (sym (test_true layout l fits)) means.refers, means.own refl)
   known_reference layout Null v means is fits current = subst (λ x. IsReferenceTo heap layout x × IsOwn log guarded x) (sym means) (tt, tt)
   known_reference layout (Address base words) v means is fits current = absurd cc
   known_reference layout (GlobalAddress g) v means is fits current = absurd cc
@@ -220,7 +222,7 @@ module _ (heap : Setup) (p : LaidOut) (certs : List Section) (reaches : Bool) (f
   reference_stored : (stored held layout : ℕ) (x : Operand) → kind_of p.of_module held ≡ Reference layout → o.is_available table facts x ≡ true → o.is_value p.of_module f facts stored x ≡ true → o.is_current facts (o.known_of facts x) ≡ true → o.slot_named table x ≡ None
       → r.moves_kind (stored == held) (kind_of p.of_module stored) (Reference layout) ≡ true → o.known_fits (Reference layout) (o.known_of facts x) ≡ true
       → IsReferenceTo heap layout (value_of p.of_module frame.registers stored x) × IsOwn log guarded (value_of p.of_module frame.registers stored x)
-  reference_stored stored held layout (operand.Constant (constant.Number n)) is k1 k2 k3 none moves fits = absurd (number_in stored held n layout is (both (o.fits_bits n (kind_of p.of_module stored)) true k2).0 moves)
+  reference_stored stored held layout (operand.Constant (constant.Number n)) is k1 k2 k3 none moves fits = absurd (number_in stored held n layout is (and_parts (o.fits_bits n (kind_of p.of_module stored)) true k2).0 moves)
   reference_stored stored held layout (operand.Constant (constant.Truth b)) is k1 k2 k3 none moves fits = absurd cc
   reference_stored stored held layout (operand.Constant constant.Null) is k1 k2 k3 none moves fits = (tt, tt)
   reference_stored stored held layout (operand.Local u) is k1 k2 k3 none moves fits = known_reference layout (known_at facts.values u) (register_at frame.registers u) (h.values u) (available heap p certs reaches f table guarded log cells facts frame h u none k1) fits k3
@@ -242,13 +244,13 @@ module _ (heap : Setup) (p : LaidOut) (certs : List Section) (reaches : Bool) (f
       of_layout layout value.Unset q = absurd q
       of_layout layout (value.Number n) q = absurd q
       of_layout layout value.Null q = refl
-      of_layout layout (value.Cell own at) q = equal_test own layout q.0
+      of_layout layout (value.Cell own at) q = test_yes own layout q.0
       of_layout layout (value.Address at) q = absurd q
 
       by : (y : TypeKind) → kind_of p.of_module held ≡ y → r.moves_kind (stored == held) (kind_of p.of_module stored) y ≡ true → o.known_fits y (o.known_of facts x) ≡ true → FitsHeld heap p.of_module guarded log held given × (fits_layout_of (referenced_layout p.of_module held) given ≡ true)
       by NoValue is moves fits = absurd cc
       by (Bits bits) is moves fits =
-          let i = integer_is heap p certs reaches f table guarded log cells facts frame h stored bits x (ap (kind_of p.of_module) (equal stored held moves) ∙ is) k1 k2 none in (
+          let i = integer_is heap p certs reaches f table guarded log cells facts frame h stored bits x (ap (kind_of p.of_module) (test_true stored held moves) ∙ is) k1 k2 none in (
             record {
               integer = λ z. subst (λ b. IsInteger b None given) (sym (bits_are p.of_module held bits is)) (record { number = i.number; is = i.is; fits = i.fits; under = tt });
               reference = λ z. absurd (let y = sym z ∙ sym (integer_same p.of_module held) ∙ ap is_integer is in cc);
@@ -288,7 +290,7 @@ module _ (heap : Setup) (p : LaidOut) (certs : List Section) (reaches : Bool) (f
   stored_keeps stored s (operand.Constant constant.Null) k1 k2 k3 none fits = slot_keeps heap p table guarded log cells facts frame.registers frame.slots h s _ _ fits (apart_plain s _ (apart_null _ refl))
   stored_keeps stored s (operand.Global g) k1 k2 k3 none fits = absurd (no_value _ k2)
   stored_keeps stored s (operand.CastGlobal a b c) k1 k2 k3 none fits = absurd (no_value _ k2)
-  stored_keeps stored s (operand.Local u) k1 k2 k3 none fits = by (known_at facts.values u) refl (h.values u) (available heap p certs reaches f table guarded log cells facts frame h u none k1) (both (has_type p.of_module f stored u) (o.known_fits (kind_of p.of_module stored) (known_at facts.values u)) k2).1 k3 where
+  stored_keeps stored s (operand.Local u) k1 k2 k3 none fits = by (known_at facts.values u) refl (h.values u) (available heap p certs reaches f table guarded log cells facts frame h u none k1) (and_parts (has_type p.of_module f stored u) (o.known_fits (kind_of p.of_module stored) (known_at facts.values u)) k2).1 k3 where
     new : Value
     new = register_at frame.registers u
 
@@ -299,7 +301,7 @@ module _ (heap : Setup) (p : LaidOut) (certs : List Section) (reaches : Bool) (f
     by (Cell c l true) is means known fits2 current = absurd cc
     by (Cell c l false) is means known fits2 current = slot_keeps heap p table guarded log cells facts frame.registers frame.slots h s _ new fits (record {
       means = record { nonnull = λ z w. (h.classes c).nonnull z (sym means.is ∙ w); holds = λ d e. let same : c ≡ d = cc in (means.is ∙ ap cells same, subst (λ y. y < length facts.classes) same means.within) };
-      apart = λ v d m st is2 fr out. subst (AreApart (cells d)) (sym means.is) (h.alone v u d c m l st is2 is fr (λ z. let t = equal_test c d (sym z) in let y = sym t ∙ out in absurd cc));
+      apart = λ v d m st is2 fr out. subst (AreApart (cells d)) (sym means.is) (h.alone v u d c m l st is2 is fr (λ z. let t = test_yes c d (sym z) in let y = sym t ∙ out in absurd cc));
     })
     by Null is means known fits2 current = slot_keeps heap p table guarded log cells facts frame.registers frame.slots h s _ new fits (apart_plain s new (apart_null new means))
     by (Address base words) is means known fits2 current = absurd cc
@@ -324,7 +326,7 @@ module _ (heap : Setup) (p : LaidOut) (certs : List Section) (reaches : Bool) (f
             (a.store_action p table stored (k.is_usable p.of_module f table frame.registers stored x) new (Some s) (k.address_at_place p.of_module f table frame.registers place_type (operand.Local u))) (λ given. mc.set_slot (Some s) new frame)
         by None at e = absurd cc
         by (Some held) at e =
-            let b = both (r.moves p.of_module stored (Some held)) (o.known_fits (kind_of p.of_module held) (o.known_of facts x)) e in
+            let b = and_parts (r.moves p.of_module stored (Some held)) (o.known_fits (kind_of p.of_module held) (o.known_of facts x)) e in
             let q = value_fits stored held x k1 k2 k3 none b.0 b.1 in
             goes_local heap p table frame.slots reaches guarded log _ _ _ (rw (at, usable heap p certs reaches f table guarded log cells facts frame h stored x k1 k2 none, held_as p f table stored (Some held) b.0, q.1) refl)
             (cells, subst (λ z. Holds heap p table guarded log cells (r.after_store (o.known_of facts x) z facts) frame.registers (slice_set frame.slots s new)) (sym is) (stored_keeps stored s x k1 k2 k3 none (subst (λ y. FitsSlot heap p.of_module guarded log y new) (sym at) q.0)))

@@ -2,6 +2,8 @@
 use Rattle.std.proofs.Common.{◌≡◌, ℕ, zero, suc, List, [], ◌∷◌, length, refl, sym, ap, ◌∙◌, subst, true, false, Bool, Some, inl, inr}
 use Rattle.std.specs.Prelude.{◌&&◌, not, if◌then◌else◌}
 use Rattle.std.specs.List.{list_any}
+use Rattle.lemmas.specs.Numbers.{test_true}
+use Rattle.lemmas.specs.Bools.{and_parts, not_true, or_parts}
 use Rattle.pools.specs.Heap.{Setup}
 use Rattle.layout.specs.Layouts.{LaidOut}
 use Rattle.shadow_stack.specs.Slots.{SlotTable}
@@ -15,7 +17,6 @@ use Rattle.machine.specs.Kinds.{register_at}
 use Rattle.machine.specs.Machine.{slot_value}
 use Rattle.machine.specs.Log.{Log, Held}
 use Rattle.soundness.specs.Meaning.{Cells, Guarded, IsNullOrFresh, AreApart, Means, ClassMeans, Holds}
-use Rattle.soundness.proofs.Lists.{both, negated, equal, either}
 use Rattle.soundness.proofs.Keep.{found, classes_log_keeps}
 
 -- some value is of a class
@@ -24,7 +25,7 @@ IsNamed values c = (w : ℕ) × (l : ℕ) × (stale : Bool) × (known_at values 
 
 -- a value that is of the class is one that has it
 named_by : (c : ℕ) (k : Known) → is_of c k ≡ true → (l : ℕ) × (stale : Bool) × (k ≡ Cell c l stale)
-named_by c (Cell d l stale) e = (l, stale, ap (λ x. Cell x l stale) (equal d c e))
+named_by c (Cell d l stale) e = (l, stale, ap (λ x. Cell x l stale) (test_true d c e))
 named_by c Nothing e = absurd cc
 named_by c (Number bits below) e = absurd cc
 named_by c Null e = absurd cc
@@ -34,7 +35,7 @@ named_by c (GlobalAddress symbol) e = absurd cc
 -- where one is found
 found_named : (c : ℕ) (values : List Known) → list_any (is_of c) values ≡ true → IsNamed values c
 found_named c [] e = absurd cc
-found_named c (k ∷ values) e = elim (either (is_of c k) (list_any (is_of c) values) e) [
+found_named c (k ∷ values) e = elim (or_parts (is_of c k) (list_any (is_of c) values) e) [
   | inl z ↦ (let n = named_by c k z in (zero, n.0, n.1, n.2))
   | inr z ↦ (let n = found_named c values z in (suc n.0, n.1, n.2, n.3))
 ]
@@ -53,7 +54,7 @@ stays facts cells c n = pick (is_unnamed facts c) refl where
   pick : (b : Bool) → is_unnamed facts c ≡ b → (if b then value.Unset else cells c) ≡ cells c
   pick false e = refl
   pick true e =
-      let none = negated (list_any (is_of c) facts.values) (both (class_at facts.classes c).fresh (not (list_any (is_of c) facts.values)) e).1 in
+      let none = not_true (list_any (is_of c) facts.values) (and_parts (class_at facts.classes c).fresh (not (list_any (is_of c) facts.values)) e).1 in
       let some = found facts.values n.0 c n.1 n.2 n.3 in
       absurd cc
 

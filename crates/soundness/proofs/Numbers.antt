@@ -3,6 +3,7 @@ use Rattle.std.proofs.Common.{ℕ, ◌<◌, ◌≤◌, ◌^◌, refl, arith, tru
 use Rattle.std.proofs.lemmas.Nat.{and_le_l, and_le_r}
 use Rattle.std.proofs.lemmas.Bool.{cases_lt}
 use Rattle.std.specs.Prelude.{◌⊎◌, if◌then◌else◌, nat_lt, bit_and}
+use Rattle.lemmas.specs.Numbers.{lt_yes, lt_no}
 use Rattle.ir_ast.specs.declared.op.Arithmetic.{Arithmetic}
 use Rattle.ir_ast.specs.declared.op.Arithmetic.TheVariants.{Add, Sub, Mul, And, Or, Xor}
 use Rattle.ir_ast.specs.declared.op.Resize.{Resize}
@@ -12,7 +13,6 @@ use Rattle.machine.specs.declared.value.Value.TheVariants as value
 use Rattle.machine.specs.Kinds.{wrapped}
 use Rattle.machine.specs.Integers.{computed, resized, truth}
 use Rattle.soundness.specs.Meaning.{IsBelow, IsInteger}
-use Rattle.soundness.proofs.Lists.{lt_true, lt_false}
 use Rattle.machine.specs.WrappedFits.{wrapped_fits}
 use Rattle.soundness.proofs.Edges.{wrapped_le}
 
@@ -65,5 +65,5 @@ chosen_below a b None second f s = (tt, tt)
 chosen_below a b (Some n) None f s = (tt, tt)
 chosen_below a b (Some n) (Some m) f s = pick (cases_lt n m) where
   pick : (n < m) ⊎ (m ≤ n) → IsBelow a (if nat_lt n m then Some m else Some n) × IsBelow b (if nat_lt n m then Some m else Some n)
-  pick (inl lt) = rw (lt_true n m lt) (omega (arith, f, lt), s)
-  pick (inr le) = rw (lt_false n m le) (f, omega (arith, s, le))
+  pick (inl lt) = rw (lt_yes n m lt) (omega (arith, f, lt), s)
+  pick (inr le) = rw (lt_no n m le) (f, omega (arith, s, le))

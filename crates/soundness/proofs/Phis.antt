@@ -3,6 +3,7 @@ use Rattle.std.proofs.Common.{◌≡◌, ℕ, suc, ◌+◌, List, [], ◌∷◌,
 use Rattle.std.proofs.lemmas.List.Sums.{take_while-cons}
 use Rattle.std.specs.Prelude.{◌||◌, ◌++◌, not, if◌then◌else◌, cond}
 use Rattle.std.specs.List.{take_while}
+use Rattle.lemmas.specs.Bools.{and_parts}
 use Rattle.ir_ast.specs.declared.function.Function.{Function}
 use Rattle.ir_ast.specs.declared.function.LocalSort.{LocalSort}
 use Rattle.ir_ast.specs.declared.function.LocalSort.TheVariants as sort
@@ -31,7 +32,6 @@ use Rattle.block_rules.specs.Ways.{Scene, ways, unshown_on}
 use Rattle.machine.specs.Jumps as j
 use Rattle.machine.specs.Jumps.{is_phi, is_phi_op}
 use Rattle.machine.specs.Kinds as k
-use Rattle.soundness.proofs.Lists.{both}
 use Rattle.soundness.proofs.KindLemmas.{constant_passes, integer_same, refers_same}
 use Rattle.soundness.proofs.Steps.{all_hold, none_of}
 
@@ -81,7 +81,7 @@ module _ (p : LaidOut) (certs : List Section) (f : Function) (table : SlotTable)
   operand_typed : (written : ℕ) (x : Operand) → may_come_in p.of_module f table written x ≡ true → j.entry_fits p.of_module f table written (Some x) ≡ true
   operand_typed written (operand.Constant c) e = constant_passes p.of_module written c e
   operand_typed written (operand.Local v) e =
-      let b = both (is_entry f written v (slice_get f.sorts v)) (not (is_some (slot_of table v))) e in
+      let b = and_parts (is_entry f written v (slice_get f.sorts v)) (not (is_some (slot_of table v))) e in
       rw (value_typed written v (slice_get f.sorts v) b.0, none_of (slot_of table v) b.1) refl
   operand_typed written (operand.Global g) e = absurd cc
   operand_typed written (operand.CastGlobal from g to) e = absurd cc
@@ -89,7 +89,7 @@ module _ (p : LaidOut) (certs : List Section) (f : Function) (table : SlotTable)
   entry_typed : (written from : ℕ) (incoming : List Incoming) → all_come_in p.of_module f table written incoming ≡ true → j.entry_fits p.of_module f table written (j.entry_for f from incoming) ≡ true
   entry_typed written from [] e = refl
   entry_typed written from (entry ∷ incoming) e =
-      let b = both (may_come_in p.of_module f table written entry.operand) (all_come_in p.of_module f table written incoming) e in
+      let b = and_parts (may_come_in p.of_module f table written entry.operand) (all_come_in p.of_module f table written incoming) e in
       pick (j.is_block from (target_of f entry.from)) (operand_typed written entry.operand b.0) (entry_typed written from incoming b.1) where
         pick : (b : Bool) → j.entry_fits p.of_module f table written (Some entry.operand) ≡ true → j.entry_fits p.of_module f table written (j.entry_for f from incoming) ≡ true
             → j.entry_fits p.of_module f table written (if b then Some entry.operand else j.entry_for f from incoming) ≡ true
@@ -105,7 +105,7 @@ module _ (p : LaidOut) (certs : List Section) (f : Function) (table : SlotTable)
   phi_fits_so : (from : ℕ) (here : Standing) (facts : FactSet) (result : Option ℕ) (op : Op) → is_phi_op op ≡ true → first_failing (op_conditions p certs f table here facts result op) ≡ None → j.phi_fits p.of_module f table from op ≡ true
   phi_fits_so from here facts result (Phi written incoming) is e =
       let all = all_hold (op_conditions p certs f table here facts result (Phi written incoming)) e in
-      let b = both (may_choose (kind_of p.of_module written)) (all_come_in p.of_module f table written incoming) all.0 in
+      let b = and_parts (may_choose (kind_of p.of_module written)) (all_come_in p.of_module f table written incoming) all.0 in
       rw (scalar_written written b.0, entry_typed written from incoming b.1) refl
   phi_fits_so from here facts result _ is e = absurd cc
 

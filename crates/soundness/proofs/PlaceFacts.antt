@@ -1,6 +1,7 @@
 -- The words to which addresses lead, and the loads and stores of them that keep the discipline.
 use Rattle.std.proofs.Common.{◌≡◌, ◌≢◌, ℕ, zero, suc, ◌<◌, List, length, refl, sym, ap, ◌∙◌, subst, arith, true, false, Bool, Option, Some, None, slice_get, inr}
 use Rattle.std.specs.Prelude.{◌||◌, not}
+use Rattle.lemmas.specs.Numbers.{test_true}
 use Rattle.ir_ast.specs.declared.items_of_module.Global.{Global as AGlobal}
 use Rattle.pools.specs.Heap.{Setup, IsOfLayout, kind_of}
 use Rattle.pools.specs.Layouts.{words_of, kind_of_word}
@@ -25,7 +26,7 @@ use Rattle.machine.specs.declared.value.Value.TheVariants as value
 use Rattle.machine.specs.Kinds.{register_at}
 use Rattle.machine.specs.Log.{Log, Held, Keeps, MayBeStored}
 use Rattle.soundness.specs.Meaning.{Cells, Guarded, IsReferenceTo, IsOwn, IsInteger, IsAddressOf, Means, Holds}
-use Rattle.soundness.proofs.Lists.{each_below, equal}
+use Rattle.soundness.proofs.Lists.{each_below}
 use Rattle.soundness.proofs.Keep.{known_within}
 
 -- what the words of a cell hold is by its layout
@@ -95,7 +96,7 @@ module _ (heap : Setup) (p : LaidOut) (table : SlotTable) (guarded : Guarded) (l
 
   integer_word : (bits : ℕ) (kind : Option WordKind) → holds_wanted (want.Integer bits) kind ≡ true → kind ≡ Some (word.Integer bits)
   integer_word bits None e = absurd cc
-  integer_word bits (Some (word.Integer other)) e = ap (λ b. Some (word.Integer b)) (equal other bits e)
+  integer_word bits (Some (word.Integer other)) e = ap (λ b. Some (word.Integer b)) (test_true other bits e)
   integer_word bits (Some (word.Reference other)) e = absurd cc
 
   -- and a store of an integer of its bits

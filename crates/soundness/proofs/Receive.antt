@@ -1,6 +1,8 @@
 -- What parameters and results take, and what an operand that is shown gives.
 use Rattle.std.proofs.Common.{◌≡◌, ◌≢◌, ℕ, List, length, refl, sym, ap, ◌∙◌, subst, true, false, Bool, Option, Some, None, slice_set}
 use Rattle.std.specs.Prelude.{◌&&◌}
+use Rattle.lemmas.specs.Numbers.{test_true}
+use Rattle.lemmas.specs.Bools.{and_parts}
 use Rattle.ir_ast.specs.declared.function.Function.{Function}
 use Rattle.ir_ast.specs.declared.operand.Constant.TheVariants as constant
 use Rattle.ir_ast.specs.declared.operand.Operand.{Operand}
@@ -31,7 +33,7 @@ use Rattle.machine.specs.Log.{Log}
 use Rattle.soundness.specs.Meaning.{Cells, Guarded, IsReferenceTo, IsOwn, AreApart, IsInteger, Means, Holds}
 use Rattle.soundness.proofs.Change.{define_plain, new_keeps}
 use Rattle.soundness.proofs.Listed.{below_shown}
-use Rattle.soundness.proofs.Lists.{both, equal, as_implied}
+use Rattle.soundness.proofs.Lists.{as_implied}
 use Rattle.soundness.proofs.Steps.{available, integer_is, no_number}
 
 -- ---- what is taken
@@ -116,8 +118,8 @@ module _ (heap : Setup) (p : LaidOut) (certs : List Section) (f : Function) (tab
   kept_parts : (x : Operand) (promise : Promise) → keeps_promise facts (Some promise) x ≡ true
       → (is_promised promise.layout (known_layout (o.known_of facts x)) ≡ true) × (implied promise.nonnull (o.is_nonnull facts (o.known_of facts x)) ≡ true) × (is_below (below_of facts x) promise.below ≡ true)
   kept_parts x promise kept =
-      let b = both (is_promised promise.layout (known_layout (o.known_of facts x)) && implied promise.nonnull (o.is_nonnull facts (o.known_of facts x))) (is_below (below_of facts x) promise.below) kept in
-      let c = both (is_promised promise.layout (known_layout (o.known_of facts x))) (implied promise.nonnull (o.is_nonnull facts (o.known_of facts x))) b.0 in
+      let b = and_parts (is_promised promise.layout (known_layout (o.known_of facts x)) && implied promise.nonnull (o.is_nonnull facts (o.known_of facts x))) (is_below (below_of facts x) promise.below) kept in
+      let c = and_parts (is_promised promise.layout (known_layout (o.known_of facts x))) (implied promise.nonnull (o.is_nonnull facts (o.known_of facts x))) b.0 in
       (c.0, c.1, b.1)
 
   -- what is promised of an integer is shown of it
@@ -136,7 +138,7 @@ module _ (heap : Setup) (p : LaidOut) (certs : List Section) (f : Function) (tab
   promised_same x None layout known kept asked is = absurd cc
   promised_same x (Some promise) layout known kept asked is =
       let d : is_promised (Some layout) (Some known) ≡ true = subst (λ l. is_promised (Some layout) l ≡ true) is (subst (λ l. is_promised l (known_layout (o.known_of facts x)) ≡ true) asked (kept_parts x promise kept).0) in
-      equal layout known d
+      test_true layout known d
 
   -- a cell that the frame has as its own may be given to frames with these guarded cells
   abbrev pub MayGive : Guarded → Operand → Type 0
@@ -162,20 +164,20 @@ module _ (heap : Setup) (p : LaidOut) (certs : List Section) (f : Function) (tab
   -- an operand of a reference type
   reference_given : (more : Guarded) (layout : ℕ) (nonnull : Bool) (x : Operand) → MayGive more x → Passes x → may_be_reference (kind_of p.of_module written) ≡ true
       → ((l : ℕ) → known_layout (o.known_of facts x) ≡ Some l → layout ≡ l) → (nonnull ≡ true → o.is_nonnull facts (o.known_of facts x) ≡ true) → IsGivenReference heap more log (Some layout) nonnull (value_of p.of_module frame.registers written x)
-  reference_given more layout nonnull (operand.Constant (constant.Number n)) may k reference same shown = absurd (no_number n (kind_of p.of_module written) (both (o.fits_bits n (kind_of p.of_module written)) true k.typed).0 reference)
+  reference_given more layout nonnull (operand.Constant (constant.Number n)) may k reference same shown = absurd (no_number n (kind_of p.of_module written) (and_parts (o.fits_bits n (kind_of p.of_module written)) true k.typed).0 reference)
   reference_given more layout nonnull (operand.Constant (constant.Truth b)) may k reference same shown = absurd (let x = k.typed in cc)
   reference_given more layout nonnull (operand.Constant constant.Null) may k reference same shown = (tt, tt, λ z. absurd (let y = shown z in cc))
   reference_given more layout nonnull (operand.Local u) may k reference same shown =
-      let b = both (has_type p.of_module f written u) (o.known_fits (kind_of p.of_module written) (known_at facts.values u)) k.typed in
+      let b = and_parts (has_type p.of_module f written u) (o.known_fits (kind_of p.of_module written) (known_at facts.values u)) k.typed in
       reference_known more (kind_of p.of_module written) layout nonnull (known_at facts.values u) (register_at frame.registers u) may (h.values u) (available heap p certs false f table guarded log cells facts frame h u k.no_slot k.there) b.1 k.current reference same shown
-  reference_given more layout nonnull (operand.Global g) may k reference same shown = absurd (let x = (both (o.is_typed p.of_module f written (operand.Global g)) false k.typed).1 in cc)
-  reference_given more layout nonnull (operand.CastGlobal a b c) may k reference same shown = absurd (let x = (both (o.is_typed p.of_module f written (operand.CastGlobal a b c)) false k.typed).1 in cc)
+  reference_given more layout nonnull (operand.Global g) may k reference same shown = absurd (let x = (and_parts (o.is_typed p.of_module f written (operand.Global g)) false k.typed).1 in cc)
+  reference_given more layout nonnull (operand.CastGlobal a b c) may k reference same shown = absurd (let x = (and_parts (o.is_typed p.of_module f written (operand.CastGlobal a b c)) false k.typed).1 in cc)
 
   -- the layout of a value of a reference type to one is that one
   layout_fits : (layout : ℕ) (known : Known) → o.known_fits (Reference layout) known ≡ true → (l : ℕ) → known_layout known ≡ Some l → layout ≡ l
   layout_fits layout Nothing fits l is = absurd cc
   layout_fits layout (Number bits below) fits l is = absurd cc
-  layout_fits layout (Cell c m s) fits l is = let same : m ≡ l = cc in equal layout m fits ∙ same
+  layout_fits layout (Cell c m s) fits l is = let same : m ≡ l = cc in test_true layout m fits ∙ same
   layout_fits layout Null fits l is = absurd cc
   layout_fits layout (Address base words) fits l is = absurd cc
   layout_fits layout (GlobalAddress g) fits l is = absurd cc
@@ -188,7 +190,7 @@ module _ (heap : Setup) (p : LaidOut) (certs : List Section) (f : Function) (tab
     by NoValue is = tt
     by (Bits bits) is = number_given x bits promise (integer_is heap p certs false f table guarded log cells facts frame h written bits x is k.there k.typed k.no_slot) kept
     by (Reference layout) is =
-        let b = both (o.is_typed p.of_module f written x) (o.known_fits (kind_of p.of_module written) (o.known_of facts x)) k.typed in
+        let b = and_parts (o.is_typed p.of_module f written x) (o.known_fits (kind_of p.of_module written) (o.known_of facts x)) k.typed in
         reference_given more layout (promised_nonnull promise) x may k (ap may_be_reference is) (layout_fits layout (o.known_of facts x) (subst (λ y. o.known_fits y (o.known_of facts x) ≡ true) is b.1)) (not_null x promise kept)
     by AnyReference is = of_layout (promised_layout promise) refl where
       of_layout : (layout : Option ℕ) → promised_layout promise ≡ layout → IsGivenReference heap more log layout (promised_nonnull promise) (value_of p.of_module frame.registers written x)

@@ -2,6 +2,7 @@
 use Rattle.std.proofs.Common.{◌≡◌, ℕ, List, refl, true, Option, Some, None, Bool}
 use Rattle.std.specs.Prelude.{◌&&◌, not}
 use Rattle.std.specs.List.{list_all}
+use Rattle.lemmas.specs.Bools.{and_parts, not_true}
 use Rattle.ir_ast.specs.declared.function.Function.{Function}
 use Rattle.ir_ast.specs.declared.op.Argument.{Argument}
 use Rattle.ir_ast.specs.declared.op.Arithmetic.{Arithmetic as Operation}
@@ -35,7 +36,6 @@ use Rattle.machine.specs.Asks as a
 use Rattle.machine.specs.Machine as mc
 use Rattle.machine.specs.Log.{Log, IsFresh}
 use Rattle.soundness.specs.Meaning.{Cells, Guarded, Holds}
-use Rattle.soundness.proofs.Lists.{both, negated}
 use Rattle.soundness.specs.Goes.{Goes, HaveMembers, InstructionsGo}
 use Rattle.soundness.proofs.Steps.{goes_local, all_hold, none_of, alloca_goes}
 use Rattle.soundness.proofs.Casts.{constant_goes, slot_goes, value_goes, global_goes}
@@ -64,7 +64,7 @@ module _ (heap : Setup) (p : LaidOut) (certs : List Section) (reaches : Bool) (f
   bitcast_by : (result : Option ℕ) (from : ℕ) (x : Operand) (to : ℕ) → GoesOn result (Bitcast from x to)
   bitcast_by result from x to e =
       let all = all_hold (op_conditions p certs f table here facts result (Bitcast from x to)) e in
-      let k19 = both (c.casts_operand p.of_module x) (c.may_cast p table facts from to x) all.1.1.1.1.0 in
+      let k19 = and_parts (c.casts_operand p.of_module x) (c.may_cast p table facts from to x) all.1.1.1.1.0 in
       by x all.0 all.1.0 k19.0 k19.1 where
         of_name : (u : ℕ) → o.is_available table facts (operand.Local u) ≡ true → has_type p.of_module f from u ≡ true → c.may_cast p table facts from to (operand.Local u) ≡ true → (slot : Option ℕ) → slot_of table u ≡ slot
             → Step heap p certs reaches f table guarded log facts frame result (Bitcast from (operand.Local u) to)
@@ -85,8 +85,8 @@ module _ (heap : Setup) (p : LaidOut) (certs : List Section) (reaches : Bool) (f
   load_by : (result : Option ℕ) (loaded place_type : ℕ) (place : Operand) → GoesOn result (Load loaded place_type place)
   load_by result loaded place_type place e =
       let all = all_hold (op_conditions p certs f table here facts result (Load loaded place_type place)) e in
-      let k2 = both (o.is_typed p.of_module f place_type place) (q.may_load p table facts loaded place) all.1.0 in
-      let k4 = both (not (o.is_null place)) (o.base_nonnull facts (o.known_of facts place)) all.1.1.1.0 in
+      let k2 = and_parts (o.is_typed p.of_module f place_type place) (q.may_load p table facts loaded place) all.1.0 in
+      let k4 = and_parts (not (o.is_null place)) (o.base_nonnull facts (o.known_of facts place)) all.1.1.1.0 in
       by place all.0 k2.0 k2.1 all.1.1.0 k4.0 k4.1 all.1.1.1.1.1.0 where
         of_name : (u : ℕ) → o.is_available table facts (operand.Local u) ≡ true → has_type p.of_module f place_type u ≡ true → q.loads_local p table facts (known_at facts.values u) loaded (slot_of table u) ≡ true → o.is_current facts (known_at facts.values u) ≡ true
             → o.base_nonnull facts (known_at facts.values u) ≡ true → (slot : Option ℕ) → slot_of table u ≡ slot → Step heap p certs reaches f table guarded log facts frame result (Load loaded place_type (operand.Local u))
@@ -96,7 +96,7 @@ module _ (heap : Setup) (p : LaidOut) (certs : List Section) (reaches : Bool) (f
 
         by : (x : Operand) → o.is_available table facts x ≡ true → o.is_typed p.of_module f place_type x ≡ true → q.may_load p table facts loaded x ≡ true → o.is_current facts (o.known_of facts x) ≡ true → not (o.is_null x) ≡ true → o.base_nonnull facts (o.known_of facts x) ≡ true
             → c.casts_operand p.of_module x ≡ true → Step heap p certs reaches f table guarded log facts frame result (Load loaded place_type x)
-        by (operand.Constant d) k1 k2 may k3 some k4 k19 = absurd (let x = negated (o.is_null_constant d) some in cc)
+        by (operand.Constant d) k1 k2 may k3 some k4 k19 = absurd (let x = not_true (o.is_null_constant d) some in cc)
         by (operand.Local u) k1 k2 may k3 some k4 k19 = of_name u k1 k2 may k3 k4 (slot_of table u) refl
         by (operand.Global symbol) k1 k2 may k3 some k4 k19 =
             load_goes heap p certs reaches f table guarded log guards fits cells facts frame h result loaded place_type (operand.Global symbol) (record { there = k1; typed = k2; current = k3; based = k4; casts = k19; varies = refl; no_slot = refl }) may
@@ -107,11 +107,11 @@ module _ (heap : Setup) (p : LaidOut) (certs : List Section) (reaches : Bool) (f
   store_by : (result : Option ℕ) (stored : ℕ) (x : Operand) (place_type : ℕ) (place : Operand) → GoesOn result (Store stored x place_type place)
   store_by result stored x place_type place e =
       let all = all_hold (op_conditions p certs f table here facts result (Store stored x place_type place)) e in
-      let k1 = both (o.is_available table facts x) (o.is_available table facts place) all.0 in
-      let k2 = both (o.is_value p.of_module f facts stored x && o.is_typed p.of_module f place_type place) (q.may_store p table facts stored (o.known_of facts x) place) all.1.0 in
-      let t = both (o.is_value p.of_module f facts stored x) (o.is_typed p.of_module f place_type place) k2.0 in
-      let k3 = both (o.is_current facts (o.known_of facts x)) (o.is_current facts (o.known_of facts place)) all.1.1.0 in
-      let k4 = both (not (o.is_null place)) (o.base_nonnull facts (o.known_of facts place)) all.1.1.1.0 in
+      let k1 = and_parts (o.is_available table facts x) (o.is_available table facts place) all.0 in
+      let k2 = and_parts (o.is_value p.of_module f facts stored x && o.is_typed p.of_module f place_type place) (q.may_store p table facts stored (o.known_of facts x) place) all.1.0 in
+      let t = and_parts (o.is_value p.of_module f facts stored x) (o.is_typed p.of_module f place_type place) k2.0 in
+      let k3 = and_parts (o.is_current facts (o.known_of facts x)) (o.is_current facts (o.known_of facts place)) all.1.1.0 in
+      let k4 = and_parts (not (o.is_null place)) (o.base_nonnull facts (o.known_of facts place)) all.1.1.1.0 in
       by (record { there = k1.0; typed = t.0; current = k3.0; no_slot = none_of (o.slot_named table x) all.1.1.1.1.1.0 }) place k1.1 t.1 k2.1 k3.1 k4.0 k4.1 all.1.1.1.1.0 all.1.1.1.1.1.1.1.0 where
         of_name : IsStored p f table facts stored x → (u : ℕ) → o.is_available table facts (operand.Local u) ≡ true → has_type p.of_module f place_type u ≡ true → q.stores_local p table facts (known_at facts.values u) stored (o.known_of facts x) (slot_of table u) ≡ true
             → o.is_current facts (known_at facts.values u) ≡ true → o.base_nonnull facts (known_at facts.values u) ≡ true → needs_no_barrier p.of_module table facts stored (operand.Local u) ≡ true → (slot : Option ℕ) → slot_of table u ≡ slot
@@ -122,7 +122,7 @@ module _ (heap : Setup) (p : LaidOut) (certs : List Section) (reaches : Bool) (f
 
         by : IsStored p f table facts stored x → (y : Operand) → o.is_available table facts y ≡ true → o.is_typed p.of_module f place_type y ≡ true → q.may_store p table facts stored (o.known_of facts x) y ≡ true → o.is_current facts (o.known_of facts y) ≡ true → not (o.is_null y) ≡ true
             → o.base_nonnull facts (o.known_of facts y) ≡ true → needs_no_barrier p.of_module table facts stored y ≡ true → c.casts_operand p.of_module y ≡ true → Step heap p certs reaches f table guarded log facts frame result (Store stored x place_type y)
-        by v (operand.Constant d) k1 k2 may k3 some k4 k6 k19 = absurd (let y = negated (o.is_null_constant d) some in let z = (both (o.is_null_constant d) _ may).0 in cc)
+        by v (operand.Constant d) k1 k2 may k3 some k4 k6 k19 = absurd (let y = not_true (o.is_null_constant d) some in let z = (and_parts (o.is_null_constant d) _ may).0 in cc)
         by v (operand.Local u) k1 k2 may k3 some k4 k6 k19 = of_name v u k1 k2 may k3 k4 k6 (slot_of table u) refl
         by v (operand.Global symbol) k1 k2 may k3 some k4 k6 k19 =
             store_goes heap p certs reaches f table guarded log fits cells facts frame h members result stored x place_type (operand.Global symbol) v (record { there = k1; typed = k2; current = k3; based = k4; casts = k19; varies = refl; no_slot = refl }) may k6
@@ -133,56 +133,56 @@ module _ (heap : Setup) (p : LaidOut) (certs : List Section) (reaches : Bool) (f
   element_by : (result : Option ℕ) (source base_type : ℕ) (base : Operand) (indices : List Argument) → GoesOn result (Element source base_type base indices)
   element_by result source base_type base indices e =
       let all = all_hold (op_conditions p certs f table here facts result (Element source base_type base indices)) e in
-      let k1 = both (o.is_available table facts base) (list_all (λ index. o.is_available table facts index.operand) indices) all.0 in
-      let k2 = both (o.is_typed p.of_module f base_type base && is_pointer (kind_of p.of_module base_type) && g.may_be_base (o.known_of facts base) && g.are_indices p.of_module f facts indices) (no_slots table indices) all.1.0 in
-      let i = both (o.is_typed p.of_module f base_type base && is_pointer (kind_of p.of_module base_type) && g.may_be_base (o.known_of facts base)) (g.are_indices p.of_module f facts indices) k2.0 in
-      let b = both (o.is_typed p.of_module f base_type base && is_pointer (kind_of p.of_module base_type)) (g.may_be_base (o.known_of facts base)) i.0 in
-      let t = both (o.is_typed p.of_module f base_type base) (is_pointer (kind_of p.of_module base_type)) b.0 in
+      let k1 = and_parts (o.is_available table facts base) (list_all (λ index. o.is_available table facts index.operand) indices) all.0 in
+      let k2 = and_parts (o.is_typed p.of_module f base_type base && is_pointer (kind_of p.of_module base_type) && g.may_be_base (o.known_of facts base) && g.are_indices p.of_module f facts indices) (no_slots table indices) all.1.0 in
+      let i = and_parts (o.is_typed p.of_module f base_type base && is_pointer (kind_of p.of_module base_type) && g.may_be_base (o.known_of facts base)) (g.are_indices p.of_module f facts indices) k2.0 in
+      let b = and_parts (o.is_typed p.of_module f base_type base && is_pointer (kind_of p.of_module base_type)) (g.may_be_base (o.known_of facts base)) i.0 in
+      let t = and_parts (o.is_typed p.of_module f base_type base) (is_pointer (kind_of p.of_module base_type)) b.0 in
       element_goes heap p certs reaches f table guarded log cells facts frame h result source base_type base indices k1.0 k1.1 t.0 t.1 b.1 i.1 k2.1 all.1.1.1.0 (none_of (o.slot_named table base) all.1.1.1.1.0) all.1.1.1.1.1.1.0
 
   -- an arithmetic instruction
   arithmetic_by : (result : Option ℕ) (kind : Operation) (written : ℕ) (first second : Operand) → GoesOn result (Arithmetic kind written first second)
   arithmetic_by result kind written first second e =
       let all = all_hold (op_conditions p certs f table here facts result (Arithmetic kind written first second)) e in
-      let k1 = both (o.is_available table facts first) (o.is_available table facts second) all.0 in
-      let k2 = both (o.is_value p.of_module f facts written first && o.is_value p.of_module f facts written second && is_integer (kind_of p.of_module written) && o.is_no_slot table first) (o.is_no_slot table second) all.1.0 in
-      let t = both (o.is_value p.of_module f facts written first && o.is_value p.of_module f facts written second && is_integer (kind_of p.of_module written)) (o.is_no_slot table first) k2.0 in
-      let i = both (o.is_value p.of_module f facts written first && o.is_value p.of_module f facts written second) (is_integer (kind_of p.of_module written)) t.0 in
-      let v = both (o.is_value p.of_module f facts written first) (o.is_value p.of_module f facts written second) i.0 in
+      let k1 = and_parts (o.is_available table facts first) (o.is_available table facts second) all.0 in
+      let k2 = and_parts (o.is_value p.of_module f facts written first && o.is_value p.of_module f facts written second && is_integer (kind_of p.of_module written) && o.is_no_slot table first) (o.is_no_slot table second) all.1.0 in
+      let t = and_parts (o.is_value p.of_module f facts written first && o.is_value p.of_module f facts written second && is_integer (kind_of p.of_module written)) (o.is_no_slot table first) k2.0 in
+      let i = and_parts (o.is_value p.of_module f facts written first && o.is_value p.of_module f facts written second) (is_integer (kind_of p.of_module written)) t.0 in
+      let v = and_parts (o.is_value p.of_module f facts written first) (o.is_value p.of_module f facts written second) i.0 in
       arithmetic_goes heap p certs reaches f table guarded log cells facts frame h result kind written first second k1.0 k1.1 v.0 v.1 i.1 (none_of (o.slot_named table first) t.1) (none_of (o.slot_named table second) k2.1)
 
   -- a change of width
   resize_by : (result : Option ℕ) (kind : Width) (from : ℕ) (x : Operand) (to : ℕ) → GoesOn result (Resize kind from x to)
   resize_by result kind from x to e =
       let all = all_hold (op_conditions p certs f table here facts result (Resize kind from x to)) e in
-      let k2 = both (o.is_value p.of_module f facts from x && r.may_resize kind (kind_of p.of_module from) (kind_of p.of_module to)) (o.is_no_slot table x) all.1.0 in
-      let t = both (o.is_value p.of_module f facts from x) (r.may_resize kind (kind_of p.of_module from) (kind_of p.of_module to)) k2.0 in
+      let k2 = and_parts (o.is_value p.of_module f facts from x && r.may_resize kind (kind_of p.of_module from) (kind_of p.of_module to)) (o.is_no_slot table x) all.1.0 in
+      let t = and_parts (o.is_value p.of_module f facts from x) (r.may_resize kind (kind_of p.of_module from) (kind_of p.of_module to)) k2.0 in
       resize_goes heap p certs reaches f table guarded log cells facts frame h result kind from x to all.0 t.0 t.1 (none_of (o.slot_named table x) k2.1)
 
   -- a comparison
   compare_by : (result : Option ℕ) (kind : Comparison) (written : ℕ) (first second : Operand) → GoesOn result (Compare kind written first second)
   compare_by result kind written first second e =
       let all = all_hold (op_conditions p certs f table here facts result (Compare kind written first second)) e in
-      let k1 = both (o.is_available table facts first) (o.is_available table facts second) all.0 in
-      let k2 = both (o.is_value p.of_module f facts written first && o.is_value p.of_module f facts written second) (r.may_compare kind (kind_of p.of_module written)) all.1.0 in
-      let v = both (o.is_value p.of_module f facts written first) (o.is_value p.of_module f facts written second) k2.0 in
-      let k10 = both (o.is_no_slot table first) (o.is_no_slot table second) all.1.1.1.0 in
+      let k1 = and_parts (o.is_available table facts first) (o.is_available table facts second) all.0 in
+      let k2 = and_parts (o.is_value p.of_module f facts written first && o.is_value p.of_module f facts written second) (r.may_compare kind (kind_of p.of_module written)) all.1.0 in
+      let v = and_parts (o.is_value p.of_module f facts written first) (o.is_value p.of_module f facts written second) k2.0 in
+      let k10 = and_parts (o.is_no_slot table first) (o.is_no_slot table second) all.1.1.1.0 in
       compare_goes heap p certs reaches f table guarded log cells facts frame h result kind written first second k1.0 k1.1 v.0 v.1 k2.1 (none_of (o.slot_named table first) k10.0) (none_of (o.slot_named table second) k10.1)
 
   -- a choice
   select_by : (result : Option ℕ) (condition_type : ℕ) (condition : Operand) (written : ℕ) (chosen other : Operand) → GoesOn result (Select condition_type condition written chosen other)
   select_by result condition_type condition written chosen other e =
       let all = all_hold (op_conditions p certs f table here facts result (Select condition_type condition written chosen other)) e in
-      let k1 = both (o.is_available table facts condition && o.is_available table facts chosen) (o.is_available table facts other) all.0 in
-      let k1s = both (o.is_available table facts condition) (o.is_available table facts chosen) k1.0 in
-      let k2 = both _ (o.is_no_slot table condition) all.1.0 in
-      let one = both _ (r.one_layout (r.known_layout (o.known_of facts chosen)) (r.known_layout (o.known_of facts other))) k2.0 in
-      let may = both _ (r.may_choose (kind_of p.of_module written)) one.0 in
-      let v = both _ (o.is_value p.of_module f facts written other) may.0 in
-      let w = both (is_condition p.of_module f facts condition_type condition) (o.is_value p.of_module f facts written chosen) v.0 in
-      let d = both (is_bits 1 (kind_of p.of_module condition_type)) (o.is_value p.of_module f facts condition_type condition) w.0 in
-      let k3 = both (o.is_current facts (o.known_of facts chosen)) (o.is_current facts (o.known_of facts other)) all.1.1.0 in
-      let k10 = both (o.is_no_slot table chosen) (o.is_no_slot table other) all.1.1.1.0 in
+      let k1 = and_parts (o.is_available table facts condition && o.is_available table facts chosen) (o.is_available table facts other) all.0 in
+      let k1s = and_parts (o.is_available table facts condition) (o.is_available table facts chosen) k1.0 in
+      let k2 = and_parts _ (o.is_no_slot table condition) all.1.0 in
+      let one = and_parts _ (r.one_layout (r.known_layout (o.known_of facts chosen)) (r.known_layout (o.known_of facts other))) k2.0 in
+      let may = and_parts _ (r.may_choose (kind_of p.of_module written)) one.0 in
+      let v = and_parts _ (o.is_value p.of_module f facts written other) may.0 in
+      let w = and_parts (is_condition p.of_module f facts condition_type condition) (o.is_value p.of_module f facts written chosen) v.0 in
+      let d = and_parts (is_bits 1 (kind_of p.of_module condition_type)) (o.is_value p.of_module f facts condition_type condition) w.0 in
+      let k3 = and_parts (o.is_current facts (o.known_of facts chosen)) (o.is_current facts (o.known_of facts other)) all.1.1.0 in
+      let k10 = and_parts (o.is_no_slot table chosen) (o.is_no_slot table other) all.1.1.1.0 in
       select_goes heap p certs reaches f table guarded log cells facts frame h result condition_type condition written chosen other k1s.0 d.0 d.1 (none_of (o.slot_named table condition) k2.1) may.1
       (record { there = k1s.1; typed = w.1; current = k3.0; no_slot = none_of (o.slot_named table chosen) k10.0 })
       (record { there = k1.1; typed = v.1; current = k3.1; no_slot = none_of (o.slot_named table other) k10.1 }) one.1

@@ -4,6 +4,8 @@ use Rattle.std.proofs.lemmas.List.{length-set, length-replicate}
 use Rattle.std.proofs.lemmas.List.Elements.{Contains-append_left, Contains-append_right}
 use Rattle.std.specs.Prelude.{◌==◌, ◌⊎◌, if◌then◌else◌}
 use Rattle.std.specs.List.{Contains, list_all, take_while, zip}
+use Rattle.lemmas.specs.Numbers.{test_true}
+use Rattle.lemmas.specs.Bools.{and_parts}
 use Rattle.ir_ast.specs.declared.block.Block.{Block}
 use Rattle.ir_ast.specs.declared.function.Function.{Function}
 use Rattle.ir_ast.specs.declared.instr.Instr.{Instr}
@@ -55,7 +57,6 @@ use Rattle.machine.specs.Start.{argument_values}
 use Rattle.machine.specs.Log.{Log, IsFresh, RefersToCell, Possible, Keeps, IsSafe, Safe}
 use Rattle.soundness.specs.Meaning.{Guarded, IsOwn, AreApart, Holds}
 use Rattle.soundness.proofs.KindLemmas.{void_same}
-use Rattle.soundness.proofs.Lists.{both, equal}
 use Rattle.soundness.specs.Goes.{HaveMembers, HasRoots}
 use Rattle.soundness.proofs.Callees.{IsDefined, callee_is, defined_is}
 use Rattle.soundness.proofs.Members.{members_stay, line_members, parameter_members, arguments_members, mark_members, result_members}
@@ -85,7 +86,7 @@ into_called : (called : Option ℕ) (n : ℕ) → mc.onward_of_call called ≡ m
 into_called None n e = absurd cc
 into_called (Some m) n e = let same : m ≡ n = cc in ap Some same
 
--- no name is both of a defined function and of one of the runtime
+-- no name is and_parts of a defined function and of one of the runtime
 one_sort : (m : Module) (q : Option SymbolSort) (n : ℕ) (called : Runtime) → a.number_of_sort q ≡ Some n → runtime_of_sort m q ≡ Some called → ⊥
 one_sort m None n called e r = absurd cc
 one_sort m (Some symbol.Unknown) n called e r = absurd cc
@@ -392,11 +393,11 @@ module _ (heap : Setup) (program : LaidOut) (heap_is : IsHeapFor heap program) (
         )
     returns (Return argument) back allowed =
         let all = all_hold (op_conditions program certs f table here facts instr.result (Return argument)) allowed in
-        let b = both (o.is_value program.of_module f facts argument.written argument.operand) (argument.written == f.returned) all.1.0 in
+        let b = and_parts (o.is_value program.of_module f facts argument.written argument.operand) (argument.written == f.returned) all.1.0 in
         let none = none_of (o.slot_named table argument.operand) all.1.1.1.0 in
         let passes : Passes heap program certs f table (GuardedBy x.saves) log x.now.cells facts frame x.standing.holds argument.written argument.operand = record { there = all.0; typed = b.0; current = all.1.1.0; no_slot = none } in (
           rw (b.1, usable heap program certs false f table (GuardedBy x.saves) log x.now.cells facts frame x.standing.holds argument.written argument.operand all.0 b.0 none) refl,
-          subst (λ t. IsGiven heap (GuardedBy x.saves) log (given_by (kind_of program.of_module t)) (promised_in (slice_get certs frame.function)) (mc.result_of program.of_module frame.registers (Return argument))) (equal argument.written f.returned b.1)
+          subst (λ t. IsGiven heap (GuardedBy x.saves) log (given_by (kind_of program.of_module t)) (promised_in (slice_get certs frame.function)) (mc.result_of program.of_module frame.registers (Return argument))) (test_true argument.written f.returned b.1)
               (value_given heap program certs f table (GuardedBy x.saves) log x.now.cells facts frame x.standing.holds argument.written (GuardedBy x.saves) argument.operand (promised_in (slice_get certs frame.function)) (λ c l at own. own) passes all.1.1.1.1.1.0),
         )
     returns (Call returned callee arguments) back allowed = absurd (no_return (a.number_called program.of_module callee) back)
@@ -441,16 +442,16 @@ module _ (heap : Setup) (program : LaidOut) (heap_is : IsHeapFor heap program) (
           (subst (λ c. first_failing (call_conditions program certs f table here facts returned arguments c) ≡ None) e allowed))
 
       k2 : (all_values program.of_module f facts arguments ≡ true) × (is_written_with returned arguments (Some q) ≡ true)
-      k2 = both (all_values program.of_module f facts arguments) (is_written_with returned arguments (Some q)) all.1.0
+      k2 = and_parts (all_values program.of_module f facts arguments) (is_written_with returned arguments (Some q)) all.1.0
 
       types : ((returned == q.returned) ≡ true) × (list_all is_written_for (zip arguments q.parameters) ≡ true)
-      types = both (returned == q.returned) (list_all is_written_for (zip arguments q.parameters)) k2.1
+      types = and_parts (returned == q.returned) (list_all is_written_for (zip arguments q.parameters)) k2.1
 
       pass : AllPass heap program certs f table (GuardedBy x.saves) log x.now.cells facts frame x.standing.holds x.standing.members arguments
       pass = all_pass heap program certs f table (GuardedBy x.saves) log x.now.cells facts frame x.standing.holds x.standing.members arguments all.0 k2.0 all.1.1.0 all.1.1.1.0
 
       count : length arguments ≡ length q.parameters
-      count = equal (length arguments) (length q.parameters) d.arity
+      count = test_true (length arguments) (length q.parameters) d.arity
 
       passed : a.arguments_pass program.of_module f table frame.registers q.parameters arguments ≡ true
       passed = machine_pass heap program certs f table (GuardedBy x.saves) log x.now.cells facts frame x.standing.holds x.standing.members q.parameters arguments pass count types.1
@@ -470,7 +471,7 @@ module _ (heap : Setup) (program : LaidOut) (heap_is : IsHeapFor heap program) (
       -- behind the call its facts are those with the result
       behind_is : after program certs table facts instr ≡ receive_result program.of_module instr.result q.returned (promised_in section) w.facts
       behind_is = behind ∙ ap (λ c. after_call program certs table instr.result returned arguments c facts) e
-          ∙ ap (λ t. receive_result program.of_module instr.result t (promised_in section) w.facts) (equal returned q.returned types.0)
+          ∙ ap (λ t. receive_result program.of_module instr.result t (promised_in section) w.facts) (test_true returned q.returned types.0)
 
       abbrev suspended : Suspended heap program certs (GuardedBy x.saves) log instr.result n q (mc.go_on frame) w
       suspended = record {

@@ -1,6 +1,7 @@
 -- What the rules let pass under a type is no other kind to the machine.
 use Rattle.std.proofs.Common.{◌≡◌, ℕ, refl, sym, ap, ◌∙◌, subst, true, false, Bool, Option, Some, None}
 use Rattle.std.specs.Prelude.{◌||◌, ◌&&◌}
+use Rattle.lemmas.specs.Bools.{and_parts, or_second, or_first}
 use Rattle.ir_ast.specs.declared.module.Module.{Module}
 use Rattle.pools.specs.declared.word_kind.WordKind.{WordKind}
 use Rattle.pools.specs.declared.word_kind.WordKind.TheVariants as word
@@ -13,7 +14,7 @@ use Rattle.block_rules.specs.TypeKinds.{kind_of, kind_at, place_kind, fits_layou
 use Rattle.machine.specs.Asks as a
 use Rattle.machine.specs.Kinds as k
 use Rattle.machine.specs.Kinds.{refers_to, is_layout}
-use Rattle.soundness.proofs.Lists.{both, either_true, other_true, turned}
+use Rattle.soundness.proofs.Lists.{turned}
 use Rattle.soundness.proofs.KindLemmas.{refers_same, layout_same, bytes_same, leads_same}
 
 -- of two tests of which the second fails the first passes
@@ -28,8 +29,8 @@ module _ (m : Module) where
     by : (x : TypeKind) → kind_of m part ≡ x → fits_layout layout x ≡ true → refers_to m layout part ≡ true
     by NoValue is e = absurd cc
     by (Bits bits) is e = absurd cc
-    by (Reference other) is e = other_true (k.is_byte_pointer m part) (is_layout (referenced_layout m part) layout) (ap (λ x. is_layout x layout) (sym (layout_same m part) ∙ ap layout_of_kind is) ∙ e)
-    by AnyReference is e = either_true (k.is_byte_pointer m part) (is_layout (referenced_layout m part) layout) (sym (bytes_same m part) ∙ ap is_any_reference is)
+    by (Reference other) is e = or_second (k.is_byte_pointer m part) (is_layout (referenced_layout m part) layout) (ap (λ x. is_layout x layout) (sym (layout_same m part) ∙ ap layout_of_kind is) ∙ e)
+    by AnyReference is e = or_first (k.is_byte_pointer m part) (is_layout (referenced_layout m part) layout) (sym (bytes_same m part) ∙ ap is_any_reference is)
     by AddressKind is e = absurd cc
     by Other is e = absurd cc
 
@@ -45,10 +46,10 @@ module _ (m : Module) where
   null_casts from to e = pick (may_be_reference (kind_of m from) && may_be_reference (kind_of m to)) refl e where
     pick : (b : Bool) → (may_be_reference (kind_of m from) && may_be_reference (kind_of m to)) ≡ b → (b || (may_be_reference (place_kind m from) && may_be_reference (place_kind m to))) ≡ true
         → (k.may_refer m to || (k.may_lead m from && k.may_lead m to)) ≡ true
-    pick true is e = either_true (k.may_refer m to) _ (sym (refers_same m to) ∙ (both (may_be_reference (kind_of m from)) (may_be_reference (kind_of m to)) is).1)
+    pick true is e = or_first (k.may_refer m to) _ (sym (refers_same m to) ∙ (and_parts (may_be_reference (kind_of m from)) (may_be_reference (kind_of m to)) is).1)
     pick false is e =
-        let b = both (may_be_reference (place_kind m from)) (may_be_reference (place_kind m to)) e in
-        other_true (k.may_refer m to) (k.may_lead m from && k.may_lead m to) (rw (sym (leads_same m from) ∙ b.0, sym (leads_same m to) ∙ b.1) refl)
+        let b = and_parts (may_be_reference (place_kind m from)) (may_be_reference (place_kind m to)) e in
+        or_second (k.may_refer m to) (k.may_lead m from && k.may_lead m to) (rw (sym (leads_same m from) ∙ b.0, sym (leads_same m to) ∙ b.1) refl)
 
   -- a kind to which a layout fits is one of references
   pub layout_refers : (layout : ℕ) (x : TypeKind) → fits_layout layout x ≡ true → may_be_reference x ≡ true

@@ -2,6 +2,8 @@
 use Rattle.std.proofs.Common.{◌≡◌, ℕ, zero, suc, List, [], ◌∷◌, ◌++◌, length, map, refl, sym, ap, ◌∙◌, subst, arith, true, false, Bool, Option, Some, None, inl, inr, is_some, slice_get, slice_set}
 use Rattle.std.specs.Prelude.{◌==◌, ◌||◌, ◌⊎◌, unwrap_or}
 use Rattle.std.specs.List.{Contains}
+use Rattle.lemmas.specs.Numbers.{test_true}
+use Rattle.lemmas.specs.Bools.{or_parts}
 use Rattle.ir_ast.specs.declared.block.Block.{Block}
 use Rattle.ir_ast.specs.declared.function.Function.{Function}
 use Rattle.ir_ast.specs.declared.instr.Instr.{Instr}
@@ -22,7 +24,7 @@ use Rattle.machine.specs.declared.value.Value.TheVariants as value
 use Rattle.machine.specs.Kinds as k
 use Rattle.machine.specs.Machine.{slot_value, initial}
 use Rattle.soundness.proofs.KindLemmas.{integer_same}
-use Rattle.soundness.proofs.Lists.{at_set, at_set_got, equal, either, replicated}
+use Rattle.soundness.proofs.Lists.{at_set, at_set_got, replicated}
 use Rattle.soundness.proofs.Roots.{no_integer}
 
 -- ---- the allocas that have names
@@ -169,8 +171,8 @@ rooted_set m table slots s v root rooted t reference =
 
 among_contained : (slots : List Value) (roots : List ℕ) (s : ℕ) → is_among roots s ≡ true → Contains (map (slot_value slots) roots) (slot_value slots s)
 among_contained slots [] s e = absurd cc
-among_contained slots (root ∷ roots) s e = elim (either (s == root) (is_among roots s) e) [
-  | inl same ↦ (0, omega arith, ap (slot_value slots) (sym (equal s root same)))
+among_contained slots (root ∷ roots) s e = elim (or_parts (s == root) (is_among roots s) e) [
+  | inl same ↦ (0, omega arith, ap (slot_value slots) (sym (test_true s root same)))
   | inr behind ↦ (let c = among_contained slots roots s behind in (suc c.0, omega (arith, c.1), c.2))
 ]
 

@@ -13,7 +13,8 @@ use Rattle.machine.specs.Machine.{slot_value}
 use Rattle.machine.specs.Log.{Log}
 use Rattle.soundness.specs.Meaning.{Cells, Guarded, AreApart, FitsSlot, SlotMeans, Holds}
 use Rattle.std.specs.Prelude.{◌==◌}
-use Rattle.soundness.proofs.Lists.{at_set, at_set2, at_set_got, got, equal}
+use Rattle.lemmas.specs.Numbers.{test_true}
+use Rattle.soundness.proofs.Lists.{at_set, at_set2, at_set_got, got}
 use Rattle.soundness.proofs.Change.{apart_turned, drop_keeps}
 
 -- what stands at a place, written there again
@@ -58,7 +59,7 @@ module _ (heap : Setup) (p : LaidOut) (table : SlotTable) (guarded : Guarded) (l
 pub other_class : (d c : ℕ) → d ≢ c → (d == c) ≡ false
 other_class d c ne = pick (d == c) refl where
   pick : (b : Bool) → (d == c) ≡ b → (d == c) ≡ false
-  pick true e = absurd (ne (equal d c e))
+  pick true e = absurd (ne (test_true d c e))
   pick false e = e
 
 module _ (heap : Setup) (p : LaidOut) (table : SlotTable) (guarded : Guarded) (log : Log) (cells : Cells) (facts : FactSet) (registers slots : List Value) (h : Holds heap p table guarded log cells facts registers slots) where

@@ -4,6 +4,8 @@ use Rattle.std.proofs.lemmas.List.{length-map}
 use Rattle.std.proofs.lemmas.List.FromFn.{length-enumerate_from}
 use Rattle.std.specs.Prelude.{◌⊎◌}
 use Rattle.std.specs.List.{Contains, enumerate_from, zip}
+use Rattle.lemmas.specs.Lists.{at_map}
+use Rattle.lemmas.specs.Bools.{or_parts}
 use Rattle.pools.specs.Heap.{Setup}
 use Rattle.layout.specs.Layouts.{LaidOut}
 use Rattle.types.specs.References.{referenced_layout}
@@ -20,7 +22,6 @@ use Rattle.machine.specs.Kinds.{register_at}
 use Rattle.machine.specs.Machine.{slot_value}
 use Rattle.machine.specs.Log.{Log, Held, IsReferredTo}
 use Rattle.soundness.specs.Meaning.{Cells, Guarded, IsOwn, IsNullOrFresh, Means, ClassMeans, FitsReference, FitsSlot, SlotMeans, Holds}
-use Rattle.soundness.proofs.Lists.{at_map, either}
 use Rattle.soundness.proofs.Keep.{known_within}
 
 -- ---- what a safepoint makes of the facts
@@ -152,7 +153,7 @@ module _ (heap : Setup) (p : LaidOut) (table : SlotTable) (guarded : Guarded) (l
 
     -- what a slot holds is as null as its class was
     hold_stale : (slot : SlotFact) (v : Value) → SlotMeans cells (length facts.classes) slot v → slot_nonnull facts.classes slot ≡ true → v ≢ value.Null
-    hold_stale slot v m z = elim (either slot.nonnull _ z) [ inl x ↦ m.nonnull x | inr x ↦ by slot.holds refl x ] where
+    hold_stale slot v m z = elim (or_parts slot.nonnull _ z) [ inl x ↦ m.nonnull x | inr x ↦ by slot.holds refl x ] where
       by : (holds : Option ℕ) → slot.holds ≡ holds → held_nonnull facts.classes holds ≡ true → v ≢ value.Null
       by None is x = absurd cc
       by (Some c) is x = λ w. (h.classes c).nonnull x (sym (m.holds c is).0 ∙ w)

@@ -4,6 +4,8 @@ use Rattle.std.proofs.lemmas.List.{length-map, length-replicate, length-set}
 use Rattle.std.proofs.lemmas.Nat.{pow_pos}
 use Rattle.std.specs.Prelude.{◌||◌, not}
 use Rattle.std.specs.List.{list_any}
+use Rattle.lemmas.specs.Numbers.{test_true}
+use Rattle.lemmas.specs.Bools.{and_parts, or_neither}
 use Rattle.ir_ast.specs.declared.function.Parameter.{Parameter}
 use Rattle.ir_ast.specs.declared.ir_type.IrType.{IrType}
 use Rattle.ir_ast.specs.declared.ir_type.IrType.TheVariants as type
@@ -31,13 +33,9 @@ use Rattle.machine.specs.Start.{is_reference_parameter, argument_fits, arguments
 use Rattle.machine.specs.Log.{Log}
 use Rattle.soundness.specs.Meaning.{Cells, Guarded, IsBelow, IsInteger, Means, ClassMeans, WasTested, FitsReference, FitsSlot, SlotMeans, Holds}
 use Rattle.soundness.proofs.Change.{at_more}
-use Rattle.soundness.proofs.Lists.{both, equal, got, replicated}
+use Rattle.soundness.proofs.Lists.{got, replicated}
 use Rattle.soundness.specs.Discipline.{MeetPromises}
 use Rattle.soundness.proofs.Receive.{IsGiven, given_fewer, received}
-
-neither : (a b : Bool) → (a || b) ≡ false → (a ≡ false) × (b ≡ false)
-neither true b e = absurd cc
-neither false b e = (refl, e)
 
 -- the arguments take no more registers
 pub arguments_size : (parameters : List Parameter) (arguments registers : List Value) → length (with_arguments parameters arguments registers) ≡ length registers
@@ -165,7 +163,7 @@ module _ (heap : Setup) (p : LaidOut) (table : SlotTable) (guarded : Guarded) (l
       → IsGiven heap guarded log (given_by (kind_of p.of_module parameter.written)) promise (value.Number argument)
   integer_given parameter promise argument integer fits below =
       let whole : is_integer (slice_get p.of_module.types parameter.written) ≡ true = not_not (is_integer (slice_get p.of_module.types parameter.written)) integer in
-      let same : wrapped (bits_at p.of_module parameter.written) argument ≡ argument = equal (wrapped (bits_at p.of_module parameter.written) argument) argument fits in
+      let same : wrapped (bits_at p.of_module parameter.written) argument ≡ argument = test_true (wrapped (bits_at p.of_module parameter.written) argument) argument fits in
       subst (λ g. IsGiven heap guarded log g promise (value.Number argument)) (sym (number_given p.of_module parameter.written whole))
       (record { number = argument; is = refl; fits = subst (λ n. n < 2 ^ bits_at p.of_module parameter.written) same (wrapped_fits (bits_at p.of_module parameter.written) argument); under = below }) where
         not_not : (b : Bool) → not b ≡ false → b ≡ true
@@ -179,10 +177,10 @@ module _ (heap : Setup) (p : LaidOut) (table : SlotTable) (guarded : Guarded) (l
   integers_given [] promises (argument ∷ arguments) integers fit meet = absurd cc
   integers_given (parameter ∷ parameters) promises [] integers fit meet = absurd cc
   integers_given (parameter ∷ parameters) [] (argument ∷ arguments) integers fit meet =
-      let i = neither (is_reference_parameter p.of_module parameter) (list_any (is_reference_parameter p.of_module) parameters) integers in
-      let b = both (argument_fits p.of_module parameter argument) (arguments_fit p.of_module parameters arguments) fit in
+      let i = or_neither (is_reference_parameter p.of_module parameter) (list_any (is_reference_parameter p.of_module) parameters) integers in
+      let b = and_parts (argument_fits p.of_module parameter argument) (arguments_fit p.of_module parameters arguments) fit in
       (integer_given parameter None argument i.0 b.0 tt, integers_given parameters [] arguments i.1 b.1 tt)
   integers_given (parameter ∷ parameters) (promise ∷ promises) (argument ∷ arguments) integers fit meet =
-      let i = neither (is_reference_parameter p.of_module parameter) (list_any (is_reference_parameter p.of_module) parameters) integers in
-      let b = both (argument_fits p.of_module parameter argument) (arguments_fit p.of_module parameters arguments) fit in
+      let i = or_neither (is_reference_parameter p.of_module parameter) (list_any (is_reference_parameter p.of_module) parameters) integers in
+      let b = and_parts (argument_fits p.of_module parameter argument) (arguments_fit p.of_module parameters arguments) fit in
       (integer_given parameter promise argument i.0 b.0 meet.0, integers_given parameters promises arguments i.1 b.1 meet.1)

@@ -1,6 +1,8 @@
 -- Calls of the runtime.
 use Rattle.std.proofs.Common.{◌≡◌, ℕ, zero, suc, List, [], ◌∷◌, length, refl, sym, ap, ◌∙◌, subst, arith, true, false, Bool, Option, Some, None, inl, inr, is_some, slice_set, slice_get}
 use Rattle.std.specs.Prelude.{◌==◌, ◌&&◌, nat_lt}
+use Rattle.lemmas.specs.Numbers.{test_true}
+use Rattle.lemmas.specs.Bools.{and_parts}
 use Rattle.ir_ast.specs.declared.function.Function.{Function}
 use Rattle.ir_ast.specs.declared.items_of_module.Declare.{Declare}
 use Rattle.ir_ast.specs.declared.op.Argument.{Argument}
@@ -40,7 +42,7 @@ use Rattle.machine.specs.Machine as mc
 use Rattle.machine.specs.Machine.{slot_value}
 use Rattle.machine.specs.Log.{Log, Held, HoldsCell, GivesCell, IsFresh, StaysHeld, StaysFresh, Possible}
 use Rattle.soundness.specs.Meaning.{Cells, Guarded, IsOwn, AreApart, FitsReference, FitsHeld, FitsSlot, Holds}
-use Rattle.soundness.proofs.Lists.{both, equal, got}
+use Rattle.soundness.proofs.Lists.{got}
 use Rattle.soundness.proofs.KindLemmas.{integer_same, layout_same, void_same}
 use Rattle.soundness.proofs.Keep.{log_keeps, known_within}
 use Rattle.soundness.proofs.Change.{apart_turned, new_keeps}
@@ -168,7 +170,7 @@ module _ (heap : Setup) (p : LaidOut) (certs : List Section) (reaches : Bool) (f
       → (nat_lt n (length p.of_module.structs) && nat_lt n 4294967296) ≡ true
       → Goes heap p table frame.slots reaches guarded log (after_alloc_call result (argument ∷ []) facts) (call_action (argument ∷ []) (Some d) defined (Some runtime.Alloc)) (behind_call (argument ∷ []) (Some runtime.Alloc))
   alloc_of_number defined n d argument is declared written numbered =
-      let below = (both (nat_lt n (length p.of_module.structs)) (nat_lt n 4294967296) numbered).1 in
+      let below = (and_parts (nat_lt n (length p.of_module.structs)) (nat_lt n 4294967296) numbered).1 in
       let named : a.layout_named p.of_module argument.operand ≡ Some n = rw (is, numbered) refl in
       subst (λ a. Goes heap p table frame.slots reaches guarded log (after_alloc_call result (argument ∷ []) facts) a (behind_call (argument ∷ []) (Some runtime.Alloc))) (sym (rw (declared, written, named) refl))
       (subst (λ l. Goes heap p table frame.slots reaches guarded log (after_alloc_call result (argument ∷ []) facts) (Alloc n) (λ given. mc.set_register result (mc.alloc_value l given) frame)) (sym named)
@@ -192,7 +194,7 @@ module _ (heap : Setup) (p : LaidOut) (certs : List Section) (reaches : Bool) (f
   pub alloc_goes : (defined : Option Function) → (d : Declare) (arguments : List Argument) → is_declared_as p.of_module d runtime.Alloc ≡ true → (length arguments == 1) ≡ true → first_failing (alloc_conditions p.of_module f table here facts returned arguments) ≡ None
       → Goes heap p table frame.slots reaches guarded log (after_alloc_call result arguments facts) (call_action arguments (Some d) defined (Some runtime.Alloc)) (behind_call arguments (Some runtime.Alloc))
   alloc_goes defined d arguments declared arity e =
-      let parts = one_parameter arguments (equal (length arguments) 1 arity) in
+      let parts = one_parameter arguments (test_true (length arguments) 1 arity) in
       subst (λ x. Goes heap p table frame.slots reaches guarded log (after_alloc_call result x facts) (call_action x (Some d) defined (Some runtime.Alloc)) (behind_call x (Some runtime.Alloc))) (sym parts.1)
       (one parts.0 (subst (λ x. first_failing (alloc_conditions p.of_module f table here facts returned x) ≡ None) parts.1 e)) where
         one : (argument : Argument) → first_failing (alloc_conditions p.of_module f table here facts returned (argument ∷ [])) ≡ None
@@ -200,11 +202,11 @@ module _ (heap : Setup) (p : LaidOut) (certs : List Section) (reaches : Bool) (f
         one argument e =
             let all = all_hold (alloc_conditions p.of_module f table here facts returned (argument ∷ [])) e in
             let k2 = all.1 in
-            let a = both (all_values p.of_module f facts (argument ∷ []) && is_written_as p.of_module returned (argument ∷ []) runtime.Alloc) (number_layouts p.of_module (argument ∷ [])) k2.0 in
-            let b = both (all_values p.of_module f facts (argument ∷ [])) (is_written_as p.of_module returned (argument ∷ []) runtime.Alloc) a.0 in
-            let c = both (is_runtime_type p.of_module returned types.Pointer) (is_runtime_type p.of_module argument.written types.Number && true) b.1 in
-            let g = both (is_runtime_type p.of_module argument.written types.Number) true c.1 in
-            let n = both (numbers_layout p.of_module argument.operand) true a.1 in
+            let a = and_parts (all_values p.of_module f facts (argument ∷ []) && is_written_as p.of_module returned (argument ∷ []) runtime.Alloc) (number_layouts p.of_module (argument ∷ [])) k2.0 in
+            let b = and_parts (all_values p.of_module f facts (argument ∷ [])) (is_written_as p.of_module returned (argument ∷ []) runtime.Alloc) a.0 in
+            let c = and_parts (is_runtime_type p.of_module returned types.Pointer) (is_runtime_type p.of_module argument.written types.Number && true) b.1 in
+            let g = and_parts (is_runtime_type p.of_module argument.written types.Number) true c.1 in
+            let n = and_parts (numbers_layout p.of_module argument.operand) true a.1 in
             alloc_by defined d argument argument.operand refl (alloc_declared p.of_module d declared) (alloc_types p.of_module returned argument.written c.0 g.0) n.0
 
   -- ---- gcroot
@@ -249,7 +251,7 @@ module _ (heap : Setup) (p : LaidOut) (certs : List Section) (reaches : Bool) (f
   -- the slot that a call names is the one at its place
   slot_place : (written s : ℕ) (x : Operand) → o.slot_named table x ≡ Some s → o.is_value p.of_module f facts written x ≡ true → k.slot_at_place p.of_module f table written x ≡ Some s
   slot_place written s (operand.Constant c) is k2 = absurd cc
-  slot_place written s (operand.Local v) is k2 = place_is p f table written v s (both (has_type p.of_module f written v) (o.known_fits (kind_of p.of_module written) (known_at facts.values v)) k2).0 is
+  slot_place written s (operand.Local v) is k2 = place_is p f table written v s (and_parts (has_type p.of_module f written v) (o.known_fits (kind_of p.of_module written) (known_at facts.values v)) k2).0 is
   slot_place written s (operand.Global g) is k2 = absurd cc
   slot_place written s (operand.CastGlobal a b c) is k2 = absurd cc
 
@@ -269,7 +271,7 @@ module _ (heap : Setup) (p : LaidOut) (certs : List Section) (reaches : Bool) (f
   pub root_goes : (defined : Option Function) → (d : Declare) (arguments : List Argument) → is_declared_as p.of_module d runtime.GcRoot ≡ true → (length arguments == 2) ≡ true → first_failing (root_conditions p.of_module f table here facts returned arguments) ≡ None
       → Goes heap p table frame.slots reaches guarded log (after_root_call table arguments facts) (call_action arguments (Some d) defined (Some runtime.GcRoot)) (behind_call arguments (Some runtime.GcRoot))
   root_goes defined d arguments declared arity e =
-      let parts = two_parameters arguments (equal (length arguments) 2 arity) in
+      let parts = two_parameters arguments (test_true (length arguments) 2 arity) in
       subst (λ x. Goes heap p table frame.slots reaches guarded log (after_root_call table x facts) (call_action x (Some d) defined (Some runtime.GcRoot)) (behind_call x (Some runtime.GcRoot))) (sym parts.2)
       (two parts.0 parts.1 (subst (λ x. first_failing (root_conditions p.of_module f table here facts returned x) ≡ None) parts.2 e)) where
         slot : (place metadata : Argument) (q : Option ℕ) → o.slot_named table place.operand ≡ q → is_unrooted p.of_module table facts q ≡ true → a.are_gcroot_types p.of_module returned (place.written ∷ metadata.written ∷ []) ≡ true
@@ -277,7 +279,7 @@ module _ (heap : Setup) (p : LaidOut) (certs : List Section) (reaches : Bool) (f
             → Goes heap p table frame.slots reaches guarded log (after_root_call table (place ∷ metadata ∷ []) facts) (call_action (place ∷ metadata ∷ []) (Some d) defined (Some runtime.GcRoot)) (behind_call (place ∷ metadata ∷ []) (Some runtime.GcRoot))
         slot place metadata None is unrooted written k2p k2m null = absurd cc
         slot place metadata (Some s) is unrooted written k2p k2m null =
-            root_of_slot defined d place metadata s is (root_declared p.of_module d declared) written k2p k2m null (both (holds_reference p.of_module (held_type table s)) _ unrooted).0
+            root_of_slot defined d place metadata s is (root_declared p.of_module d declared) written k2p k2m null (and_parts (holds_reference p.of_module (held_type table s)) _ unrooted).0
 
         two : (place metadata : Argument) → first_failing (root_conditions p.of_module f table here facts returned (place ∷ metadata ∷ [])) ≡ None
             → Goes heap p table frame.slots reaches guarded log (after_root_call table (place ∷ metadata ∷ []) facts) (call_action (place ∷ metadata ∷ []) (Some d) defined (Some runtime.GcRoot)) (behind_call (place ∷ metadata ∷ []) (Some runtime.GcRoot))
@@ -285,14 +287,14 @@ module _ (heap : Setup) (p : LaidOut) (certs : List Section) (reaches : Bool) (f
             let all = all_hold (root_conditions p.of_module f table here facts returned (place ∷ metadata ∷ [])) e in
             let k2 = all.1 in
             let k9 = all.1.1.1 in
-            let a = both (all_values p.of_module f facts (place ∷ metadata ∷ [])) (is_written_as p.of_module returned (place ∷ metadata ∷ []) runtime.GcRoot) k2.0 in
-            let t = both (o.is_value p.of_module f facts place.written place.operand) (o.is_value p.of_module f facts metadata.written metadata.operand && true) a.0 in
-            let t2 = both (o.is_value p.of_module f facts metadata.written metadata.operand) true t.1 in
-            let w = both (is_runtime_type p.of_module returned types.Void) (is_runtime_type p.of_module place.written types.PointerToPointer && (is_runtime_type p.of_module metadata.written types.Pointer && true)) a.1 in
-            let w2 = both (is_runtime_type p.of_module place.written types.PointerToPointer) (is_runtime_type p.of_module metadata.written types.Pointer && true) w.1 in
-            let w3 = both (is_runtime_type p.of_module metadata.written types.Pointer) true w2.1 in
-            let q = both (here.in_head && o.is_null metadata.operand) (is_unrooted p.of_module table facts (o.slot_named table place.operand)) k9.0 in
-            let q2 = both here.in_head (o.is_null metadata.operand) q.0 in
+            let a = and_parts (all_values p.of_module f facts (place ∷ metadata ∷ [])) (is_written_as p.of_module returned (place ∷ metadata ∷ []) runtime.GcRoot) k2.0 in
+            let t = and_parts (o.is_value p.of_module f facts place.written place.operand) (o.is_value p.of_module f facts metadata.written metadata.operand && true) a.0 in
+            let t2 = and_parts (o.is_value p.of_module f facts metadata.written metadata.operand) true t.1 in
+            let w = and_parts (is_runtime_type p.of_module returned types.Void) (is_runtime_type p.of_module place.written types.PointerToPointer && (is_runtime_type p.of_module metadata.written types.Pointer && true)) a.1 in
+            let w2 = and_parts (is_runtime_type p.of_module place.written types.PointerToPointer) (is_runtime_type p.of_module metadata.written types.Pointer && true) w.1 in
+            let w3 = and_parts (is_runtime_type p.of_module metadata.written types.Pointer) true w2.1 in
+            let q = and_parts (here.in_head && o.is_null metadata.operand) (is_unrooted p.of_module table facts (o.slot_named table place.operand)) k9.0 in
+            let q2 = and_parts here.in_head (o.is_null metadata.operand) q.0 in
             slot place metadata (o.slot_named table place.operand) refl q.1 (root_types p.of_module returned place.written metadata.written w.0 w2.0 w3.0) t.0 t2.0 q2.1
 
   -- ---- dg_safepoint
@@ -319,16 +321,16 @@ module _ (heap : Setup) (p : LaidOut) (certs : List Section) (reaches : Bool) (f
   -- a list of none is empty
   no_parameters : {X : Type 0} (xs : List X) → (length xs == 0) ≡ true → xs ≡ []
   no_parameters [] e = refl
-  no_parameters (x ∷ xs) e = let z = equal (length (x ∷ xs)) 0 e in absurd (omega (arith, z))
+  no_parameters (x ∷ xs) e = let z = test_true (length (x ∷ xs)) 0 e in absurd (omega (arith, z))
 
   -- a call of dg_safepoint that the rules allow
   pub safepoint_goes : (defined : Option Function) (d : Declare) (arguments : List Argument) → is_declared_as p.of_module d runtime.Safepoint ≡ true → (length arguments == 0) ≡ true → first_failing (safepoint_conditions p.of_module here returned arguments) ≡ None
       → Goes heap p table frame.slots reaches guarded log (make_stale facts) (call_action arguments (Some d) defined (Some runtime.Safepoint)) (behind_call arguments (Some runtime.Safepoint))
   safepoint_goes defined d arguments declared arity e =
       let all = all_hold (safepoint_conditions p.of_module here returned arguments) e in
-      let b = both (is_runtime_type p.of_module d.returned types.Void) _ declared in
-      let c = both (length d.parameters == 0) _ b.1 in
-      let w = both (is_runtime_type p.of_module returned types.Void) _ all.0 in
+      let b = and_parts (is_runtime_type p.of_module d.returned types.Void) _ declared in
+      let c = and_parts (length d.parameters == 0) _ b.1 in
+      let w = and_parts (is_runtime_type p.of_module returned types.Void) _ all.0 in
       let none = no_parameters d.parameters c.0 in
       let declared_so : a.are_safepoint_types p.of_module d.returned d.parameters ≡ true = rw none (sym (void_same p.of_module d.returned) ∙ b.0) in
       let written_so : a.are_safepoint_types p.of_module returned [] ≡ true = sym (void_same p.of_module returned) ∙ w.0 in

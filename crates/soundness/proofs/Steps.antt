@@ -1,6 +1,8 @@
 -- What operands are, and steps without an effect on the heap.
 use Rattle.std.proofs.Common.{◌≡◌, ℕ, suc, ◌<◌, ◌^◌, List, [], ◌∷◌, length, refl, sym, ap, ◌∙◌, subst, arith, true, false, Bool, Option, Some, None, inr, slice_set}
 use Rattle.std.specs.Prelude.{◌||◌, ◌&&◌, not, is_some, if◌then◌else◌, nat_lt}
+use Rattle.lemmas.specs.Numbers.{test_true}
+use Rattle.lemmas.specs.Bools.{and_parts}
 use Rattle.ir_ast.specs.declared.function.Function.{Function}
 use Rattle.ir_ast.specs.declared.op.Op.TheVariants.{Alloca}
 use Rattle.ir_ast.specs.declared.operand.Constant.{Constant}
@@ -38,7 +40,6 @@ use Rattle.machine.specs.Machine.{set_register}
 use Rattle.machine.specs.Log.{Log, IsFresh, Possible}
 use Rattle.soundness.specs.Meaning.{Cells, Guarded, IsReferenceTo, IsOwn, IsNullOrFresh, AreApart, FitsReference, IsBelow, IsInteger, IsAddressOf, Means, Holds}
 use Rattle.soundness.specs.Goes.{Goes}
-use Rattle.soundness.proofs.Lists.{both, equal}
 use Rattle.soundness.proofs.Keep.{log_keeps, known_within}
 use Rattle.soundness.proofs.SlotsKeep.{end_keeps}
 use Rattle.machine.specs.WrappedFits.{wrapped_fits}
@@ -195,10 +196,10 @@ module _ (heap : Setup) (p : LaidOut) (certs : List Section) (reaches : Bool) (f
   -- an operand that the rules let stand as a value may be used
   pub usable : (written : ℕ) (x : Operand) → o.is_available table facts x ≡ true → o.is_value p.of_module f facts written x ≡ true → o.slot_named table x ≡ None → k.is_usable p.of_module f table frame.registers written x ≡ true
   usable written (operand.Constant c) k1 k2 none =
-      let b = both (o.constant_fits c (kind_of p.of_module written)) true k2 in
+      let b = and_parts (o.constant_fits c (kind_of p.of_module written)) true k2 in
       rw (constant_passes p.of_module written c b.0, constant_plain written c b.0) refl
   usable written (operand.Local v) k1 k2 none =
-      let b = both (has_type p.of_module f written v) (o.known_fits (kind_of p.of_module written) (known_at facts.values v)) k2 in
+      let b = and_parts (has_type p.of_module f written v) (o.known_fits (kind_of p.of_module written) (known_at facts.values v)) k2 in
       rw (b.0, none, known_plain (kind_of p.of_module written) (known_at facts.values v) (register_at frame.registers v) (h.values v) (available v none k1) b.1) refl
   usable written (operand.Global g) k1 k2 none = absurd (no_value _ k2)
   usable written (operand.CastGlobal a b c) k1 k2 none = absurd (no_value _ k2)
@@ -209,7 +210,7 @@ module _ (heap : Setup) (p : LaidOut) (certs : List Section) (reaches : Bool) (f
   number_known : (n : ℕ) (known : Known) (v : Value) → Means heap p guarded log cells (length facts.classes) frame.registers known v → o.is_known facts known ≡ true → o.known_fits (Bits n) known ≡ true
       → IsInteger n (below_known known) v
   number_known n Nothing v means is fits = absurd cc
-  number_known n (Number bits below) v means is fits = subst (λ b. IsInteger b below v) (sym (equal n bits fits)) means
+  number_known n (Number bits below) v means is fits = subst (λ b. IsInteger b below v) (sym (test_true n bits fits)) means
   number_known n (Cell c l s) v means is fits = absurd cc
   number_known n Null v means is fits = absurd cc
   number_known n (Address base words) v means is fits = absurd cc
@@ -225,7 +226,7 @@ module _ (heap : Setup) (p : LaidOut) (certs : List Section) (reaches : Bool) (f
   integer_is written bits (operand.Constant (constant.Truth b)) is k1 k2 none = absurd cc
   integer_is written bits (operand.Constant constant.Null) is k1 k2 none = absurd (let x = rw is at k2 in cc)
   integer_is written bits (operand.Local v) is k1 k2 none =
-      let b = both (has_type p.of_module f written v) (o.known_fits (kind_of p.of_module written) (known_at facts.values v)) k2 in
+      let b = and_parts (has_type p.of_module f written v) (o.known_fits (kind_of p.of_module written) (known_at facts.values v)) k2 in
       number_known bits (known_at facts.values v) (register_at frame.registers v) (h.values v) (available v none k1) (subst (λ x. o.known_fits x (known_at facts.values v) ≡ true) is b.1)
   integer_is written bits (operand.Global g) is k1 k2 none = absurd (no_value _ k2)
   integer_is written bits (operand.CastGlobal a b c) is k1 k2 none = absurd (no_value _ k2)
@@ -241,7 +242,7 @@ module _ (heap : Setup) (p : LaidOut) (certs : List Section) (reaches : Bool) (f
 
   -- what may be used has its written type
   typed_too : (written : ℕ) (x : Operand) → k.is_usable p.of_module f table frame.registers written x ≡ true → k.is_typed p.of_module f table written x ≡ true
-  typed_too written x e = (both (k.is_typed p.of_module f table written x) (k.is_plain (value_of p.of_module frame.registers written x)) e).0
+  typed_too written x e = (and_parts (k.is_typed p.of_module f table written x) (k.is_plain (value_of p.of_module frame.registers written x)) e).0
 
   -- and may be used as a number
   pub number_usable : (written bits : ℕ) (x : Operand) → kind_of p.of_module written ≡ Bits bits → o.is_available table facts x ≡ true → o.is_value p.of_module f facts written x ≡ true → o.slot_named table x ≡ None

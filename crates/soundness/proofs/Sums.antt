@@ -2,6 +2,8 @@
 use Rattle.std.proofs.Common.{◌≡◌, ℕ, ◌<◌, ◌^◌, List, length, refl, sym, ap, ◌∙◌, subst, arith, true, false, Bool, Option, Some, None, slice_set}
 use Rattle.std.proofs.lemmas.List.{length-set}
 use Rattle.std.specs.Prelude.{◌==◌, ◌&&◌, if◌then◌else◌}
+use Rattle.lemmas.specs.Numbers.{test_false}
+use Rattle.lemmas.specs.Bools.{and_parts, or_second, or_first}
 use Rattle.ir_ast.specs.declared.function.Function.{Function}
 use Rattle.ir_ast.specs.declared.op.Arithmetic.{Arithmetic as Operation}
 use Rattle.ir_ast.specs.declared.op.Arithmetic.TheVariants as operation
@@ -40,9 +42,9 @@ use Rattle.machine.specs.Machine as mc
 use Rattle.machine.specs.Machine.{compared}
 use Rattle.machine.specs.Log.{Log}
 use Rattle.soundness.specs.Meaning.{Cells, Guarded, IsReferenceTo, IsBelow, IsInteger, Means, WasTested, Holds}
-use Rattle.soundness.proofs.Lists.{both, either_true, other_true, at_set, got_set}
+use Rattle.soundness.proofs.Lists.{at_set, got_set}
 use Rattle.soundness.proofs.KindLemmas.{integer_same, refers_same, bits_are}
-use Rattle.soundness.proofs.Keep.{unequal, got_other}
+use Rattle.soundness.proofs.Keep.{got_other}
 use Rattle.soundness.proofs.Change.{define_plain}
 use Rattle.soundness.proofs.Edges.{wrapped_le}
 use Rattle.soundness.proofs.Numbers.{computed_fits, and_below, resized_fits, resized_stays, truth_fits}
@@ -205,13 +207,13 @@ module _ (heap : Setup) (p : LaidOut) (certs : List Section) (reaches : Bool) (f
   -- an operand that the rules let stand at a reference type is a reference
   pub reference_usable : (written : ℕ) (x : Operand) → may_be_reference (kind_of p.of_module written) ≡ true → o.is_available table facts x ≡ true → o.is_value p.of_module f facts written x ≡ true → o.slot_named table x ≡ None
       → (k.is_typed p.of_module f table written x && k.is_reference (value_of p.of_module frame.registers written x)) ≡ true
-  reference_usable written x refers k1 k2 none = rw ((both (k.is_typed p.of_module f table written x) (k.is_plain (value_of p.of_module frame.registers written x)) (usable heap p certs reaches f table guarded log cells facts frame h written x k1 k2 none)).0, by x k1 k2 none) refl where
+  reference_usable written x refers k1 k2 none = rw ((and_parts (k.is_typed p.of_module f table written x) (k.is_plain (value_of p.of_module frame.registers written x)) (usable heap p certs reaches f table guarded log cells facts frame h written x k1 k2 none)).0, by x k1 k2 none) refl where
     by : (x : Operand) → o.is_available table facts x ≡ true → o.is_value p.of_module f facts written x ≡ true → o.slot_named table x ≡ None → k.is_reference (value_of p.of_module frame.registers written x) ≡ true
-    by (operand.Constant (constant.Number n)) k1 k2 none = absurd (no_number n (kind_of p.of_module written) (both (o.fits_bits n (kind_of p.of_module written)) true k2).0 refers)
+    by (operand.Constant (constant.Number n)) k1 k2 none = absurd (no_number n (kind_of p.of_module written) (and_parts (o.fits_bits n (kind_of p.of_module written)) true k2).0 refers)
     by (operand.Constant (constant.Truth b)) k1 k2 none = absurd cc
     by (operand.Constant constant.Null) k1 k2 none = refl
     by (operand.Local v) k1 k2 none =
-        let b = both (has_type p.of_module f written v) (o.known_fits (kind_of p.of_module written) (known_at facts.values v)) k2 in
+        let b = and_parts (has_type p.of_module f written v) (o.known_fits (kind_of p.of_module written) (known_at facts.values v)) k2 in
         reference_known (kind_of p.of_module written) (known_at facts.values v) (register_at frame.registers v) (h.values v) (available heap p certs reaches f table guarded log cells facts frame h v none k1) b.1 refers
     by (operand.Global g) k1 k2 none = absurd (no_value _ k2)
     by (operand.CastGlobal a b c) k1 k2 none = absurd (no_value _ k2)
@@ -266,7 +268,7 @@ module _ (heap : Setup) (p : LaidOut) (certs : List Section) (reaches : Bool) (f
         pick true e = tt
         pick false e = (
           written,
-          got_set frame.registers v _ value.Unset size ∙ ap (λ y. compared kind (bits_at p.of_module written) y (constant_value p.of_module written c)) (sym (got_other frame.registers v u _ value.Unset (λ z. unequal u v e (sym z)))),
+          got_set frame.registers v _ value.Unset size ∙ ap (λ y. compared kind (bits_at p.of_module written) y (constant_value p.of_module written c)) (sym (got_other frame.registers v u _ value.Unset (λ z. test_false u v e (sym z)))),
         )
 
     plain_keeps : (first second : Operand) → Holds heap p table guarded log cells (define v (Number 1 None) facts)
@@ -290,12 +292,12 @@ module _ (heap : Setup) (p : LaidOut) (certs : List Section) (reaches : Bool) (f
       (λ given. mc.after_op p f table result (Compare kind written first second) given frame)
   compare_goes result kind written first second k1 k1s k2 k2s may none nones = goes_local heap p table frame.slots reaches guarded log _ _ _ (rw (compares (kind_of p.of_module written) refl may) refl) (kept result) where
     of_references : (x : TypeKind) → kind_of p.of_module written ≡ x → may_be_reference x ≡ true → r.is_equality kind ≡ true → a.may_compare p.of_module f table frame.registers kind written first second ≡ true
-    of_references x is refers e = other_true (a.are_numbers p.of_module f table frame.registers written first second) (i.is_equality kind && a.are_references p.of_module f table frame.registers written first second)
+    of_references x is refers e = or_second (a.are_numbers p.of_module f table frame.registers written first second) (i.is_equality kind && a.are_references p.of_module f table frame.registers written first second)
         (rw (same_equality kind ∙ e, references_usable written first second (ap may_be_reference is ∙ refers) k1 k1s k2 k2s none nones) refl)
 
     compares : (x : TypeKind) → kind_of p.of_module written ≡ x → r.may_compare kind x ≡ true → a.may_compare p.of_module f table frame.registers kind written first second ≡ true
     compares NoValue is e = absurd cc
-    compares (Bits bits) is e = either_true (a.are_numbers p.of_module f table frame.registers written first second) (i.is_equality kind && a.are_references p.of_module f table frame.registers written first second)
+    compares (Bits bits) is e = or_first (a.are_numbers p.of_module f table frame.registers written first second) (i.is_equality kind && a.are_references p.of_module f table frame.registers written first second)
         (numbers_usable written bits first second is k1 k1s k2 k2s none nones)
     compares (Reference l) is e = of_references (Reference l) is refl e
     compares AnyReference is e = of_references AnyReference is refl e

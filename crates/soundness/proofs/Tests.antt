@@ -2,6 +2,7 @@
 use Rattle.std.proofs.Common.{◌≡◌, ◌≢◌, ℕ, zero, suc, ◌<◌, ◌≤◌, List, [], ◌∷◌, length, get_or, refl, sym, ap, ◌∙◌, subst, arith, true, false, Bool, Option, Some, None, slice_set, inl, inr}
 use Rattle.std.proofs.lemmas.Bool.{cases_lt}
 use Rattle.std.specs.Prelude.{◌==◌, ◌⊎◌, not, if◌then◌else◌, nat_lt, nat_le}
+use Rattle.lemmas.specs.Numbers.{test_true, lt_yes, lt_no}
 use Rattle.ir_ast.specs.declared.op.Comparison.{Comparison}
 use Rattle.ir_ast.specs.declared.op.Comparison.TheVariants.{Equal, NotEqual, UnsignedGreater, UnsignedGreaterOrEqual, UnsignedLess, UnsignedLessOrEqual, SignedGreater, SignedGreaterOrEqual, SignedLess, SignedLessOrEqual}
 use Rattle.ir_ast.specs.declared.operand.Constant.{Constant}
@@ -20,7 +21,6 @@ use Rattle.machine.specs.Integers.{compares, truth}
 use Rattle.machine.specs.Machine.{compared}
 use Rattle.machine.specs.Log.{Log}
 use Rattle.soundness.specs.Meaning.{Cells, Guarded, IsBelow, Means, WasTested, Holds}
-use Rattle.soundness.proofs.Lists.{equal, lt_true, lt_false}
 use Rattle.soundness.proofs.Keep.{put_keeps, plain_beside}
 use Rattle.soundness.proofs.Change.{learn_keeps}
 use Rattle.soundness.proofs.Edges.{wrapped_le}
@@ -35,18 +35,6 @@ truth_is true true d = refl
 truth_is false false d = refl
 truth_is true false d = absurd (omega (arith, d))
 truth_is false true d = absurd (d refl)
-
-lt_is : (x y : ℕ) → nat_lt x y ≡ true → x < y
-lt_is x y e = pick (cases_lt x y) where
-  pick : (x < y) ⊎ (y ≤ x) → x < y
-  pick (inl lt) = lt
-  pick (inr le) = let z = lt_false x y le in absurd cc
-
-lt_not : (x y : ℕ) → nat_lt x y ≡ false → y ≤ x
-lt_not x y e = pick (cases_lt x y) where
-  pick : (x < y) ⊎ (y ≤ x) → y ≤ x
-  pick (inl lt) = let z = lt_true x y lt in absurd cc
-  pick (inr le) = le
 
 le_is : (x y : ℕ) → nat_le x y ≡ true → x ≤ y
 le_is x y e = grind (arith, e)
@@ -101,17 +89,17 @@ module _ (heap : Setup) (p : LaidOut) (table : SlotTable) (guarded : Guarded) (l
 
   -- a comparison of a number with a constant, on the way that it decides
   number_learned : (v n bits : ℕ) (kind : Comparison) (taken : Bool) → ((a : ℕ) → register_at registers v ≡ value.Number a → compares kind bits a (wrapped bits n) ≡ taken) → After (learn_number_test v n kind taken facts)
-  number_learned v n bits UnsignedLess true d = below_learned v n (λ a e. let x = lt_is a (wrapped bits n) (d a e) in let y = wrapped_le bits n in omega (arith, x, y))
+  number_learned v n bits UnsignedLess true d = below_learned v n (λ a e. let x = lt_yes a (wrapped bits n) (d a e) in let y = wrapped_le bits n in omega (arith, x, y))
   number_learned v n bits UnsignedLess false d = h
   number_learned v n bits UnsignedLessOrEqual true d = up_to_learned v n (λ a e. let x = le_is a (wrapped bits n) (d a e) in let y = wrapped_le bits n in omega (arith, x, y))
   number_learned v n bits UnsignedLessOrEqual false d = h
-  number_learned v n bits Equal true d = up_to_learned v n (λ a e. let x = equal a (wrapped bits n) (d a e) in let y = wrapped_le bits n in omega (arith, x, y))
+  number_learned v n bits Equal true d = up_to_learned v n (λ a e. let x = test_true a (wrapped bits n) (d a e) in let y = wrapped_le bits n in omega (arith, x, y))
   number_learned v n bits Equal false d = h
-  number_learned v n bits NotEqual false d = up_to_learned v n (λ a e. let x = equal a (wrapped bits n) (not_is (a == wrapped bits n) false (d a e)) in let y = wrapped_le bits n in omega (arith, x, y))
+  number_learned v n bits NotEqual false d = up_to_learned v n (λ a e. let x = test_true a (wrapped bits n) (not_is (a == wrapped bits n) false (d a e)) in let y = wrapped_le bits n in omega (arith, x, y))
   number_learned v n bits NotEqual true d = h
   number_learned v n bits UnsignedGreaterOrEqual false d = below_learned v n (λ a e. let x = le_not (wrapped bits n) a (d a e) in let y = wrapped_le bits n in omega (arith, x, y))
   number_learned v n bits UnsignedGreaterOrEqual true d = h
-  number_learned v n bits UnsignedGreater false d = up_to_learned v n (λ a e. let x = lt_not (wrapped bits n) a (d a e) in let y = wrapped_le bits n in omega (arith, x, y))
+  number_learned v n bits UnsignedGreater false d = up_to_learned v n (λ a e. let x = lt_no (wrapped bits n) a (d a e) in let y = wrapped_le bits n in omega (arith, x, y))
   number_learned v n bits UnsignedGreater true d = h
   number_learned v n bits SignedGreater taken d = h
   number_learned v n bits SignedGreaterOrEqual taken d = h

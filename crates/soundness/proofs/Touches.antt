@@ -1,6 +1,7 @@
 -- Operands that stand as places: the words to which they lead.
 use Rattle.std.proofs.Common.{◌≡◌, ◌≢◌, ℕ, List, length, refl, sym, ap, ◌∙◌, subst, true, false, Bool, Option, Some, None, inl, inr}
 use Rattle.std.specs.Prelude.{◌==◌, if◌then◌else◌}
+use Rattle.lemmas.specs.Bools.{and_parts}
 use Rattle.ir_ast.specs.declared.function.Function.{Function}
 use Rattle.ir_ast.specs.declared.operand.Operand.{Operand}
 use Rattle.ir_ast.specs.declared.operand.Operand.TheVariants as operand
@@ -39,7 +40,6 @@ use Rattle.machine.specs.Machine as mc
 use Rattle.soundness.specs.Meaning.{Cells, Guarded, IsAddressOf, IsGlobal, IsNullOrFresh, Means, Holds}
 use Rattle.soundness.proofs.Keep.{known_within}
 use Rattle.soundness.proofs.KindLemmas.{constant_passes}
-use Rattle.soundness.proofs.Lists.{both}
 use Rattle.soundness.proofs.PlaceFacts.{Located, address_located, global_kind as kind_of_global}
 use Rattle.soundness.proofs.Globals.{has_address, word_is, global_casts}
 use Rattle.soundness.proofs.Steps.{available}
@@ -132,7 +132,7 @@ module _ (p : LaidOut) (f : Function) (table : SlotTable) where
   typed_so written (operand.Local u) typed casts none = rw (typed, none) refl
   typed_so written (operand.Global symbol) typed casts none = typed
   typed_so written (operand.CastGlobal from symbol to) typed casts none =
-      let b = both (written == to) (points_to_global p.of_module from symbol) typed in rw (b.0, b.1, global_casts p.of_module from symbol to casts) refl
+      let b = and_parts (written == to) (points_to_global p.of_module from symbol) typed in rw (b.0, b.1, global_casts p.of_module from symbol to casts) refl
 
   -- what names no slot stands for none
   pub no_slot_at : (written : ℕ) (x : Operand) → o.slot_named table x ≡ None → k.slot_at_place p.of_module f table written x ≡ None
@@ -159,7 +159,7 @@ module _ (heap : Setup) (p : LaidOut) (certs : List Section) (reaches : Bool) (f
   operand_means written (operand.Constant d) typed = tt
   operand_means written (operand.Local u) typed = h.values u
   operand_means written (operand.Global symbol) typed = has_address p.of_module written symbol typed
-  operand_means written (operand.CastGlobal from symbol to) typed = has_address p.of_module from symbol (both (written == to) (points_to_global p.of_module from symbol) typed).1
+  operand_means written (operand.CastGlobal from symbol to) typed = has_address p.of_module from symbol (and_parts (written == to) (points_to_global p.of_module from symbol) typed).1
 
   -- of an available place something is known
   place_known : (x : Operand) → o.is_available table facts x ≡ true → o.slot_named table x ≡ None → o.is_constant x ≡ false → o.is_known facts (o.known_of facts x) ≡ true

@@ -2,6 +2,8 @@
 use Rattle.std.proofs.Common.{◌≡◌, ℕ, ◌<◌, List, [], ◌∷◌, length, map, refl, sym, ap, ◌∙◌, arith, true, false, Bool, Option, Some, None}
 use Rattle.std.specs.Prelude.{◌==◌, ◌&&◌, not, if◌then◌else◌, nat_lt}
 use Rattle.std.specs.List.{take_while}
+use Rattle.lemmas.specs.Numbers.{test_true, test_yes, lt_true}
+use Rattle.lemmas.specs.Bools.{and_parts, not_true}
 use Rattle.ir_ast.specs.declared.function.Function.{Function}
 use Rattle.ir_ast.specs.declared.op.Case.{Case}
 use Rattle.ir_ast.specs.declared.op.Op.{Op}
@@ -35,7 +37,6 @@ use Rattle.machine.specs.Machine as mc
 use Rattle.soundness.specs.Meaning.{Cells, Guarded, Holds}
 use Rattle.soundness.proofs.Edges.{edge_holds}
 use Rattle.soundness.proofs.KindLemmas.{bits_same, constant_passes}
-use Rattle.soundness.proofs.Lists.{both, equal, equal_test, negated}
 use Rattle.soundness.proofs.Tests.{Decides, test_learned}
 use Rattle.soundness.proofs.Steps.{all_hold, none_of, kind_bits, number_usable}
 
@@ -47,9 +48,6 @@ bits_integer n (Reference layout) e = absurd cc
 bits_integer n AnyReference e = absurd cc
 bits_integer n Address e = absurd cc
 bits_integer n Other e = absurd cc
-
-below : (x y : ℕ) → nat_lt x y ≡ true → x < y
-below x y e = grind (arith, e)
 
 -- a call leads to no block
 no_way : (called : Option ℕ) → mc.onward_of_call called ≡ mc.Way → ⊥
@@ -108,7 +106,7 @@ module _ (heap : Setup) (program : LaidOut) (certs : List Section) (f : Function
   condition_is : (written : ℕ) (x : Operand) → o.is_available table facts x ≡ true → r.is_condition program.of_module f facts written x ≡ true → o.is_no_slot table x ≡ true
       → a.is_condition program.of_module f table frame.registers written x ≡ true
   condition_is written x available is no_slot =
-      let b = both (is_bits 1 (kind_of program.of_module written)) (o.is_value program.of_module f facts written x) is in
+      let b = and_parts (is_bits 1 (kind_of program.of_module written)) (o.is_value program.of_module f facts written x) is in
       let bits = kind_bits heap program certs false f table guarded log cells facts frame h (kind_of program.of_module written) (bits_integer 1 (kind_of program.of_module written) b.0) in
       rw (
         sym (bits_same program.of_module 1 written) ∙ b.0,
@@ -126,7 +124,7 @@ module _ (heap : Setup) (program : LaidOut) (certs : List Section) (f : Function
     pick : (b : Bool) → (number_in (value_of program.of_module frame.registers written x) == 0) ≡ b → Taken (Branch written x taken other)
     pick true e =
         let leads : a.way_of program.of_module frame.registers (Branch written x taken other) ≡ Some other = rw e refl in
-        record { label = other; leads = leads; acts = acts_to other leads; known = known_other; holds = on_other (equal (number_in (value_of program.of_module frame.registers written x)) 0 e); opened = open_other }
+        record { label = other; leads = leads; acts = acts_to other leads; known = known_other; holds = on_other (test_true (number_in (value_of program.of_module frame.registers written x)) 0 e); opened = open_other }
     pick false e =
         let leads : a.way_of program.of_module frame.registers (Branch written x taken other) ≡ Some taken = rw e refl in
         record {
@@ -134,7 +132,7 @@ module _ (heap : Setup) (program : LaidOut) (certs : List Section) (f : Function
           leads = leads;
           acts = acts_to taken leads;
           known = known_taken;
-          holds = on_taken (λ z. let t = equal_test (number_in (value_of program.of_module frame.registers written x)) 0 z in absurd cc);
+          holds = on_taken (λ z. let t = test_yes (number_in (value_of program.of_module frame.registers written x)) 0 z in absurd cc);
           opened = open_taken;
         }
 
@@ -143,9 +141,9 @@ module _ (heap : Setup) (program : LaidOut) (certs : List Section) (f : Function
       → w.unshown_on scene frame.block facts (w.branch_ways x taken other) ≡ None → Taken (Branch written x taken other)
   branch_taken here result written x taken other allowed shown =
       let all = all_hold (op_conditions program certs f table here facts result (Branch written x taken other)) allowed in
-      let b1 = both (r.is_condition program.of_module f facts written x && names_target f taken && names_target f other) (o.is_no_slot table x) all.1.0 in
-      let b2 = both (r.is_condition program.of_module f facts written x && names_target f taken) (names_target f other) b1.0 in
-      let b3 = both (r.is_condition program.of_module f facts written x) (names_target f taken) b2.0 in
+      let b1 = and_parts (r.is_condition program.of_module f facts written x && names_target f taken && names_target f other) (o.is_no_slot table x) all.1.0 in
+      let b2 = and_parts (r.is_condition program.of_module f facts written x && names_target f taken) (names_target f other) b1.0 in
+      let b3 = and_parts (r.is_condition program.of_module f facts written x) (names_target f taken) b2.0 in
       by x (condition_is written x all.0 b3.0 b1.1) b3.1 b2.1 shown where
         undecided : (x : Operand) → a.is_condition program.of_module f table frame.registers written x ≡ true → names_target f taken ≡ true → names_target f other ≡ true
             → w.unshown_on scene frame.block facts (w.open_way taken ∷ w.open_way other ∷ []) ≡ None → Taken (Branch written x taken other)
@@ -173,8 +171,8 @@ module _ (heap : Setup) (program : LaidOut) (certs : List Section) (f : Function
       → w.unshown_on scene frame.block facts (map (λ case. w.open_way case.target) cases) ≡ None → IsOpen facts otherwise → IsOpen facts (j.switch_way program.of_module written n otherwise cases)
   switch_open written n otherwise [] e shown last = last
   switch_open written n otherwise (first ∷ cases) e shown last =
-      let b = both (is_case program.of_module f written first) (are_cases program.of_module f written cases) e in
-      let c = both (o.constant_fits first.constant (kind_of program.of_module written)) (names_target f first.target) b.0 in
+      let b = and_parts (is_case program.of_module f written first) (are_cases program.of_module f written cases) e in
+      let c = and_parts (o.constant_fits first.constant (kind_of program.of_module written)) (names_target f first.target) b.0 in
       let s = shown_first (w.open_way first.target) (map (λ case. w.open_way case.target) cases) shown in
       pick (number_in (constant_value program.of_module written first.constant) == n) (record { named = c.1; shown = s.0 }) (switch_open written n otherwise cases b.1 s.1 last) where
         pick : (b : Bool) → IsOpen facts first.target → IsOpen facts (j.switch_way program.of_module written n otherwise cases) → IsOpen facts (if b then first.target else j.switch_way program.of_module written n otherwise cases)
@@ -184,18 +182,18 @@ module _ (heap : Setup) (program : LaidOut) (certs : List Section) (f : Function
   cases_fit_so : (written : ℕ) (cases : List Case) → are_cases program.of_module f written cases ≡ true → j.cases_fit program.of_module written cases ≡ true
   cases_fit_so written [] e = refl
   cases_fit_so written (first ∷ cases) e =
-      let b = both (is_case program.of_module f written first) (are_cases program.of_module f written cases) e in
-      let c = both (o.constant_fits first.constant (kind_of program.of_module written)) (names_target f first.target) b.0 in
+      let b = and_parts (is_case program.of_module f written first) (are_cases program.of_module f written cases) e in
+      let c = and_parts (o.constant_fits first.constant (kind_of program.of_module written)) (names_target f first.target) b.0 in
       rw (constant_passes program.of_module written first.constant c.0, cases_fit_so written cases b.1) refl
 
   switch_taken : (here : Standing) (result : Option ℕ) (written : ℕ) (x : Operand) (otherwise : ℕ) (cases : List Case) → first_failing (op_conditions program certs f table here facts result (Switch written x otherwise cases)) ≡ None
       → w.unshown_on scene frame.block facts (w.ways (Switch written x otherwise cases)) ≡ None → Taken (Switch written x otherwise cases)
   switch_taken here result written x otherwise cases allowed shown =
       let all = all_hold (op_conditions program certs f table here facts result (Switch written x otherwise cases)) allowed in
-      let b1 = both (o.is_value program.of_module f facts written x && is_integer (kind_of program.of_module written) && names_target f otherwise && are_cases program.of_module f written cases) (o.is_no_slot table x) all.1.0 in
-      let b2 = both (o.is_value program.of_module f facts written x && is_integer (kind_of program.of_module written) && names_target f otherwise) (are_cases program.of_module f written cases) b1.0 in
-      let b3 = both (o.is_value program.of_module f facts written x && is_integer (kind_of program.of_module written)) (names_target f otherwise) b2.0 in
-      let b4 = both (o.is_value program.of_module f facts written x) (is_integer (kind_of program.of_module written)) b3.0 in
+      let b1 = and_parts (o.is_value program.of_module f facts written x && is_integer (kind_of program.of_module written) && names_target f otherwise && are_cases program.of_module f written cases) (o.is_no_slot table x) all.1.0 in
+      let b2 = and_parts (o.is_value program.of_module f facts written x && is_integer (kind_of program.of_module written) && names_target f otherwise) (are_cases program.of_module f written cases) b1.0 in
+      let b3 = and_parts (o.is_value program.of_module f facts written x && is_integer (kind_of program.of_module written)) (names_target f otherwise) b2.0 in
+      let b4 = and_parts (o.is_value program.of_module f facts written x) (is_integer (kind_of program.of_module written)) b3.0 in
       let bits = kind_bits heap program certs false f table guarded log cells facts frame h (kind_of program.of_module written) b4.1 in
       let usable = number_usable heap program certs false f table guarded log cells facts frame h written bits.0 x bits.1 all.0 b4.0 (none_of (o.slot_named table x) b1.1) in
       let s = shown_first (w.open_way otherwise) (map (λ case. w.open_way case.target) cases) shown in
@@ -238,7 +236,7 @@ module _ (heap : Setup) (program : LaidOut) (certs : List Section) (f : Function
     by : (q : Option ℕ) → target_of f label ≡ q → is_target f q ≡ true → w.unshown_at scene frame.block known q ≡ None → Target label
     by None is e shown = absurd cc
     by (Some to) is e shown =
-        let b = both (not (to == 0)) (nat_lt to (length f.blocks)) e in
+        let b = and_parts (not (to == 0)) (nat_lt to (length f.blocks)) e in
         let k = edge_holds heap scene guarded log cells known frame.registers frame.slots frame.block to holds size
         (shown_line to (w.unshown_line scene to (w.entered scene frame.block to known)) shown) in
-        record { to = to; is = is; within = below to (length f.blocks) b.1; begins = rw (w.given_at, negated (to == 0) b.0) refl; more = k.0; holds = k.1 }
+        record { to = to; is = is; within = lt_true to (length f.blocks) b.1; begins = rw (w.given_at, not_true (to == 0) b.0) refl; more = k.0; holds = k.1 }

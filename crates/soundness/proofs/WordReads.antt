@@ -1,5 +1,6 @@
 -- What is read from words, and what is then known of it.
 use Rattle.std.proofs.Common.{◌≡◌, ℕ, ◌∷◌, refl, sym, ap, ◌∙◌, subst, true, false, Bool, Option, Some, None, inl, inr, slice_set, slice_get, List}
+use Rattle.lemmas.specs.Numbers.{test_true, test_yes}
 use Rattle.ir_ast.specs.declared.function.Function.{Function}
 use Rattle.ir_ast.specs.declared.op.Op.TheVariants.{Load}
 use Rattle.ir_ast.specs.declared.operand.Operand.{Operand}
@@ -37,7 +38,7 @@ use Rattle.soundness.specs.Meaning.{Cells, Guarded, Holds}
 use Rattle.soundness.proofs.Change.{apart_turned, define_plain}
 use Rattle.soundness.proofs.Keep.{log_keeps}
 use Rattle.soundness.proofs.KindLemmas.{bits_same}
-use Rattle.soundness.proofs.Lists.{equal, equal_test, turned}
+use Rattle.soundness.proofs.Lists.{turned}
 use Rattle.soundness.proofs.PlaceFacts.{holds_as_asked}
 use Rattle.soundness.specs.Goes.{Goes}
 use Rattle.soundness.proofs.Casts.{held_keeps}
@@ -50,13 +51,13 @@ use Rattle.soundness.proofs.Touches.{Touches, IsPlace, place_at, no_slot_at, on_
 module _ (p : LaidOut) (written : ℕ) where
   -- a kind of some bits is an integer type of them to the machine
   pub bits_of_word : (n : ℕ) → kind_of p.of_module written ≡ Bits n → k.is_integer_of n (slice_get p.of_module.types written) ≡ true
-  bits_of_word n is = sym (bits_same p.of_module n written) ∙ ap (is_bits n) is ∙ equal_test n n refl
+  bits_of_word n is = sym (bits_same p.of_module n written) ∙ ap (is_bits n) is ∙ test_yes n n refl
 
   -- what may be loaded from a word under a type is read as it
   reads_word : (kind : TypeKind) (first : Option ℕ) (q : Option WordKind) → kind_of p.of_module written ≡ kind → r.holds_wanted (r.wanted_by_load kind first) q ≡ true → is_read_as p.of_module written q ≡ true
   reads_word NoValue first q is e = absurd cc
   reads_word (Bits n) first None is e = absurd cc
-  reads_word (Bits n) first (Some (word.Integer other)) is e = subst (λ b. k.is_integer_of b (slice_get p.of_module.types written) ≡ true) (sym (equal other n e)) (bits_of_word n is)
+  reads_word (Bits n) first (Some (word.Integer other)) is e = subst (λ b. k.is_integer_of b (slice_get p.of_module.types written) ≡ true) (sym (test_true other n e)) (bits_of_word n is)
   reads_word (Bits n) first (Some (word.Reference other)) is e = absurd cc
   reads_word (Reference layout) first None is e = absurd cc
   reads_word (Reference layout) first (Some (word.Integer bits)) is e = absurd cc
@@ -135,17 +136,17 @@ module _ (heap : Setup) (p : LaidOut) (certs : List Section) (reaches : Bool) (f
     any_read n None (Some (word.Reference other)) e given roots may = absurd cc
     any_read n (Some layout) None e given roots may = absurd cc
     any_read n (Some layout) (Some (word.Integer bits)) e given roots may = absurd cc
-    any_read n (Some layout) (Some (word.Reference other)) e given roots may = subst (λ x. IsRead n (r.define_held n (Some x) false facts) (Some (word.Reference other)) given roots) (equal other layout e) (referenced n other given roots may)
+    any_read n (Some layout) (Some (word.Reference other)) e given roots may = subst (λ x. IsRead n (r.define_held n (Some x) false facts) (Some (word.Reference other)) given roots) (test_true other layout e) (referenced n other given roots may)
 
     -- what is read fits the word, and no available fresh reference names it
     read_so : (n : ℕ) (kind : TypeKind) (first : Option ℕ) (q : Option WordKind) → r.holds_wanted (r.wanted_by_load kind first) q ≡ true → (given : Answer) (roots : List Value) → MayBeRead heap log q given → IsRead n (read_facts n kind first facts) q given roots
     read_so n NoValue first q e given roots may = absurd cc
     read_so n (Bits bits) first None e given roots may = absurd cc
-    read_so n (Bits bits) first (Some (word.Integer other)) e given roots may = subst (λ x. IsRead n (define n (Number x None) facts) (Some (word.Integer other)) given roots) (equal other bits e) (numbered n other given roots may)
+    read_so n (Bits bits) first (Some (word.Integer other)) e given roots may = subst (λ x. IsRead n (define n (Number x None) facts) (Some (word.Integer other)) given roots) (test_true other bits e) (numbered n other given roots may)
     read_so n (Bits bits) first (Some (word.Reference other)) e given roots may = absurd cc
     read_so n (Reference layout) first None e given roots may = absurd cc
     read_so n (Reference layout) first (Some (word.Integer bits)) e given roots may = absurd cc
-    read_so n (Reference layout) first (Some (word.Reference other)) e given roots may = subst (λ x. IsRead n (r.define_held n (Some x) false facts) (Some (word.Reference other)) given roots) (equal other layout e) (referenced n other given roots may)
+    read_so n (Reference layout) first (Some (word.Reference other)) e given roots may = subst (λ x. IsRead n (r.define_held n (Some x) false facts) (Some (word.Reference other)) given roots) (test_true other layout e) (referenced n other given roots may)
     read_so n AnyReference first q e given roots may = any_read n first q e given roots may
     read_so n AddressKind first q e given roots may = absurd cc
     read_so n Other first q e given roots may = absurd cc

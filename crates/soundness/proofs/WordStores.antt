@@ -1,6 +1,8 @@
 -- Stores of values in words, plain and behind the barrier.
 use Rattle.std.proofs.Common.{◌≡◌, ℕ, ◌<◌, ◌∷◌, length, refl, sym, ap, ◌∙◌, subst, true, false, Bool, Option, Some, None, inr, List}
 use Rattle.std.specs.Prelude.{◌||◌, not, if◌then◌else◌}
+use Rattle.lemmas.specs.Numbers.{test_true, test_yes}
+use Rattle.lemmas.specs.Bools.{and_parts}
 use Rattle.ir_ast.specs.declared.function.Function.{Function}
 use Rattle.ir_ast.specs.declared.op.Op.TheVariants.{Store}
 use Rattle.ir_ast.specs.declared.operand.Constant.TheVariants as constant
@@ -43,7 +45,7 @@ use Rattle.machine.specs.Log.{Log, Held, IsFresh, RefersTo, RefersToCell, IsNull
 use Rattle.machine.specs.Machine as mc
 use Rattle.soundness.specs.Meaning.{Cells, Guarded, IsReferenceTo, IsOwn, IsInteger, Means, Holds}
 use Rattle.soundness.proofs.Keep.{log_keeps}
-use Rattle.soundness.proofs.Lists.{both, equal, equal_test, turned}
+use Rattle.soundness.proofs.Lists.{turned}
 use Rattle.soundness.proofs.PlaceFacts.{holds_as_asked}
 use Rattle.soundness.specs.Goes.{Goes, HaveMembers, IsSpare}
 use Rattle.soundness.proofs.SameKinds.{part_refers}
@@ -83,7 +85,7 @@ module _ (heap : Setup) (guarded : Guarded) (log : Log) where
   of_layout layout value.Unset refers = absurd refers
   of_layout layout (value.Number n) refers = absurd refers
   of_layout layout value.Null refers = refl
-  of_layout layout (value.Cell own at) refers = equal_test own layout refers.0
+  of_layout layout (value.Cell own at) refers = test_yes own layout refers.0
   of_layout layout (value.Address at) refers = absurd refers
 
 -- what a stored value is, by the word that takes it: an integer of its bits, or null or an own reference to its layout
@@ -100,7 +102,7 @@ module _ (heap : Setup) (p : LaidOut) (certs : List Section) (reaches : Bool) (f
   known_reference layout Nothing v means is current fit = absurd cc
   known_reference layout (Number bits below) v means is current fit = absurd cc
   known_reference layout (Cell c l true) v means is current fit = absurd cc
-  known_reference layout (Cell c l false) v means is current fit = (subst (λ x. IsReferenceTo heap x v) (sym (equal layout l fit)) means.refers, means.own refl)
+  known_reference layout (Cell c l false) v means is current fit = (subst (λ x. IsReferenceTo heap x v) (sym (test_true layout l fit)) means.refers, means.own refl)
   known_reference layout Null v means is current fit = subst (λ x. IsReferenceTo heap layout x × IsOwn log guarded x) (sym means) (tt, tt)
   known_reference layout (Address base words) v means is current fit = absurd cc
   known_reference layout (GlobalAddress symbol) v means is current fit = absurd cc
@@ -108,7 +110,7 @@ module _ (heap : Setup) (p : LaidOut) (certs : List Section) (reaches : Bool) (f
   -- and so is an operand
   reference_stored : (stored layout : ℕ) (x : Operand) → may_be_reference (kind_of p.of_module stored) ≡ true → IsStored p f table facts stored x → r.fits_word (Some (word.Reference layout)) (r.wanted_by_value (o.known_of facts x)) ≡ true
       → IsReferenceTo heap layout (value_of p.of_module frame.registers stored x) × IsOwn log guarded (value_of p.of_module frame.registers stored x)
-  reference_stored stored layout (operand.Constant (constant.Number n)) refers i fit = absurd (no_number n (kind_of p.of_module stored) (both (o.fits_bits n (kind_of p.of_module stored)) true i.typed).0 refers)
+  reference_stored stored layout (operand.Constant (constant.Number n)) refers i fit = absurd (no_number n (kind_of p.of_module stored) (and_parts (o.fits_bits n (kind_of p.of_module stored)) true i.typed).0 refers)
   reference_stored stored layout (operand.Constant (constant.Truth b)) refers i fit = absurd (let t = i.typed in cc)
   reference_stored stored layout (operand.Constant constant.Null) refers i fit = (tt, tt)
   reference_stored stored layout (operand.Local u) refers i fit =
@@ -122,7 +124,7 @@ module _ (heap : Setup) (p : LaidOut) (certs : List Section) (reaches : Bool) (f
   taken stored x i NoValue is q e fit = absurd cc
   taken stored x i (Bits bits) is None e fit = absurd cc
   taken stored x i (Bits bits) is (Some (word.Integer other)) e fit =
-      AsNumber bits is (ap (λ b. Some (word.Integer b)) (equal other bits e)) (below_of facts x) (integer_is heap p certs reaches f table guarded log cells facts frame h stored bits x is i.there i.typed i.no_slot)
+      AsNumber bits is (ap (λ b. Some (word.Integer b)) (test_true other bits e)) (below_of facts x) (integer_is heap p certs reaches f table guarded log cells facts frame h stored bits x is i.there i.typed i.no_slot)
   taken stored x i (Bits bits) is (Some (word.Reference other)) e fit = absurd cc
   taken stored x i (Reference layout) is None e fit = absurd cc
   taken stored x i (Reference layout) is (Some (word.Integer bits)) e fit = absurd cc
@@ -153,7 +155,7 @@ module _ (heap : Setup) (p : LaidOut) (certs : List Section) (reaches : Bool) (f
   stored_behind stored (operand.Constant constant.Null) i later held fresh = none_stored later held (λ cell y. fresh cell y (λ z. z))
   stored_behind stored (operand.Global symbol) i later held fresh = absurd (no_value _ i.typed)
   stored_behind stored (operand.CastGlobal from symbol to) i later held fresh = absurd (no_value _ i.typed)
-  stored_behind stored (operand.Local u) i later held fresh = by (known_at facts.values u) refl (h.values u) (both (has_type p.of_module f stored u) (o.known_fits (kind_of p.of_module stored) (known_at facts.values u)) i.typed).1 i.current where
+  stored_behind stored (operand.Local u) i later held fresh = by (known_at facts.values u) refl (h.values u) (and_parts (has_type p.of_module f stored u) (o.known_fits (kind_of p.of_module stored) (known_at facts.values u)) i.typed).1 i.current where
     by : (known : Known) → known_at facts.values u ≡ known → Means heap p guarded log cells (length facts.classes) frame.registers known (register_at frame.registers u) → o.known_fits (kind_of p.of_module stored) known ≡ true → o.is_current facts known ≡ true
         → (more : Cells) × Holds heap p table guarded later more (drop_fresh_of known facts) frame.registers frame.slots
     by Nothing is means fit current = absurd (let y = available heap p certs reaches f table guarded log cells facts frame h u i.no_slot i.there in let z = rw is at y in cc)
@@ -224,7 +226,7 @@ module _ (heap : Setup) (p : LaidOut) (certs : List Section) (reaches : Bool) (f
 
   -- a base that a reference may be stored in plainly is of a fresh class
   fresh_base : (base c layout : ℕ) → known_at facts.values base ≡ Cell c layout false → may_store_plain facts base ≡ true → (class_at facts.classes c).fresh ≡ true
-  fresh_base base c layout is e = (both (class_at facts.classes c).fresh true (subst (λ y. is_fresh_cell facts y ≡ true) is e)).0
+  fresh_base base c layout is e = (and_parts (class_at facts.classes c).fresh true (subst (λ y. is_fresh_cell facts y ≡ true) is e)).0
 
   -- the word that a place names, which takes a value
   record Takes (stored : ℕ) (x : Operand) (written : ℕ) (place : Operand) : Type 0 where
@@ -246,7 +248,7 @@ module _ (heap : Setup) (p : LaidOut) (certs : List Section) (reaches : Bool) (f
     by (Address base words) is stores =
         let b = on_base heap p certs reaches f table guarded log fits cells facts frame h written place s base words is in
         let l = b.located in
-        let each = both (r.each_word (r.wanted_by_store (kind_of p.of_module stored)) p.layouts b.layout words) (r.fits_words p.layouts b.layout words (r.wanted_by_value (o.known_of facts x)))
+        let each = and_parts (r.each_word (r.wanted_by_store (kind_of p.of_module stored)) p.layouts b.layout words) (r.fits_words p.layouts b.layout words (r.wanted_by_value (o.known_of facts x)))
         (subst (λ y. r.stores_base p (kind_of p.of_module stored) (o.known_of facts x) words y ≡ true) b.known stores) in
         record {
           kind = kind_of_word p.layouts b.layout l.word;
@@ -257,7 +259,7 @@ module _ (heap : Setup) (p : LaidOut) (certs : List Section) (reaches : Bool) (f
           own = λ e. b.fresh (fresh_base base b.class b.layout b.known (subst (λ y. is_own_place facts y ≡ true) is e));
         }
     by (GlobalAddress symbol) is stores =
-        let each = both (r.holds_wanted (r.wanted_by_store (kind_of p.of_module stored)) (global_word p.of_module symbol)) (r.fits_word (global_word p.of_module symbol) (r.wanted_by_value (o.known_of facts x))) stores in
+        let each = and_parts (r.holds_wanted (r.wanted_by_store (kind_of p.of_module stored)) (global_word p.of_module symbol)) (r.fits_word (global_word p.of_module symbol) (r.wanted_by_value (o.known_of facts x))) stores in
         record {
           kind = global_word p.of_module symbol;
           touches = on_global heap p certs reaches f table guarded log fits cells facts frame h written place s symbol is (r.wanted_by_store (kind_of p.of_module stored)) each.0;

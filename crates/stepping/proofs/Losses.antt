@@ -1,5 +1,6 @@
 -- A step that frees nothing, stores no reference, begins no thread and leaves the roots of its thread loses nothing.
 use Rattle.std.proofs.Common.{◌≡◌, ◌≢◌, ◌==◌, ◌&&◌, inl, inr, ℕ, Bool, true, false, Option, Some, None, List, ◌∷◌, if◌then◌else◌, refl, sym, ap, subst, ◌∙◌, MatchOption, arith}
+use Rattle.lemmas.specs.Numbers.{test_true, test_no, raised, exchanged}
 use Rattle.pools.specs.Heap.{Setup}
 use Rattle.colours.specs.declared.place.Place.TheVariants.{Colour, Word}
 use Rattle.colours.specs.declared.turn.Turn.TheVariants.{MarkFound, Blacken, ClearWord, Free}
@@ -9,7 +10,6 @@ use Rattle.colours.specs.Steps.{Step}
 use Rattle.colours.specs.Mutator.{Phase, Ended, Absent, Arriving, Entering, Leaving, stage_of, phase_of, phase_after, MayFollow}
 use Rattle.colours.specs.Collector.{posted_of}
 use Rattle.colours.specs.Runs.{word_after, births_after, log_of, turns_of}
-use Rattle.colours.proofs.Tests.{test_true, test_no, raised, exchanged}
 use Rattle.runs.specs.Machine.{Reference, Machine}
 use Rattle.runs.specs.Moves.{Move, Marks, StoresBehindBarrier, StoresPlain, Claims, ReadsPostedAgain, IsIn, step_of, logged, steps_of, state_after, Follows}
 use Rattle.runs.specs.ModuleRuns.{Happening, OfThread, OfCollector, share_of, heap_of, birth_of, birth_in, IsNext, IsModuleRun}

@@ -1,8 +1,8 @@
 -- A thread's next move, and the actors behind it.
 use Rattle.std.proofs.Common.{◌≡◌, ◌<◌, inl, inr, ℕ, Bool, false, Option, Some, None, List, ◌∷◌, slice_get, slice_set, length-set, refl, sym, ap, ◌∙◌, subst, if◌then◌else◌}
 use Rattle.std.specs.Vec.{with_item}
+use Rattle.lemmas.specs.Numbers.{test_yes}
 use Rattle.pools.specs.Heap.{Setup, cells}
-use Rattle.colours.proofs.Tests.{test_yes}
 use Rattle.runs.specs.Machine as machine
 use Rattle.runs.specs.Machine.{Reference, Action, Machine}
 use Rattle.runs.specs.Moves as moves

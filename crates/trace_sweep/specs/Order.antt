@@ -1,5 +1,7 @@
 -- The step in turn is one of the order, and no other step is.
 use Rattle.std.proofs.Common.{◌≡◌, inl, inr, ℕ, suc, ◌+◌, ◌-◌, ◌^◌, ◌<◌, ◌==◌, not, nat_lt, Bool, true, false, Option, Some, None, List, ◌∷◌, length, refl, sym, ap, ◌∙◌, subst, IsSome, if◌then◌else◌, arith}
+use Rattle.lemmas.specs.Numbers.{lt_true, lt_false, lt_yes, lt_no}
+use Rattle.lemmas.specs.Bools.{yes_or_no}
 use Rattle.pools.specs.Heap.{Setup, cells, layout_of, kind_of, words_of_cell}
 use Rattle.pools.specs.Layouts.{is_reference_kind}
 use Rattle.colours.specs.declared.place.Place.{Place}
@@ -10,7 +12,7 @@ use Rattle.colours.specs.declared.turn.Turn.TheVariants.{PostStage, ReadStage, M
 use Rattle.colours.specs.Colours.{cycle_of, grey}
 use Rattle.colours.specs.Steps.{turn_of, place_of, FoundBy}
 use Rattle.colours.specs.Collector.{Collection, Posting, Waiting, ShadingGlobals, Passing, Scanning, Shading, Sweeping, Clearing, Pass, posted_of, Turns, wait_from, sweep_from, pass_from, has_answered, in_turn, looked, shaded_too, is_white, reference_from, Collects}
-use Rattle.collector_law.proofs.Moves.{yes_or_no, lt_true, lt_false, lt_yes, lt_no, skip_found}
+use Rattle.collector_law.proofs.Moves.{skip_found}
 use Rattle.trace_sweep.specs.Turns.{is_at_limit, turn_in, behind, TurnsInOrder}
 use Rattle.trace_sweep.specs.Collecting.{Collecting, plan_of, in_order, without_list, scans, posted_by, moved, NamesCells}
 use Rattle.trace_sweep.specs.Collecting as machine

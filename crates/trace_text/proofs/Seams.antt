@@ -6,9 +6,10 @@ use Rattle.std.specs.Str.{bytes_eq}
 use Rattle.std.specs.Fmt.{decimal}
 use Rattle.std.proofs.Math.Seq.{take-append_seam}
 use Rattle.std.proofs.lemmas.Bool.Decides.{nat_tests}
+use Rattle.lemmas.specs.Bools.{and_parts, not_true, or_neither}
 use Rattle.ir_tokens.specs.Bytes.{Text}
 use Rattle.name_text.specs.Words.{ends_word, past_word, word_at, past_blanks, ends_line, stops}
-use Rattle.name_text.specs.Seams.{both, is_false, past_word_on, is_word_byte, bytes_close}
+use Rattle.name_text.specs.Seams.{past_word_on, is_word_byte, bytes_close}
 use Rattle.name_text.specs.Spelled.{number_is_one, number_is}
 use Rattle.name_text.specs.Numbers.{is_nil}
 use Rattle.trace_text.specs.Numbers.{count_of_word, capped}
@@ -16,10 +17,6 @@ use Rattle.trace_text.specs.Numbers.{count_of_word, capped}
 -- a word ends where such a text begins
 abbrev pub IsWord : Text → Type 0
 IsWord w = (rest : Text) → stops rest ≡ true → past_word false (w ++ rest) ≡ rest
-
-none_of : (a b : Bool) → (a || b) ≡ false → (a ≡ false) × (b ≡ false)
-none_of true b e = absurd cc
-none_of false b e = (refl, e)
 
 -- a word of inner bytes
 pub inner_word : (w : Text) → list_all is_word_byte w ≡ true → IsWord w
@@ -39,20 +36,20 @@ same_bytes (byte ∷ w) = let here : nat_eq byte byte ≡ true = grind (arith, n
 pub inner_stays : (w rest : Text) → 0 < length w → list_all is_word_byte w ≡ true → past_blanks (w ++ rest) ≡ w ++ rest
 inner_stays [] rest some e = absurd (omega (arith, some))
 inner_stays (byte ∷ w) rest some e =
-    let parts = both (is_word_byte byte) (list_all is_word_byte w) e in
-    let inside = is_false (ends_word byte) (both (not (ends_word byte)) (not (byte == 34)) parts.0).0 in
-    let last = none_of (byte == 32 || byte == 9 || byte == 10 || byte == 13) (byte == 59) inside in
-    let first = (none_of (byte == 32) (byte == 9) (none_of (byte == 32 || byte == 9) (byte == 10) (none_of (byte == 32 || byte == 9 || byte == 10) (byte == 13) last.0).0).0).0 in
+    let parts = and_parts (is_word_byte byte) (list_all is_word_byte w) e in
+    let inside = not_true (ends_word byte) (and_parts (not (ends_word byte)) (not (byte == 34)) parts.0).0 in
+    let last = or_neither (byte == 32 || byte == 9 || byte == 10 || byte == 13) (byte == 59) inside in
+    let first = (or_neither (byte == 32) (byte == 9) (or_neither (byte == 32 || byte == 9) (byte == 10) (or_neither (byte == 32 || byte == 9 || byte == 10) (byte == 13) last.0).0).0).0 in
     rw (last.1, first) refl
 
 -- no line ends before an inner byte, nor does the text
 pub inner_goes_on : (w rest : Text) → 0 < length w → list_all is_word_byte w ≡ true → (is_nil (w ++ rest) || ends_line (w ++ rest)) ≡ false
 inner_goes_on [] rest some e = absurd (omega (arith, some))
 inner_goes_on (byte ∷ w) rest some e =
-    let parts = both (is_word_byte byte) (list_all is_word_byte w) e in
-    let inside = is_false (ends_word byte) (both (not (ends_word byte)) (not (byte == 34)) parts.0).0 in
-    let front = none_of (byte == 32 || byte == 9 || byte == 10) (byte == 13) (none_of (byte == 32 || byte == 9 || byte == 10 || byte == 13) (byte == 59) inside).0 in
-    let line = (none_of (byte == 32 || byte == 9) (byte == 10) front.0).1 in
+    let parts = and_parts (is_word_byte byte) (list_all is_word_byte w) e in
+    let inside = not_true (ends_word byte) (and_parts (not (ends_word byte)) (not (byte == 34)) parts.0).0 in
+    let front = or_neither (byte == 32 || byte == 9 || byte == 10) (byte == 13) (or_neither (byte == 32 || byte == 9 || byte == 10 || byte == 13) (byte == 59) inside).0 in
+    let line = (or_neither (byte == 32 || byte == 9) (byte == 10) front.0).1 in
     rw (line, front.1) refl
 
 -- ---- numbers

@@ -1,9 +1,9 @@
 use Rattle.std.proofs.Common.{◌≡◌, ℕ, zero, suc, ◌≤◌, true, false, [], ◌∷◌, length, ap, refl, sym, subst, ◌∙◌, arith}
 use Rattle.std.specs.Prelude.{◌==◌}
 use Rattle.std.specs.List.{list_any}
+use Rattle.lemmas.specs.Bools.{or_neither}
 use Rattle.ir_tokens.specs.Bytes.{Text, next}
 use Rattle.ir_tokens.specs.Names.{bare, inside, begins_quote, unquoted, unescaped_from, is_special}
-use Rattle.ir_tokens.specs.Laws.{false_false}
 use Rattle.ir_tokens.proofs.name.plain_name.Goals as goal
 
 -- text without escapes stands for itself
@@ -13,8 +13,8 @@ plain zero [] le h = refl
 plain (suc n) [] le h = refl
 plain zero (b ∷ bs) le h = absurd (omega arith)
 plain (suc n) (b ∷ bs) le h =
-    let parts = false_false (is_special b) (list_any is_special bs) h in
-    let bytes = false_false (b == 92) (b == 34) parts.0 in
+    let parts = or_neither (is_special b) (list_any is_special bs) h in
+    let bytes = or_neither (b == 92) (b == 34) parts.0 in
     rw (bytes.0, bytes.1) (ap (λ (x : Text). b ∷ x) (plain n bs (omega arith) parts.1))
 
 plain_is : (s t name : Text) → s ≡ t → begins_quote s ≡ true → name ≡ inside s → list_any is_special name ≡ false → name ≡ unquoted t

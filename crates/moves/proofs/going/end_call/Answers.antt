@@ -2,7 +2,8 @@
 use Rattle.std.proofs.Common.{◌≡◌, ◌==◌, ◌&&◌, not, Bool, true, false, refl, sym, ap, ◌∙◌}
 use Rattle.std.proofs.lemmas.Slice.Eq.{slice_eq-Decides}
 use Rattle.std.specs.Bool.{Decides}
-use Rattle.colours.proofs.Tests.{and_parts, test_true, test_yes}
+use Rattle.lemmas.specs.Numbers.{test_true, test_yes}
+use Rattle.lemmas.specs.Bools.{and_parts, not_false}
 use Rattle.runs.specs.Machine.{Reference}
 use Rattle.moves.proofs.going.end_call.Goals as goal
 
@@ -19,12 +20,7 @@ same_references a b = (there, back)
     back : a ≡ b → (a.cell == b.cell) && (a.birth == b.birth) ≡ true
     back e = rw (test_yes a.cell b.cell (ap (λ (r : Reference). r.cell) e), test_yes a.birth b.birth (ap (λ (r : Reference). r.birth) e)) refl
 
--- a test that does not fail
-holds : (b : Bool) → not b ≡ false → b ≡ true
-holds true e = refl
-holds false e = absurd cc
-
 pub returns-in-Ok-clause-roots : goal.returns-in-Ok-clause-roots
 returns-in-Ok-clause-roots g c equal =
     let all = slice_eq-Decides same_references c.as_slice.result.now c.as_slice-in-Ok.result.now _ refl in
-    sym c.in-Ok.ensures ∙ sym c.as_slice.ensures.value ∙ all.0 (holds _ (sym c.ne.ensures ∙ equal)) ∙ c.as_slice-in-Ok.ensures.value ∙ c.in_ok-before.ensures
+    sym c.in-Ok.ensures ∙ sym c.as_slice.ensures.value ∙ all.0 (not_false _ (sym c.ne.ensures ∙ equal)) ∙ c.as_slice-in-Ok.ensures.value ∙ c.in_ok-before.ensures
