@@ -1,6 +1,7 @@
 -- Each step of the threads and of the collector keeps the trace's law.
 use Rattle.std.proofs.Common.{◌≡◌, ◌≢◌, ◌⊎◌, inl, inr, ℕ, Bool, true, false, refl, sym, ap, ◌∙◌, subst, ◌&&◌, ◌||◌, ◌==◌, not}
 use Rattle.std.proofs.lemmas.Bool.{cases_eq, false_from_ne_true, both_ways, or_parts, or_cases, or_from, and_parts, and_cases, and_left, and_right, eqb-true, eq-eqb, ne_eqb}
+use Rattle.collector_law.proofs.Puts.{here_or_not}
 use Rattle.collector_law.specs.Picture.{Picture, IsUnsupported, IsSpared, IsSafe}
 
 -- what is not white lies outside
@@ -71,11 +72,6 @@ pub record IsStore (p q : Picture) (x i new : ℕ) : Type 0 where
   pub replaced : (W : ℕ → Bool) → IsUnsupported q W → p.IsRead x i ⊎ ((W (p.word x i) ≡ false) ⊎ p.IsLoose x i)
   pub stored : p.IsHeld new ⊎ (q.IsWhite new → ⊥)
 
--- a place is this one or not
-here_or_not : (x i y j : ℕ) → ((y ≡ x) × (j ≡ i)) ⊎ ((y ≡ x) × (j ≡ i) → ⊥)
-here_or_not x i y j = elim (cases_eq y x) [
-  | inl e ↦ elim (cases_eq j i) [ inl f ↦ inl (e, f) | inr n ↦ inr (λ b. n b.1) ]
-  | inr n ↦ inr (λ b. n b.0)
 ]
 
 -- a store behind the barrier keeps the law

@@ -3,6 +3,7 @@ use Rattle.std.proofs.Common.{◌≡◌, ℕ, ◌+◌, ◌<◌, ◌≤◌, true,
 use Rattle.std.specs.Prelude.{codes}
 use Rattle.std.specs.List.{AllByRecursion, flat_map}
 use Rattle.std.proofs.lemmas.List.{append-nil}
+use Rattle.ir_print_law.proofs.Operands.{named_at}
 use Rattle.ir_ast.specs.declared.block.Block.{Block}
 use Rattle.ir_ast.specs.declared.function.Function.{Function}
 use Rattle.ir_ast.specs.declared.instr.Instr.{Instr}
@@ -31,7 +32,6 @@ use Rattle.ir_print_law.proofs.LabelLines.{far_label, label_goes}
 use Rattle.ir_print_law.proofs.NewValues.{unnamed_then}
 use Rattle.ir_print_law.proofs.OpNeeds.{EndsOp, OpsRead}
 use Rattle.ir_print_law.proofs.Steady.{Steady, Onward, onward_further, next_key, steady_label}
-use Rattle.ir_print_law.proofs.StructLines.{name_is}
 
 -- a block of these instructions, of which the last one does this
 abbrev pub made : (label : ℕ) → List Instr → (last : Op) → Block
@@ -115,7 +115,7 @@ module _ (m : Module) (f : Function) (named : AreNamed m f) (ops : OpsRead m f n
         (
           subst (λ (l : List Text). Onward far b.2 l (key ∷ []) more) (sym (keys_before f.locals xs last)) all,
           λ n others later.
-              let there = name_is others w.0 key (stays o.locals.names others w.0 key later.locals (stays p.locals.names o.locals.names w.0 key wide_p.locals w.5)) in (
+              let there = named_at others w.0 key (stays o.locals.names others w.0 key later.locals (stays p.locals.names o.locals.names w.0 key wide_p.locals w.5)) in (
                 ap key_text (sym there),
                 alike_before m n f.locals others xs b.0 (record { result = None; op = last }) (record { result = None; op = t.0 }) (b.7 n others (later_widened q o n others wide_q later))
                     (ap (λ (x : Text). codes "  " ++ [] ++ x ++ 10 ∷ []) (t.5.1 n others later)),

@@ -42,7 +42,7 @@ model = numerals_by_fold _ (search rules) numbers.decimal_behind (search rules)
 pub are_digits : (n : ℕ) → n < 2 ^ 64 → AreDigits (text.decimal n)
 are_digits n less = (decimal_nonempty n less, digits_decimal model n less)
 
-no_minus : (b : ℕ) → is_digit b ≡ true → b == 45 ≡ false
+pub no_minus : (b : ℕ) → is_digit b ≡ true → b == 45 ≡ false
 no_minus b e = let low : nat_le 48 b ≡ true = (and_parts (nat_le 48 b) (nat_le b 57) e).0 in grind (arith, nat_tests)
 
 number_value : (digits : Text) (n bits : ℕ) → AreDigits digits → numbers.decimal digits ≡ n → n < 2 ^ 64 → n < 2 * numbers.half_of bits → numbers.constant digits bits ≡ Some n
@@ -54,7 +54,7 @@ number_value (b ∷ digits) n bits own is less fits =
     let within : nat_lt n (2 * numbers.half_of bits) ≡ true = grind (arith, nat_tests) in
     rw (minus, is, small, within) refl
 
-half_is : (bits : ℕ) → 1 ≤ bits → bits ≤ 64 → 2 * numbers.half_of bits ≡ 2 ^ bits
+pub half_is : (bits : ℕ) → 1 ≤ bits → bits ≤ 64 → 2 * numbers.half_of bits ≡ 2 ^ bits
 half_is zero some most = absurd (omega (arith, some))
 half_is (suc p) some most =
     let same : min (suc p) 64 - 1 ≡ p = omega (arith, most) in
@@ -109,7 +109,7 @@ bit_read bits n i gap rest one less blanks seam at =
       bit_is (suc zero) below = refl
       bit_is (suc (suc n)) below = absurd (omega (arith, below))
 
-wide : (bits n : ℕ) → bits ≤ 64 → n < 2 ^ bits → n < 2 ^ 64
+pub wide : (bits n : ℕ) → bits ≤ 64 → n < 2 ^ bits → n < 2 ^ 64
 wide bits n most less = let grows : 2 ^ bits ≤ 2 ^ 64 = pow_mono most in omega (arith, less, grows)
 
 pub constant_is_read : (bits : Option ℕ) (x : Constant) (i : Input) (gap rest : Text) → FitsType bits x → AreBlanks gap → IsSeam rest → Stands i.cursor (gap ++ (constant_shown bits x ++ rest)) → IsConstantRead bits x i rest

@@ -3,6 +3,7 @@ use Rattle.std.proofs.Common.{◌≡◌, ℕ, ◌+◌, ◌<◌, true, false, Lis
 use Rattle.std.specs.Prelude.{codes, nat_lt}
 use Rattle.std.specs.List.{flat_map}
 use Rattle.std.proofs.lemmas.Bool.Decides.{nat_tests}
+use Rattle.ir_print_law.proofs.Operands.{named_at}
 use Rattle.ir_ast.specs.declared.function.Function.{Function}
 use Rattle.ir_ast.specs.declared.items_of_module.Declare.{Declare}
 use Rattle.ir_ast.specs.declared.items_of_module.SymbolSort.TheVariants as symbol
@@ -41,9 +42,8 @@ use Rattle.ir_print_law.proofs.Known.{Far, AreNamed, known, SymbolsKnown}
 use Rattle.ir_print_law.proofs.Needs.{TypesRead}
 use Rattle.ir_print_law.proofs.NewNames.{SymbolsThen, new_symbol_goes}
 use Rattle.ir_print_law.proofs.Results.{declared_result_reads, declared_end_reads, begins_item}
-use Rattle.ir_print_law.proofs.StructLines.{name_is}
 
-below_most : (n : ℕ) → n < 65535 → nat_lt n 65535 ≡ true
+pub below_most : (n : ℕ) → n < 65535 → nat_lt n 65535 ≡ true
 below_most n less = grind (arith, nat_tests)
 
 same_list : (f g : ℕ → Text) (xs ys : List ℕ) → AreAlike (λ x y. f x ≡ g y) xs ys → flat_map (λ (p : ℕ). codes ", " ++ f p) xs ≡ flat_map (λ (p : ℕ). codes ", " ++ g p) ys
@@ -182,6 +182,6 @@ module _ (m : Module) (f : Function) (named : AreNamed m f) (types : TypesRead m
         wide_i,
         λ n others later.
             let at_r = later_widened r o n others wide_r later in
-            same_line n d x (b.5 n others (later_widened q o n others wide_q later)) (sym (name_is n.symbols c.0 name (stays r.symbols.names n.symbols c.0 name at_r.symbols c.5)))
+            same_line n d x (b.5 n others (later_widened q o n others wide_q later)) (sym (named_at n.symbols c.0 name (stays r.symbols.names n.symbols c.0 name at_r.symbols c.5)))
             (e.6 n others (later_widened t o n others wide_t later)),
       )

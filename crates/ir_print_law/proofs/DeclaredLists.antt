@@ -3,6 +3,7 @@ use Rattle.std.proofs.Common.{◌≡◌, ℕ, ◌+◌, ◌<◌, Bool, true, fals
 use Rattle.std.specs.Prelude.{codes, nat_lt}
 use Rattle.std.specs.List.{AllByRecursion, flat_map}
 use Rattle.std.proofs.lemmas.Bool.Decides.{nat_tests}
+use Rattle.ir_print_law.proofs.ArgumentsAgain.{decorations_said}
 use Rattle.grammar.specs.Many.{Listed}
 use Rattle.ir_ast.specs.declared.function.Function.{Function}
 use Rattle.ir_ast.specs.declared.module.Module.{Module}
@@ -28,7 +29,6 @@ use Rattle.ir_print_law.proofs.State.{Ready, IsLater}
 use Rattle.ir_print_law.proofs.Shown.{shape_stays}
 use Rattle.ir_print_law.proofs.Steps.{unlike}
 use Rattle.ir_print_law.proofs.Types.{EndsType, ends_type}
-use Rattle.ir_print_law.proofs.Empty.{no_decorations}
 use Rattle.ir_print_law.proofs.WholeForms.{Widens, widens_itself, widens_further, grows_widens, Leads, later_widened}
 use Rattle.ir_print_law.proofs.Known.{Far, AreNamed, known}
 use Rattle.ir_print_law.proofs.Needs.{TypesRead}
@@ -84,7 +84,7 @@ module _ (m : Module) (f : Function) (named : AreNamed m f) (types : TypesRead m
       let w = t.0 in
       let p = t.1 in
       let is = comes.1 p t.3.stands in
-      let plain = no_decorations spot.Parameter p (separator_plain (begins_line p.cursor) (kind p.cursor) is) in
+      let plain = decorations_said spot.Parameter p (separator_plain (begins_line p.cursor) (kind p.cursor) is) in
       let h = t.3.holds in
       let less : p.unnamed < 4294967295 = subst (λ (n : ℕ). n < 4294967295) (sym h.3.unnamed_is) few in
       let q = with_number_taken p in

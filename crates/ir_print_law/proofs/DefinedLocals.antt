@@ -116,7 +116,7 @@ used g wants.Value = g.values
 used g wants.Block = g.labels
 used g wants.Target = drop 1 g.labels
 
-in_list : (xs : List ℕ) (b n : ℕ) → slice_get xs b ≡ Some n → IsIn xs n
+pub in_list : (xs : List ℕ) (b n : ℕ) → slice_get xs b ≡ Some n → IsIn xs n
 in_list [] b n e = absurd cc
 in_list (x ∷ xs) zero n e = inl cc
 in_list (x ∷ xs) (suc b) n e = inr (in_list xs b n e)

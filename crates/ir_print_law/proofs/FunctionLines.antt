@@ -4,6 +4,8 @@ use Rattle.std.specs.Prelude.{codes, nat_lt}
 use Rattle.std.specs.List.{AllByRecursion, flat_map}
 use Rattle.std.proofs.lemmas.Bool.Decides.{nat_tests}
 use Rattle.std.proofs.lemmas.List.{append-nil}
+use Rattle.ir_print_law.proofs.Operands.{named_at}
+use Rattle.ir_print_law.proofs.DeclareLines.{below_most}
 use Rattle.ir_ast.specs.declared.function.Function.{Function}
 use Rattle.ir_ast.specs.declared.function.Parameter.{Parameter}
 use Rattle.ir_ast.specs.declared.items_of_module.SymbolSort.TheVariants as symbol
@@ -47,10 +49,6 @@ use Rattle.ir_print_law.proofs.OpNeeds.{OpsRead}
 use Rattle.ir_print_law.proofs.ParameterLists.{parameters_go}
 use Rattle.ir_print_law.proofs.Results.{defined_result_reads, head_end_reads}
 use Rattle.ir_print_law.proofs.Steady.{Steady, outside}
-use Rattle.ir_print_law.proofs.StructLines.{name_is}
-
-below_most : (n : ℕ) → n < 65535 → nat_lt n 65535 ≡ true
-below_most n less = grind (arith, nat_tests)
 
 same_list : (f : Parameter → Text) (g : Parameter → Text) (xs ys : List Parameter) → AreAlike (λ x y. f x ≡ g y) xs ys → flat_map (λ (p : Parameter). codes ", " ++ f p) xs ≡ flat_map (λ (p : Parameter). codes ", " ++ g p) ys
 same_list f g [] [] h = refl
@@ -227,7 +225,7 @@ module _ (m : Module) (f : Function) (named : AreNamed m f) (nobody_named : AreN
             let at_r = later_than r o n made.locals (reach r wide_r) later (locals_of r wide_r) in
             let at_t = later_than t o n made.locals (reach t wide_t) later (locals_of t wide_t) in
             let result : type_text m f.returned ≡ type_text n made.returned = b.5 n made.locals at_q ∙ ap (type_text n) (sym read.1) in
-            let named_so : name_at m.symbols f.symbol ≡ name_at n.symbols made.symbol = sym (name_is n.symbols c.0 name (stays r.symbols.names n.symbols c.0 name at_r.symbols c.5)) ∙ ap (name_at n.symbols) (sym read.0) in
+            let named_so : name_at m.symbols f.symbol ≡ name_at n.symbols made.symbol = sym (named_at n.symbols c.0 name (stays r.symbols.names n.symbols c.0 name at_r.symbols c.5)) ∙ ap (name_at n.symbols) (sym read.0) in
             let ps = subst (λ (l : List Parameter). AreAlike (λ x y. parameter_text m f.locals x ≡ parameter_text n made.locals y) f.parameters l) (sym read.2) (e.7 n made.locals at_t) in
             (same_head n made result named_so ps (sym h.5 ∙ sym read.3), read.5 n later),
       )

@@ -16,13 +16,13 @@ use Rattle.ir_tokens.specs.Bytes.{Text}
 use Rattle.ir_print_law.specs.FunctionNames.{IsKeyOfName, IsKeyOfNumber, HasNames}
 use Rattle.ir_print_law.specs.Shapes.{IsIn}
 use Rattle.ir_print_law.proofs.Blocks.{with_block, with_blocks, with_parameters}
-use Rattle.ir_print_law.proofs.DefinedLocals.{used, wanted_is}
+use Rattle.ir_print_law.proofs.DefinedLocals.{used, wanted_is, in_list}
 use Rattle.ir_print_law.proofs.DefinedNames.{Defines, counts_on}
 use Rattle.ir_print_law.proofs.FunctionEnds.{nothing, whole_of}
-use Rattle.ir_print_law.proofs.FunctionPlaces.{Places, AreFirst, at_place, key_there}
+use Rattle.ir_print_law.proofs.FunctionPlaces.{Places, AreFirst, key_there}
 use Rattle.ir_print_law.proofs.Instructions.{with_result, with_results}
 use Rattle.ir_print_law.proofs.LocalNames.{Locals, keys_at}
-use Rattle.ir_print_law.proofs.Progresses.{parameters_labels}
+use Rattle.ir_print_law.proofs.Progresses.{parameters_labels, results_labels}
 use Rattle.ir_print_law.proofs.Reading.{Progress, with_named_value, with_named_label}
 
 -- ---- keys
@@ -62,13 +62,6 @@ all_defined g t uses unnamed names places right n less = elim (places.covered n 
 ]
 
 -- ---- labels
-
-results_labels : (g : Progress) (xs : List Instr) → (with_results g xs).labels ≡ g.labels
-results_labels g [] = refl
-results_labels g (x ∷ xs) = results_labels (with_result g x.result) xs ∙ by x.result where
-  by : (r : Option ℕ) → (with_result g r).labels ≡ g.labels
-  by None = refl
-  by (Some n) = refl
 
 blocks_labels : (g : Progress) (xs : List Block) → (with_blocks g xs).labels ≡ g.labels ++ map (λ block. block.label) xs
 blocks_labels g [] = sym (append-nil g.labels)
@@ -112,5 +105,5 @@ function_names f uses unnamed count less names places right first =
           blocks_labels (with_parameters nothing f.parameters) f.blocks
           ∙ ap (λ (l : List ℕ). l ++ map (λ block. block.label) f.blocks) (parameters_labels nothing f.parameters) in
           let at : slice_get g.labels number ≡ Some block.label = ap (λ (l : List ℕ). slice_get l number) labels ∙ mapped (λ block. block.label) f.blocks number block e in
-          (names.within block.label (places.label_names block.label (at_place g.labels number block.label at)), places.labels number block.label at);
+          (names.within block.label (places.label_names block.label (in_list g.labels number block.label at)), places.labels number block.label at);
     }

@@ -3,6 +3,8 @@ use Rattle.std.proofs.Common.{◌≡◌, ℕ, zero, suc, ◌+◌, ◌<◌, Bool,
 use Rattle.std.specs.Prelude.{nat_lt, slice_set}
 use Rattle.std.proofs.lemmas.Bool.Decides.{nat_tests}
 use Rattle.std.proofs.lemmas.Option.{slice_get_within}
+use Rattle.ir_print_law.proofs.DefinedLocals.{in_list}
+use Rattle.ir_print_law.proofs.Named.{place_name}
 use Rattle.ir_ast.specs.Names.{place_of, number_of, numbered}
 use Rattle.ir_ast.specs.declared.function.LocalSort.{LocalSort}
 use Rattle.ir_ast.specs.declared.function.LocalSort.TheVariants as local
@@ -14,7 +16,7 @@ use Rattle.ir_print.specs.Names.{name_at}
 use Rattle.ir_print_law.specs.Shapes.{IsIn}
 use Rattle.ir_print_law.proofs.LocalNames.{keys_at, in_or_end, in_longer, in_at_end, set_there}
 use Rattle.ir_print_law.proofs.Reading.{Progress, with_named_value, with_named_label}
-use Rattle.ir_print_law.proofs.Tables.{Begins, begins_itself, begins_with, stays, at_end_or_before, name_there, place_holds}
+use Rattle.ir_print_law.proofs.Tables.{Begins, begins_itself, begins_with, stays, at_end_or_before, name_there}
 
 -- the numbers from 0 on, so many
 abbrev pub AreFirst : List ℕ → (count : ℕ) → Type 0
@@ -35,11 +37,6 @@ pub record Places (g : Progress) (pending : Option ℕ) (t : Table LocalSort) (u
   pub first : uses ≡ [] → AreFirst g.names (length t.names)
 
 -- ---- lists
-
-pub at_place : (xs : List ℕ) (b n : ℕ) → slice_get xs b ≡ Some n → IsIn xs n
-at_place [] b n e = absurd cc
-at_place (x ∷ xs) zero n e = inl cc
-at_place (x ∷ xs) (suc b) n e = inr (at_place xs b n e)
 
 set_other : (xs : List LocalSort) (n : ℕ) (y : LocalSort) (k : ℕ) → (n ≡ k → ⊥) → slice_get (slice_set xs n y) k ≡ slice_get xs k
 set_other [] n y k other = refl
@@ -90,7 +87,7 @@ known_or_new key names = by (place_of key names) refl where
   by : (place : Option ℕ) → place_of key names ≡ place
       → (unwrap_or place (length names) < length names)
       ⊎ ((unwrap_or place (length names) ≡ length names) × (length (if is_some place then names else names ++ key ∷ []) ≡ length names + 1))
-  by (Some p) e = inl (slice_get_within names p key (place_holds key names p e))
+  by (Some p) e = inl (slice_get_within names p key (place_name key names p e))
   by None e = inr (refl, length-append names (key ∷ []))
 
 -- a use of a key
@@ -168,7 +165,7 @@ sort_places g n t uses sort h = record {
   label_names = h.label_names;
   apart = λ k is there. absurd cc;
   labels = λ b k e.
-      let other : n ≡ k → ⊥ = λ same. h.apart n refl (subst (IsIn g.labels) (sym same) (at_place g.labels b k e)) in
+      let other : n ≡ k → ⊥ = λ same. h.apart n refl (subst (IsIn g.labels) (sym same) (in_list g.labels b k e)) in
       sorted_as n sort t (λ sorts. slice_get sorts k ≡ Some (local.Block b)) (h.labels b k e) (set_other t.sorts n sort k other ∙ h.labels b k e);
   covered = h.covered;
   first = h.first;
@@ -194,7 +191,7 @@ label_places g t uses key h fresh same =
       labels = λ b k e. elim (at_end_or_before g.labels n b k e) [
         | inl old ↦
             let before = stays t.sorts next.sorts k (local.Block b) (sorts_begin (place_of key t.names) t.sorts) (h.labels b k old) in
-            let other : n ≡ k → ⊥ = λ is. fresh (subst (IsIn g.names) (sym is) (h.label_names k (at_place g.labels b k old))) in
+            let other : n ≡ k → ⊥ = λ is. fresh (subst (IsIn g.names) (sym is) (h.label_names k (in_list g.labels b k old))) in
             sorted_as n sort next (λ sorts. slice_get sorts k ≡ Some (local.Block b)) before (set_other next.sorts n sort k other ∙ before)
         | inr new ↦
             let at : slice_get (slice_set next.sorts n sort) k ≡ Some (local.Block b) =

@@ -3,6 +3,9 @@ use Rattle.std.proofs.Common.{◌≡◌, ℕ, ◌<◌, ◌≤◌, ◌^◌, Bool,
 use Rattle.std.specs.Prelude.{codes, nat_lt, ◌==◌}
 use Rattle.std.specs.Fmt.{decimal}
 use Rattle.std.proofs.lemmas.Bool.Decides.{nat_tests}
+use Rattle.ir_print_law.proofs.CallsAgain.{trailing_said}
+use Rattle.ir_print_law.proofs.ArgumentsAgain.{decorations_said}
+use Rattle.ir_print_law.proofs.Operands.{named_at}
 use Rattle.ir_ast.specs.declared.function.Function.{Function}
 use Rattle.ir_ast.specs.declared.ir_type.IrType.{IrType}
 use Rattle.ir_ast.specs.declared.items_of_module.Global.{Global}
@@ -33,7 +36,7 @@ use Rattle.ir_print.specs.Names.{name_at, global_text}
 use Rattle.ir_print.specs.Operands.{constant_text, is_bit, number_text, truth_text, bit_of}
 use Rattle.ir_print.specs.Standing.{Stands, IsSeam, AreBlanks}
 use Rattle.ir_print.specs.Types.{type_text}
-use Rattle.ir_print_law.proofs.Constants.{are_digits, constants_are_read}
+use Rattle.ir_print_law.proofs.Constants.{are_digits, constants_are_read, wide}
 use Rattle.ir_print_law.proofs.Words.{global_comes, word_comes, number_comes}
 use Rattle.ir_print_law.specs.Printable.{IsGlobal, IsInitial}
 use Rattle.ir_print_law.specs.Shapes.{IsIn, Shape, Integer, Pointer, Array, Empty, Struct, Named, HasShape, bits_of_shape}
@@ -43,13 +46,11 @@ use Rattle.ir_print_law.proofs.Shown.{shape_stays, bits_read}
 use Rattle.ir_print_law.proofs.Steps.{word_skipped, word_seen, sign_reads, passed, unlike, grows_advanced}
 use Rattle.ir_print_law.proofs.Types.{Comes, EndsType, ends_type}
 use Rattle.ir_print_law.proofs.Defining.{global_defined}
-use Rattle.ir_print_law.proofs.Empty.{no_decorations, no_trail}
 use Rattle.ir_print_law.proofs.WholeForms.{Widens, widens_further, grows_widens, later_widened}
 use Rattle.ir_print_law.proofs.Known.{Far, AreNamed, known, SymbolsKnown}
 use Rattle.ir_print_law.proofs.Needs.{TypesRead}
 use Rattle.ir_print_law.proofs.NewNames.{SymbolsThen, new_symbol_goes}
 use Rattle.ir_print_law.proofs.Results.{begins_item}
-use Rattle.ir_print_law.proofs.StructLines.{name_is}
 
 below_most : (n : ℕ) → n < 4096 → nat_lt n 4096 ≡ true
 below_most n less = grind (arith, nat_tests)
@@ -82,9 +83,6 @@ fits (Some bits) (constant.Truth t) is = absurd is
 fits None constant.Null is = tt
 fits None (constant.Number n) is = absurd is
 fits None (constant.Truth t) is = absurd is
-
-wide : (bits n : ℕ) → bits ≤ 64 → n < 2 ^ bits → n < 2 ^ 64
-wide bits n most less = let grows : 2 ^ bits ≤ 2 ^ 64 = pow_mono most in omega (arith, less, grows)
 
 -- such a token comes
 initial_comes : (bits : Option ℕ) (x : Constant) (i : Input) (rest : Text) → IsInitial bits x → Stands i.cursor (32 ∷ (constant_shown bits x ++ 10 ∷ rest)) → is_initial bits (kind i.cursor) ≡ true
@@ -152,7 +150,7 @@ module _ (m : Module) (f : Function) (named : AreNamed m f) (types : TypesRead m
       let e = word_seen v (codes "constant") p (32 ∷ []) (32 ∷ rest) 0 refl refl refl a.3 in
       let b = word_skipped v (codes "constant") p (32 ∷ []) (32 ∷ rest) 0 0 refl refl refl (omega arith) a.3 in
       let o = b.1 in
-      let plain = no_decorations spot.Global p (ap (begins_decoration spot.Global (begins_line p.cursor)) e) in
+      let plain = decorations_said spot.Global p (ap (begins_decoration spot.Global (begins_line p.cursor)) e) in
       (a.1, b.1, a.2, (tt, p, plain, subst (λ (x : Kind). (is_constant_by x).says p true o) (sym e) (tt, o, b.2, (refl, refl))), b.3, widens_further i p o (grows_widens i p a.4) (grows_widens p o b.4))
   word_reads v false i rest ready =
       let a = sign_reads v 61 k.Equals i (32 ∷ []) (codes " global " ++ rest) 0 0 refl refl refl (omega arith) ready in
@@ -160,7 +158,7 @@ module _ (m : Module) (f : Function) (named : AreNamed m f) (types : TypesRead m
       let e = word_seen v (codes "global") p (32 ∷ []) (32 ∷ rest) 0 refl refl refl a.3 in
       let b = word_skipped v (codes "global") p (32 ∷ []) (32 ∷ rest) 0 0 refl refl refl (omega arith) a.3 in
       let o = b.1 in
-      let plain = no_decorations spot.Global p (ap (begins_decoration spot.Global (begins_line p.cursor)) e) in
+      let plain = decorations_said spot.Global p (ap (begins_decoration spot.Global (begins_line p.cursor)) e) in
       (a.1, b.1, a.2, (tt, p, plain, subst (λ (x : Kind). (is_constant_by x).says p false o) (sym e) (tt, o, b.2, (refl, refl))), b.3, widens_further i p o (grows_widens i p a.4) (grows_widens p o b.4))
 
   same_line : (n : Module) (g x : Global) → name_at m.symbols g.symbol ≡ name_at n.symbols x.symbol → g.is_constant ≡ x.is_constant → type_text m g.held ≡ type_text n x.held
@@ -204,7 +202,7 @@ module _ (m : Module) (f : Function) (named : AreNamed m f) (types : TypesRead m
       let size = length-append (constant_shown bits g.initial) (10 ∷ rest) in
       let ready_s = passed w r constant_bytes (10 ∷ rest) 0 0 t.3 c.1 (omega (arith, size)) in
       let s = advanced r in
-      let trail = no_trail trail.Memory s (unlike k.Comma begins_item s refl (comes s c.1)) in
+      let trail = trailing_said trail.Memory s (unlike k.Comma begins_item s refl (comes s c.1)) in
       let x : Global = record { symbol = a.0; is_constant = g.is_constant; held = t.0.id; initial = g.initial } in
       let o = with_global x s in
       let h = ready_s.holds in
@@ -245,7 +243,7 @@ module _ (m : Module) (f : Function) (named : AreNamed m f) (types : TypesRead m
             let at_p = later_widened p o n others wide_p later in
             let at_r = later_widened r o n others wide_r later in
             let has_shape = shape_stays r.types n.types r.struct_names.names n.struct_names shape x.held at_r.types at_r.structs t.5.has_shape in
-            same_line n g x (sym (name_is n.symbols a.0 name (stays p.symbols.names n.symbols a.0 name at_p.symbols a.5))) refl
+            same_line n g x (sym (named_at n.symbols a.0 name (stays p.symbols.names n.symbols a.0 name at_p.symbols a.5))) refl
             (types.types_shown m shape g.held is_type.0 is_type.1 ∙ sym (types.types_shown n shape x.held has_shape is_type.1))
             (shown ∙ sym (text_shown n shape x.held g.initial has_shape is.3)),
       )

@@ -2,6 +2,7 @@
 use Rattle.std.proofs.Common.{◌≡◌, ℕ, ◌+◌, ◌<◌, true, false, List, [], ◌∷◌, ◌++◌, Option, None, Some, refl, sym, ap, subst, ◌∙◌, arith, append_assoc, inl, inr}
 use Rattle.std.specs.Prelude.{codes, nat_lt}
 use Rattle.std.proofs.lemmas.Bool.Decides.{nat_tests}
+use Rattle.ir_print_law.proofs.Operands.{named_at}
 use Rattle.grammar.specs.Grammar.{◌>>=◌}
 use Rattle.ir_ast.specs.declared.function.Function.{Function}
 use Rattle.ir_ast.specs.declared.instr.Instr.{Instr}
@@ -31,7 +32,6 @@ use Rattle.ir_print_law.proofs.WholeForms.{widens_further, grows_widens, Leads}
 use Rattle.ir_print_law.proofs.Known.{Far, AreNamed, known, is_last}
 use Rattle.ir_print_law.proofs.NewValues.{IsNext, unnamed_then, far_value, value_by, value_goes, kind_then}
 use Rattle.ir_print_law.proofs.OpNeeds.{begins_body_line, EndsOp, IsOpRead, OpsRead}
-use Rattle.ir_print_law.proofs.StructLines.{name_is}
 
 -- a form that is told by the kind of the next token
 by_kind : (site : Site) (x : Kind) (i o : Input) (a : Instr) → kind i.cursor ≡ x → (instruction_by site x).says i a o → (instruction site).says i a o
@@ -150,7 +150,7 @@ module _ (m : Module) (f : Function) (named : AreNamed m f) (ops : OpsRead m f n
           refl,
           r.5.0,
           λ later_m others later.
-              let there = name_is others n key (stays o.locals.names others n key later.locals (stays p.locals.names o.locals.names n key wide_p.locals w.1.5)) in
+              let there = named_at others n key (stays o.locals.names others n key later.locals (stays p.locals.names o.locals.names n key wide_p.locals w.1.5)) in
               ap (λ (t : Text). codes "  " ++ (local_text f.locals value ++ codes " = ") ++ t ++ 10 ∷ []) (r.5.1 later_m others later)
               ∙ ap (λ (t : Text). codes "  " ++ (37 ∷ key_text t ++ codes " = ") ++ op_text later_m others y ++ 10 ∷ []) (sym there),
         ),

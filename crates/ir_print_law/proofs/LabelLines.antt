@@ -3,6 +3,7 @@ use Rattle.std.proofs.Common.{◌≡◌, ℕ, suc, ◌+◌, ◌<◌, ◌≤◌, 
 use Rattle.std.specs.Prelude.{nat_lt}
 use Rattle.std.specs.Fmt as text
 use Rattle.std.proofs.lemmas.Bool.Decides.{nat_tests}
+use Rattle.ir_print_law.proofs.DeclareLines.{below_most}
 use Rattle.ir_ast.specs.LocalKeys.{key_of_name}
 use Rattle.ir_ast.specs.Names.{number_of, numbered}
 use Rattle.ir_ast.specs.declared.function.Function.{Function}
@@ -34,12 +35,9 @@ use Rattle.ir_print_law.proofs.WholeForms.{Widens}
 use Rattle.ir_print_law.proofs.NewLabels.{label_number_comes, numbered_label_read}
 use Rattle.ir_print_law.proofs.NewValues.{IsNext, unnamed_then}
 
-few_blocks : (n : ℕ) → n < 65535 → nat_lt n 65535 ≡ true
-few_blocks n less = grind (arith, nat_tests)
-
 label_by_kind : (block : ℕ) (x : Kind) (i o : Input) (n : ℕ) → block < 65535 → kind i.cursor ≡ x → (label_by block x).says i n o → (block_label block).says i n o
 unfolding block_label
-label_by_kind block x i o n less e h = (tt, i, (few_blocks block less, refl), subst (λ (y : Kind). (label_by block y).says i n o) (sym e) h)
+label_by_kind block x i o n less e h = (tt, i, (below_most block less, refl), subst (λ (y : Kind). (label_by block y).says i n o) (sym e) h)
 
 two_bytes : (word rest : Text) (s : ℕ) → suc (length rest + s) ≤ length (10 ∷ (word ++ 58 ∷ rest)) + s
 two_bytes word rest s = let w = length-append word (58 ∷ rest) in omega (arith, w)

@@ -59,10 +59,10 @@ starred_written structs (suc count) shape h = starred_written structs count (Poi
 
 -- ---- what kind of type it is
 
-suc_one : (n : ℕ) → suc (suc n) == 1 ≡ false
+pub suc_one : (n : ℕ) → suc (suc n) == 1 ≡ false
 suc_one n = grind (arith, nat_tests)
 
-zero_less : (n : ℕ) → nat_lt 0 (suc n) ≡ true
+pub zero_less : (n : ℕ) → nat_lt 0 (suc n) ≡ true
 zero_less n = grind (arith, nat_tests)
 
 abbrev looking : Base → ℕ → WrittenType
@@ -72,7 +72,7 @@ by_looks : {X : Type 0} (g : WrittenType → X) (m : Module) (most : ℕ) (w : W
     → IsTypeOf m most w shape → g w ≡ g (looking (base_of shape) (stars_of shape))
 by_looks g m most w shape same h = same w.id w.room w.base w.stars ∙ ap (λ b. g (looking b w.stars)) h.base_is ∙ ap (λ n. g (looking (base_of shape) n)) h.stars_are
 
-bits_looks : (shape : Shape) → bits_of (looking (base_of shape) (stars_of shape)) ≡ bits_of_shape shape
+pub bits_looks : (shape : Shape) → bits_of (looking (base_of shape) (stars_of shape)) ≡ bits_of_shape shape
 bits_looks (Integer bits) = refl
 bits_looks (Pointer part) = let no_zero = suc_not_null (stars_of part) in rw no_zero refl
 bits_looks (Array count part) = refl
@@ -83,7 +83,7 @@ bits_looks (Named name) = refl
 pub bits_are : (m : Module) (most : ℕ) (w : WrittenType) (shape : Shape) → IsTypeOf m most w shape → bits_of w ≡ bits_of_shape shape
 bits_are m most w shape h = by_looks bits_of m most w shape (λ id room b stars. refl) h ∙ bits_looks shape
 
-scalar_looks : (shape : Shape) → is_scalar (looking (base_of shape) (stars_of shape)) ≡ is_scalar_shape shape
+pub scalar_looks : (shape : Shape) → is_scalar (looking (base_of shape) (stars_of shape)) ≡ is_scalar_shape shape
 scalar_looks (Integer bits) = refl
 scalar_looks (Pointer part) = let some = zero_less (stars_of part) in rw some refl
 scalar_looks (Array count part) = refl
@@ -94,7 +94,7 @@ scalar_looks (Named name) = refl
 pub scalar_is : (m : Module) (most : ℕ) (w : WrittenType) (shape : Shape) → IsTypeOf m most w shape → is_scalar w ≡ is_scalar_shape shape
 scalar_is m most w shape h = by_looks is_scalar m most w shape (λ id room b stars. refl) h ∙ scalar_looks shape
 
-pointer_looks : (shape : Shape) → nat_lt 0 (stars_of shape) ≡ is_pointer_shape shape
+pub pointer_looks : (shape : Shape) → nat_lt 0 (stars_of shape) ≡ is_pointer_shape shape
 pointer_looks (Integer bits) = refl
 pointer_looks (Pointer part) = zero_less (stars_of part)
 pointer_looks (Array count part) = refl
@@ -110,7 +110,7 @@ passed_deep (base.Integer bits) n = let a = suc_not_null (suc n) in let c = suc_
 passed_deep base.Named n = suc_one n
 passed_deep base.Aggregate n = refl
 
-passed_looks : (shape : Shape) → is_passed (looking (base_of shape) (stars_of shape)) ≡ is_passed_shape shape
+pub passed_looks : (shape : Shape) → is_passed (looking (base_of shape) (stars_of shape)) ≡ is_passed_shape shape
 passed_looks (Integer bits) = refl
 passed_looks (Pointer (Integer bits)) = refl
 passed_looks (Pointer (Named name)) = refl
@@ -131,7 +131,7 @@ held_deep (base.Integer bits) n = suc_not_null (suc n)
 held_deep base.Named n = suc_one n
 held_deep base.Aggregate n = refl
 
-held_looks : (shape : Shape) → is_held (looking (base_of shape) (stars_of shape)) ≡ is_held_shape shape
+pub held_looks : (shape : Shape) → is_held (looking (base_of shape) (stars_of shape)) ≡ is_held_shape shape
 held_looks (Integer bits) = refl
 held_looks (Pointer (Integer bits)) = refl
 held_looks (Pointer (Named name)) = refl

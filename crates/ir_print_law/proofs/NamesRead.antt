@@ -69,7 +69,7 @@ key_comes place gap key rest (inr named) blanks seam at =
 
 -- ---- local names
 
-few : (n : ℕ) → n < 2 ^ 32 → nat_lt n 4294967296 ≡ true
+pub few : (n : ℕ) → n < 2 ^ 32 → nat_lt n 4294967296 ≡ true
 few n less = grind (arith, nat_tests)
 
 local_read : (wanted : Wanted) (i : Input) (key : Text) → local_key i.cursor ≡ key → number_of key i.locals.names < 2 ^ 32 → (used_local wanted).says i (number_of key i.locals.names) (with_local_use wanted i)

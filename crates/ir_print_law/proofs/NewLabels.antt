@@ -5,6 +5,7 @@ use Rattle.std.specs.Fmt as text
 use Rattle.std.specs.List.{list_all}
 use Rattle.std.proofs.lemmas.Bool.Decides.{nat_tests}
 use Rattle.std.proofs.lemmas.Fmt.{decimal_by_steps}
+use Rattle.ir_print_law.proofs.NamesRead.{few}
 use Rattle.lemmas.specs.Bools.{and_parts, not_true, or_second}
 use Rattle.ir_ast.specs.LocalKeys.{key_of_digits}
 use Rattle.ir_ast.specs.Names.{number_of}
@@ -25,7 +26,6 @@ use Rattle.ir_print_law.proofs.Constants.{are_digits}
 use Rattle.ir_print_law.proofs.Spelled.{label_number_read, label_number_spelled}
 use Rattle.ir_print_law.proofs.Standing.{Comes, comes}
 use Rattle.ir_print_law.proofs.Words.{no_gap}
-use Rattle.ir_print_law.proofs.WholeForms.{few}
 
 -- ---- labels that are numbers
 
@@ -52,12 +52,12 @@ abbrev no_zero : Text → Bool
 no_zero [] = false
 no_zero (b ∷ bytes) = not (b == 48)
 
-kept_by : (digits : Text) → no_zero digits ≡ true → key_of_digits digits ≡ digits
+pub kept_by : (digits : Text) → no_zero digits ≡ true → key_of_digits digits ≡ digits
 kept_by [] e = absurd cc
 kept_by (b ∷ []) e = refl
 kept_by (b ∷ d ∷ digits) e = rw (not_true (b == 48) e) refl
 
-no_zero_on : (digits : Text) (d : ℕ) → no_zero digits ≡ true → no_zero (digits ++ d ∷ []) ≡ true
+pub no_zero_on : (digits : Text) (d : ℕ) → no_zero digits ≡ true → no_zero (digits ++ d ∷ []) ≡ true
 no_zero_on [] d e = absurd cc
 no_zero_on (b ∷ digits) d e = e
 

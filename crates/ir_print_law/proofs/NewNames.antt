@@ -1,5 +1,6 @@
 -- Names that are defined are read, and from there on it is known what they stand for.
 use Rattle.std.proofs.Common.{◌≡◌, ℕ, suc, ◌+◌, ◌<◌, ◌≤◌, ◌^◌, true, false, not, List, [], ◌∷◌, ◌++◌, length, slice_get, Some, refl, sym, ap, subst, ◌∙◌, arith, length-append}
+use Rattle.ir_print_law.proofs.NamesRead.{few}
 use Rattle.ir_ast.specs.declared.function.Function.{Function}
 use Rattle.ir_ast.specs.declared.items_of_module.SymbolSort.{SymbolSort}
 use Rattle.ir_ast.specs.declared.module.Module.{Module}
@@ -19,7 +20,7 @@ use Rattle.ir_print_law.proofs.Tables.{begins_itself, name_begins, name_length, 
 use Rattle.ir_print_law.proofs.State.{Ready}
 use Rattle.ir_print_law.proofs.Known.{Far, AreNamed, StructsKnown, SymbolsKnown, known}
 use Rattle.ir_print_law.proofs.Defining.{structs_defined, struct_is_new, symbol_is_new}
-use Rattle.ir_print_law.proofs.WholeForms.{Goes, few}
+use Rattle.ir_print_law.proofs.WholeForms.{Goes}
 
 -- behind a sign and a word a byte at least was read
 pub one_byte : (gap : Text) (b : ℕ) (word rest : Text) (s : ℕ) → suc (length rest + s) ≤ length (gap ++ b ∷ (word ++ rest)) + s

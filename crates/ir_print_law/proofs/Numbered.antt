@@ -4,6 +4,7 @@ use Rattle.std.specs.Prelude.{◌==◌, nat_lt, slice_get}
 use Rattle.std.specs.Fmt as text
 use Rattle.std.proofs.lemmas.Bool.Decides.{nat_tests}
 use Rattle.std.proofs.lemmas.Fmt.{decimal_by_steps}
+use Rattle.ir_print_law.proofs.NewLabels.{no_zero_on, kept_by}
 use Rattle.lemmas.specs.Bools.{not_true}
 use Rattle.ir_tokens.specs.Bytes.{Text}
 use Rattle.ir_ast.specs.LocalKeys.{key_of_digits}
@@ -25,15 +26,6 @@ use Rattle.ir_print_law.proofs.Words.{local_number_comes}
 abbrev no_zero : Text → Bool
 no_zero [] = false
 no_zero (b ∷ bytes) = not (b == 48)
-
-kept_by : (digits : Text) → no_zero digits ≡ true → key_of_digits digits ≡ digits
-kept_by [] e = absurd cc
-kept_by (b ∷ []) e = refl
-kept_by (b ∷ d ∷ digits) e = rw (not_true (b == 48) e) refl
-
-no_zero_on : (digits : Text) (d : ℕ) → no_zero digits ≡ true → no_zero (digits ++ d ∷ []) ≡ true
-no_zero_on [] d e = absurd cc
-no_zero_on (b ∷ digits) d e = e
 
 abbrev Kept : ℕ → Text → Type 0
 Kept n digits = (key_of_digits digits ≡ digits) × (1 ≤ n → no_zero digits ≡ true)

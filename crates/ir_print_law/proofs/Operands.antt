@@ -4,6 +4,7 @@ use Rattle.std.specs.Prelude.{nat_lt, nat_le, min, ◌==◌, option_and_then}
 use Rattle.std.proofs.Math.Nat.{pow-succ'}
 use Rattle.std.proofs.Math.Pow.{pow_pos}
 use Rattle.std.proofs.lemmas.Bool.Decides.{nat_tests}
+use Rattle.ir_print_law.proofs.Constants.{half_is}
 use Rattle.grammar.specs.Grammar.{pure, step, ◌>>=◌, ◌>>◌}
 use Rattle.ir_ast.specs.Names.{numbered}
 use Rattle.ir_ast.specs.declared.function.Function.{Function}
@@ -45,12 +46,6 @@ AreBits (Some bits) = (1 ≤ bits) × (bits ≤ 64)
 -- a constant fits, where its type may be
 abbrev pub Fits : Option ℕ → Constant → Type 0
 Fits bits x = AreBits bits → FitsType bits x
-
-half_is : (bits : ℕ) → 1 ≤ bits → bits ≤ 64 → 2 * numbers.half_of bits ≡ 2 ^ bits
-half_is zero some most = absurd (omega (arith, some))
-half_is (suc p) some most =
-    let same : min (suc p) 64 - 1 ≡ p = omega (arith, most) in
-    ap (λ (n : ℕ). 2 * 2 ^ n) same ∙ sym (pow-succ' 2 p)
 
 half_some : (bits : ℕ) → 0 < numbers.half_of bits
 half_some bits = pow_pos (min bits 64 - 1)
@@ -103,7 +98,7 @@ null_fits None u = tt
 null_fits (Some bits) u = tt
 
 -- the name stands at its number
-named_at : (names : List Text) (n : ℕ) (name : Text) → slice_get names n ≡ Some name → name_at names n ≡ name
+pub named_at : (names : List Text) (n : ℕ) (name : Text) → slice_get names n ≡ Some name → name_at names n ≡ name
 named_at names n name e = ap (λ (x : Option Text). unwrap_or x []) e
 
 module _ {m : Module} (r : Reading m) where

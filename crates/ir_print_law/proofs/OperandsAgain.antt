@@ -34,7 +34,7 @@ use Rattle.ir_print.specs.Operands.{is_bit, number_text, constant_text, operand_
 use Rattle.ir_print.specs.Standing.{Stands, IsSeam, AreBlanks}
 use Rattle.ir_print.specs.Types.{type_text}
 use Rattle.ir_print_law.proofs.Constants.{constant_is_read}
-use Rattle.ir_print_law.proofs.NamesRead.{local_operands_are_read}
+use Rattle.ir_print_law.proofs.NamesRead.{local_operands_are_read, few}
 use Rattle.name_text.specs.Reading.{name_spelled}
 use Rattle.ir_print_law.proofs.Words.{global_comes, sign_comes, word_comes}
 use Rattle.ir_print_law.specs.Printable.{IsType, IsGlobalUse, IsOperand}
@@ -70,10 +70,6 @@ OperandPrints shape text x o = (n : Module) (others : List Text) → IsLater o n
 -- a name has its number later on
 name_later : (names others : List Text) (n : ℕ) (name : Text) → Begins names others → slice_get names n ≡ Some name → name_at others n ≡ name
 name_later names others n name b e = ap (λ (x : Option Text). unwrap_or x []) (stays names others n name b e)
-
--- numbers below 2 to the 32 pass the test
-few : (n : ℕ) → n < 2 ^ 32 → nat_lt n 4294967296 ≡ true
-few n less = grind (arith, nat_tests)
 
 -- the name of a global is read where it is an operand
 global_said : (i : Input) (name : Text) → spelled i.cursor ≡ name → is_intrinsic name ≡ false

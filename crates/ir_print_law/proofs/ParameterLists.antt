@@ -3,6 +3,8 @@ use Rattle.std.proofs.Common.{◌≡◌, ℕ, ◌+◌, ◌<◌, ◌≤◌, Bool,
 use Rattle.std.specs.Prelude.{codes}
 use Rattle.std.specs.List.{AllByRecursion, flat_map}
 use Rattle.std.proofs.lemmas.List.{append-nil}
+use Rattle.ir_print_law.proofs.ArgumentsAgain.{decorations_said}
+use Rattle.ir_print_law.proofs.Operands.{named_at}
 use Rattle.grammar.specs.Grammar.{pure}
 use Rattle.grammar.specs.Many.{Listed}
 use Rattle.ir_ast.specs.declared.function.Function.{Function}
@@ -39,13 +41,11 @@ use Rattle.ir_print_law.proofs.Steps.{sign_reads, unlike}
 use Rattle.ir_print_law.proofs.Types.{EndsType, ends_type}
 use Rattle.ir_print_law.proofs.Begins.{IsLocalKind, local_kind}
 use Rattle.ir_print_law.proofs.Defining.{value_set}
-use Rattle.ir_print_law.proofs.Empty.{no_decorations}
 use Rattle.ir_print_law.proofs.WholeForms.{Widens, widens_itself, widens_further, grows_widens, Goes, Leads, later_widened}
 use Rattle.ir_print_law.proofs.Known.{Far, AreNamed, known, is_last}
 use Rattle.ir_print_law.proofs.Needs.{TypesRead}
 use Rattle.ir_print_law.proofs.NewValues.{IsNext, unnamed_then, kind_then, value_by, value_goes}
 use Rattle.ir_print_law.proofs.Steady.{Steady, Onward, onward_itself, onward_further, next_key, steady_value}
-use Rattle.ir_print_law.proofs.StructLines.{name_is}
 
 -- ---- what stands between parameters
 
@@ -140,7 +140,7 @@ module _ (m : Module) (f : Function) (named : AreNamed m f) (types : TypesRead m
       let many : far.count < 1000000 = omega (arith, room, counted) in
       let numbers : far.unnamed < 4294967295 = omega (arith, room, counted, unnamed, few) in
       let a = value_goes m f named far key next.1.0 p (32 ∷ []) sep 0 next.0 many numbers steady.none_waits refl seam t.3 in
-      let plain = no_decorations spot.Parameter p (local_undecorated (begins_line p.cursor) (kind p.cursor) (kind_is_local far key is (kind p.cursor) a.0)) in
+      let plain = decorations_said spot.Parameter p (local_undecorated (begins_line p.cursor) (kind p.cursor) (kind_is_local far key is (kind p.cursor) a.0)) in
       let value = a.1.0 in
       let q = a.1.1 in
       let h = a.1.3.holds in
@@ -179,7 +179,7 @@ module _ (m : Module) (f : Function) (named : AreNamed m f) (types : TypesRead m
         (
           record { values_are = refl; labels_are = sym (append-nil far.labels); steady = steady_value far key more is steady next.1.1; same_outside = refl },
           λ n others later.
-              let there = name_is others value key (stays o.locals.names others value key later.locals (stays q.locals.names o.locals.names value key wide_q.locals a.1.5)) in
+              let there = named_at others value key (stays o.locals.names others value key later.locals (stays q.locals.names o.locals.names value key wide_q.locals a.1.5)) in
               let has_shape = shape_stays o.types n.types o.struct_names.names n.struct_names shape w.id later.types later.structs
               (shape_stays p.types o.types p.struct_names.names o.struct_names.names shape w.id wide_p.types wide_p.structs t.5.has_shape) in
               let same : type_text m x.written ≡ type_text n w.id = types.types_shown m shape x.written is_type.0 is_type.1 ∙ sym (types.types_shown n shape w.id has_shape is_type.1) in

@@ -3,6 +3,7 @@ use Rattle.std.proofs.Common.{◌≡◌, ℕ, zero, suc, ◌<◌, ◌≤◌, Boo
 use Rattle.std.specs.Prelude.{codes, nat_lt}
 use Rattle.std.specs.Fmt.{decimal}
 use Rattle.std.proofs.lemmas.Option.{slice_get_within}
+use Rattle.ir_print_law.proofs.Named.{place_name}
 use Rattle.grammar.specs.Grammar.{pure, checked, ◌>>=◌, ◌>>◌}
 use Rattle.ir_ast.specs.declared.function.Function.{Function}
 use Rattle.ir_ast.specs.declared.ir_type.IrType.{IrType}
@@ -21,7 +22,6 @@ use Rattle.ir_print.specs.Types.{type_text, type_within, type_by, fields_text, f
 use Rattle.ir_print.specs.Standing.{AreBlanks}
 use Rattle.ir_print_law.specs.Definitions.{defined_structs}
 use Rattle.ir_print_law.specs.Shapes.{Shape, Integer, Pointer, Array, Empty, Struct, Named, HasShape, IsWritten, levels, is_scalar_shape, is_pointer_shape, is_passed_shape, is_held_shape, is_struct_shape}
-use Rattle.ir_print_law.proofs.Tables.{place_holds}
 use Rattle.ir_print_law.proofs.State.{Invariant, Ready, IsLater, Reads}
 use Rattle.ir_print_law.proofs.Shown.{shown, IsTypeRead, shape_stays, some_level, scalar_read, pointer_read, passed_read, held_read}
 use Rattle.ir_print_law.proofs.Steps.{go_on, given, checked_then, looked}
@@ -108,7 +108,7 @@ module _ (n : Module) where
     part_shown : PartShown (Named name)
     part_shown zero number h le = absurd (no_level (Named name) le)
     part_shown (suc room) number h le =
-        at_type room number _ h.1 ∙ ap (λ (x : Option Text). 37 ∷ name_text blank.Kept (unwrap_or x [])) (place_holds name n.struct_names h.0 h.2)
+        at_type room number _ h.1 ∙ ap (λ (x : Option Text). 37 ∷ name_text blank.Kept (unwrap_or x [])) (place_name name n.struct_names h.0 h.2)
 
     fields_shown : FieldsShown (Named name)
     fields_shown room zero number h le less = absurd (omega (arith, less))

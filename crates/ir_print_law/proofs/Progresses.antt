@@ -38,7 +38,7 @@ results_values locals g (x ∷ xs) =
     results_values locals (with_result g x.result) xs ∙ ap (λ (l : List Text). l ++ flat_map (result_keys locals) xs) (result_values locals g x.result)
     ∙ append_assoc (keys_at locals g.values) (result_keys locals x) (flat_map (result_keys locals) xs)
 
-results_labels : (g : Progress) (xs : List Instr) → (with_results g xs).labels ≡ g.labels
+pub results_labels : (g : Progress) (xs : List Instr) → (with_results g xs).labels ≡ g.labels
 results_labels g [] = refl
 results_labels g (x ∷ xs) = results_labels (with_result g x.result) xs ∙ by x.result where
   by : (r : Option ℕ) → (with_result g r).labels ≡ g.labels

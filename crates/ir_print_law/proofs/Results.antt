@@ -1,6 +1,7 @@
 -- Results of functions, and the ends of their heads.
 use Rattle.std.proofs.Common.{◌≡◌, ℕ, Bool, true, false, not, List, [], ◌∷◌, ◌++◌, slice_get, Option, None, Some, refl, sym, ap, subst, ◌∙◌, arith, append_assoc, length-append, inl, inr, ◌⊎◌}
 use Rattle.std.specs.Prelude.{codes}
+use Rattle.ir_print_law.proofs.ArgumentsAgain.{decorations_said}
 use Rattle.grammar.specs.Grammar.{pure, ◌>>=◌}
 use Rattle.ir_ast.specs.declared.function.Function.{Function}
 use Rattle.ir_ast.specs.declared.ir_type.IrType.TheVariants as type
@@ -31,7 +32,6 @@ use Rattle.ir_print_law.proofs.State.{Invariant, Ready, Reads, IsLater}
 use Rattle.ir_print_law.proofs.Shown.{shape_stays}
 use Rattle.ir_print_law.proofs.Steps.{word_skipped, intern_reads, less_spare, grows_further, grows_itself, unlike, passed, grows_advanced}
 use Rattle.ir_print_law.proofs.Types.{Comes, EndsType, ends_type}
-use Rattle.ir_print_law.proofs.Empty.{no_decorations}
 use Rattle.ir_print_law.proofs.Needs.{TypesRead}
 
 -- a result is written alike
@@ -115,7 +115,7 @@ module _ (m : Module) (f : Function) (v : Invariant m f) (types : TypesRead m) w
       let e = void_shown m returned is_void in
       let here = subst (λ (t : Text). Ready v 0 i (gap ++ (t ++ behind))) e ready in
       let comes = (word_comes i.cursor gap (codes "void") behind blanks refl refl here.stands).0 in
-      let plain = no_decorations spot.Result i (ap (begins_decoration spot.Result (begins_line i.cursor)) comes) in
+      let plain = decorations_said spot.Result i (ap (begins_decoration spot.Result (begins_line i.cursor)) comes) in
       let a = void_reads i gap name rest own seam blanks here in
       let o = a.1 in
       let n = a.0 in (
@@ -131,7 +131,7 @@ module _ (m : Module) (f : Function) (v : Invariant m f) (types : TypesRead m) w
       let shape = is_passed.0 in
       let is_type = is_passed.1 in
       let begins = types.type_comes shape returned i.cursor gap behind is_type blanks refl ready.stands in
-      let plain = no_decorations spot.Result i (result_plain (begins_line i.cursor) (kind i.cursor) begins) in
+      let plain = decorations_said spot.Result i (result_plain (begins_line i.cursor) (kind i.cursor) begins) in
       let a = types.passed v shape returned i gap behind 0 is_type is_passed.2 blanks (ends_global name rest own seam) ready in
       let o = a.1 in
       let w = a.0 in (
@@ -154,7 +154,7 @@ module _ (m : Module) (f : Function) (v : Invariant m f) (types : TypesRead m) w
       let e = void_shown m returned is_void in
       let here = subst (λ (t : Text). Ready v 0 i (gap ++ (t ++ behind))) e ready in
       let comes = (word_comes i.cursor gap (codes "void") behind blanks refl refl here.stands).0 in
-      let plain = no_decorations spot.Result i (ap (begins_decoration spot.Result (begins_line i.cursor)) comes) in
+      let plain = decorations_said spot.Result i (ap (begins_decoration spot.Result (begins_line i.cursor)) comes) in
       let a = void_reads i gap name rest own seam blanks here in
       let o = a.1 in
       let n = a.0 in (
@@ -170,7 +170,7 @@ module _ (m : Module) (f : Function) (v : Invariant m f) (types : TypesRead m) w
       let shape = is_any.0 in
       let is_type = is_any.1 in
       let begins = types.type_comes shape returned i.cursor gap behind is_type blanks refl ready.stands in
-      let plain = no_decorations spot.Result i (result_plain (begins_line i.cursor) (kind i.cursor) begins) in
+      let plain = decorations_said spot.Result i (result_plain (begins_line i.cursor) (kind i.cursor) begins) in
       let a = types.any v shape returned i gap behind 0 is_type refl blanks (ends_global name rest own seam) ready in
       let o = a.1 in
       let w = a.0 in (
@@ -191,7 +191,7 @@ module _ (m : Module) (f : Function) (v : Invariant m f) (types : TypesRead m) w
   brace_plain i rest at = (sign_comes i.cursor (32 ∷ []) 123 rest k.OpenBrace refl refl refl at).0
 
   defined_plain : (i : Input) (x : Kind) → kind i.cursor ≡ x → ((first : Bool) → begins_decoration spot.Defined first x ≡ false) → (decorations spot.Defined).says i tt i
-  defined_plain i x e plain = no_decorations spot.Defined i (ap (begins_decoration spot.Defined (begins_line i.cursor)) e ∙ plain (begins_line i.cursor))
+  defined_plain i x e plain = decorations_said spot.Defined i (ap (begins_decoration spot.Defined (begins_line i.cursor)) e ∙ plain (begins_line i.cursor))
 
   pub head_end_reads : (c : Option Text) (i : Input) (rest : Text) → IsCollector c → Ready v 0 i (collector_text c ++ 32 ∷ 123 ∷ rest) → Reads v 0 (head_end spot.Defined) i (32 ∷ 123 ∷ rest) (λ y o. y ≡ c)
   unfolding head_end collector word_kind keywords class_of
@@ -223,7 +223,7 @@ module _ (m : Module) (f : Function) (v : Invariant m f) (types : TypesRead m) w
   unfolding head_end collector
   declared_end_reads i rest comes ready =
       let item = comes i ready.stands in
-      let plain = no_decorations spot.Declared i (item_plain (begins_line i.cursor) (kind i.cursor) item) in
+      let plain = decorations_said spot.Declared i (item_plain (begins_line i.cursor) (kind i.cursor) item) in
       let none = unlike k.Gc begins_item i refl item in
       let said = subst (λ (b : Bool). (either collector_name (pure None) b).says i None i) (sym none) (refl, refl) in
       (None, i, (tt, i, plain, (None, i, said, (tt, i, plain, (refl, refl)))), ready, grows_itself i, refl)

@@ -3,6 +3,7 @@ use Rattle.std.proofs.Common.{◌≡◌, ℕ, zero, suc, ◌+◌, ◌≤◌, Boo
 use Rattle.std.specs.Prelude.{codes, ◌==◌, nat_lt}
 use Rattle.std.specs.Fmt.{decimal}
 use Rattle.std.proofs.lemmas.Bool.Decides.{nat_tests}
+use Rattle.ir_print_law.proofs.Looks.{zero_less, suc_one, bits_looks, held_looks, passed_looks, scalar_looks, pointer_looks}
 use Rattle.lemmas.specs.Numbers.{suc_not_null}
 use Rattle.ir_ast.specs.declared.ir_type.IrType.{IrType}
 use Rattle.ir_tokens.specs.Bytes.{Text}
@@ -80,21 +81,6 @@ read_stays shape most w i o g h = record {
 
 -- ---- stars
 
--- each star is a level
-pub starred_levels : (count : ℕ) (shape : Shape) → levels (starred count shape) ≡ levels shape + count
-starred_levels zero shape = omega arith
-starred_levels (suc count) shape = let e = starred_levels count (Pointer shape) in omega (arith, e)
-
--- stars leave the base
-pub starred_base : (count : ℕ) (shape : Shape) → base_of (starred count shape) ≡ base_of shape
-starred_base zero shape = refl
-starred_base (suc count) shape = starred_base count (Pointer shape)
-
--- the stars are counted
-pub starred_stars : (count : ℕ) (shape : Shape) → stars_of (starred count shape) ≡ stars_of shape + count
-starred_stars zero shape = omega arith
-starred_stars (suc count) shape = let e = starred_stars count (Pointer shape) in omega (arith, e)
-
 -- each type has a level
 pub some_level : (shape : Shape) → 1 ≤ levels shape
 some_level (Integer bits) = omega arith
@@ -106,10 +92,6 @@ some_level (Named name) = omega arith
 
 -- ---- what kind of type was read
 
--- 0 is less than a number behind another
-zero_less : (n : ℕ) → nat_lt 0 (suc n) ≡ true
-zero_less n = grind (arith, nat_tests)
-
 -- a type of this base with so many stars
 abbrev looking : Base → ℕ → WrittenType
 looking b stars = record { base = b; stars = stars; id = 0; room = 0 }
@@ -119,71 +101,22 @@ by_looks : {X : Type 0} (g : WrittenType → X) (shape : Shape) (most : ℕ) (w 
     → IsTypeRead shape most w o → g w ≡ g (looking (base_of shape) (stars_of shape))
 by_looks g shape most w o same h = same w.id w.room w.base w.stars ∙ ap (λ b. g (looking b w.stars)) h.base_is ∙ ap (λ n. g (looking (base_of shape) n)) h.stars_are
 
--- how many bits, by the shape
-bits_looks : (shape : Shape) → bits_of (looking (base_of shape) (stars_of shape)) ≡ bits_of_shape shape
-bits_looks (Integer bits) = refl
-bits_looks (Pointer part) = let no_zero = suc_not_null (stars_of part) in rw no_zero refl
-bits_looks (Array count part) = refl
-bits_looks Empty = refl
-bits_looks (Struct first rest) = refl
-bits_looks (Named name) = refl
-
 -- how many bits the type has that was read
 pub bits_read : (shape : Shape) (most : ℕ) (w : WrittenType) (o : Input) → IsTypeRead shape most w o → bits_of w ≡ bits_of_shape shape
 bits_read shape most w o h = by_looks bits_of shape most w o (λ id room b stars. refl) h ∙ bits_looks shape
-
--- whether a word holds it, by the shape
-scalar_looks : (shape : Shape) → is_scalar (looking (base_of shape) (stars_of shape)) ≡ is_scalar_shape shape
-scalar_looks (Integer bits) = refl
-scalar_looks (Pointer part) = let some = zero_less (stars_of part) in rw some refl
-scalar_looks (Array count part) = refl
-scalar_looks Empty = refl
-scalar_looks (Struct first rest) = refl
-scalar_looks (Named name) = refl
 
 -- whether a word holds the type that was read
 pub scalar_read : (shape : Shape) (most : ℕ) (w : WrittenType) (o : Input) → IsTypeRead shape most w o → is_scalar w ≡ is_scalar_shape shape
 scalar_read shape most w o h = by_looks is_scalar shape most w o (λ id room b stars. refl) h ∙ scalar_looks shape
 
--- whether it is a pointer, by the shape
-pointer_looks : (shape : Shape) → nat_lt 0 (stars_of shape) ≡ is_pointer_shape shape
-pointer_looks (Integer bits) = refl
-pointer_looks (Pointer part) = zero_less (stars_of part)
-pointer_looks (Array count part) = refl
-pointer_looks Empty = refl
-pointer_looks (Struct first rest) = refl
-pointer_looks (Named name) = refl
-
 -- whether the type that was read is a pointer
 pub pointer_read : (shape : Shape) (most : ℕ) (w : WrittenType) (o : Input) → IsTypeRead shape most w o → nat_lt 0 w.stars ≡ is_pointer_shape shape
 pointer_read shape most w o h = ap (nat_lt 0) h.stars_are ∙ pointer_looks shape
 
--- two and more is not 1
-eight : (n : ℕ) → suc (suc n) == 1 ≡ false
-eight n = grind (arith, nat_tests)
-
 -- one behind a number is 1 where the number is 0
 one_star : (n : ℕ) → suc n == 1 ≡ n == 0
 one_star zero = refl
-one_star (suc n) = eight n ∙ sym (suc_not_null n)
-
--- whether a function may take it, by the shape
-passed_looks : (shape : Shape) → is_passed (looking (base_of shape) (stars_of shape)) ≡ is_passed_shape shape
-passed_looks (Integer bits) = refl
-passed_looks (Pointer (Integer bits)) = refl
-passed_looks (Pointer (Pointer part)) = deep (base_of part) (stars_of part) where
-  deep : (b : Base) (n : ℕ) → is_passed (looking b (suc (suc n))) ≡ false
-  deep (base.Integer bits) n = rw (suc_not_null (suc n), eight n) refl
-  deep base.Named n = eight n
-  deep base.Aggregate n = refl
-passed_looks (Pointer (Array count part)) = refl
-passed_looks (Pointer Empty) = refl
-passed_looks (Pointer (Struct first rest)) = refl
-passed_looks (Pointer (Named name)) = refl
-passed_looks (Array count part) = refl
-passed_looks Empty = refl
-passed_looks (Struct first rest) = refl
-passed_looks (Named name) = refl
+one_star (suc n) = suc_one n ∙ sym (suc_not_null n)
 
 -- whether a function may take the type that was read
 pub passed_read : (shape : Shape) (most : ℕ) (w : WrittenType) (o : Input) → IsTypeRead shape most w o → is_passed w ≡ is_passed_shape shape
@@ -192,24 +125,6 @@ passed_read shape most w o h = by_looks is_passed shape most w o (λ id room b s
   same (base.Integer bits) stars id room = refl
   same base.Named stars id room = refl
   same base.Aggregate stars id room = refl
-
--- whether a global may hold it, by the shape
-held_looks : (shape : Shape) → is_held (looking (base_of shape) (stars_of shape)) ≡ is_held_shape shape
-held_looks (Integer bits) = refl
-held_looks (Pointer (Integer bits)) = refl
-held_looks (Pointer (Pointer part)) = deep (base_of part) (stars_of part) where
-  deep : (b : Base) (n : ℕ) → is_held (looking b (suc (suc n))) ≡ false
-  deep (base.Integer bits) n = suc_not_null (suc n)
-  deep base.Named n = eight n
-  deep base.Aggregate n = refl
-held_looks (Pointer (Array count part)) = refl
-held_looks (Pointer Empty) = refl
-held_looks (Pointer (Struct first rest)) = refl
-held_looks (Pointer (Named name)) = refl
-held_looks (Array count part) = refl
-held_looks Empty = refl
-held_looks (Struct first rest) = refl
-held_looks (Named name) = refl
 
 -- whether a global may hold the type that was read
 pub held_read : (shape : Shape) (most : ℕ) (w : WrittenType) (o : Input) → IsTypeRead shape most w o → is_held w ≡ is_held_shape shape

@@ -17,8 +17,8 @@ use Rattle.ir_print_law.specs.Stars.{stars, starred_number, StarsAreRead}
 use Rattle.ir_print.specs.Standing.{Stands}
 use Rattle.ir_print_law.proofs.Words.{sign_comes, seen}
 
-number_within : (t : IrType) (types : List IrType) → number_of_type t types ≤ length types
-number_within t types = by (place_of_type t types) refl where
+pub type_place_within : (t : IrType) (types : List IrType) → number_of_type t types ≤ length types
+type_place_within t types = by (place_of_type t types) refl where
   by : (place : Option ℕ) → place_of_type t types ≡ place → unwrap_or place (length types) ≤ length types
   by None e = omega arith
   by (Some place) e = let found = position-Some (is_same_type t) types place t e in let less = found.0 in omega (arith, less)
@@ -27,10 +27,10 @@ grown_by : (t : Bool) (types : List IrType) (x : IrType) → length (if t then t
 grown_by true types x = omega arith
 grown_by false types x = let e = length-append types (x ∷ []) in omega (arith, e)
 
-interned : (t : IrType) (i : Input) → length i.types < 2 ^ 32 → (intern t).says i (number_of_type t i.types) (with_type_interned t i)
+pub interned : (t : IrType) (i : Input) → length i.types < 2 ^ 32 → (intern t).says i (number_of_type t i.types) (with_type_interned t i)
 unfolding intern
 interned t i less =
-    let within : number_of_type t i.types ≤ length i.types = number_within t i.types in
+    let within : number_of_type t i.types ≤ length i.types = type_place_within t i.types in
     let few : nat_lt (place_in_table t i) 4294967296 ≡ true = grind (arith, nat_tests) in
     (tt, i, (few, refl), (refl, refl))
 

@@ -2,6 +2,7 @@
 use Rattle.std.proofs.Common.{◌≡◌, ℕ, ◌+◌, ◌<◌, ◌≤◌, ◌^◌, Bool, true, false, List, [], ◌∷◌, ◌++◌, length, slice_get, Some, refl, sym, ap, subst, ◌∙◌, arith, length-append}
 use Rattle.std.specs.Prelude.{nat_lt}
 use Rattle.std.proofs.lemmas.Bool.Decides.{nat_tests}
+use Rattle.ir_print_law.proofs.StarsRead.{interned, type_place_within}
 use Rattle.grammar.specs.Grammar.{pure, step, checked, look, ◌>>=◌, ◌>>◌}
 use Rattle.ir_ast.specs.declared.function.Function.{Function}
 use Rattle.ir_ast.specs.declared.ir_type.IrType.{IrType}
@@ -20,7 +21,7 @@ use Rattle.ir_forms.specs.Written.{intern, with_type_interned, place_in_table}
 use Rattle.name_text.specs.Names.{is_plain}
 use Rattle.ir_print.specs.Standing.{Stands, IsSeam, AreBlanks}
 use Rattle.ir_print_law.proofs.Words.{word_comes, sign_comes, expected}
-use Rattle.ir_print_law.proofs.Tables.{IsRestBefore, begins_itself, begins_further, type_within, type_begins, type_there, type_ordered, type_length}
+use Rattle.ir_print_law.proofs.Tables.{IsRestBefore, begins_itself, begins_further, type_begins, type_there, type_ordered, type_length}
 use Rattle.ir_print_law.proofs.State.{Invariant, HasRoom, Ready, Grows, IsLater, Reads}
 
 -- nothing was read
@@ -72,14 +73,6 @@ less_room i a b le room = record {
   symbols = let h = room.symbols in omega (arith, le, h);
   locals = let h = room.locals in omega (arith, le, h);
 }
-
--- a type comes into the table
-interned : (t : IrType) (i : Input) → length i.types < 2 ^ 32 → (intern t).says i (number_of_type t i.types) (with_type_interned t i)
-unfolding intern
-interned t i less =
-    let within = type_within t i.types in
-    let few : nat_lt (place_in_table t i) 4294967296 ≡ true = grind (arith, nat_tests) in
-    (tt, i, (few, refl), (refl, refl))
 
 module _ {m : Module} {f : Function} (v : Invariant m f) where
   -- ---- one form after another

@@ -1,6 +1,7 @@
 -- The line of a struct type is read as that struct type.
 use Rattle.std.proofs.Common.{◌≡◌, ℕ, ◌<◌, ◌^◌, true, false, List, [], ◌∷◌, ◌++◌, length, slice_get, Option, Some, refl, sym, ap, subst, ◌∙◌, arith, append_assoc}
 use Rattle.std.specs.Prelude.{codes, unwrap_or}
+use Rattle.ir_print_law.proofs.Operands.{named_at}
 use Rattle.grammar.specs.Grammar.{◌>>=◌, ◌>>◌}
 use Rattle.ir_ast.specs.declared.function.Function.{Function}
 use Rattle.ir_ast.specs.declared.items_of_module.StructType.{StructType}
@@ -31,9 +32,6 @@ use Rattle.ir_print_law.proofs.WholeForms.{widens_further, Leads, leads_on, read
 use Rattle.ir_print_law.proofs.Known.{Far, AreNamed, known}
 use Rattle.ir_print_law.proofs.Needs.{TypesRead}
 use Rattle.ir_print_law.proofs.NewNames.{far_struct, new_struct_goes}
-
-pub name_is : (names : List Text) (n : ℕ) (name : Text) → slice_get names n ≡ Some name → name_at names n ≡ name
-name_is names n name e = ap (λ (o : Option Text). unwrap_or o []) e
 
 pub line_is : (m : Module) (struct : StructType) (rest : Text)
     → struct_line m struct ++ rest ≡ 37 ∷ (name_text blank.Kept (name_at m.struct_names struct.name) ++ (codes " = type " ++ (type_text m struct.body ++ 10 ∷ rest)))
@@ -115,7 +113,7 @@ module _ (m : Module) (f : Function) (named : AreNamed m f) (types : TypesRead m
           x,
           refl,
           λ n others later.
-              let there = name_is n.struct_names x.name name (stays i.struct_names.names n.struct_names x.name name later.structs is_name) in
+              let there = named_at n.struct_names x.name name (stays i.struct_names.names n.struct_names x.name name later.structs is_name) in
               let body_shape = shape_stays i.types n.types i.struct_names.names n.struct_names shape x.body later.types later.structs has_shape in
               let body_text : type_text m struct.body ≡ type_text n x.body = types.types_shown m shape struct.body is_type.0 is_type.1 ∙ sym (types.types_shown n shape x.body body_shape is_type.1) in
               ap (λ (y : Text). 37 ∷ name_text blank.Kept y ++ codes " = type " ++ type_text m struct.body ++ 10 ∷ []) (sym there)

@@ -98,13 +98,6 @@ type_length t types = by (is_some (place_of_type t types)) where
   by true = omega arith
   by false = let e = length-append types (t ∷ []) in omega (arith, e)
 
--- the number of a type lies within the table, or at its end
-pub type_within : (t : IrType) (types : List IrType) → number_of_type t types ≤ length types
-type_within t types = by (place_of_type t types) refl where
-  by : (place : Option ℕ) → place_of_type t types ≡ place → unwrap_or place (length types) ≤ length types
-  by None e = omega arith
-  by (Some place) e = let found = position-Some (is_same_type t) types place t e in let less = found.0 in omega (arith, less)
-
 -- ---- names
 
 -- a new name comes behind the others
@@ -187,9 +180,3 @@ place_there name names = by (place_of name names) refl where
       sym (prefix_len-append (λ x. not (p x)) names (name ∷ []) ∙ ap (λ t. cond t (length names + position_or_len p (name ∷ [])) (position_or_len p names)) same ∙ ap (λ n. length names + n) none ∙ omega arith) in
       let a = length-append names (name ∷ []) in
       place_by p (names ++ name ∷ []) (length names) at (omega (arith, a))
-
--- the name stands at its first place
-pub place_holds : (name : Text) (names : List Text) (n : ℕ) → place_of name names ≡ Some n → slice_get names n ≡ Some name
-place_holds name names n e =
-    let found = position-Some (bytes_eq name) names n name e in
-    slice_get-get_or names n name found.0 ∙ ap Some (sym ((bytes_eq-Decides name (get_or names n name)).0 found.1))

@@ -4,6 +4,7 @@ use Rattle.std.specs.Prelude.{◌==◌, nat_lt, nat_le}
 use Rattle.std.specs.List.{list_all}
 use Rattle.std.specs.Fmt as text
 use Rattle.std.proofs.lemmas.Bool.Decides.{nat_tests}
+use Rattle.ir_print_law.proofs.Looks.{starred_base, starred_levels, starred_stars}
 use Rattle.lemmas.specs.Bools.{and_parts}
 use Rattle.grammar.specs.Grammar.{pure, refuse, ◌>>=◌, ◌>>◌}
 use Rattle.ir_ast.specs.Names.{number_of, numbered, place_of}
@@ -30,14 +31,14 @@ use Rattle.name_text.specs.declared.blank.Blank.TheVariants as blank
 use Rattle.ir_print.specs.Standing.{Stands, IsSeam, AreBlanks, AreDigits}
 use Rattle.ir_print_law.specs.Stars.{stars}
 use Rattle.name_text.specs.Spelled.{number_is}
-use Rattle.ir_print_law.proofs.Constants.{integer_types_are_read, are_digits}
+use Rattle.ir_print_law.proofs.Constants.{integer_types_are_read, are_digits, no_minus}
 use Rattle.ir_print_law.proofs.NamesRead.{struct_names_are_read}
 use Rattle.ir_print_law.proofs.Words.{local_comes, seen}
 use Rattle.ir_print_law.specs.Definitions.{defined_structs}
 use Rattle.ir_print_law.specs.Shapes.{IsIn, Shape, Integer, Pointer, Named, HasShape, levels}
 use Rattle.ir_print_law.proofs.Tables.{AreOrdered, IsRestBefore, begins_itself, name_begins, name_length, place_there, place_stays, number_within}
 use Rattle.ir_print_law.proofs.State.{Invariant, Ready, Grows, Reads}
-use Rattle.ir_print_law.proofs.Shown.{shown, starred, base_of, stars_of, IsTypeRead, shape_stays, starred_levels, starred_base, starred_stars}
+use Rattle.ir_print_law.proofs.Shown.{shown, starred, base_of, stars_of, IsTypeRead, shape_stays}
 use Rattle.ir_print_law.proofs.Steps.{go_on, so, given, token_then, shorter, checked_then, looked, sign_skipped, sign_kind, intern_reads, unlike}
 
 -- ---- what stands behind a type
@@ -63,10 +64,6 @@ name_text_some name = by name (is_plain name) refl where
   by name false e = omega arith
   by [] true e = absurd cc
   by (b ∷ name) true e = omega arith
-
--- a digit is no minus
-no_minus : (b : ℕ) → is_digit b ≡ true → b == 45 ≡ false
-no_minus b e = let low : nat_le 48 b ≡ true = (and_parts (nat_le 48 b) (nat_le b 57) e).0 in grind (arith, nat_tests)
 
 -- digits spell their number
 natural_of : (digits : Text) (n : ℕ) → AreDigits digits → numbers.decimal digits ≡ n → n < 2 ^ 64 → numbers.natural digits ≡ Some n

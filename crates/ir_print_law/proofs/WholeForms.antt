@@ -85,10 +85,6 @@ pub test_on : {m : Module} {g : Function} (w : Invariant m g) {B : Type 0} (test
     → test i ≡ true → Goes w t form i rest Q → Goes w t (checked test fault >> form) i rest Q
 test_on w test fault form i rest t Q e h = (h.0, h.1, (tt, i, (e, refl), h.2), h.3, h.4, h.5)
 
--- so many are within 32 bits
-pub few : (n : ℕ) → n < 2 ^ 32 → nat_lt n 4294967296 ≡ true
-few n less = grind (arith, nat_tests)
-
 -- the same place, where other things are known of the names
 pub ready_as : {m : Module} {f g : Function} (v : Invariant m f) (w : Invariant m g) (i : Input) (bytes : Text) (s : ℕ) → (v.Holds i → w.Holds i) → Ready v s i bytes → Ready w s i bytes
 ready_as v w i bytes s so ready = record { stands = ready.stands; ordered = ready.ordered; room = ready.room; holds = so ready.holds }

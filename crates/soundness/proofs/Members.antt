@@ -57,7 +57,7 @@ use Rattle.soundness.proofs.Lists.{at_set, at_other, at_old, at_end, longer, by_
 use Rattle.soundness.specs.Goes.{IsNamed, HasMember, HaveClasses, HaveMembers, MembersStay}
 
 -- where some value passes as one of a class, one is of it
-any_found : (c : ℕ) (values : List Known) → list_any (is_of c) values ≡ true → IsNamed values c
+pub any_found : (c : ℕ) (values : List Known) → list_any (is_of c) values ≡ true → IsNamed values c
 any_found c [] e = absurd cc
 any_found c (x ∷ values) e = by x e (any_found c values) where
   later : (y : Known) → (list_any (is_of c) values ≡ true → IsNamed values c) → list_any (is_of c) values ≡ true → IsNamed (y ∷ values) c

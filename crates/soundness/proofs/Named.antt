@@ -2,6 +2,7 @@
 use Rattle.std.proofs.Common.{◌≡◌, ℕ, zero, suc, List, [], ◌∷◌, length, refl, sym, ap, ◌∙◌, subst, true, false, Bool, Some, inl, inr}
 use Rattle.std.specs.Prelude.{◌&&◌, not, if◌then◌else◌}
 use Rattle.std.specs.List.{list_any}
+use Rattle.soundness.proofs.Members.{any_found}
 use Rattle.lemmas.specs.Numbers.{test_true}
 use Rattle.lemmas.specs.Bools.{and_parts, not_true, or_parts}
 use Rattle.pools.specs.Heap.{Setup}
@@ -32,12 +33,6 @@ named_by c Null e = absurd cc
 named_by c (Address base words) e = absurd cc
 named_by c (GlobalAddress symbol) e = absurd cc
 
--- where one is found
-found_named : (c : ℕ) (values : List Known) → list_any (is_of c) values ≡ true → IsNamed values c
-found_named c [] e = absurd cc
-found_named c (k ∷ values) e = elim (or_parts (is_of c k) (list_any (is_of c) values) e) [
-  | inl z ↦ (let n = named_by c k z in (zero, n.0, n.1, n.2))
-  | inr z ↦ (let n = found_named c values z in (suc n.0, n.1, n.2, n.3))
 ]
 
 -- a fresh class has no value
@@ -63,7 +58,7 @@ pub by_named : (P : Value → Type 0) (facts : FactSet) (cells : Cells) (c : ℕ
 by_named P facts cells c none fresh other = by (class_at facts.classes c).fresh (list_any (is_of c) facts.values) refl refl where
   by : (fr some : Bool) → (class_at facts.classes c).fresh ≡ fr → list_any (is_of c) facts.values ≡ some → P (if fr && not some then value.Unset else cells c)
   by true false e z = none
-  by true true e z = fresh e (found_named c facts.values z)
+  by true true e z = fresh e (any_found c facts.values z)
   by false some e z = other e
 
 module _ (heap : Setup) (p : LaidOut) (table : SlotTable) (guarded : Guarded) (log : Log) (cells : Cells) (facts : FactSet) (registers slots : List Value) (h : Holds heap p table guarded log cells facts registers slots) where
