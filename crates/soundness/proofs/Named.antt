@@ -33,8 +33,6 @@ named_by c Null e = absurd cc
 named_by c (Address base words) e = absurd cc
 named_by c (GlobalAddress symbol) e = absurd cc
 
-]
-
 -- a fresh class has no value
 abbrev is_unnamed : FactSet → ℕ → Bool
 is_unnamed facts c = (class_at facts.classes c).fresh && not (list_any (is_of c) facts.values)
