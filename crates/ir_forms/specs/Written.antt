@@ -241,7 +241,7 @@ part levels = (firm levels).form
 unfoldable pub type_within : ℕ → Form WrittenType
 type_within room = part (suc room)
 
--- `{ T, .. }` as the type that a name is written for: its place
+-- `{ T, .. }` as the definition of a named struct: its place
 unfoldable pub struct_body : Form ℕ
 struct_body = braced 63 (firm 63) >>= λ p. pure p.id
 

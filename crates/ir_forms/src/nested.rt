@@ -218,7 +218,7 @@ impl<'a> Input<'a> {
         Ok(part)
     }
 
-    /// `{ T, .. }` as the type that a name is written for. Returns its place.
+    /// `{ T, .. }` as the definition of a named struct. Returns its place.
     #[tactic(auto, unfolding(crate::specs::Written::struct_body))]
     pub fn struct_body(&mut self, alloc: Global) -> Result<TypeId, Fault>
         ensures { Reads (form.struct_body.read self.old) result self.new }
