@@ -18,7 +18,7 @@ use Rattle.ir_print_law.specs.Shapes.{IsIn}
 abbrev pub IsNameKey : Text → Type 0
 IsNameKey key = (name : Text) × AreBytes name × (key ≡ key_of_name name)
 
--- keys are defined one after another behind those that were seen, each once; the last number is the next one then
+-- keys are defined in this order after those that were seen, each once; `next` is the next number then
 abbrev pub Defines : (seen : List Text) → (unnamed : ℕ) → List Text → (next : ℕ) → Type 0
 Defines seen unnamed [] next = unnamed ≡ next
 Defines seen unnamed (key ∷ keys) next =

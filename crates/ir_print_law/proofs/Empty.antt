@@ -1,4 +1,4 @@
--- Where no decoration stands, none is read.
+-- Where there is no decoration, none is read.
 use Rattle.std.proofs.Common.{◌≡◌, false, not, [], refl, ap}
 use Rattle.ir_ast.specs.declared.op.Op.{Op}
 use Rattle.ir_tokens.specs.declared.token.Kind.TheVariants as k
@@ -16,6 +16,6 @@ pub no_trail : (t : Trail) (i : Input) → sees k.Comma i.cursor ≡ false → (
 unfolding trailing
 no_trail t i e = ([], i, (ap not e, refl), (refl, refl))
 
--- an operation with nothing behind it
+-- an operation with nothing after it
 pub not_trailed : (op : Op) (i : Input) → sees k.Comma i.cursor ≡ false → (trailed op).says i op i
 not_trailed op i e = (tt, i, no_trail (trail_of op) i e, (refl, refl))

@@ -37,7 +37,7 @@ use Rattle.ir_print_law.proofs.Reading.{Reading, Within, used_keys, used_symbols
 use Rattle.ir_print_law.proofs.Tables.{stays, name_there}
 use Rattle.ir_print_law.proofs.TypesThat.{pointer_type_keeps}
 
--- so many bits as an integer type may have, or none
+-- a number of bits that an integer type may have, or none
 abbrev pub AreBits : Option ℕ → Type 0
 AreBits None = Unit {0}
 AreBits (Some bits) = (1 ≤ bits) × (bits ≤ 64)
@@ -102,7 +102,7 @@ null_fits : (bits : Option ℕ) → Fits bits c.Null
 null_fits None u = tt
 null_fits (Some bits) u = tt
 
--- the name stands at its number
+-- the name is at its number
 named_at : (names : List Text) (n : ℕ) (name : Text) → slice_get names n ≡ Some name → name_at names n ≡ name
 named_at names n name e = ap (λ (x : Option Text). unwrap_or x []) e
 

@@ -31,7 +31,7 @@ abbrev pub used_symbols : Module → (is_call : Bool) → List Text
 used_symbols m true = functions_of m
 used_symbols m false = defined_globals m
 
--- What holds before a form that names nothing new, and behind it; and that reading leads on to this module, where it does so behind the form.
+-- What holds before and after a form that names nothing new (`Fore`); and that reading goes on to this module, where it does so after the form (`Back`).
 pub record Reading (m : Module) : Type 1 where
   pub Fore : Input → Type 0
   pub Back : Input → Type 0
@@ -59,20 +59,20 @@ pub record Within (m : Module) (f : Function) : Type 1 where
   pub from_local : (i : Input) (wanted : Wanted) → reading.Back (with_local_use wanted i) → reading.Back i
   pub local_is : (i : Input) (wanted : Wanted) → reading.Back (with_local_use wanted i) → IsIn (used_keys f wanted) (local_key i.cursor)
 
--- what a name stands for that is a value
+-- what a name means that is a value
 abbrev pub IsValueSort : LocalSort → Type 0
 IsValueSort (local.Value t) = Unit {0}
 IsValueSort (local.Element block place) = Unit {0}
 IsValueSort _ = ⊥
 
--- The same while a value with this number is named that has no type yet, and behind where it has one.
+-- The same while a value with this number is named that has no type yet, and after that, where it has one.
 pub record Naming (m : Module) (f : Function) (value : ℕ) : Type 1 where
   pub within : Within m f
   pub After : Input → Type 0
   pub on_value : (i : Input) (sort : LocalSort) → IsValueSort sort → within.reading.Fore i → After (with_sort value sort i)
   pub from_value : (i : Input) (sort : LocalSort) → within.reading.Back (with_sort value sort i) → within.reading.Back i
 
--- The same for what holds before, and for what is known from behind.
+-- The same for what holds before, and for what is known from after it.
 pub record Kit (m : Module) (f : Function) (Fore Back : Input → Type 0) : Type 0 where
   pub ordered : (i : Input) → Fore i → AreOrdered i.types
   pub bytes : (i : Input) → Fore i → AreBytes (spelled i.cursor)

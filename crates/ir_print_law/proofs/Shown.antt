@@ -16,7 +16,7 @@ use Rattle.ir_print_law.specs.Shapes.{Shape, Integer, Pointer, Array, Empty, Str
 use Rattle.ir_print_law.proofs.Tables.{Begins, stays, place_stays}
 use Rattle.ir_print_law.proofs.State.{Grows}
 
--- a type by its shape, or the fields of a struct behind others
+-- a type by its shape, or the fields of a struct after others
 abbrev pub shown : (is_rest : Bool) → Shape → Text
 shown false (Integer bits) = 105 ∷ decimal bits
 shown false (Pointer part) = shown false part ++ 42 ∷ []
@@ -32,24 +32,24 @@ abbrev pub field_count : Shape → ℕ
 field_count (Struct first rest) = field_count rest + 1
 field_count _ = 0
 
--- a type with so many stars behind it
+-- a type with n stars after it
 abbrev pub starred : ℕ → Shape → Shape
 starred zero shape = shape
 starred (suc count) shape = starred count (Pointer shape)
 
--- what stands before the stars, and how many there are
+-- what is before the stars, and how many stars there are
 abbrev pub base_of : Shape → Base
 base_of (Integer bits) = base.Integer bits
 base_of (Pointer part) = base_of part
 base_of (Named name) = base.Named
 base_of _ = base.Aggregate
 
--- how many stars stand behind it
+-- how many stars are after it
 abbrev pub stars_of : Shape → ℕ
 stars_of (Pointer part) = suc (stars_of part)
 stars_of _ = 0
 
--- a type of this shape was read, where so many levels might be
+-- a type of this shape was read, with room for `most` levels in all
 pub record IsTypeRead (shape : Shape) (most : ℕ) (w : WrittenType) (o : Input) : Type 0 where
   pub has_shape : HasShape o.types o.struct_names.names shape w.id
   pub fits : levels shape + w.room ≡ most
@@ -105,15 +105,15 @@ some_level (Named name) = omega arith
 
 -- ---- what kind of type was read
 
--- no number behind another is 0
+-- no successor of a number is 0
 suc_zero : (n : ℕ) → suc n == 0 ≡ false
 suc_zero n = grind (arith, nat_tests)
 
--- 0 is less than a number behind another
+-- 0 is less than a successor
 zero_less : (n : ℕ) → nat_lt 0 (suc n) ≡ true
 zero_less n = grind (arith, nat_tests)
 
--- a type of this base with so many stars
+-- a type of this base with this number of stars
 abbrev looking : Base → ℕ → WrittenType
 looking b stars = record { base = b; stars = stars; id = 0; room = 0 }
 
@@ -165,7 +165,7 @@ pointer_read shape most w o h = ap (nat_lt 0) h.stars_are ∙ pointer_looks shap
 eight : (n : ℕ) → suc (suc n) == 1 ≡ false
 eight n = grind (arith, nat_tests)
 
--- one behind a number is 1 where the number is 0
+-- the successor of a number is 1 where the number is 0
 one_star : (n : ℕ) → suc n == 1 ≡ n == 0
 one_star zero = refl
 one_star (suc n) = eight n ∙ sym (suc_zero n)

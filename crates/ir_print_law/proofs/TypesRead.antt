@@ -32,7 +32,7 @@ both true true e = (refl, refl)
 both true false e = absurd cc
 both false b e = absurd cc
 
--- so many bits as an integer type may have
+-- a number of bits that an integer type may have
 abbrev AreBits : ℕ → Type 0
 AreBits bits = (1 ≤ bits) × (bits ≤ 64)
 
@@ -44,7 +44,7 @@ IsStarred m room pointee found = (shape : Shape) → HasShape m.types m.struct_n
 abbrev pub IsBare : Module → (most : ℕ) → WrittenType → Type 0
 IsBare m most p = (shape : Shape) × IsTypeOf m most p shape × (p.stars ≡ 0)
 
--- a struct, which has so many levels in all
+-- a struct without stars, with room for `most` levels in all
 abbrev pub IsWhole : Module → (most : ℕ) → WrittenType → Type 0
 IsWhole m most p = (shape : Shape) × IsTypeOf m most p shape × (p.stars ≡ 0) × IsStruct shape
 

@@ -13,7 +13,7 @@ use Rattle.ir_print_law.proofs.Tables.{Begins, begins_itself, begins_further}
 use Rattle.ir_print_law.proofs.State.{Invariant, Ready, Grows, IsLater, Reads}
 use Rattle.ir_print_law.proofs.Known.{Far, AreNamed, known}
 
--- further types and names come behind those that were read
+-- further types and names come after those that were read
 pub record Widens (i o : Input) : Type 0 where
   pub types : Begins i.types o.types
   pub structs : Begins i.struct_names.names o.struct_names.names
@@ -85,7 +85,7 @@ pub test_on : {m : Module} {g : Function} (w : Invariant m g) {B : Type 0} (test
     → test i ≡ true → Goes w t form i rest Q → Goes w t (checked test fault >> form) i rest Q
 test_on w test fault form i rest t Q e h = (h.0, h.1, (tt, i, (e, refl), h.2), h.3, h.4, h.5)
 
--- so many are within 32 bits
+-- a number below 2 to the 32 passes the test for 32 bits
 pub few : (n : ℕ) → n < 2 ^ 32 → nat_lt n 4294967296 ≡ true
 few n less = grind (arith, nat_tests)
 

@@ -20,7 +20,7 @@ pub data Shape : Type 0 where
   Struct : (first rest : Shape) → Shape
   Named : (name : Text) → Shape
 
--- the type with this number has this shape in a table of types, where names of structs have numbers; the rest of a struct stands before it
+-- the type with this number has this shape in a table of types, where names of structs have numbers; the rest of a struct is before it
 abbrev pub HasShape : (types : List IrType) → (names : List Text) → Shape → (number : ℕ) → Type 0
 HasShape types names (Integer bits) number = slice_get types number ≡ Some (type.Integer bits)
 HasShape types names (Pointer part) number = (p : ℕ) × (slice_get types number ≡ Some (type.Pointer p)) × HasShape types names part p
@@ -39,7 +39,7 @@ levels Empty = 1
 levels (Struct first rest) = max (suc (levels first)) (levels rest)
 levels (Named name) = 1
 
--- the struct of the fields behind the first
+-- the struct of the fields after the first
 abbrev pub IsStruct : Shape → Type 0
 IsStruct Empty = Unit {0}
 IsStruct (Struct first rest) = Unit {0}
