@@ -253,7 +253,7 @@ used_label wanted = look (λ i. kind i.cursor) (used_label_by wanted)
 abbrev pub incoming_label : Form ℕ
 incoming_label = used_label wants.Block
 
--- `label %b`, a block to go to
+-- `label %b`, a branch target
 unfoldable pub target : Form ℕ
 target = expect k.Label >> used_label wants.Target
 

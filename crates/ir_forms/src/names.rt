@@ -229,7 +229,7 @@ impl<'a> Input<'a> {
         self.used_label(alloc, Wanted::Block)
     }
 
-    /// `label %b`, a block to go to.
+    /// `label %b`, a branch target.
     #[tactic(auto, unfolding(crate::specs::Names::target))]
     pub fn target(&mut self, alloc: Global) -> Result<ValueId, Fault>
         ensures { Reads (form.target.read self.old) result self.new }
