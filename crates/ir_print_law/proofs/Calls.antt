@@ -1,4 +1,4 @@
--- Calls, stores and values that depend on the block that is come from, as they are read.
+-- Calls, stores and phis, as they are read.
 use Rattle.std.proofs.Common.{inl, inr, ◌≡◌, ℕ, ◌<◌, Bool, true, false, not, List, [], ◌∷◌, length, slice_get, Option, refl, sym, ap, subst, ◌∙◌, arith}
 use Rattle.std.specs.List.{AllByRecursion}
 use Rattle.ir_ast.specs.declared.function.Function.{Function}

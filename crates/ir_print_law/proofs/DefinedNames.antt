@@ -92,7 +92,7 @@ no_name key name n less is same =
 number_same : (k n : ℕ) → k < 2 ^ 64 → n < 2 ^ 64 → decimal k ≡ decimal n → k ≡ n
 number_same k n low less e = sym (number_is k low) ∙ ap numbers.decimal e ∙ number_is n less
 
--- the last number lies not below the first
+-- the last number is not below the first
 pub counts_on : (seen : List Text) (unnamed : ℕ) (keys : List Text) (next : ℕ) → Defines seen unnamed keys next → unnamed ≤ next
 counts_on seen unnamed [] next h = omega (arith, h)
 counts_on seen unnamed (x ∷ keys) next h = elim h.1 [

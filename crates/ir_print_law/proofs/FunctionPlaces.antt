@@ -24,7 +24,7 @@ AreFirst ns count = (length ns ≡ count) × ((place n : ℕ) → slice_get ns p
 abbrev pub IsUsed : List LocalUse → ℕ → Type 0
 IsUsed uses n = (u : LocalUse) × IsIn uses u × (u.value ≡ n)
 
--- What is known of the places of names, where so much is defined, but for a value that is pending.
+-- What is known of the places of names, where this much is defined, except for a value that is pending.
 pub record Places (g : Progress) (pending : Option ℕ) (t : Table LocalSort) (uses : List LocalUse) : Type 0 where
   pub value_names : (n : ℕ) → IsIn g.values n → IsIn g.names n
   pub label_names : (n : ℕ) → IsIn g.labels n → IsIn g.names n

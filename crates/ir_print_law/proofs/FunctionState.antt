@@ -23,7 +23,7 @@ use Rattle.ir_print_law.proofs.Outside.{Outside, with_own}
 use Rattle.ir_print_law.proofs.Reading.{Progress, with_named_value, with_named_label, Kit, used_keys, IsValueSort}
 use Rattle.ir_print_law.proofs.Tables.{Begins, begins_itself, begins_further, stays, name_begins, name_there}
 
--- So much of the function is defined, but for the value that is pending.
+-- This much of the function is defined, except for the value that is pending.
 pub record Holds (m : Module) (w : Outside m) (g : Progress) (pending : Option ℕ) (i : Input) : Type 0 where
   pub outside : w.reading.Fore i
   pub names : Locals g pending i.locals i.unnamed

@@ -97,7 +97,7 @@ IsSortOf g n (local.Block b) = slice_get g.labels b ≡ Some n
 abbrev pub keys_at : List Text → List ℕ → List Text
 keys_at names ns = map (name_at names) ns
 
--- So much is defined, but for the name that is pending; each name has one place, and numbers are counted on.
+-- This much is defined, except for the name that is pending; each name has one place, and numbers are counted on.
 pub record Locals (g : Progress) (pending : Option ℕ) (t : Table LocalSort) (unnamed : ℕ) : Type 0 where
   pub same : length t.sorts ≡ length t.names
   pub places : (n : ℕ) (key : Text) → slice_get t.names n ≡ Some key → place_of key t.names ≡ Some n

@@ -330,7 +330,7 @@ leads_symbol e i is_call b = record {
   missing = b.missing;
 }
 
--- The reading of a module, where so much is pending, and this holds of what no form changes that reads a type or an operand.
+-- The reading of a module, where these names are pending and `P` holds of what no form changes that reads a type or an operand.
 abbrev pub reading_of : (e : Input) (P : Kept → Type 0) (p : Pending) → Reading (module_of e)
 reading_of e P p = record {
   Fore = λ i. Stands p i × P (kept_of i);
@@ -416,7 +416,7 @@ stands_own p i t uses values unnamed h = record {
   few_functions = h.few_functions;
 }
 
--- What is known outside of a function's names, where so much is pending, and these items are made.
+-- What is known outside of a function's names, where these names are pending and these items are made.
 abbrev pub outside_of : (e : Input) (made : Made) (p : Pending) → Outside (module_of e)
 outside_of e made p = record {
   reading = reading_of e (λ k. made_of k ≡ made) p;

@@ -133,7 +133,7 @@ with_named_value g n = record { names = g.names ++ n ∷ []; values = g.values +
 abbrev pub with_named_label : Progress → ℕ → Progress
 with_named_label g n = record { names = g.names ++ n ∷ []; values = g.values; labels = g.labels ++ n ∷ [] }
 
--- What holds while the blocks of a function are read, where it defined so much, and while one value more has no type yet.
+-- What holds while the blocks of a function are read, where this much is defined, and while one value more has no type yet.
 pub record Builder (m : Module) (f : Function) (Back : Input → Type 0) (Fore : Progress → Input → Type 0) (Open : Progress → ℕ → Input → Type 0) : Type 0 where
   pub kit : (g : Progress) → Kit m f (Fore g) Back
   pub open_kit : (g : Progress) (n : ℕ) → Kit m f (Open g n) Back

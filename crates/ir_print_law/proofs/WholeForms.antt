@@ -95,7 +95,7 @@ ready_as v w i bytes s so ready = record { stands = ready.stands; ordered = read
 
 -- ---- forms after which more is known of the names
 
--- The form reads the bytes up to these, and then so much is known of the names.
+-- The form reads the bytes up to these, and then this much is known of the names.
 abbrev pub Leads : (m : Module) (f : Function) (named : AreNamed m f) (spare : ℕ) {A : Type 0} → Form A → Input → (rest : Text) → (Good : A → Far → Input → Type 0) → Type 0
 Leads m f named spare {A = A} form i rest Good =
     (a : A) × (o : Input) × (far : Far) × form.says i a o × Ready (known m f named far) spare o rest × Widens i o × Good a far o

@@ -42,7 +42,7 @@ IsType m shape written = HasShape m.types m.struct_names shape written × (level
 abbrev pub IsScalar : Module → Shape → (written : ℕ) → Type 0
 IsScalar m shape written = IsType m shape written × (is_scalar_shape shape ≡ true)
 
--- a type of which a constant bitcast speaks
+-- a type in a constant bitcast
 abbrev pub IsPointer : Module → (written : ℕ) → Type 0
 IsPointer m written = (shape : Shape) × IsType m shape written × (is_pointer_shape shape ≡ true)
 
