@@ -1,4 +1,4 @@
--- What a word names behind its sign.
+-- What a word names after its sign.
 use Rattle.std.specs.Prelude.{ℕ, ◌^◌, nat_le, ◌==◌, if◌then◌else◌, List, [], ◌∷◌, Option, Some, None, length}
 use Rattle.ir_ast.specs.LocalKeys.{key_of_name, key_of_digits}
 use Rattle.ir_tokens.specs.Bytes.{Text}
