@@ -124,7 +124,7 @@ is_negative_number (b ∷ bs) = b == 45 && is_number bs
 abbrev pub is_lowercase : ℕ → Bool
 is_lowercase b = within 97 122 b
 
--- a byte that stands in a lower-case word
+-- a byte that a lower-case word may have
 abbrev pub is_lowercase_part : ℕ → Bool
 is_lowercase_part b = is_lowercase b || is_digit b || b == 95
 
