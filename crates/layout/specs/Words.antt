@@ -8,7 +8,7 @@ use Rattle.pools.specs.declared.word_kind.WordKind.TheVariants as kind
 use Rattle.types.specs.Elements.{body_named}
 use Rattle.types.specs.References.{layout_of_struct}
 
--- a list so many times, one copy behind the other
+-- a list n times, one copy after the other
 abbrev pub copies : (count : ℕ) → List ℕ → List ℕ
 copies zero fields = []
 copies (suc count) fields = fields ++ copies count fields
