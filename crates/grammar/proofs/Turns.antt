@@ -1,4 +1,4 @@
--- Forms one after another whose values are let go: a recursion on a count of turns, beside a loop that counts up.
+-- Forms one after another whose values are dropped: a recursion on a count of turns, beside a loop that counts up.
 use Rattle.std.proofs.Common.{◌≡◌, ℕ, zero, suc, ◌+◌, ◌-◌, ◌<◌, ◌≤◌, Bool, true, false, List, [], ◌∷◌, ◌++◌, if◌then◌else◌, Ok, Err, refl, ap, ◌∙◌, arith}
 use Rattle.grammar.specs.Outcome.{Outcome, Parser, and_then}
 use Rattle.grammar.specs.Many.{many_from}

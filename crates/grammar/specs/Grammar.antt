@@ -1,4 +1,4 @@
--- A form: what it says of a text, how it is read, and that both are one. `S` is the state that is read from, `E` the
+-- A form: its relation to a text, how it is read, and that both agree. `S` is the state that is read from, `E` the
 -- faults, and `left` how much is left to read.
 use Rattle.std.specs.Prelude.{◌≡◌, ℕ, ◌≤◌, Bool, true, false, if◌then◌else◌, Ok, Err, ◌⊎◌}
 use Rattle.std.proofs.Common.{◌∙◌, ap, arith, inl, inr}
