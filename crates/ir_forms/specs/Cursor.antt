@@ -85,8 +85,8 @@ at_end c = end_fault c.bad (length c.text)
 unfoldable pub left_out : Place → Fault
 left_out c = LeftOut (start c) (size c)
 
--- the fault of a token that no form goes on with: a word of the left-out forms is named, and so is one that
--- begins a form that is not read yet
+-- The fault of a token that no form goes on with. A word of the left-out forms is named, and so is one that
+-- begins a form that is not read yet.
 unfoldable pub refused : Bool → Place → Fault
 refused unread c = if sees k.End c then at_end c else (if unread || sees k.LeftOut c then left_out c else Unexpected (start c))
 

@@ -261,7 +261,7 @@ is_scalar w = nat_lt 0 w.stars || is_some (bits_of_base w.base)
 abbrev pub bits_of : WrittenType → Option ℕ
 bits_of w = if w.stars == 0 then bits_of_base w.base else None
 
--- an integer, a reference or `i8*`, which a function may take and give
+-- an integer, a reference or `i8*`, which a function may take and return
 abbrev pub is_passed : WrittenType → Bool
 is_passed w = passed_by w.base w.stars where
   passed_by : Base → ℕ → Bool
@@ -277,7 +277,7 @@ is_held w = held_by w.base w.stars where
   held_by Named stars = stars == 1
   held_by Aggregate stars = false
 
--- the type before here, if it is allowed; otherwise it has this fault, but where the text ends, since a star might follow
+-- The type before here is allowed, or else has this fault. Where the text ends, the fault is that of its end, since a star might follow.
 abbrev pub allow : Bool → Fault → Form (Unit {0})
 allow allowed fault = checked (λ i. allowed) (λ i. if sees k.End i.cursor then unexpected i else fault)
 

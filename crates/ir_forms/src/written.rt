@@ -70,7 +70,7 @@ pub fn bits_of(written: &WrittenType) -> Option<u32>
     }
 }
 
-/// Whether a function may take and give a value of this type: an integer, a reference or `i8*`.
+/// Whether a function may take and return a value of this type: an integer, a reference or `i8*`.
 pub fn is_passed(written: &WrittenType) -> bool
     ensures { result ≡ form.is_passed written.now }
 {
@@ -133,7 +133,7 @@ impl<'a> Input<'a> {
         self.type_within(alloc, ROOM)
     }
 
-    /// The type before here, if it is allowed; otherwise it is left out, but where the text ends.
+    /// The type before here is allowed, or else has this fault. Where the text ends, the fault is that of its end.
     pub fn allow(&self, allowed: bool, fault: Fault) -> Result<(), Fault>
         ensures { Reads ((form.allow allowed fault).read self.now) result self.now }
     {
