@@ -88,7 +88,7 @@ element_word = codes "getelementptr "
 abbrev pub jump_text : (locals : List Text) → (target : ℕ) → Text
 jump_text locals target = codes "br " ++ target_text locals target
 
--- an operand beside its type
+-- an operand with its type
 abbrev pub typed : (written : ℕ) → Operand → Argument
 typed written x = record { written = written; operand = x }
 
