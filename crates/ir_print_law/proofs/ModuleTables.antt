@@ -15,7 +15,7 @@ use Rattle.ir_print_law.specs.Printable.{IsSymbol}
 use Rattle.ir_print_law.proofs.LocalNames.{set_length, set_there, set_was}
 use Rattle.ir_print_law.proofs.Tables.{begins_with, stays, at_end, at_end_or_before, place_there, place_stays}
 
--- Each name is bytes and is at its first place. What a name means, if anything, owns it; what owns a name is what it means, and such a name is good.
+-- Each name is bytes and is at its first place. What a name means, if anything, owns it. What owns a name is what it means, and such a name is good.
 pub record IsTable {S : Type 0} (nothing : S) (Owns : S → ℕ → Type 0) (Good : Text → Type 0) (t : Table S) : Type 0 where
   pub same : length t.sorts ≡ length t.names
   pub bytes : (n : ℕ) (name : Text) → slice_get t.names n ≡ Some name → AreBytes name

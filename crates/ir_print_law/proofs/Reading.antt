@@ -31,7 +31,7 @@ abbrev pub used_symbols : Module → (is_call : Bool) → List Text
 used_symbols m true = functions_of m
 used_symbols m false = defined_globals m
 
--- What holds before and after a form that names nothing new (`Fore`); and that reading goes on to this module, where it does so after the form (`Back`).
+-- `Fore` holds after a form that names nothing new where it holds before it. `Back` says that reading goes on to this module: where it holds after such a form, it holds before it.
 pub record Reading (m : Module) : Type 1 where
   pub Fore : Input → Type 0
   pub Back : Input → Type 0

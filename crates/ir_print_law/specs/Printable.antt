@@ -159,7 +159,7 @@ IsBlock m f block = (xs : List Instr) × (last : Instr) × (block.instructions �
 
 -- ---- items
 
--- a type that a function takes or gives
+-- a type that a function takes or returns
 abbrev pub IsPassed : Module → (written : ℕ) → Type 0
 IsPassed m written = (shape : Shape) × IsType m shape written × (is_passed_shape shape ≡ true)
 
