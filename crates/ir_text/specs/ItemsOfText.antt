@@ -218,7 +218,7 @@ abbrev pub defined_result_by : Kind → Form ℕ
 defined_result_by k.Void = void_result
 defined_result_by _ = passed_type >>= λ w. pure w.id
 
--- `void`, or a type that a defined function may give, with what decorates the function
+-- `void`, or a type that a defined function may return, with what decorates the function
 unfoldable pub defined_result : Form ℕ
 defined_result = decorations spot.Result >> look (λ i. kind i.cursor) defined_result_by
 

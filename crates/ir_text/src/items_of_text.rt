@@ -141,7 +141,7 @@ fn declared_result(alloc: Global, input: &mut Input<'_>) -> Result<TypeId, Fault
     }
 }
 
-/// `void`, or a type that a defined function may give, with what decorates the function.
+/// `void`, or a type that a defined function may return, with what decorates the function.
 #[tactic(auto, unfolding(crate::specs::ItemsOfText::defined_result))]
 fn defined_result(alloc: Global, input: &mut Input<'_>) -> Result<TypeId, Fault>
     ensures { Reads (form.defined_result.read input.old) result input.new }
