@@ -1,4 +1,4 @@
--- A form of bytes: what it says of a text, how it is read, and that both are one.
+-- A form of bytes: its relation to a text, how it is read, and that both agree.
 use Rattle.std.specs.Prelude.{◌≡◌, ℕ, zero, suc, ◌<◌, ◌≤◌, Bool, true, false, cond, if◌then◌else◌, ◌==◌, [], ◌∷◌, ◌++◌, length, take, drop, Option, Some, None, refl}
 use Rattle.std.specs.List.{prefix_len}
 use Rattle.std.proofs.Common.{◌∙◌, ap, subst, arith, length-drop, length-append}
@@ -12,7 +12,7 @@ use Rattle.ir_tokens.specs.Bytes.{Text, first_class, next, after_backslash, pair
 abbrev pub Outcome : Type 0 → Type 0
 Outcome A = Option (A × Text)
 
--- A form of bytes. Its reading and its relation say the same: what is read is said (`sound`), and what is said is read (`again`).
+-- A form of bytes. Its reading and its relation agree: what is read is related (`sound`), and what is related is read (`again`).
 pub record Form (A : Type 0) : Type 1 where
   pub read : Text → Outcome A
   -- the first bytes begin with this form, which has this value, and the second bytes come after it
