@@ -1,4 +1,4 @@
--- What follows a word, blanks or a line's end is no longer than the text, and after a word that has bytes it is shorter.
+-- What follows a word, blanks or a line's end is no longer than the text. After a word that has bytes it is shorter.
 use Rattle.std.specs.Prelude.{◌≡◌, ℕ, zero, suc, nat_eq, refl, ◌-◌, ◌<◌, ◌≤◌, Bool, true, false, cond, not, ◌||◌, ◌&&◌, ◌==◌, [], ◌∷◌, length, take}
 use Rattle.std.proofs.Common.{arith, ap}
 use Rattle.std.specs.Str.{bytes_eq}

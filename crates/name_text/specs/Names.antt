@@ -25,7 +25,7 @@ abbrev pub first_shown : Blank → ℕ
 first_shown blank.Kept = 32
 first_shown blank.Escaped = 33
 
--- up to ~, but for the quote and the backslash
+-- up to ~, except the quote and the backslash
 abbrev pub is_shown : Blank → ℕ → Bool
 is_shown blank byte = nat_le (first_shown blank) byte && nat_le byte 126 && not (byte == 34) && not (byte == 92)
 
