@@ -70,7 +70,7 @@ abbrev pub field_by : Module → (written : ℕ) → Option ℕ → Option ℕ
 field_by m written None = None
 field_by m written (Some n) = field_at m written n
 
--- the part of a type that an index selects, by what the type is: of an array its elements' type at each integer, of a struct a field
+-- the part of a type that an index selects: of an array its elements' type at any integer, of a struct a field
 abbrev pub part_of : Module → (written : ℕ) → Option IrType → Argument → Option ℕ
 part_of m written (Some (Array length part)) index = if is_integer (slice_get m.types index.written) then Some part else None
 part_of m written _ index = field_by m written (index_number m index)
@@ -85,7 +85,7 @@ part_behind m None indices = None
 part_behind m (Some written) [] = Some written
 part_behind m (Some written) (index ∷ indices) = part_behind m (part_at m written index) indices
 
--- the type that the indices of a getelementptr select: the first steps over the pointer itself, the others into its parts
+-- The type that the indices of a getelementptr select. The first steps over the pointer itself, the others into its parts.
 abbrev pub element_type : Module → (source : ℕ) → List Argument → Option ℕ
 element_type m source [] = None
 element_type m source (first ∷ indices) = part_behind m (Some source) indices

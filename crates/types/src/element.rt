@@ -84,7 +84,7 @@ fn part_behind(module: &Module, written: TypeId, indices: &[Argument]) -> Option
     Some(part)
 }
 
-/// The type that the indices of a getelementptr select: the first steps over the pointer itself, the others into its parts.
+/// The type that the indices of a getelementptr select. The first steps over the pointer itself, the others into its parts.
 pub fn element_type(module: &Module, source: TypeId, indices: &[Argument]) -> Option<TypeId>
     ensures { result ≡ element_type «module».now source indices.now }
 {
