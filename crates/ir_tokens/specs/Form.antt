@@ -12,7 +12,7 @@ use Rattle.ir_tokens.specs.Bytes.{Text, first_class, next, after_backslash, pair
 abbrev pub Outcome : Type 0 → Type 0
 Outcome A = Option (A × Text)
 
--- A form of bytes. Its reading and its relation agree: what is read is related (`sound`), and what is related is read (`again`).
+-- A form of bytes. Its reading and its relation agree: what is read is in the relation (`sound`), and what is in the relation is read (`again`).
 pub record Form (A : Type 0) : Type 1 where
   pub read : Text → Outcome A
   -- the first bytes begin with this form, which has this value, and the second bytes come after it
