@@ -1,15 +1,15 @@
--- A form: what it says of a text, how it is read, and that both are one. `S` is the state that is read from, `E` the
+-- A form: its relation to a text, how it is read, and that both agree. `S` is the state that is read from, `E` the
 -- faults, and `left` how much is left to read.
 use Rattle.std.specs.Prelude.{◌≡◌, ℕ, ◌≤◌, Bool, true, false, if◌then◌else◌, Ok, Err, ◌⊎◌}
 use Rattle.std.proofs.Common.{◌∙◌, ap, arith, inl, inr}
 use Rattle.grammar.specs.Outcome.{Parser, and_then}
 use Rattle.grammar.specs.Laws.{done_is, done_again, never, refused, fails_is, fails_again, same_left, tested, tested_again, untested, untested_again, and_then_ok, and_then_again, and_then_err, and_then_fails}
 
--- a form of text that stands for values of this type
+-- a form of text that is read as values of this type
 pub record Grammar (S E : Type 0) (left : S → ℕ) (A : Type 0) : Type 1 where
   -- how the form is read
   pub read : Parser S E A
-  -- the text from here on begins with a form that stands for this value, and goes on there
+  -- the text from here on begins with a form that is read as this value, and goes on there
   pub says : S → A → S → Type 0
   pub sound : (i : S) (a : A) (o : S) → read i ≡ Ok (a, o) → says i a o
   pub again : (i : S) (a : A) (o : S) → says i a o → read i ≡ Ok (a, o)

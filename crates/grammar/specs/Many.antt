@@ -7,7 +7,7 @@ use Rattle.grammar.specs.Laws.{done, done_is, same_left, and_then_ok, and_then_a
 use Rattle.grammar.specs.Grammar.{Grammar}
 use Rattle.grammar.specs.Takes.{Takes}
 
--- these forms and further ones up to where the test holds, of which there are at most so many
+-- these forms and at most n further ones, up to where the test holds
 unfoldable pub many_from : {S E A : Type 0} → (S → Bool) → Parser S E A → ℕ → List A → Parser S E (List A)
 many_from stop item zero found i = Ok (found, i)
 many_from stop item (suc n) found i = if stop i then Ok (found, i) else and_then (item i) (λ a. many_from stop item n (found ++ a ∷ []))

@@ -19,7 +19,7 @@ abbrev pub Reads : {S E A : Type 0} → E → Outcome S E A → Result A E → S
 Reads memory outcome (Ok a) new = outcome ≡ Ok (a, new)
 Reads memory outcome (Err e) new = e ≢ memory → outcome ≡ Err e
 
--- What a function that answers ensures: what reading gives, unless memory runs out.
+-- What a function that returns a result ensures: what reading gives, unless memory runs out.
 abbrev pub Gives : {E X : Type 0} → E → Result X E → Result X E → Type 0
 Gives memory (Ok x) given = given ≡ Ok x
 Gives memory (Err e) given = e ≢ memory → given ≡ Err e

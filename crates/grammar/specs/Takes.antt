@@ -36,7 +36,7 @@ second_takes g f takes i b o h =
     let y = takes h.0 h.1 b o h.3 in
     omega (arith, x, y)
 
--- behind a rule that holds, the form takes something
+-- after a rule that holds, the form takes something
 pub checked_takes : {S E : Type 0} {left : S → ℕ} {A : Type 0} (test : S → Bool) (fault : S → E) (g : Grammar S E left A)
     → TakesWhere (λ i. test i ≡ true) g → Takes (checked test fault >> g)
 checked_takes {left = left} test fault g takes i a o h =
@@ -56,7 +56,7 @@ look_takes kind f each i a o h = each (kind i) i a o refl h
 abbrev pub Stays : {S E : Type 0} {left : S → ℕ} {A : Type 0} → Grammar S E left A → Type 0
 Stays {S = S} {A = A} g = (i : S) (a : A) (o : S) → g.says i a o → i ≡ o
 
--- behind a form that reads nothing, a form takes what it takes
+-- after a form that reads nothing, a form takes what it takes
 pub stays_takes : {S E : Type 0} {left : S → ℕ} {A B : Type 0} (P : S → Type 0) (c : Grammar S E left A) (g : Grammar S E left B)
     → Stays c → TakesWhere P g → TakesWhere P (c >> g)
 stays_takes {left = left} P c g stays takes i b o p h =

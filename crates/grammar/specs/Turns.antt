@@ -1,4 +1,4 @@
--- Forms one after another whose values are let go: a recursion on a count of turns, beside a loop that counts up.
+-- Forms one after another whose values are dropped: a recursion on a count of turns, beside a loop that counts up.
 use Rattle.std.proofs.Common.{◌≡◌, ℕ, zero, suc, ◌+◌, ◌-◌, ◌<◌, ◌≤◌, Bool, true, false, List, [], ◌∷◌, ◌++◌, if◌then◌else◌, Ok, Err, refl, ap, ◌∙◌, arith}
 use Rattle.grammar.specs.Outcome.{Outcome, Parser, and_then}
 use Rattle.grammar.specs.Many.{many_from}
@@ -12,7 +12,7 @@ no_more f n at done e = let none : n - at ≡ 0 = omega arith in e ∙ ap f none
 abbrev passed : {S E : Type 0} → S → Outcome S E (Unit {0})
 passed o = Ok (tt, o)
 
--- what is left to read, with at most so many turns, whatever was found so far
+-- what is left to read after at most n turns, whatever was found so far
 abbrev pub turns : {S E A : Type 0} → (S → Bool) → Parser S E A → ℕ → S → Outcome S E (Unit {0})
 turns stop item n i = and_then (many_from stop item n [] i) (λ _ o. Ok (tt, o))
 

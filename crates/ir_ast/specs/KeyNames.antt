@@ -1,4 +1,4 @@
--- The names that keys of local names stand for.
+-- From the keys of local names back to the names.
 use Rattle.std.specs.Prelude.{ℕ, Bool, false, ◌&&◌, ◌==◌, nat_le, if◌then◌else◌, List, [], ◌∷◌}
 
 -- the key is one of a value or a block without a name

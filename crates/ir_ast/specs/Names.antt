@@ -6,7 +6,7 @@ use Rattle.std.specs.Str.{bytes_eq}
 abbrev pub place_of : List ℕ → List (List ℕ) → Option ℕ
 place_of text names = position (bytes_eq text) names
 
--- the number of a name, where a new one is numbered behind the others
+-- the number of a name, where a new one is numbered after the others
 abbrev pub number_of : List ℕ → List (List ℕ) → ℕ
 number_of text names = unwrap_or (place_of text names) (length names)
 

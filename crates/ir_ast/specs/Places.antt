@@ -1,4 +1,4 @@
--- Places in a list of keys, and in the list of what the keys stand for.
+-- Places in a list of keys, and in the list of the keys' names.
 use Rattle.std.proofs.Common.{◌≡◌, ℕ, ◌≤◌, ◌+◌, suc, Bool, true, false, cond, not, nat_lt, ◌||◌, List, [], ◌∷◌, ◌++◌, map, length, position, is_some, unwrap_or, if◌then◌else◌, Option, None, Some, refl, sym, ap, ◌∙◌, arith}
 use Rattle.std.proofs.lemmas.Bool.Decides.{nat_tests}
 use Rattle.std.specs.Str.{bytes_eq}
@@ -80,7 +80,7 @@ module _ {A : Type 0} (p : A → Bool) where
       by false e le = grind (arith, nat_tests)
 
 module _ {K : Type 0} (bytes : K → List ℕ) where
-  -- a name that none of the keys stands for is looked for up to the end
+  -- a name that no key has is looked for up to the end
   pub unseen : (text : List ℕ) (keys : List K) → place_of text (map bytes keys) ≡ None
       → (list_any (λ k. bytes_eq text (bytes k)) keys ≡ false) × (position_or_len (λ k. bytes_eq text (bytes k)) keys ≡ length (map bytes keys))
   unseen text keys e =
@@ -97,7 +97,7 @@ module _ {K : Type 0} (bytes : K → List ℕ) where
         ap (λ b. map bytes (if b then keys else keys ++ key ∷ [])) ends.0 ∙ map-push bytes keys key ∙ sym (ap (λ p. if is_some p then names else names ++ bytes key ∷ []) none),
       )
 
-  -- a key for a new name gets its number, and then stands for it
+  -- a key for a new name gets the name's number, and is then its key
   pub new_name : (key : K) (keys : List K) (text : List ℕ) (names : List (List ℕ)) → bytes key ≡ text → map bytes keys ≡ names → place_of text names ≡ None
       → (position_or_len (λ k. bytes_eq (bytes key) (bytes k)) keys ≡ number_of text names)
       × (map bytes (if list_any (λ k. bytes_eq (bytes key) (bytes k)) keys then keys else keys ++ key ∷ []) ≡ numbered text names)

@@ -18,7 +18,7 @@ is_same_type _ _ = false
 abbrev pub place_of_type : IrType → List IrType → Option ℕ
 place_of_type sought types = position (is_same_type sought) types
 
--- the number of a type, where a new one is numbered behind the others
+-- the number of a type, where a new one is numbered after the others
 abbrev pub number_of_type : IrType → List IrType → ℕ
 number_of_type written types = unwrap_or (place_of_type written types) (length types)
 

@@ -6,14 +6,14 @@ use crate::type_id::TypeId;
 use crate::value_id::ValueId;
 use items::Items;
 
-/// What a local name stands for.
+/// What a local name means.
 #[derive(Clone, Copy, PartialEq, Eq)]
 pub enum LocalSort {
     /// It was used, and not defined so far.
     Unknown,
     /// A parameter's or an instruction's value, of the type that it is given.
     Value(TypeId),
-    /// The value of the getelementptr at this place of this block: a pointer to the part that its indices lead to.
+    /// The value of the getelementptr at this place of this block: a pointer to the part that its indices select.
     Element { block: BlockId, place: u32 },
     Block(BlockId),
 }
@@ -31,11 +31,11 @@ pub struct Function {
     pub symbol: SymbolId,
     pub returned: TypeId,
     pub parameters: Items<Parameter>,
-    /// The text behind `gc`, without its quotes.
+    /// The text after `gc`, without its quotes.
     pub collector: Option<Items<u8>>,
     /// The local names in the order in which they are mentioned first; a name's place is its `ValueId`.
     pub locals: Names,
-    /// What each local name stands for.
+    /// What each local name means.
     pub sorts: Items<LocalSort>,
     /// The blocks in text order; the first is the entry.
     pub blocks: Items<Block>,

@@ -5,14 +5,14 @@ use crate::type_id::TypeId;
 #[derive(Clone, Copy, PartialEq, Eq, Hash)]
 pub enum IrType {
     Void,
-    /// An integer of so many bits, from 1 to 64.
+    /// An integer of this number of bits, from 1 to 64.
     Integer(u32),
     Pointer(TypeId),
     /// `[length x part]`.
     Array { length: u64, part: TypeId },
     /// `{ }`, a struct without a field.
     EmptyStruct,
-    /// `{ first, .. }`: a struct with this field, and behind it the fields of the struct `rest`.
+    /// `{ first, .. }`: a struct with this field, and after it the fields of the struct `rest`.
     Struct { first: TypeId, rest: TypeId },
     /// A named struct.
     Named(StructNameId),

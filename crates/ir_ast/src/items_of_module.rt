@@ -12,7 +12,7 @@ use items::Items;
 #[derive(Drop)]
 pub struct StructType {
     pub name: StructNameId,
-    /// The struct type that the name stands for.
+    /// The struct type that the name is defined as.
     pub body: TypeId,
 }
 
@@ -35,7 +35,7 @@ pub struct Declare {
     pub parameters: Items<TypeId>,
 }
 
-/// What a global name stands for.
+/// What a global name means.
 #[derive(Clone, Copy, PartialEq, Eq)]
 pub enum SymbolSort {
     /// It was used, and not defined so far.

@@ -1,4 +1,4 @@
-//! The names that keys of local names stand for.
+//! From the keys of local names back to the names.
 ghost use Rattle.std.specs.Prelude.{◌≡◌};
 ghost use Rattle.ir_ast.specs.KeyNames as spec;
 

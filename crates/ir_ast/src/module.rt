@@ -8,18 +8,18 @@ use crate::types::Types;
 use items::Items;
 use pools::LayoutId;
 
-/// A module: its items in text order, and the tables that their numbers lead to.
+/// A module: its items in text order, and the tables that their numbers index.
 #[derive(Drop)]
 pub struct Module {
     /// The types that the text writes, in the order in which they are mentioned first; a type's place is its `TypeId`.
     pub types: Types,
     /// The names of structs in the order in which they are mentioned first; a name's place is its `StructNameId`.
     pub struct_names: Names,
-    /// The struct that each name stands for, if it is defined so far.
+    /// The struct that each name means, if it is defined so far.
     pub struct_of: Items<Option<LayoutId>>,
     /// The global names in the order in which they are mentioned first; a name's place is its `SymbolId`.
     pub symbols: Names,
-    /// What each global name stands for.
+    /// What each global name means.
     pub sorts: Items<SymbolSort>,
     /// The named struct types; a struct's place is its `LayoutId`.
     pub structs: Items<StructType>,

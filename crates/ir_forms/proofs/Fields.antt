@@ -24,7 +24,7 @@ before_last (x ∷ xs) p whole i =
     ap (λ r. and_then r (λ w. (field_before x w).read)) (before_last xs p whole i)
     ∙ and_then_twice ((field_before p whole).read i) (λ w. (before xs w).read) (λ w. (field_before x w).read)
 
--- where so many fields are left, the last of these comes first
+-- where `at` fields are left, the last of these comes first
 pub next_field : (fields : List WrittenType) (at : ℕ) (d whole : WrittenType) (i : Input) → 0 < at → at ≤ length fields
     → (before (take at fields) whole).read i ≡ and_then ((field_before (get_or fields (at - 1) d) whole).read i) (λ w. (before (take (at - 1) fields) w).read)
 next_field fields at d whole i some within =

@@ -30,7 +30,7 @@ use Rattle.ir_forms.specs.ManyWith.{many_with}
 abbrev pub jump : Form Op
 jump = target >>= λ b. pure (op.Jump b)
 
--- `br i1 V, label %a, label %b` behind its word
+-- `br i1 V, label %a, label %b` after its word
 unfoldable pub branch : Form Op
 branch = do
   x ← condition
@@ -40,7 +40,7 @@ branch = do
   other ← target
   pure (op.Branch x.written x.operand taken other)
 
--- what stands behind `br`: a jump, or a branch on a value
+-- what follows `br`: a jump, or a branch on a value
 abbrev pub br_behind : Form Op
 br_behind = look (λ i. sees k.Label i.cursor) (either jump branch)
 
@@ -50,7 +50,7 @@ br = skip >> br_behind
 
 -- ---- switch
 
--- the constant of a case, behind cases of these values
+-- the constant of a case, after cases of these values
 unfoldable pub case_constant : Option ℕ → List CaseValue → Form Constant
 case_constant bits seen = look (λ i. start i.cursor) (λ place. constant bits >>= λ x. checked (λ _. not (is_among (value_of x) seen)) (λ _. DefinedTwice place) >> pure x)
 
@@ -58,11 +58,11 @@ case_constant bits seen = look (λ i. start i.cursor) (λ place. constant bits >
 abbrev pub case_target : Constant → Form Case
 case_target x = target >>= λ b. pure (record { constant = x; target = b })
 
--- what stands behind the constant of a case
+-- what follows the constant of a case
 abbrev pub case_of : Constant → Form Case
 case_of x = expect k.Comma >> case_target x
 
--- a case behind its type: a constant that no case before it has, and the block
+-- a case after its type: a constant that no case before it has, and the block
 abbrev pub case_behind : Cases → Form Case
 case_behind c = case_constant (bits_of c.written) c.seen >>= case_of
 
@@ -84,7 +84,7 @@ case_takes c = second_takes (again c.written) (λ _. case_behind c) (λ _. case_
 abbrev pub at_square : Cases → Input → Bool
 at_square c i = sees k.CloseSquare i.cursor
 
--- the list of cases with this one behind it
+-- the list of cases with this one after it
 abbrev pub behind_case : Cases → Case → Cases
 behind_case c x = record c { seen = with_value (value_of x.constant) c.seen }
 
@@ -100,7 +100,7 @@ bracketed_cases w = do
   expect k.CloseSquare
   pure xs
 
--- what stands behind `switch`
+-- what follows `switch`
 abbrev pub switch_behind : Form Op
 switch_behind = do
   w ← scalar
@@ -120,7 +120,7 @@ switch = skip >> switch_behind
 abbrev pub returned_value : Form Op
 returned_value = typed >>= λ x. pure (op.Return x)
 
--- what stands behind `ret`
+-- what follows `ret`
 abbrev pub ret_behind : Form Op
 ret_behind = look (λ i. sees k.Void i.cursor) (either (skip >> pure op.ReturnVoid) returned_value)
 

@@ -35,7 +35,7 @@ call_behind returned = do
   decorations spot.Call
   pure (op.Call returned f xs)
 
--- `T @f(T V, ..)` behind the word, whose value is a T
+-- `T @f(T V, ..)` after the word, whose value is a T
 abbrev pub typed_call : ℕ → Form Op
 typed_call value = do
   returned ← scalar
@@ -52,15 +52,15 @@ call value = do
 
 -- ---- calls without the name of a value
 
--- an instruction with this value, and the decorations behind it
+-- an instruction with this value, and the decorations after it
 abbrev pub valued : ℕ → Op → Form Instr
 valued value op = trailed op >>= λ x. pure (record { result = Some value; op = x })
 
--- an instruction without a value, and the decorations behind it
+-- an instruction without a value, and the decorations after it
 abbrev pub unnamed : Op → Form Instr
 unnamed op = trailed op >>= λ x. pure (record { result = None; op = x })
 
--- `void @f(T V, ..)` behind the word
+-- `void @f(T V, ..)` after the word
 unfoldable pub void_call : Form Op
 void_call = skip >> intern type.Void >>= call_behind
 
@@ -77,7 +77,7 @@ abbrev pub call_by : Kind → Form Instr
 call_by k.Void = void_call >>= unnamed
 call_by _ = numbered_call
 
--- what stands behind `call`, with what decorates the result
+-- what follows `call`, with what decorates the result
 abbrev pub call_statement_behind : Form Instr
 call_statement_behind = decorations spot.Result >> look (λ i. kind i.cursor) call_by
 

@@ -1,4 +1,4 @@
--- The next token: what it is, where it stands, and how it is refused.
+-- The next token: what it is, where it is, and how it is refused.
 use Rattle.std.specs.Prelude.{ℕ, Bool, true, false, ◌||◌, if◌then◌else◌, List, [], ◌∷◌, length, take, drop, Option, Some, None}
 use Rattle.ir_tokens.specs.declared.token.Kind.{Kind}
 use Rattle.ir_tokens.specs.declared.token.Kind.TheVariants as k
@@ -20,7 +20,7 @@ abbrev pub kind_first : List Token → Kind
 kind_first [] = k.End
 kind_first (t ∷ ts) = t.kind
 
--- the tokens behind the first one
+-- the tokens after the first one
 abbrev pub rest_of : List Token → List Token
 rest_of [] = []
 rest_of (t ∷ ts) = ts
@@ -29,7 +29,7 @@ rest_of (t ∷ ts) = ts
 unfoldable pub kind : Place → Kind
 kind c = kind_first c.rest
 
--- what the token behind the next one is
+-- what the token after the next one is
 unfoldable pub kind_behind : Place → Kind
 kind_behind c = kind_first (rest_of c.rest)
 
@@ -51,7 +51,7 @@ abbrev pub start_first : List Token → ℕ → ℕ
 start_first [] end = end
 start_first (t ∷ ts) end = t.start
 
--- where the next token begins; behind the last token, where the text ends
+-- where the next token begins; after the last token, where the text ends
 unfoldable pub start : Place → ℕ
 start c = start_first c.rest (length c.text)
 
@@ -72,12 +72,12 @@ spelling c = take (size c) (drop (start c) c.text)
 unfoldable pub next : Place → Place
 next c = record c { rest = rest_of c.rest }
 
--- the fault where the text ends too early: a bad byte stands there, or the text is not finished
+-- the fault where the text ends too early: a bad byte is there, or the text is not finished
 abbrev pub end_fault : Option ℕ → ℕ → Fault
 end_fault None end = Unfinished end
 end_fault (Some bad) end = BadByte bad
 
--- the fault at the end of the tokens: a bad byte behind them, or an unfinished text
+-- the fault at the end of the tokens: a bad byte after them, or an unfinished text
 unfoldable pub at_end : Place → Fault
 at_end c = end_fault c.bad (length c.text)
 
@@ -85,14 +85,14 @@ at_end c = end_fault c.bad (length c.text)
 unfoldable pub left_out : Place → Fault
 left_out c = LeftOut (start c) (size c)
 
--- the fault of a token that no form goes on with: a word of the left-out forms is named, and so is one that
--- begins a form that is not read yet
+-- The fault of a token that no form goes on with. A word of the left-out forms is named, and so is one that
+-- begins a form that is not read yet.
 unfoldable pub refused : Bool → Place → Fault
 refused unread c = if sees k.End c then at_end c else (if unread || sees k.LeftOut c then left_out c else Unexpected (start c))
 
 -- ---- names
 
--- what stands behind the first byte that spells the next token
+-- what follows the first byte that spells the next token
 unfoldable pub name : Place → List ℕ
 name c = drop 1 (spelling c)
 

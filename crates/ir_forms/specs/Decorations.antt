@@ -1,4 +1,4 @@
--- Decorations: what stands beside the parts of a form and has no effect on the module.
+-- Decorations: what is written beside the parts of a form and has no effect on the module.
 use Rattle.std.specs.Prelude.{◌≡◌, ◌≢◌, ◌+◌, ◌-◌, ◌==◌, nat_lt, Bool, true, false, not, ◌&&◌, List, refl}
 use Rattle.grammar.specs.Grammar.{pure, checked, refuse, look, ◌>>◌}
 use Rattle.grammar.specs.Takes.{Takes, TakesWhere, first_takes, first_takes_where, second_takes, look_takes, checked_takes}
@@ -41,7 +41,7 @@ unfolding any_token
 any_token_takes = checked_takes (λ i. not (sees k.End i.cursor)) unexpected (look (λ i. kind i.cursor) (λ x. skip >> pure x))
     (λ i a o e h. first_takes_where (IsKind (kind i.cursor)) skip (λ _. pure (kind i.cursor)) (skip_takes (kind i.cursor) (is_token i e)) i a o refl h)
 
--- ---- what stands behind a word
+-- ---- what follows a word
 
 -- each round bracket that was opened is closed
 abbrev pub are_closed : Brackets → Input → Bool
@@ -58,13 +58,13 @@ in_brackets b = has_room b >> any_token
 pub in_brackets_takes : (b : Brackets) → Takes (in_brackets b)
 in_brackets_takes b = second_takes (has_room b) (λ _. any_token) (λ _. any_token_takes)
 
--- the brackets behind a token, which may open or close one
+-- the brackets after a token, which may open or close one
 abbrev pub behind_bracket : Brackets → Kind → Brackets
 behind_bracket b k.OpenRound = record b { depth = b.depth + 1 }
 behind_bracket b k.CloseRound = record b { depth = b.depth - 1 }
 behind_bracket b _ = b
 
--- the tokens behind a round bracket, up to the one that closes it
+-- the tokens after a round bracket, up to the one that closes it
 unfoldable pub bracketed : Form (List Kind)
 bracketed = many_with are_closed in_brackets in_brackets_takes behind_bracket (record { depth = 1 })
 
@@ -87,14 +87,14 @@ ends_operand _ = false
 abbrev pub is_operand : Spot → Input → Bool
 is_operand s i = is_argument s && ends_operand (kind_behind i.cursor)
 
--- what belongs to a decorating word: a part in brackets, a quoted text or a number behind it
+-- what belongs to a decorating word: a part in brackets, a quoted text or a number after it
 abbrev pub word_end_by : Spot → Kind → Form (Unit {0})
 word_end_by s k.OpenRound = skip >> past_brackets
 word_end_by s k.Quoted = skip
 word_end_by s k.Number = look (is_operand s) (either (pure tt) skip)
 word_end_by s _ = pure tt
 
--- round brackets, a quoted text or a number behind a word, or nothing
+-- round brackets, a quoted text or a number after a word, or nothing
 unfoldable pub word_end : Spot → Form (Unit {0})
 word_end s = look (λ i. kind i.cursor) (word_end_by s)
 
@@ -115,12 +115,12 @@ ends_head spot.Defined = true
 ends_head spot.Declared = true
 ends_head _ = false
 
--- groups of attributes stand behind parameters and arguments
+-- groups of attributes may follow parameters and arguments
 abbrev pub may_have_group : Spot → Bool
 may_have_group spot.Call = true
 may_have_group s = ends_head s
 
--- behind a declared function a line may begin that is metadata
+-- after a declared function a line may begin that is metadata
 abbrev pub may_have_metadata : Spot → Bool → Bool
 may_have_metadata spot.Defined first = true
 may_have_metadata spot.Declared first = not first
@@ -152,7 +152,7 @@ decoration_by s k.AttributeGroup = skip
 decoration_by s k.MetadataName = metadata
 decoration_by s _ = refuse unexpected
 
--- a decoration of this part: a word with what stands behind it, a group of attributes, or metadata
+-- a decoration of this part: a word with what follows it, a group of attributes, or metadata
 unfoldable pub decoration : Spot → Form (Unit {0})
 decoration s = look (λ i. kind i.cursor) (decoration_by s)
 
@@ -174,7 +174,7 @@ decoration_takes s = look_takes (λ i. kind i.cursor) (decoration_by s) (decorat
 abbrev pub at_no_decoration : Spot → Input → Bool
 at_no_decoration s i = not (begins_decoration s (begins_line i.cursor) (kind i.cursor))
 
--- the place stays the same behind a decoration
+-- the place stays the same after a decoration
 abbrev pub same_spot : Spot → Unit {0} → Spot
 same_spot s _ = s
 
@@ -182,13 +182,13 @@ same_spot s _ = s
 unfoldable pub decorations : Spot → Form (Unit {0})
 decorations s = many_with at_no_decoration decoration decoration_takes same_spot s >> pure tt
 
--- ---- words that stand once, and flags
+-- ---- words that are written once, and flags
 
 -- this word, if it is there
 unfoldable pub optional : Kind → Form (Unit {0})
 optional x = look (λ i. sees x i.cursor) (either skip (pure tt))
 
--- no `nsw` or `nuw` stands here
+-- no `nsw` or `nuw` is here
 abbrev pub at_no_flag : Input → Bool
 at_no_flag i = not (is_flag (kind i.cursor))
 
@@ -216,11 +216,11 @@ abbrev pub flags_or : Bool → Form (Unit {0})
 flags_or true = many at_no_flag flag flag_takes >> pure tt
 flags_or false = pure tt
 
--- the flags behind a word that may have some
+-- the flags after a word that may have some
 unfoldable pub flags : Bool → Form (Unit {0})
 flags may_wrap = flags_or may_wrap
 
--- ---- behind an instruction or a global
+-- ---- after an instruction or a global
 
 -- an instruction of this sort may have an alignment
 abbrev pub may_align : Trail → Bool
@@ -233,7 +233,7 @@ abbrev pub is_slot : Trail → Bool
 is_slot trail.Slot = true
 is_slot _ = false
 
--- `align n`, where it may stand
+-- `align n`, where it is allowed
 abbrev pub aligned : Bool → Form (Unit {0})
 aligned true = skip >> expect k.Number
 aligned false = refuse unexpected
@@ -242,13 +242,13 @@ aligned false = refuse unexpected
 abbrev pub begins_count : Trail → Kind → Bool
 begins_count t x = is_slot t && begins_any_type x
 
--- what may stand behind an instruction's comma: metadata or an alignment
+-- what may follow an instruction's comma: metadata or an alignment
 abbrev pub trail_by : Trail → Kind → Form (Unit {0})
 trail_by t k.MetadataName = metadata
 trail_by t k.Align = aligned (may_align t)
 trail_by t _ = refuse (unread (begins_count t))
 
--- what stands behind a comma at an instruction's end
+-- what follows a comma at an instruction's end
 abbrev pub trail_behind : Trail → Form (Unit {0})
 trail_behind t = look (λ i. kind i.cursor) (trail_by t)
 
@@ -264,21 +264,21 @@ comma_trail_takes t = first_takes (expect k.Comma) (λ _. trail_behind t) (expec
 abbrev pub at_no_trail : Trail → Input → Bool
 at_no_trail t i = not (sees k.Comma i.cursor)
 
--- the sort of the instruction stays the same behind a trailing part
+-- the sort of the instruction stays the same after a trailing part
 abbrev pub same_trail : Trail → Unit {0} → Trail
 same_trail t _ = t
 
--- the decorations behind an instruction or a global
+-- the decorations after an instruction or a global
 unfoldable pub trailing : Trail → Form (Unit {0})
 trailing t = many_with at_no_trail comma_trail comma_trail_takes same_trail t >> pure tt
 
--- what may stand behind an instruction
+-- what may follow an instruction
 abbrev pub trail_of : Op → Trail
 trail_of (op.Alloca held) = trail.Slot
 trail_of (op.Load loaded place_type place) = trail.Memory
 trail_of (op.Store stored value place_type place) = trail.Memory
 trail_of _ = trail.Other
 
--- an instruction, and the decorations behind it
+-- an instruction, and the decorations after it
 abbrev pub trailed : Op → Form Op
 trailed x = trailing (trail_of x) >> pure x

@@ -68,7 +68,7 @@ unread is_unread i = refused (is_unread (kind i.cursor)) i.cursor
 
 -- ---- a token
 
--- behind the next token
+-- after the next token
 abbrev pub advanced : Input → Input
 advanced i = record i { cursor = next i.cursor }
 
@@ -80,7 +80,7 @@ rest_less : (ts : List Token) → kind_first ts ≢ k.End → length (rest_of ts
 rest_less [] ne = absurd (ne refl)
 rest_less (t ∷ ts) ne = omega arith
 
--- a step that goes on to the next token, whatever else it changes, gives nothing back
+-- a step to the next token, whatever else it changes, never increases the number of tokens left
 pub next_falls : (i : Input) → length (next i.cursor).rest ≤ left i
 unfolding left next
 next_falls i = rest_falls i.cursor.rest
@@ -130,7 +130,7 @@ skip_takes wanted ne = advance_takes wanted ne (λ _. tt) advanced advanced_fall
 pub expect_takes : (wanted : Kind) → wanted ≢ k.End → Takes (expect wanted)
 expect_takes wanted ne = checked_takes (λ i. sees wanted i.cursor) unexpected skip (λ i a o e h. skip_takes wanted ne i a o (sees_is wanted i e) h)
 
--- behind a form that keeps what holds of the state, a form takes what it takes
+-- a form whose first part preserves P takes a token if its second part takes one where P holds
 pub keeps_takes : {A B : Type 0} (P : Input → Type 0) (c : Form A) (g : A → Form B) → ((i : Input) (a : A) (o : Input) → c.says i a o → P i → P o)
     → ((a : A) → TakesWhere P (g a)) → TakesWhere P (c >>= g)
 keeps_takes P c g keeps takes i b o p h =

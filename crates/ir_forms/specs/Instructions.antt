@@ -20,7 +20,7 @@ use Rattle.ir_forms.specs.Memory.{alloca, bitcast, load, store, stored_here, ele
 use Rattle.ir_forms.specs.Phis.{phi}
 use Rattle.ir_forms.specs.Sites.{first_of, behind}
 
--- an instruction that gives a value, by the word with which it begins behind `=`
+-- an instruction that gives a value, by the word with which it begins after `=`
 abbrev pub named_op_by : Site → ℕ → Kind → Form Op
 named_op_by site value k.Alloca = alloca value
 named_op_by site value k.Bitcast = bitcast value
@@ -34,11 +34,11 @@ named_op_by site value k.Tail = tail_call value
 named_op_by site value k.Notail = tail_call value
 named_op_by site value _ = integer_op value
 
--- what stands behind `%v =`
+-- what follows `%v =`
 unfoldable pub named_op : Site → ℕ → Form Op
 named_op site value = look (λ i. kind i.cursor) (named_op_by site value)
 
--- what stands behind the name of a result
+-- what follows the name of a result
 abbrev pub named_behind : Site → ℕ → Form Instr
 named_behind site value = do
   expect k.Equals

@@ -55,7 +55,7 @@ arithmetic_of k.Or = Some a.Or
 arithmetic_of k.Xor = Some a.Xor
 arithmetic_of _ = None
 
--- those that flags may stand behind
+-- those that flags may follow
 abbrev pub may_wrap : Arithmetic → Bool
 may_wrap a.Add = true
 may_wrap a.Sub = true
@@ -156,7 +156,7 @@ abbrev pub resize_by : ℕ → Option Resize → Form Op
 resize_by value None = refuse unexpected
 resize_by value (Some x) = resize x value
 
--- `zext`, `sext` or `trunc`, with what stands behind it
+-- `zext`, `sext` or `trunc`, with what follows it
 unfoldable pub resized : ℕ → Form Op
 resized value = look (λ i. resize_of (kind i.cursor)) (resize_by value)
 

@@ -25,7 +25,7 @@ sees_no wanted = checked (λ i. not (sees wanted i.cursor)) unexpected
 abbrev pub comma : Kind → Form (Unit {0})
 comma close = expect k.Comma >> sees_no close
 
--- nothing before the list's end, or else a comma with a further part behind it
+-- nothing before the list's end, or else a comma with a further part after it
 unfoldable pub separator : Kind → Form (Unit {0})
 separator close = look (λ i. sees close i.cursor) (either (pure tt) (comma close))
 
@@ -33,7 +33,7 @@ separator close = look (λ i. sees close i.cursor) (either (pure tt) (comma clos
 abbrev pub at_round : Input → Bool
 at_round i = sees k.CloseRound i.cursor
 
--- an argument behind its type
+-- an argument after its type
 abbrev pub argument_of : WrittenType → Form Argument
 argument_of w = do
   decorations spot.Argument
@@ -79,7 +79,7 @@ pub index_takes : (s : IndexList) → Takes (any_index s)
 unfolding index
 index_takes s = first_takes (expect k.Comma) (λ _. typed) (expect_takes k.Comma (λ x. cc))
 
--- no further part of the list stands here; metadata is none
+-- no further part of the list is here; metadata is none
 abbrev pub at_no_comma : Input → Bool
 at_no_comma i = not (sees k.Comma i.cursor) || is_metadata (kind_behind i.cursor)
 

@@ -1,4 +1,4 @@
--- Lists of forms, each of which may depend on what the ones before it come to, up to where a test holds.
+-- Lists of forms with an accumulator, on which each form may depend, up to where a test holds.
 use Rattle.std.specs.Prelude.{◌≡◌, ℕ, zero, suc, ◌<◌, ◌≤◌, Bool, true, false, if◌then◌else◌, List, [], ◌∷◌, ◌++◌, Ok, Err, refl}
 use Rattle.std.proofs.Common.{sym, ◌∙◌, ap, subst, arith, append_assoc, inl, inr}
 use Rattle.std.proofs.lemmas.List.{append-nil}
@@ -7,8 +7,7 @@ use Rattle.grammar.specs.Laws.{done, done_is, same_left, and_then_ok, and_then_a
 use Rattle.grammar.specs.Grammar.{Grammar}
 use Rattle.grammar.specs.Takes.{Takes}
 
--- these forms and further ones up to where the test holds, of which there are at most so many; `c` is what the forms so
--- far come to
+-- these forms and at most n further ones, up to where the test holds; `c` is the accumulator after the forms so far
 unfoldable pub many_with_from : {S E A C : Type 0} → (C → S → Bool) → (C → Parser S E A) → (C → A → C) → ℕ → C → List A → Parser S E (List A)
 many_with_from stop item next zero c found i = Ok (found, i)
 many_with_from stop item next (suc n) c found i = if stop c i then Ok (found, i) else and_then (item c i) (λ a. many_with_from stop item next n (next c a) (found ++ a ∷ []))
@@ -18,7 +17,7 @@ abbrev pub Follows : {S A C : Type 0} → (C → S → Bool) → (C → S → A 
 Follows stop Says next c i [] o = (stop c i ≡ true) × (i ≡ o)
 Follows {S = S} stop Says next c i (a ∷ xs) o = (stop c i ≡ false) × (m : S) × Says c i a m × Follows stop Says next (next c a) m xs o
 
--- some forms, where the test holds before none of them; and what they come to
+-- some forms, where the test holds before none of them; and the accumulator after them
 abbrev pub Leads : {S A C : Type 0} → (C → S → Bool) → (C → S → A → S → Type 0) → (C → A → C) → C → S → List A → C → S → Type 0
 Leads stop Says next c i [] d o = (c ≡ d) × (i ≡ o)
 Leads {S = S} stop Says next c i (a ∷ xs) d o = (stop c i ≡ false) × (m : S) × Says c i a m × Leads stop Says next (next c a) m xs d o
@@ -119,8 +118,8 @@ pub failing_is_read : {S E : Type 0} {left : S → ℕ} {A C : Type 0} (stop : C
     → FailsIn stop g next c i e → many_with_from stop (λ c. (g c).read) next (suc (left i)) c [] i ≡ Err e
 failing_is_read {left = left} stop g takes next c i e h = with_broken stop g takes next (suc (left i)) c [] i h.0 h.1 h.2 e (omega arith) h.3 h.4 h.5
 
--- forms one after another, up to where the test holds: `c` is what comes before the first, and `next` what a further
--- form makes of it; each form takes something, and so the list ends
+-- Forms one after another, up to where the test holds. `c` is the accumulator before the first, and `next` what a further
+-- form makes of it. Each form takes something, and so the list ends.
 abbrev pub many_with : {S E : Type 0} {left : S → ℕ} {A C : Type 0} → (stop : C → S → Bool) → (g : C → Grammar S E left A) → ((c : C) → Takes (g c)) → (next : C → A → C) → C → Grammar S E left (List A)
 many_with {left = left} stop g takes next c = record {
   read = λ i. many_with_from stop (λ c. (g c).read) next (suc (left i)) c [] i;

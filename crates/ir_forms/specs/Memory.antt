@@ -52,7 +52,7 @@ load value = do
   set_type value loaded.id
   pure (op.Load loaded.id place.written place.operand)
 
--- what stands behind `store`
+-- what follows `store`
 abbrev pub stored_behind : Form Op
 stored_behind = do
   stored ← scalar

@@ -84,7 +84,7 @@ is_struct None = false
 is_struct (Some None) = false
 is_struct (Some (Some layout)) = true
 
--- the number of the struct name that stands here
+-- the number of the struct name that is here
 abbrev pub struct_number : Input → ℕ
 struct_number i = number_of (spelled i.cursor) i.struct_names.names
 
@@ -107,11 +107,11 @@ struct_name_rules = has_number struct_number
 unfoldable pub struct_name : Form ℕ
 struct_name = struct_name_rules >> step struct_number with_struct_use with_struct_use_falls
 
--- the struct name that stands here was defined before
+-- the struct name that is here was defined before
 abbrev pub is_known_struct : Input → Bool
 is_known_struct i = is_struct (slice_get (mentioned (spelled i.cursor) None i.struct_names).sorts (struct_number i))
 
--- the struct name that stands here is defined here
+-- the struct name that is here is defined here
 abbrev pub with_struct : Input → Input
 with_struct i = record (advanced i) {
   struct_names = defined (struct_number i) (Some (length i.structs)) (mentioned (spelled i.cursor) None i.struct_names);
@@ -147,7 +147,7 @@ is_function (Some (symbol.Global g)) = false
 is_function (Some (symbol.Declared d)) = true
 is_function (Some (symbol.Defined f)) = true
 
--- the number of the global name that stands here
+-- the number of the global name that is here
 abbrev pub symbol_number : Input → ℕ
 symbol_number i = number_of (spelled i.cursor) i.symbols.names
 
@@ -155,11 +155,11 @@ symbol_number i = number_of (spelled i.cursor) i.symbols.names
 abbrev pub not_left_out : Form (Unit {0})
 not_left_out = checked (λ i. not (is_left_out (spelled i.cursor))) (λ i. left_out i.cursor)
 
--- the global name that stands here was defined before
+-- the global name that is here was defined before
 abbrev pub is_known_symbol : Input → Bool
 is_known_symbol i = is_symbol (slice_get (mentioned (spelled i.cursor) symbol.Unknown i.symbols).sorts (symbol_number i))
 
--- the global name that stands here is defined here, as this
+-- the global name that is here is defined here, as this
 abbrev pub with_symbol : SymbolSort → Input → Input
 with_symbol sort i = record (advanced i) { symbols = defined (symbol_number i) sort (mentioned (spelled i.cursor) symbol.Unknown i.symbols) }
 
@@ -194,7 +194,7 @@ used_symbol is_call = has_number symbol_number >> step symbol_number (with_symbo
 unfoldable pub callee : Form ℕ
 callee = not_left_out >> used_symbol true
 
--- what the next token's global name stands for so far
+-- what the next token's global name means so far
 abbrev pub sort_of_symbol : Input → Option SymbolSort
 sort_of_symbol i = option_and_then (slice_get i.symbols.sorts) (place_of (spelled i.cursor) i.symbols.names)
 
@@ -216,7 +216,7 @@ is_local (Some (local.Value t)) = true
 is_local (Some (local.Element block place)) = true
 is_local (Some (local.Block b)) = true
 
--- the number of the local name that stands here
+-- the number of the local name that is here
 abbrev pub local_number : Input → ℕ
 local_number i = number_of (local_key i.cursor) i.locals.names
 
@@ -231,7 +231,7 @@ pub with_local_use_falls : (wanted : Wanted) (i : Input) → left (with_local_us
 unfolding left
 with_local_use_falls wanted i = next_falls i
 
--- a local name that has to stand for this
+-- a local name that has to mean this
 unfoldable pub used_local : Wanted → Form ℕ
 used_local wanted = has_number local_number >> step local_number (with_local_use wanted) (with_local_use_falls wanted)
 
@@ -253,15 +253,15 @@ used_label wanted = look (λ i. kind i.cursor) (used_label_by wanted)
 abbrev pub incoming_label : Form ℕ
 incoming_label = used_label wants.Block
 
--- `label %b`, a block that is gone on with
+-- `label %b`, a branch target
 unfoldable pub target : Form ℕ
 target = expect k.Label >> used_label wants.Target
 
--- the local name that stands here was defined before
+-- the local name that is here was defined before
 abbrev pub is_known_local : Input → Bool
 is_known_local i = is_local (slice_get (mentioned (local_key i.cursor) local.Unknown i.locals).sorts (local_number i))
 
--- the local name that stands here is that of a new value
+-- the local name that is here is that of a new value
 abbrev pub with_value : Input → Input
 with_value i = record (advanced i) { locals = mentioned (local_key i.cursor) local.Unknown i.locals; values = i.values + 1 }
 
@@ -313,19 +313,19 @@ pub with_sort_falls : (value : ℕ) (sort : LocalSort) (i : Input) → left (wit
 unfolding left
 with_sort_falls value sort i = omega arith
 
--- what the value is that this name stands for
+-- what the value is that this name means
 abbrev pub set_sort : ℕ → LocalSort → Form (Unit {0})
 set_sort value sort = step (λ _. tt) (with_sort value sort) (with_sort_falls value sort)
 
--- the type of the value that this name stands for
+-- the type of the value that this name means
 abbrev pub set_type : ℕ → ℕ → Form (Unit {0})
 set_type value shown = set_sort value (local.Value shown)
 
--- the name stands for the value of the getelementptr at this place of this block
+-- the name means the value of the getelementptr at this place of this block
 abbrev pub set_element : ℕ → ℕ → ℕ → Form (Unit {0})
 set_element value block place = set_sort value (local.Element block place)
 
--- the local name that stands here is that of this block
+-- the local name that is here is that of this block
 abbrev pub with_label : ℕ → Input → Input
 with_label block i = record (advanced i) { locals = defined (local_number i) (local.Block block) (mentioned (local_key i.cursor) local.Unknown i.locals) }
 
@@ -377,7 +377,7 @@ wants_block wants.Value block = false
 wants_block wants.Block block = true
 wants_block wants.Target block = not (block == 0)
 
--- the name stands for what is wanted
+-- the name means what is wanted
 abbrev pub is_wanted : Wanted → Option LocalSort → Bool
 is_wanted wanted None = false
 is_wanted wanted (Some local.Unknown) = false
@@ -385,7 +385,7 @@ is_wanted wanted (Some (local.Value t)) = wants_value wanted
 is_wanted wanted (Some (local.Element block place)) = wants_value wanted
 is_wanted wanted (Some (local.Block b)) = wants_block wanted b
 
--- where the first use stands of a local name that is not what is wanted
+-- where the first use is of a local name that is not what is wanted
 abbrev pub first_missing : Table LocalSort → List LocalUse → Option ℕ
 first_missing t uses = option_map (λ u. u.start) (find (λ u. not (is_wanted u.wanted (slice_get t.sorts u.value))) uses)
 

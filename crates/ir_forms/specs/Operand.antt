@@ -34,7 +34,7 @@ begins_unread_operand k.Select = true
 begins_unread_operand k.Less = true
 begins_unread_operand _ = false
 
--- what `undef` and `zeroinitializer` are at an integer type of so many bits, or else at a pointer type
+-- what `undef` and `zeroinitializer` are at an integer type of n bits, or else at a pointer type
 abbrev pub zero_of : Option ℕ → Constant
 zero_of None = c.Null
 zero_of (Some bits) = c.Number 0
@@ -44,19 +44,19 @@ abbrev pub truth_of : Option ℕ → Bool → Constant
 truth_of None truth = c.Truth truth
 truth_of (Some bits) truth = if bits == 1 then c.Number (if truth then 1 else 0) else c.Truth truth
 
--- the number that the next token spells, if it lies in the range of so many bits; a pointer type has 64
+-- the number that the next token spells, if it is in the range of n bits; a pointer type has 64
 unfoldable pub number_at : Option ℕ → Input → Option ℕ
 number_at bits i = numbers.constant (spelling i.cursor) (unwrap_or bits 64)
 
--- the number that stands here as a constant of so many bits, or 0
+-- the number that is here as a constant of n bits, or 0
 abbrev pub number_or_zero : Option ℕ → Input → Constant
 number_or_zero bits i = c.Number (unwrap_or (number_at bits i) 0)
 
--- a number, which lies in the range of its type
+-- a number, which is in the range of its type
 unfoldable pub number : Option ℕ → Form Constant
 number bits = checked (λ i. is_some (number_at bits i)) (λ i. OutOfRange (start i.cursor)) >> step (number_or_zero bits) advanced advanced_falls
 
--- a constant of a type of so many bits, or of a pointer type, by the token with which it begins
+-- a constant of a type of n bits, or of a pointer type, by the token with which it begins
 abbrev pub constant_by : Option ℕ → Kind → Form Constant
 constant_by bits k.Number = number bits
 constant_by bits k.True = skip >> pure (truth_of bits true)
@@ -66,7 +66,7 @@ constant_by bits k.Undef = skip >> pure (zero_of bits)
 constant_by bits k.Zeroinitializer = skip >> pure (zero_of bits)
 constant_by bits _ = refuse (unread begins_unread_operand)
 
--- a constant at an integer type of so many bits, or else at a pointer type
+-- a constant at an integer type of n bits, or else at a pointer type
 unfoldable pub constant : Option ℕ → Form Constant
 constant bits = look (λ i. kind i.cursor) (constant_by bits)
 
@@ -99,7 +99,7 @@ cast_to from global = do
   expect k.CloseRound
   pure (o.CastGlobal from.id global to.id)
 
--- what stands behind the word of a constant bitcast
+-- what follows the word of a constant bitcast
 abbrev pub cast_behind : Form Operand
 cast_behind = do
   expect k.OpenRound
@@ -119,6 +119,6 @@ operand_by bits k.GlobalName = used_global >>= λ symbol. pure (o.Global symbol)
 operand_by bits k.Bitcast = cast
 operand_by bits _ = constant bits >>= λ x. pure (o.Constant x)
 
--- an operand at an integer type of so many bits, or else at a pointer type
+-- an operand at an integer type of n bits, or else at a pointer type
 unfoldable pub operand : Option ℕ → Form Operand
 operand bits = look (λ i. kind i.cursor) (operand_by bits)

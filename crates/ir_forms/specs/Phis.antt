@@ -1,4 +1,4 @@
--- Values that depend on the block that is come from.
+-- Values that depend on the block from which control comes.
 use Rattle.std.specs.Prelude.{ℕ, Bool, true, false, ◌&&◌, List, Option}
 use Rattle.grammar.specs.Grammar.{pure, checked, ◌>>=◌, ◌>>◌}
 use Rattle.grammar.specs.Takes.{Takes, first_takes, second_takes}
@@ -16,12 +16,12 @@ use Rattle.ir_forms.specs.declared.site.Site.{Site}
 use Rattle.ir_forms.specs.Lists.{at_no_comma}
 use Rattle.ir_forms.specs.ManyWith.{many_with}
 
--- behind the first entry a comma stands before each
+-- after the first entry a comma is before each
 unfoldable pub separated : Bool → Form (Unit {0})
 separated true = expect k.Comma
 separated false = pure tt
 
--- an entry of a phi behind its bracket
+-- an entry of a phi after its bracket
 abbrev pub incoming_behind : Option ℕ → Form Incoming
 incoming_behind bits = do
   x ← operand bits

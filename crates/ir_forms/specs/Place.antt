@@ -8,5 +8,5 @@ pub record Place : Type 0 where
   pub text : List ℕ
   -- the tokens from the next one on
   pub rest : List Token
-  -- where, behind the tokens, no token begins
+  -- where, after the tokens, no token begins
   pub bad : Option ℕ

@@ -1,4 +1,4 @@
--- Where an instruction stands.
+-- Where an instruction is.
 use Rattle.std.specs.Prelude.{ℕ, ◌+◌, Bool, true, false, ◌&&◌}
 use Rattle.ir_ast.specs.declared.op.Op.{Op}
 use Rattle.ir_ast.specs.declared.op.Op.TheVariants as op
@@ -14,6 +14,6 @@ is_phi _ = false
 abbrev pub first_of : ℕ → Site
 first_of block = record { block = block; place = 0; is_behind_phis = true }
 
--- behind a further instruction
+-- after a further instruction
 abbrev pub behind : Site → Instr → Site
 behind site x = record site { place = site.place + 1; is_behind_phis = site.is_behind_phis && is_phi x.op }

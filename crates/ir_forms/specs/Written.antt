@@ -1,4 +1,4 @@
--- Types as they are written: a base with stars behind it, where arrays and structs are bases that have types inside.
+-- Types as they are written: a base with stars after it, where arrays and structs are bases that have types inside.
 use Rattle.std.specs.Prelude.{ℕ, zero, suc, ◌-◌, ◌≤◌, Bool, true, false, not, ◌||◌, ◌==◌, ◌&&◌, if◌then◌else◌, nat_lt, nat_le, min, List, [], ◌∷◌, Option, Some, None, is_some, unwrap_or, slice_get}
 use Rattle.std.proofs.Common.{arith}
 use Rattle.grammar.specs.Grammar.{pure, step, checked, refuse, look, ◌>>=◌, ◌>>◌}
@@ -27,7 +27,7 @@ use Rattle.ir_forms.specs.Names.{has_number, is_at, struct_name, struct_name_tak
 abbrev pub place_in_table : IrType → Input → ℕ
 place_in_table t i = number_of_type t i.types
 
--- the type stands in the table of types
+-- the type is in the table of types
 abbrev pub with_type_interned : IrType → Input → Input
 with_type_interned t i = record i { types = numbered_type t i.types }
 
@@ -41,7 +41,7 @@ intern t = has_number (place_in_table t) >> step (place_in_table t) (with_type_i
 
 -- ---- a type before its stars
 
--- how many bits the digits behind the `i` of an integer type tell
+-- how many bits the digits after the `i` of an integer type tell
 unfoldable pub bits_at : Input → ℕ
 bits_at i = decimal (name i.cursor)
 
@@ -75,7 +75,7 @@ begins_unread_type k.Less = true
 begins_unread_type k.Dots = true
 begins_unread_type _ = false
 
--- a type without a star, where so many levels more there might be
+-- a type without a star, with room for this number of further levels
 abbrev pub part_of : Base → ℕ → ℕ → WrittenType
 part_of base room id = record { base = base; stars = 0; id = id; room = room }
 
@@ -87,7 +87,7 @@ interned base room t = intern t >>= λ id. pure (part_of base room id)
 unfoldable pub length_at : Input → Option ℕ
 length_at i = natural (spelling i.cursor)
 
--- the number that stands here is the length of an array
+-- the number that is here is the length of an array
 abbrev pub has_length : Form (Unit {0})
 has_length = checked (λ i. is_some (length_at i)) (λ i. OutOfRange (start i.cursor))
 
@@ -95,7 +95,7 @@ has_length = checked (λ i. is_some (length_at i)) (λ i. OutOfRange (start i.cu
 unfoldable pub array_length : Form ℕ
 array_length = sees_a k.Number >> has_length >> step (λ i. unwrap_or (length_at i) 0) advanced advanced_falls
 
--- what stands behind the bracket of an array type
+-- what follows the bracket of an array type
 abbrev pub array_behind : Firm → Form WrittenType
 array_behind inner = do
   n ← array_length
@@ -117,11 +117,11 @@ abbrev pub comma_or : Bool → Form (Unit {0})
 comma_or true = pure tt
 comma_or false = expect k.Comma >> checked (λ i. not (at_brace i)) unexpected
 
--- nothing before the brace that closes, or else a comma with a further field behind it
+-- nothing before the brace that closes, or else a comma with a further field after it
 unfoldable pub behind_field : Form (Unit {0})
 behind_field = look at_brace comma_or
 
--- a field with what stands behind it
+-- a field with what follows it
 abbrev pub field_of : WrittenType → Form WrittenType
 field_of p = behind_field >> pure p
 
@@ -157,7 +157,7 @@ fields_behind room inner = many at_brace (field inner) (field_takes inner) >>= c
 abbrev pub braced : ℕ → Firm → Form WrittenType
 braced room inner = skip >> fields_behind room inner
 
--- a type without the stars behind it, by the token with which it begins
+-- a type without the stars after it, by the token with which it begins
 abbrev pub base_by : ℕ → Firm → Kind → Form WrittenType
 base_by room inner k.IntegerType = integer >>= λ bits. interned (Integer bits) room (type.Integer bits)
 base_by room inner k.LocalName = struct_name >>= λ name. interned Named room (type.Named name)
@@ -171,7 +171,7 @@ base room inner = look (λ i. kind i.cursor) (base_by room inner)
 
 -- ---- stars
 
--- a star stands here
+-- a star is here
 abbrev pub at_star : Input → Bool
 at_star i = sees k.Star i.cursor
 
@@ -180,7 +180,7 @@ abbrev pub star_or : {A : Type 0} → Form A → Form A → Bool → Form A
 star_or star none true = star
 star_or star none false = none
 
--- stars behind a type, of which there may be so many: how many more there might be, and the place of the pointer type
+-- at most n stars after a type: the room for further levels that is left, and the place of the pointer type
 unfoldable pub pointers : ℕ → ℕ → Form (ℕ × ℕ)
 pointers zero pointee = look at_star (star_or (refuse limit) (pure (0, pointee)))
 pointers (suc room) pointee = look at_star (star_or (skip >> intern (type.Pointer pointee) >>= pointers room) (pure (suc room, pointee)))
@@ -189,11 +189,11 @@ pointers (suc room) pointee = look at_star (star_or (skip >> intern (type.Pointe
 abbrev pub no_parameters : Form (Unit {0})
 no_parameters = checked (λ i. not (sees k.OpenRound i.cursor)) (λ i. left_out i.cursor)
 
--- a type with the stars that were found behind it
+-- a type with the stars that were found after it
 abbrev pub with_stars : WrittenType → ℕ × ℕ → WrittenType
 with_stars p found = record { base = p.base; stars = p.room - found.0; id = found.1; room = found.0 }
 
--- the stars behind a type
+-- the stars after a type
 unfoldable pub starred : WrittenType → Form WrittenType
 starred p = do
   found ← pointers p.room p.id
@@ -228,24 +228,24 @@ pub no_type_takes : Takes no_type
 unfolding no_type
 no_type_takes i a o h = absurd h
 
--- a type of at most so many levels: an integer or a name is one, and each star, array or struct around it is one more
+-- a type of at most n levels: an integer or a name is one, and each star, array or struct around it is one more
 unfoldable pub firm : ℕ → Firm
 firm zero = record { form = no_type; takes = no_type_takes }
 firm (suc room) = record { form = over room (firm room); takes = over_takes room (firm room) }
 
--- a type of at most so many levels
+-- a type of at most n levels
 abbrev pub part : ℕ → Form WrittenType
 part levels = (firm levels).form
 
--- a type that has at most so many levels over its first
+-- a type of at most `room` levels over its first
 unfoldable pub type_within : ℕ → Form WrittenType
 type_within room = part (suc room)
 
--- `{ T, .. }` as the type that a name stands for: its place
+-- `{ T, .. }` as the definition of a named struct: its place
 unfoldable pub struct_body : Form ℕ
 struct_body = braced 63 (firm 63) >>= λ p. pure p.id
 
--- ---- which types may stand where
+-- ---- which types are allowed where
 
 -- how many bits an integer type has
 abbrev pub bits_of_base : Base → Option ℕ
@@ -261,7 +261,7 @@ is_scalar w = nat_lt 0 w.stars || is_some (bits_of_base w.base)
 abbrev pub bits_of : WrittenType → Option ℕ
 bits_of w = if w.stars == 0 then bits_of_base w.base else None
 
--- an integer, a reference or `i8*`, which a function may take and give
+-- an integer, a reference or `i8*`, which a function may take and return
 abbrev pub is_passed : WrittenType → Bool
 is_passed w = passed_by w.base w.stars where
   passed_by : Base → ℕ → Bool
@@ -277,15 +277,15 @@ is_held w = held_by w.base w.stars where
   held_by Named stars = stars == 1
   held_by Aggregate stars = false
 
--- the type before here may stand here; otherwise it has this fault, but where the text ends, since a star might follow
+-- The type before here is allowed, or else has this fault. Where the text ends, the fault is that of its end, since a star might follow.
 abbrev pub allow : Bool → Fault → Form (Unit {0})
 allow allowed fault = checked (λ i. allowed) (λ i. if sees k.End i.cursor then unexpected i else fault)
 
--- the type, if it may stand here, or else the fault
+-- the type, if it is allowed here, or else the fault
 abbrev pub then_allowed : (WrittenType → Bool) → WrittenType → Fault → Form WrittenType
 then_allowed may_stand w fault = allow (may_stand w) fault >> pure w
 
--- a type that may stand here, or else its first word is left out
+-- a type that is allowed here, or else its first word is left out
 abbrev pub type_that : (WrittenType → Bool) → ℕ → Form WrittenType
 type_that may_stand room = look (λ i. left_out i.cursor) (λ fault. type_within room >>= λ w. then_allowed may_stand w fault)
 
@@ -293,7 +293,7 @@ type_that may_stand room = look (λ i. left_out i.cursor) (λ fault. type_within
 unfoldable pub any_type : Form WrittenType
 any_type = type_within 63
 
--- a type that a word holds, with at most so many levels over its first
+-- a type that a word holds, with at most n levels over its first
 unfoldable pub scalar_within : ℕ → Form WrittenType
 scalar_within = type_that is_scalar
 
@@ -309,7 +309,7 @@ passed_type = type_that is_passed 63
 unfoldable pub held_type : Form WrittenType
 held_type = type_that is_held 63
 
--- a type with a star behind it
+-- a type with a star after it
 unfoldable pub pointer_type : Form WrittenType
 pointer_type = any_type >>= λ w. checked (λ _. nat_lt 0 w.stars) unexpected >> pure w
 
@@ -319,7 +319,7 @@ pointer_type = any_type >>= λ w. checked (λ _. nat_lt 0 w.stars) unexpected >>
 abbrev pub sees_type : Kind → Form (Unit {0})
 sees_type wanted = checked (λ i. sees wanted i.cursor) (unread begins_unread_type)
 
--- an integer of so many bits again
+-- an integer of n bits again
 unfoldable pub integer_again : ℕ → Form (Unit {0})
 integer_again bits = sees_type k.IntegerType >> has_bits >> checked (λ i. bits_at i == bits) unexpected >> skip
 
@@ -354,7 +354,7 @@ abbrev pub field_or : (ℕ → ℕ → Form (Unit {0})) → Option IrType → Fo
 field_or next (Some (type.Struct first rest)) = expect k.Comma >> next first rest
 field_or next _ = expect k.CloseBrace
 
--- the fields of this struct again, of which there are at most so many, behind others
+-- at most n fields of this struct again, after others
 unfoldable pub fields_again : (ℕ → Form (Unit {0})) → ℕ → ℕ → Form (Unit {0})
 fields_again inner zero id = refuse unexpected
 fields_again inner (suc most) id = look (type_at id) (field_or (λ first rest. inner first >> fields_again inner most rest))
@@ -377,16 +377,16 @@ again_by inner _ = refuse unexpected
 abbrev pub again_over : (ℕ → Form (Unit {0})) → ℕ → Form (Unit {0})
 again_over inner id = look (type_at id) (again_by inner)
 
--- the type with this place again, which has at most so many levels
+-- the type with this place again, which has at most n levels
 unfoldable pub again_within : ℕ → ℕ → Form (Unit {0})
 again_within zero id = refuse unexpected
 again_within (suc room) id = again_over (again_within room) id >> no_parameters
 
--- the same type again: at the first token that departs no form goes on
+-- the same type again: no form goes on at the first token that differs
 unfoldable pub again : WrittenType → Form (Unit {0})
 again w = again_within 64 w.id
 
--- a star, where so many levels more there might be
+-- a star, with room for this number of further levels
 abbrev pub further_star : ℕ → Form (Unit {0})
 further_star room = sees_a k.Star >> checked (λ _. nat_lt 0 room) limit >> skip
 

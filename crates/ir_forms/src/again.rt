@@ -24,7 +24,7 @@ impl<'a> Input<'a> {
         Ok(())
     }
 
-    /// An integer of so many bits again.
+    /// An integer of `bits` bits again.
     #[tactic(auto, unfolding(crate::specs::Written::integer_again, crate::specs::Written::bits_at))]
     fn integer_again(&mut self, bits: u32) -> Result<(), Fault>
         ensures { Reads ((form.integer_again bits).read self.old) result self.new }
@@ -74,7 +74,7 @@ impl<'a> Input<'a> {
         Ok(())
     }
 
-    /// The type with this place again, which has at most so many levels.
+    /// The type with this place again, which has at most `levels` levels.
     #[cycle(mentions)]
     #[tactic(auto, unfolding(crate::specs::Written::again_within))]
     fn again_within(&mut self, alloc: Global, levels: u32, id: TypeId) -> Result<(), Fault>
@@ -87,7 +87,7 @@ impl<'a> Input<'a> {
         self.no_parameters()
     }
 
-    /// The type with this place again, whose parts have at most so many levels.
+    /// The type with this place again, whose parts have at most `levels` levels.
     #[cycle(mentions)]
     fn again_by(&mut self, alloc: Global, levels: u32, id: TypeId) -> Result<(), Fault>
         ensures { Reads ((form.again_over (form.again_within levels) id).read self.old) result self.new }
@@ -116,7 +116,7 @@ impl<'a> Input<'a> {
         }
     }
 
-    /// An array of so many of a part again, which has at most so many levels.
+    /// An array of this length and part again, where the part has at most `levels` levels.
     #[cycle(mentions)]
     fn array_again(
         &mut self,
@@ -135,7 +135,7 @@ impl<'a> Input<'a> {
         self.expect(Kind::CloseSquare)
     }
 
-    /// The fields of this struct again, behind others, up to the brace that closes.
+    /// The fields of this struct again, after others, up to the brace that closes.
     #[cycle(mentions)]
     fn fields_again(&mut self, alloc: Global, levels: u32, rest: TypeId) -> Result<(), Fault>
         ensures { Reads ((form.all_fields_again (form.again_within levels) rest).read self.old) result self.new }
@@ -168,7 +168,7 @@ impl<'a> Input<'a> {
         self.again_within(alloc, ROOM + 1, written.id)
     }
 
-    /// A star, where so many levels more there might be.
+    /// A star, with room for this number of further levels.
     fn further_star(&mut self, room: u32) -> Result<(), Fault>
         ensures { Reads ((form.further_star room).read self.old) result self.new }
     {
@@ -182,7 +182,7 @@ impl<'a> Input<'a> {
         Ok(())
     }
 
-    /// The type of pointers to a type that is mentioned here again. Answers its place.
+    /// The type of pointers to a type that is mentioned here again. Returns its place.
     #[tactic(auto, unfolding(crate::specs::Written::pointer_again))]
     pub fn pointer_again(&mut self, alloc: Global, written: &WrittenType) -> Result<TypeId, Fault>
         ensures { Reads ((form.pointer_again written.now).read self.old) result self.new }

@@ -18,7 +18,7 @@ use ir_tokens::Kind;
 use items::Items;
 use std::alloc::Global;
 
-/// An instruction behind the name of its value.
+/// An instruction after the name of its value.
 #[tactic(auto, unfolding(crate::specs::Instructions::named_op))]
 fn named_op(alloc: Global, input: &mut Input<'_>, site: Site, value: ValueId) -> Result<Op, Fault>
     ensures { Reads ((form.named_op site value).read input.old) result input.new }
@@ -37,7 +37,7 @@ fn named_op(alloc: Global, input: &mut Input<'_>, site: Site, value: ValueId) ->
     }
 }
 
-/// What stands behind the name of a value.
+/// What follows the name of a value.
 fn named(alloc: Global, input: &mut Input<'_>, site: Site, value: ValueId) -> Result<Instr, Fault>
     ensures { Reads ((form.named_behind site value).read input.old) result input.new }
 {

@@ -15,7 +15,7 @@ use ir_tokens::Kind;
 use items::Items;
 use std::alloc::Global;
 
-/// br with a condition, behind its word.
+/// br with a condition, after its word.
 #[tactic(auto, unfolding(crate::specs::Branches::branch))]
 fn branch(alloc: Global, input: &mut Input<'_>) -> Result<Op, Fault>
     ensures { Reads (form.branch.read input.old) result input.new }

@@ -24,7 +24,7 @@ fn called(alloc: Global, input: &mut Input<'_>) -> Result<SymbolId, Fault>
     }
 }
 
-/// A call behind the type of its result.
+/// A call after the type of its result.
 #[tactic(auto, unfolding(crate::specs::Calls::call_behind, crate::specs::Lists::arguments))]
 fn call_behind(alloc: Global, input: &mut Input<'_>, returned: TypeId) -> Result<Op, Fault>
     ensures { Reads ((form.call_behind returned).read input.old) result input.new }
@@ -41,7 +41,7 @@ fn call_behind(alloc: Global, input: &mut Input<'_>, returned: TypeId) -> Result
     })
 }
 
-/// A call behind its word, whose value is this one.
+/// A call after its word, whose value is this one.
 fn typed_call(alloc: Global, input: &mut Input<'_>, value: ValueId) -> Result<Op, Fault>
     ensures { Reads ((form.typed_call value).read input.old) result input.new }
 {
@@ -61,7 +61,7 @@ pub fn call(alloc: Global, input: &mut Input<'_>, value: ValueId) -> Result<Op, 
     typed_call(alloc, input, value)
 }
 
-/// An instruction with this value, and the decorations behind it.
+/// An instruction with this value, and the decorations after it.
 pub fn valued(alloc: Global, input: &mut Input<'_>, value: ValueId, op: Op) -> Result<Instr, Fault>
     ensures { Reads ((form.valued value op).read input.old) result input.new }
 {
@@ -72,7 +72,7 @@ pub fn valued(alloc: Global, input: &mut Input<'_>, value: ValueId, op: Op) -> R
     })
 }
 
-/// An instruction without a value, and the decorations behind it.
+/// An instruction without a value, and the decorations after it.
 pub fn unnamed(alloc: Global, input: &mut Input<'_>, op: Op) -> Result<Instr, Fault>
     ensures { Reads ((form.unnamed op).read input.old) result input.new }
 {
@@ -80,7 +80,7 @@ pub fn unnamed(alloc: Global, input: &mut Input<'_>, op: Op) -> Result<Instr, Fa
     Ok(Instr { result: None, op })
 }
 
-/// A call without a value, behind its word.
+/// A call without a value, after its word.
 #[tactic(auto, unfolding(crate::specs::Calls::void_call))]
 fn void_call(alloc: Global, input: &mut Input<'_>) -> Result<Op, Fault>
     ensures { Reads (form.void_call.read input.old) result input.new }

@@ -38,7 +38,7 @@ fn same_kind(a: Kind, b: Kind) -> bool
     a == b
 }
 
-/// The bytes behind so many.
+/// The bytes after the first `count`.
 fn behind(bytes: &[u8], count: usize) -> &[u8]
     ensures { result.now ≡ drop count bytes.now }
 {
@@ -49,7 +49,7 @@ fn behind(bytes: &[u8], count: usize) -> &[u8]
     }
 }
 
-/// At most so many bytes.
+/// The first `count` bytes, or all if there are fewer.
 fn front(bytes: &[u8], count: usize) -> &[u8]
     ensures { result.now ≡ take count bytes.now }
 {
@@ -61,7 +61,7 @@ fn front(bytes: &[u8], count: usize) -> &[u8]
 }
 
 impl<'a> Cursor<'a> {
-    /// Before the first token. `bad` is the place behind the tokens at which no token begins, if there is one.
+    /// Before the first token. `bad` is the place after the tokens at which no token begins, if there is one.
     pub fn new(text: &'a [u8], tokens: &'a [Token], bad: Option<u32>) -> Cursor<'a>
         requires { length text.now < 2 ^ 32 }
         ensures { result ≡ record { text = text.now; rest = tokens.now; bad = bad } }
@@ -93,7 +93,7 @@ impl<'a> Cursor<'a> {
         }
     }
 
-    /// What the token behind the next one is.
+    /// What the token after the next one is.
     #[tactic(auto, unfolding(crate::specs::Cursor::kind_behind))]
     pub fn kind_behind(&self) -> Kind
         ensures { result ≡ spec.kind_behind self.now }
@@ -122,7 +122,7 @@ impl<'a> Cursor<'a> {
         same_kind(self.kind(), kind)
     }
 
-    /// Where the next token begins; behind the last token, where the text ends.
+    /// Where the next token begins; after the last token, where the text ends.
     #[tactic(auto, unfolding(crate::specs::Cursor::start))]
     pub fn start(&self) -> u32
         ensures { result ≡ spec.start self.now }
@@ -165,7 +165,7 @@ impl<'a> Cursor<'a> {
         }
     }
 
-    /// Whether, behind the tokens, a byte stands at which no token begins.
+    /// Whether, after the tokens, there is a byte at which no token begins.
     pub fn is_bad(&self) -> bool
         ensures { result ≡ is_some self.now.bad }
     {
@@ -217,7 +217,7 @@ fn is_local_number(kind: Kind) -> bool
 }
 
 impl<'a> Cursor<'a> {
-    /// What stands behind the first byte that spells the next token.
+    /// What follows the first byte that spells the next token.
     #[tactic(auto, unfolding(crate::specs::Cursor::name))]
     pub fn name(&self) -> &[u8]
         ensures { result.now ≡ spec.name self.now }

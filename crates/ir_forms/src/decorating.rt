@@ -1,4 +1,4 @@
-//! Decorations: what stands beside the parts of a form and has no effect on the module.
+//! Decorations: what is written beside the parts of a form and has no effect on the module.
 ghost use Rattle.std.specs.Prelude.{◌≡◌, Ok};
 ghost use Rattle.ir_forms.specs.Input.{Reads};
 ghost use Rattle.ir_forms.specs.Decorations as form;
@@ -25,7 +25,7 @@ pub fn any_token(input: &mut Input<'_>) -> Result<Kind, Fault>
     Ok(kind)
 }
 
-// ---- what stands behind a word
+// ---- what follows a word
 
 /// How many round brackets are open.
 #[derive(Clone, Copy, PartialEq, Eq)]
@@ -62,7 +62,7 @@ impl Following for Brackets {
     }
 }
 
-/// The tokens behind a round bracket, up to the one that closes it.
+/// The tokens after a round bracket, up to the one that closes it.
 #[tactic(auto, unfolding(crate::specs::Decorations::bracketed, crate::specs::Decorations::past_brackets))]
 fn past_brackets(alloc: Global, input: &mut Input<'_>) -> Result<(), Fault>
     ensures { Reads (form.past_brackets.read input.old) result input.new }
@@ -71,22 +71,22 @@ fn past_brackets(alloc: Global, input: &mut Input<'_>) -> Result<(), Fault>
     Ok(())
 }
 
-/// Which part of a form the decorations stand beside.
+/// Which part of a form the decorations are written beside.
 #[derive(Clone, Copy, PartialEq, Eq)]
 pub enum Spot {
-    /// A global, behind its `=`.
+    /// A global, after its `=`.
     Global,
     /// The result of a function or a call, before its type.
     Result,
-    /// A parameter, behind its type.
+    /// A parameter, after its type.
     Parameter,
-    /// An argument, behind its type.
+    /// An argument, after its type.
     Argument,
-    /// A call, behind its arguments.
+    /// A call, after its arguments.
     Call,
-    /// A defined function, behind its parameters.
+    /// A defined function, after its parameters.
     Defined,
-    /// A declared function, behind its parameters.
+    /// A declared function, after its parameters.
     Declared,
 }
 
@@ -96,14 +96,14 @@ fn ends_operand(kind: Kind) -> bool
     matches!(kind, Kind::Comma | Kind::CloseRound)
 }
 
-/// Whether a number behind a word is the operand of an argument.
+/// Whether a number after a word is the operand of an argument.
 fn is_operand(input: &Input<'_>, spot: Spot) -> bool
     ensures { result ≡ form.is_operand spot input.now }
 {
     matches!(spot, Spot::Argument) && ends_operand(input.cursor.kind_behind())
 }
 
-/// Round brackets, a quoted text or a number behind a word, or nothing.
+/// Round brackets, a quoted text or a number after a word, or nothing.
 #[tactic(auto, unfolding(crate::specs::Decorations::word_end))]
 fn word_end(alloc: Global, input: &mut Input<'_>, spot: Spot) -> Result<(), Fault>
     ensures { Reads ((form.word_end spot).read input.old) result input.new }
@@ -227,7 +227,7 @@ pub fn decorations(alloc: Global, input: &mut Input<'_>, spot: Spot) -> Result<(
     Ok(())
 }
 
-// ---- words that stand once, and flags
+// ---- words that are written once, and flags
 
 /// A word, if it is there.
 #[tactic(auto, unfolding(crate::specs::Decorations::optional))]
@@ -274,7 +274,7 @@ impl Listed for FlagList {
     }
 }
 
-/// The flags behind a word that may have some.
+/// The flags after a word that may have some.
 #[tactic(auto, unfolding(crate::specs::Decorations::flags))]
 pub fn flags(alloc: Global, input: &mut Input<'_>, may_wrap: bool) -> Result<(), Fault>
     ensures { Reads ((form.flags may_wrap).read input.old) result input.new }
@@ -285,9 +285,9 @@ pub fn flags(alloc: Global, input: &mut Input<'_>, may_wrap: bool) -> Result<(),
     Ok(())
 }
 
-// ---- behind an instruction or a global
+// ---- after an instruction or a global
 
-/// Which decorations may stand behind an instruction or a global.
+/// Which decorations may follow an instruction or a global.
 #[derive(Clone, Copy, PartialEq, Eq)]
 pub enum Trail {
     /// Those of an alloca, whose count is left out.
@@ -298,7 +298,7 @@ pub enum Trail {
     Other,
 }
 
-/// What may stand behind an instruction.
+/// What may follow an instruction.
 fn trail_of(op: &Op) -> Trail
     ensures { result ≡ form.trail_of op.now }
 {
@@ -321,7 +321,7 @@ fn begins_count(trail: Trail, kind: Kind) -> bool
     matches!(trail, Trail::Slot) && begins_any_type(kind)
 }
 
-/// `align n`, where it may stand.
+/// `align n`, where it is allowed.
 fn aligned(input: &mut Input<'_>, may_stand: bool) -> Result<(), Fault>
     ensures { Reads ((form.aligned may_stand).read input.old) result input.new }
 {
@@ -365,7 +365,7 @@ impl Following for Trail {
     }
 }
 
-/// The decorations behind an instruction or a global.
+/// The decorations after an instruction or a global.
 #[tactic(auto, unfolding(crate::specs::Decorations::trailing))]
 pub fn trailing(alloc: Global, input: &mut Input<'_>, trail: Trail) -> Result<(), Fault>
     ensures { Reads ((form.trailing trail).read input.old) result input.new }
@@ -374,7 +374,7 @@ pub fn trailing(alloc: Global, input: &mut Input<'_>, trail: Trail) -> Result<()
     Ok(())
 }
 
-/// The decorations behind an instruction.
+/// The decorations after an instruction.
 pub fn trailed(alloc: Global, input: &mut Input<'_>, op: Op) -> Result<Op, Fault>
     ensures { Reads ((form.trailed op).read input.old) result input.new }
 {

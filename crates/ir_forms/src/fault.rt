@@ -12,15 +12,15 @@ pub enum Fault {
     Unexpected(u32),
     /// The name is defined already.
     DefinedTwice(u32),
-    /// The name is nowhere defined, or stands for something of another sort.
+    /// The name is nowhere defined, or means something of another sort.
     NotDefined(u32),
-    /// The number has no room in its type.
+    /// The number does not fit its type.
     OutOfRange(u32),
     /// The token begins a form that is left out.
     LeftOut { start: u32, length: u32 },
     /// More than a limit allows.
     Limit(u32),
-    /// The number that stands in place of a name is not the next one.
+    /// The number in place of a name is not the next one.
     WrongNumber(u32),
 }
 

@@ -1,4 +1,4 @@
-//! Lists of forms, each of which may depend on what the ones before it come to.
+//! Lists of forms with an accumulator, on which each form may depend.
 ghost use Rattle.std.specs.Prelude.{◌≡◌, [], suc};
 ghost use Rattle.ir_forms.specs.ManyWith.{many_with_from};
 ghost use Rattle.ir_forms.specs.Input.{Reads, left};
@@ -8,13 +8,13 @@ use crate::input::Input;
 use items::Items;
 use std::alloc::Global;
 
-/// What the forms of a list come to so far, and how a further one is read behind them.
+/// The accumulator after the forms of a list so far, and how a further form is read after them.
 pub trait Following: Drop {
     ghost use Rattle.std.specs.Prelude.{Bool, IfOk};
     ghost use Rattle.ir_forms.specs.declared.input.Input.{Input};
     ghost use Rattle.ir_forms.specs.Input.{Outcome};
 
-    /// What a form stands for.
+    /// What a form is read as.
     type Item: Drop;
 
     ghost form: { Self → Input → Outcome Self.Item };
@@ -32,7 +32,7 @@ pub trait Following: Drop {
         ensures further { IfOk result (λ item. self.new ≡ next self.old item) };
 }
 
-/// Forms one after another, up to where the list ends; `first` is what comes before them.
+/// Forms one after another, up to where the list ends; `first` is the accumulator before them.
 pub fn many_with<F: Following>(
     alloc: Global,
     input: &mut Input<'_>,

@@ -116,7 +116,7 @@ impl<'a> Input<'a> {
         self.cursor.skip();
     }
 
-    /// Goes on behind a token of this kind.
+    /// Goes on after a token of this kind.
     pub fn expect(&mut self, kind: Kind) -> Result<(), Fault>
         ensures { Reads ((form.expect kind).read self.old) result self.new }
     {

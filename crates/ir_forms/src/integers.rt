@@ -20,7 +20,7 @@ pub struct TwoOperands {
     pub second: Operand,
 }
 
-/// Two operands, behind their type.
+/// Two operands, after their type.
 #[tactic(auto, unfolding(crate::specs::Integers::pair))]
 fn pair(alloc: Global, input: &mut Input<'_>) -> Result<TwoOperands, Fault>
     ensures { Reads (form.pair.read input.old) result input.new }
@@ -36,7 +36,7 @@ fn pair(alloc: Global, input: &mut Input<'_>) -> Result<TwoOperands, Fault>
     })
 }
 
-/// Two operands, each behind its type, which is one.
+/// Two operands, each after its type, which is one.
 #[tactic(auto, unfolding(crate::specs::Integers::typed_pair))]
 fn typed_pair(alloc: Global, input: &mut Input<'_>) -> Result<TwoOperands, Fault>
     ensures { Reads (form.typed_pair.read input.old) result input.new }
@@ -67,7 +67,7 @@ fn arithmetic_of(kind: Kind) -> Option<Arithmetic>
     }
 }
 
-/// Whether flags may stand behind its word.
+/// Whether flags may follow its word.
 fn may_wrap(kind: Arithmetic) -> bool
     ensures { result ≡ form.may_wrap kind }
 {
@@ -185,7 +185,7 @@ fn bit_type(id: TypeId) -> WrittenType
     }
 }
 
-/// An operand behind the type i1.
+/// An operand after the type i1.
 #[tactic(auto, unfolding(crate::specs::Integers::condition))]
 pub fn condition(alloc: Global, input: &mut Input<'_>) -> Result<Argument, Fault>
     ensures { Reads (form.condition.read input.old) result input.new }

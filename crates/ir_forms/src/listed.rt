@@ -14,7 +14,7 @@ pub trait Listed {
     ghost use Rattle.ir_forms.specs.declared.input.Input.{Input};
     ghost use Rattle.ir_forms.specs.Input.{Outcome};
 
-    /// What the form stands for.
+    /// What the form is read as.
     type Item: Drop;
 
     ghost form: { Input → Outcome Self.Item };

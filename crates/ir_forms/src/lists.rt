@@ -65,7 +65,7 @@ impl Listed for Arguments {
     }
 }
 
-/// Whether no further part stands here of a list that has no end of its own; metadata is none.
+/// Whether no further part is here of a list that has no end of its own; metadata is none.
 pub fn at_no_comma(input: &Input<'_>) -> bool
     ensures { result ≡ form.at_no_comma input.now }
 {

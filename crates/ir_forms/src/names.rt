@@ -153,7 +153,7 @@ impl<'a> Input<'a> {
         self.used_symbol(alloc, false)
     }
 
-    /// What the next token's global name stands for so far.
+    /// What the next token's global name means so far.
     fn symbol_sort(&self, alloc: Global) -> Result<Option<SymbolSort>, AllocError>
         ensures { IfOk result (λ sort. sort ≡ form.sort_of_symbol self.now) }
     {
@@ -184,7 +184,7 @@ impl<'a> Input<'a> {
         Ok(symbol)
     }
 
-    /// A local name that has to stand for this, here or further on.
+    /// A local name that has to mean this, here or further on.
     #[tactic(auto, unfolding(crate::specs::Names::used_local))]
     fn used_local(&mut self, alloc: Global, wanted: Wanted) -> Result<ValueId, Fault>
         ensures { Reads ((form.used_local wanted).read self.old) result self.new }
@@ -229,7 +229,7 @@ impl<'a> Input<'a> {
         self.used_label(alloc, Wanted::Block)
     }
 
-    /// `label %b`, a block that is gone on with.
+    /// `label %b`, a branch target.
     #[tactic(auto, unfolding(crate::specs::Names::target))]
     pub fn target(&mut self, alloc: Global) -> Result<ValueId, Fault>
         ensures { Reads (form.target.read self.old) result self.new }
@@ -238,7 +238,7 @@ impl<'a> Input<'a> {
         self.used_label(alloc, Wanted::Target)
     }
 
-    /// The name of a value that is defined here; what type it has comes behind.
+    /// The name of a value that is defined here; its type is set later.
     #[tactic(auto, unfolding(crate::specs::Names::new_value))]
     pub fn new_value(&mut self, alloc: Global) -> Result<ValueId, Fault>
         ensures { Reads (form.new_value.read self.old) result self.new }
@@ -258,7 +258,7 @@ impl<'a> Input<'a> {
         Ok(value)
     }
 
-    /// The type of the value that this name stands for.
+    /// The type of the value that this name means.
     pub fn set_type(&mut self, value: ValueId, shown: TypeId)
         ensures { (form.set_type value shown).read self.old ≡ Ok (tt, self.new) }
     {
@@ -266,7 +266,7 @@ impl<'a> Input<'a> {
             .define(value.number() as usize, LocalSort::Value(shown));
     }
 
-    /// The value that this name stands for is the one of the getelementptr at this place of this block.
+    /// The value that this name means is the one of the getelementptr at this place of this block.
     pub fn set_element(&mut self, value: ValueId, block: BlockId, place: u32)
         ensures { (form.set_element value block place).read self.old ≡ Ok (tt, self.new) }
     {
@@ -397,7 +397,7 @@ fn wants_value(wanted: Wanted) -> bool
     matches!(wanted, Wanted::Value)
 }
 
-/// Whether the block with this number may stand where this is wanted.
+/// Whether the block with this number is allowed where this is wanted.
 fn wants_block(wanted: Wanted, block: u32) -> bool
     ensures { result ≡ form.wants_block wanted block }
 {
@@ -408,7 +408,7 @@ fn wants_block(wanted: Wanted, block: u32) -> bool
     }
 }
 
-/// Whether a name that stands for this is what is wanted.
+/// Whether a name of this sort is what is wanted.
 fn is_wanted(wanted: Wanted, sort: Option<LocalSort>) -> bool
     ensures { result ≡ form.is_wanted wanted sort }
 {
@@ -419,7 +419,7 @@ fn is_wanted(wanted: Wanted, sort: Option<LocalSort>) -> bool
     }
 }
 
-/// Where the first use stands of a local name that is not what is wanted there, if there is one.
+/// Where the first use is of a local name that is not what is wanted there, if there is one.
 pub fn first_missing(locals: &Table<LocalSort>, uses: &[LocalUse]) -> Option<u32>
     ensures { result ≡ form.first_missing locals.now uses.now }
 {

@@ -14,7 +14,7 @@ use items::Items;
 use std::alloc::Global;
 
 impl<'a> Input<'a> {
-    /// This type, where so many levels more there might be.
+    /// This type, with room for this number of further levels.
     fn interned(&mut self, base: Base, room: u32, new: IrType) -> Result<WrittenType, Fault>
         ensures { Reads ((form.interned base room new).read self.old) result self.new }
     {
@@ -42,7 +42,7 @@ impl<'a> Input<'a> {
         Ok(length)
     }
 
-    /// Stars behind a type, of which there may be so many. Answers how many more there might be.
+    /// At most `room` stars after a type. Returns the room for further levels that is left.
     pub fn pointers(&mut self, room: u32, pointee: TypeId) -> Result<(u32, TypeId), Fault>
         ensures { Reads ((form.pointers room pointee).read self.old) result self.new }
     {
@@ -57,7 +57,7 @@ impl<'a> Input<'a> {
         self.pointers(room - 1, pointer)
     }
 
-    /// The stars behind a type.
+    /// The stars after a type.
     #[tactic(auto, unfolding(crate::specs::Written::starred))]
     fn starred(&mut self, part: WrittenType) -> Result<WrittenType, Fault>
         ensures { Reads ((form.starred part).read self.old) result self.new }
@@ -132,7 +132,7 @@ impl<'a> Input<'a> {
         Ok(whole)
     }
 
-    /// A type of at most so many levels.
+    /// A type of at most `levels` levels.
     #[cycle(types)]
     #[tactic(auto, unfolding(crate::specs::Written::firm))]
     pub fn part(&mut self, alloc: Global, levels: u32) -> Result<WrittenType, Fault>
@@ -145,7 +145,7 @@ impl<'a> Input<'a> {
         self.starred(base)
     }
 
-    /// A type before its stars, of at most so many levels over its first.
+    /// A type before its stars, of at most `room` levels over its first.
     #[cycle(types)]
     fn base(&mut self, alloc: Global, room: u32) -> Result<WrittenType, Fault>
         ensures { Reads ((form.base room (form.firm room)).read self.old) result self.new }
@@ -165,7 +165,7 @@ impl<'a> Input<'a> {
         }
     }
 
-    /// `[n x T]`, whose part has at most so many levels.
+    /// `[n x T]`, whose part has at most `levels` levels.
     #[cycle(types)]
     fn array(&mut self, alloc: Global, levels: u32) -> Result<WrittenType, Fault>
         ensures { Reads ((form.array (form.firm levels)).read self.old) result self.new }
@@ -182,7 +182,7 @@ impl<'a> Input<'a> {
         self.interned(Base::Aggregate, part.room, array)
     }
 
-    /// `{ T, .. }`, whose fields have at most so many levels.
+    /// `{ T, .. }`, whose fields have at most `levels` levels.
     #[cycle(types)]
     fn braced(&mut self, alloc: Global, levels: u32) -> Result<WrittenType, Fault>
         ensures { Reads ((form.braced levels (form.firm levels)).read self.old) result self.new }
@@ -193,7 +193,7 @@ impl<'a> Input<'a> {
         self.struct_of(levels, fields.as_slice())
     }
 
-    /// The fields of a struct, of at most so many levels.
+    /// The fields of a struct, of at most `levels` levels.
     #[cycle(types)]
     fn fields(&mut self, alloc: Global, levels: u32) -> Result<Items<WrittenType>, Fault>
         ensures { Reads (many_from form.at_brace (form.field (form.firm levels)).read (suc (left self.old)) [] self.old) result self.new }
@@ -208,7 +208,7 @@ impl<'a> Input<'a> {
         Ok(found)
     }
 
-    /// A field of a struct, of at most so many levels.
+    /// A field of a struct, of at most `levels` levels.
     #[cycle(types)]
     fn field(&mut self, alloc: Global, levels: u32) -> Result<WrittenType, Fault>
         ensures { Reads ((form.field (form.firm levels)).read self.old) result self.new }
@@ -218,7 +218,7 @@ impl<'a> Input<'a> {
         Ok(part)
     }
 
-    /// `{ T, .. }` as the type that a name stands for. Answers its place.
+    /// `{ T, .. }` as the definition of a named struct. Returns its place.
     #[tactic(auto, unfolding(crate::specs::Written::struct_body))]
     pub fn struct_body(&mut self, alloc: Global) -> Result<TypeId, Fault>
         ensures { Reads (form.struct_body.read self.old) result self.new }

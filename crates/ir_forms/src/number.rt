@@ -4,7 +4,7 @@ ghost use Rattle.ir_forms.specs.Number as spec;
 
 use name_text::decimal;
 
-/// The number that a length spells, if it lies from 0 to below 2 to the 64.
+/// The number that a length spells, if it is at least 0 and below 2 to the 64.
 #[tactic(auto, unfolding(crate::specs::Number::natural))]
 pub fn natural(spelling: &[u8]) -> Option<u64>
     ensures { result ≡ spec.natural spelling.now }
@@ -15,14 +15,14 @@ pub fn natural(spelling: &[u8]) -> Option<u64>
     }
 }
 
-/// The opposite of a number, if it lies not below 0.
+/// The negative of a number, if it is not below 0.
 fn not_below_zero(number: u64) -> Option<u64>
     ensures { result ≡ spec.not_below_zero number }
 {
     if number == 0 { Some(0) } else { None }
 }
 
-/// Half of the numbers that an integer of so many bits has.
+/// Half the count of the numbers that an integer of `bits` bits has.
 fn half_of(bits: u32) -> u64
     ensures value { result ≡ spec.half_of bits }
     ensures small { result ≤ 9223372036854775808 }
@@ -30,7 +30,7 @@ fn half_of(bits: u32) -> u64
     2u64.pow(bits.min(64).saturating_sub(1))
 }
 
-/// The number that a constant spells, of so many bits; a negative one is counted down from 2 to the bits.
+/// The number that a constant of `bits` bits spells; a negative one is counted down from 2 to the bits.
 #[tactic(auto, unfolding(crate::specs::Number::constant))]
 pub fn constant(spelling: &[u8], bits: u32) -> Option<u64>
     ensures { result ≡ spec.constant spelling.now bits }

@@ -33,7 +33,7 @@ pub fn begins_unread_operand(kind: Kind) -> bool
     )
 }
 
-/// What `undef` and `zeroinitializer` are at an integer type of so many bits, or else at a pointer type.
+/// What `undef` and `zeroinitializer` are at an integer type of n bits, or else at a pointer type.
 fn zero_of(bits: Option<u32>) -> Constant
     ensures { result ≡ form.zero_of bits }
 {
@@ -72,7 +72,7 @@ fn begins_other_operand(kind: Kind) -> bool
 }
 
 impl<'a> Input<'a> {
-    /// A number, which has to lie in the range of its type.
+    /// A number, which has to be in the range of its type.
     #[tactic(auto, unfolding(crate::specs::Operand::number, crate::specs::Operand::number_at))]
     fn number(&mut self, bits: Option<u32>) -> Result<Constant, Fault>
         ensures { Reads ((form.number bits).read self.old) result self.new }
@@ -86,7 +86,7 @@ impl<'a> Input<'a> {
         }
     }
 
-    /// A constant at an integer type of so many bits, or else at a pointer type.
+    /// A constant at an integer type of n bits, or else at a pointer type.
     #[tactic(auto, unfolding(crate::specs::Operand::constant))]
     pub fn constant(&mut self, bits: Option<u32>) -> Result<Constant, Fault>
         ensures { Reads ((form.constant bits).read self.old) result self.new }
@@ -139,7 +139,7 @@ impl<'a> Input<'a> {
         Ok(Operand::CastGlobal { from, global, to })
     }
 
-    /// An operand at an integer type of so many bits, or else at a pointer type.
+    /// An operand at an integer type of n bits, or else at a pointer type.
     #[tactic(auto, unfolding(crate::specs::Operand::operand))]
     pub fn operand(&mut self, alloc: Global, bits: Option<u32>) -> Result<Operand, Fault>
         ensures { Reads ((form.operand bits).read self.old) result self.new }

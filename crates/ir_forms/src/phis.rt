@@ -1,4 +1,4 @@
-//! Values that depend on the block that is come from.
+//! Values that depend on the block from which control comes.
 ghost use Rattle.std.specs.Prelude.{◌≡◌};
 ghost use Rattle.ir_forms.specs.Input.{Reads};
 ghost use Rattle.ir_forms.specs.Phis as form;

@@ -3,11 +3,11 @@ ghost use Rattle.ir_forms.specs.Sites as spec;
 
 use ir_ast::{BlockId, Op};
 
-/// Where an instruction stands.
+/// Where an instruction is.
 #[derive(Clone, Copy, PartialEq, Eq)]
 pub struct Site {
     pub block: BlockId,
-    /// How many instructions of its block stand before it.
+    /// How many instructions of its block are before it.
     pub place: u32,
     /// Whether these are all phis.
     pub is_behind_phis: bool,

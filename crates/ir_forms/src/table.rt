@@ -9,7 +9,7 @@ use ir_ast::Names;
 use items::Items;
 use std::alloc::{AllocError, Global};
 
-/// Names in the order in which they are mentioned first, and what each of them stands for so far.
+/// Names in the order in which they are mentioned first, and what each of them means so far.
 #[derive(Drop)]
 pub struct Table<S> {
     pub names: Names,
@@ -26,7 +26,7 @@ impl<S: Copy + Drop> Table<S> {
         }
     }
 
-    /// The number of a name. A new name is added, and stands for nothing so far.
+    /// The number of a name. A new name is added, and means nothing so far.
     pub fn mention(&mut self, alloc: Global, name: &[u8], nothing: S) -> Result<usize, AllocError>
         ensures number { IfOk result (λ number. number ≡ number_of name.now self.old.names) }
         ensures table { OnOk result (self.new ≡ spec.mentioned name.now nothing self.old) }
@@ -90,14 +90,14 @@ impl<S: Copy + Drop> Table<S> {
         }
     }
 
-    /// What a name stands for so far.
+    /// What a name means so far.
     pub fn sort(&self, number: usize) -> Option<S>
         ensures { result ≡ slice_get self.now.sorts number }
     {
         self.sorts.get(number).copied()
     }
 
-    /// A name stands for this from now on.
+    /// A name means this from now on.
     pub fn define(&mut self, number: usize, sort: S)
         ensures { self.new ≡ spec.defined number sort self.old }
     {

@@ -5,11 +5,11 @@ use ir_ast::{StructNameId, SymbolId, ValueId};
 #[derive(Clone, Copy, PartialEq, Eq)]
 pub struct StructUse {
     pub name: StructNameId,
-    /// Where the name stands.
+    /// Where the name is.
     pub start: u32,
 }
 
-/// What a local name has to stand for where it is used.
+/// What a local name has to mean where it is used.
 #[derive(Clone, Copy, PartialEq, Eq)]
 pub enum Wanted {
     Value,
@@ -23,7 +23,7 @@ pub enum Wanted {
 pub struct LocalUse {
     pub value: ValueId,
     pub wanted: Wanted,
-    /// Where the name stands.
+    /// Where the name is.
     pub start: u32,
 }
 
@@ -33,7 +33,7 @@ pub struct SymbolUse {
     pub symbol: SymbolId,
     /// Whether a function is called here; otherwise a global is wanted.
     pub is_call: bool,
-    /// Where the name stands.
+    /// Where the name is.
     pub start: u32,
     /// How many bytes spell it, with its sign.
     pub length: u32,

@@ -1,4 +1,4 @@
-//! Types as they are written, and which of them may stand where.
+//! Types as they are written, and which of them are allowed where.
 ghost use Rattle.std.specs.Prelude.{◌≡◌, ◌≤◌, Ok};
 ghost use Rattle.ir_forms.specs.Input.{Reads};
 ghost use Rattle.ir_forms.specs.Written as form;
@@ -14,7 +14,7 @@ use std::alloc::Global;
 /// What a type is before its stars.
 #[derive(Clone, Copy, PartialEq, Eq)]
 pub enum Base {
-    /// An integer of so many bits.
+    /// An integer of this number of bits.
     Integer(u32),
     /// A named struct.
     Named,
@@ -22,7 +22,7 @@ pub enum Base {
     Aggregate,
 }
 
-/// A type as it is written: a base with stars behind it.
+/// A type as it is written: a base with stars after it.
 #[derive(Clone, Copy, PartialEq, Eq)]
 pub struct WrittenType {
     pub base: Base,
@@ -70,7 +70,7 @@ pub fn bits_of(written: &WrittenType) -> Option<u32>
     }
 }
 
-/// Whether a function may take and give a value of this type: an integer, a reference or `i8*`.
+/// Whether a function may take and return a value of this type: an integer, a reference or `i8*`.
 pub fn is_passed(written: &WrittenType) -> bool
     ensures { result ≡ form.is_passed written.now }
 {
@@ -116,7 +116,7 @@ impl<'a> Input<'a> {
         }
     }
 
-    /// A type with at most so many levels over its first.
+    /// A type with at most `room` levels over its first.
     #[tactic(auto, unfolding(crate::specs::Written::type_within))]
     pub fn type_within(&mut self, alloc: Global, room: u32) -> Result<WrittenType, Fault>
         requires { room ≤ 63 }
@@ -133,7 +133,7 @@ impl<'a> Input<'a> {
         self.type_within(alloc, ROOM)
     }
 
-    /// The type before here may stand here; otherwise it is left out, but where the text ends.
+    /// The type before here is allowed, or else has this fault. Where the text ends, the fault is that of its end.
     pub fn allow(&self, allowed: bool, fault: Fault) -> Result<(), Fault>
         ensures { Reads ((form.allow allowed fault).read self.now) result self.now }
     {
@@ -146,7 +146,7 @@ impl<'a> Input<'a> {
         }
     }
 
-    /// A type that a word holds, with at most so many levels over its first.
+    /// A type that a word holds, with at most `room` levels over its first.
     #[tactic(auto, unfolding(crate::specs::Written::scalar_within))]
     pub fn scalar_within(&mut self, alloc: Global, room: u32) -> Result<WrittenType, Fault>
         requires { room ≤ 63 }
@@ -166,7 +166,7 @@ impl<'a> Input<'a> {
         self.scalar_within(alloc, ROOM)
     }
 
-    /// A type with a star behind it.
+    /// A type with a star after it.
     #[tactic(auto, unfolding(crate::specs::Written::pointer_type))]
     pub fn pointer_type(&mut self, alloc: Global) -> Result<WrittenType, Fault>
         ensures { Reads (form.pointer_type.read self.old) result self.new }

@@ -5,12 +5,12 @@ use Rattle.ir_ast.specs.declared.operand.Constant.TheVariants as constant
 use Rattle.ir_tokens.specs.Bytes.{Text}
 use Rattle.ir_print.specs.Operands.{number_text, truth_text}
 
--- whether so many bits are one bit; no number of bits stands for a pointer type
+-- whether this number of bits is one; a pointer type has none
 abbrev pub is_bit_width : Option ℕ → Bool
 is_bit_width None = false
 is_bit_width (Some bits) = bits == 1
 
--- a constant is one of the values of an integer type of so many bits, or of a pointer type, as reading gives them
+-- a constant is one of the values of an integer type of n bits, or of a pointer type, as reading gives them
 abbrev pub FitsType : Option ℕ → Constant → Type 0
 FitsType None (constant.Number number) = number < 2 ^ 64
 FitsType (Some bits) (constant.Number number) = (1 ≤ bits) × (bits ≤ 64) × (number < 2 ^ bits)

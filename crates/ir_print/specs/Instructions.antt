@@ -52,7 +52,7 @@ comparison_word comparison.SignedLessOrEqual = codes "sle "
 
 -- ---- parts
 
--- a block that is gone on with
+-- a branch target
 abbrev pub target_text : (locals : List Text) → (label : ℕ) → Text
 target_text locals label = codes "label " ++ local_text locals label
 
@@ -68,7 +68,7 @@ pair_text m locals x second = argument_text m locals x ++ codes ", " ++ operand_
 abbrev pub incoming_text : Module → (locals : List Text) → (written : ℕ) → Incoming → Text
 incoming_text m locals written x = codes "[ " ++ operand_text m locals written x.operand ++ codes ", " ++ local_text locals x.from ++ codes " ]"
 
--- `T c, label %b`, a case of a switch of this type, behind a blank
+-- `T c, label %b`, a case of a switch of this type, after a blank
 abbrev pub case_text : Module → (locals : List Text) → (written : ℕ) → Case → Text
 case_text m locals written x = 32 ∷ type_text m written ++ 32 ∷ constant_text m written x.constant ++ codes ", " ++ target_text locals x.target
 
@@ -88,13 +88,13 @@ element_word = codes "getelementptr "
 abbrev pub jump_text : (locals : List Text) → (target : ℕ) → Text
 jump_text locals target = codes "br " ++ target_text locals target
 
--- an operand beside its type
+-- an operand with its type
 abbrev pub typed : (written : ℕ) → Operand → Argument
 typed written x = record { written = written; operand = x }
 
 -- ---- sorts of instructions
 
--- it makes a value of a place or of the block that is come from
+-- it makes a value of a place, or of the block from which control comes
 abbrev pub makes_place : Op → Bool
 makes_place (op.Bitcast from x to) = true
 makes_place (op.Element source base_type base indices) = true
@@ -159,6 +159,6 @@ abbrev pub result_text : (locals : List Text) → Option ℕ → Text
 result_text locals None = []
 result_text locals (Some value) = local_text locals value ++ codes " = "
 
--- the line of an instruction, behind two blanks
+-- the line of an instruction, after two blanks
 abbrev pub instruction_line : Module → (locals : List Text) → Instr → Text
 instruction_line m locals x = codes "  " ++ result_text locals x.result ++ op_text m locals x.op ++ 10 ∷ []

@@ -36,7 +36,7 @@ declare_line m declared =
 abbrev pub parameter_text : Module → (locals : List Text) → Parameter → Text
 parameter_text m locals parameter = type_text m parameter.written ++ 32 ∷ local_text locals parameter.value
 
--- `gc "name"`, if the function has a collector, behind a blank
+-- `gc "name"`, if the function has a collector, after a blank
 abbrev pub collector_text : Option Text → Text
 collector_text None = []
 collector_text (Some name) = codes " gc " ++ quoted_text blank.Kept name

@@ -1,4 +1,4 @@
--- Where reading stands in a text.
+-- Where reading is in a text.
 use Rattle.std.specs.Prelude.{◌≡◌, ℕ, ◌<◌, ◌≤◌, Bool, true, false, [], ◌++◌, length}
 use Rattle.std.specs.List.{list_all}
 use Rattle.ir_tokens.specs.declared.class.Class.{Class}
@@ -7,7 +7,7 @@ use Rattle.ir_tokens.specs.Bytes.{Text, is_digit, first_class}
 use Rattle.ir_tokens.specs.Tokens.{is_blank, lex_from}
 use Rattle.ir_forms.specs.Place.{Place}
 
--- The place stands before these bytes: they are what is left of its text, and the tokens that it has left are those that these bytes are
+-- The place is before these bytes: they are what is left of its text, and the tokens that it has left are those that these bytes are
 -- read as.
 abbrev pub Stands : Place → Text → Type 0
 Stands c bytes =

@@ -7,12 +7,12 @@ use Rattle.ir_ast.specs.declared.module.Module.{Module}
 use Rattle.ir_tokens.specs.Bytes.{Text}
 use Rattle.ir_print.specs.Names.{struct_text}
 
--- a further field of a struct, and those behind it
+-- a further field of a struct, and those after it
 abbrev pub further_field : (ℕ → Text) → (ℕ → Text) → Option IrType → Text
 further_field shown behind (Some (Struct first rest)) = codes ", " ++ shown first ++ behind rest
 further_field shown behind _ = []
 
--- the fields of a struct, each behind a comma, of which there are at most so many; a field is shown by the first function
+-- at most n fields of a struct, each after a comma; a field is shown by the first function
 unfoldable pub fields_text : (ℕ → Text) → Module → ℕ → (fields : ℕ) → Text
 fields_text shown m zero fields = []
 fields_text shown m (suc most) fields = further_field shown (fields_text shown m most) (slice_get m.types fields)
@@ -36,7 +36,7 @@ type_by shown m (Some EmptyStruct) = codes "{}"
 type_by shown m (Some (Struct first rest)) = struct_type_text shown m first rest
 type_by shown m (Some (Named name)) = struct_text m name
 
--- a type of at most so many levels: a scalar or a name is one, and each star, array or struct around it is one more
+-- a type of at most n levels: a scalar or a name is one, and each star, array or struct around it is one more
 unfoldable pub type_within : ℕ → Module → (written : ℕ) → Text
 type_within zero m written = []
 type_within (suc levels) m written = type_by (type_within levels m) m (slice_get m.types written)

@@ -240,7 +240,7 @@ fn put_switch(
     out.extend_from_slice(b" ]")
 }
 
-/// An operand beside its type.
+/// An operand with its type.
 fn typed(written: TypeId, operand: Operand) -> Argument
     ensures { result ≡ spec.typed written operand }
 {

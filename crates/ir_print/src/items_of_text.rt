@@ -148,7 +148,7 @@ fn put_blocks(
     Ok(())
 }
 
-/// `gc "name"`, if the function has a collector, behind a blank.
+/// `gc "name"`, if the function has a collector, after a blank.
 fn put_collector(out: &mut Vec<u8>, collector: &Option<Items<u8>>) -> Result<(), AllocError>
     ensures { OnOk result (out.new.items ≡ out.old.items ++ spec.collector_text collector.now) }
 {

@@ -140,7 +140,7 @@ pub fn put_target(out: &mut Vec<u8>, locals: &Names, label: ValueId) -> Result<(
     put_local(out, locals, label, Blank::Kept)
 }
 
-/// `T c, label %b`, behind a blank.
+/// `T c, label %b`, after a blank.
 fn put_case(
     alloc: Global,
     out: &mut Vec<u8>,

@@ -6,7 +6,7 @@ use ir_ast::{Module, Names, StructNameId, ValueId};
 use name_text::{Blank, put_key, put_name};
 use std::alloc::AllocError;
 
-/// A local name without its sign, as it stands in a label.
+/// A local name without its sign, as it is printed in a label.
 pub fn put_label(out: &mut Vec<u8>, locals: &Names, label: ValueId) -> Result<(), AllocError>
     ensures { OnOk result (out.new.items ≡ out.old.items ++ spec.key_text (spec.name_at locals.now label)) }
 {

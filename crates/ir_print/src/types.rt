@@ -10,7 +10,7 @@ use std::alloc::{AllocError, Global};
 /// How many levels a type has at most.
 const LEVELS: u32 = 64;
 
-/// A type of at most so many levels.
+/// A type of at most `levels` levels.
 #[cycle(types)]
 #[tactic(auto, unfolding(crate::specs::Types::type_within))]
 fn put_within(
@@ -31,7 +31,7 @@ fn put_within(
     }
 }
 
-/// A type whose parts have at most so many levels.
+/// A type whose parts have at most `levels` levels.
 #[cycle(types)]
 fn put_shown(
     alloc: Global,
@@ -98,7 +98,7 @@ fn put_struct(
     out.extend_from_slice(b" }")
 }
 
-/// The fields of a struct, each behind a comma.
+/// The fields of a struct, each after a comma.
 #[cycle(types)]
 fn put_fields(
     alloc: Global,

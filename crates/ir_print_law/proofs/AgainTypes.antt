@@ -40,7 +40,7 @@ abbrev pub no_round : Kind → Bool
 no_round k.OpenRound = false
 no_round _ = true
 
--- what may stand behind a type that is written again
+-- what may follow a type that is written again
 abbrev pub EndsAgain : Text → Type 0
 EndsAgain rest = IsSeam rest × Comes no_round rest
 
@@ -58,7 +58,7 @@ square_ends : (rest : Text) → EndsAgain (93 ∷ rest)
 unfolding class_of
 square_ends rest = (refl, λ i at. ap no_round (sign_comes i.cursor [] 93 rest k.CloseSquare refl refl refl at).0)
 
--- so do further fields and the brace behind them
+-- so do further fields and the brace after them
 field_ends : (shape : Shape) (rest : Text) → IsStruct shape → EndsAgain (shown true shape ++ (codes " }" ++ rest))
 unfolding class_of
 field_ends Empty rest is = (refl, λ i at. ap no_round (sign_comes i.cursor (32 ∷ []) 125 rest k.CloseBrace refl refl refl at).0)
@@ -112,7 +112,7 @@ module _ {m : Module} {f : Function} (v : Invariant m f) where
   no_level : (shape : Shape) → levels shape ≤ 0 → ⊥
   no_level shape le = let some = some_level shape in absurd (omega (arith, le, some))
 
-  -- the type at this number, and no parameters behind it
+  -- the type at this number, and no parameters after it
   over_reads : (room number : ℕ) (x : IrType) (i : Input) (rest : Text) (s : ℕ) → slice_get i.types number ≡ Some x → EndsAgain rest
       → Reads v s (w.again_by (w.again_within room) (Some x)) i rest Any → Reads v s (w.again_within (suc room) number) i rest Any
   unfolding w.again_within
@@ -192,7 +192,7 @@ module _ {m : Module} {f : Function} (v : Invariant m f) where
       looked v (w.type_at number) (w.field_or (λ first rest. w.again_within room first >> w.fields_again (w.again_within room) fuel rest)) i rest s (λ _ o. left o + (field_count others + 1) ≤ left i) (Some (type.Struct has.0 has.1)) has.2
       (d.0, d.1, (a.0, a.1, a.2, (b.0, b.1, b.2, d.2)), d.3, grows_further i b.1 d.1 g d.4, omega (arith, x, y, z))
 
-  -- behind the last field the brace closes
+  -- after the last field the brace closes
   no_field : FieldsClaim Empty
   unfolding w.fields_again class_of
   no_field zero room number i rest s own is has le less ready = absurd (omega (arith, less))

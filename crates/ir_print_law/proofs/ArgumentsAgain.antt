@@ -43,9 +43,9 @@ use Rattle.ir_print_law.proofs.Steps.{sign_kind, test_reads}
 use Rattle.ir_print_law.proofs.OperandsAgain.{begins_operand, operand_begins}
 use Rattle.ir_print_law.proofs.PlaceOperations.{later_shape}
 
--- ---- what stands behind an instruction
+-- ---- what follows an instruction
 
--- a token of this kind may come next behind an instruction
+-- a token of this kind may come next after an instruction
 abbrev pub ends_line : Kind → Bool
 ends_line k.LocalName = true
 ends_line k.LocalNumber = true
@@ -142,7 +142,7 @@ module _ {m : Module} {f : Function} (v : Invariant m f) where
   abbrev shown_argument : Argument → Text
   shown_argument x = argument_text m f.locals x
 
-  -- further arguments, each behind a comma
+  -- further arguments, each after a comma
   abbrev further : List Argument → Text
   further xs = flat_map (λ x. codes ", " ++ argument_text m f.locals x) xs
 
@@ -152,7 +152,7 @@ module _ {m : Module} {f : Function} (v : Invariant m f) where
   seam_further [] rest = refl
   seam_further (x ∷ xs) rest = refl
 
-  -- the parts of an argument, and what stands behind it
+  -- the parts of an argument, and what follows it
   argument_front : (x : Argument) (behind : Text) → IsArgument m f x → (own : IsArgument m f x)
       → argument_text m f.locals x ++ behind ≡ shown false own.0 ++ (32 ∷ (operand_text m f.locals x.written x.operand ++ behind))
   argument_front x behind a own = ap (λ (y : Text). (y ++ 32 ∷ operand_text m f.locals x.written x.operand) ++ behind) (type_shown m own.0 x.written own.1.0.0 own.1.0.1)
@@ -164,12 +164,12 @@ module _ {m : Module} {f : Function} (v : Invariant m f) where
   argument_begins x i gap behind s own blanks seam ready =
       type_begins v own.0 i gap (32 ∷ (operand_text m f.locals x.written x.operand ++ behind)) own.1.0.2 blanks refl (subst (λ (y : Text). Stands i.cursor (gap ++ y)) (argument_front x behind own own) ready.stands)
 
-  -- the text behind the comma that stands before further arguments
+  -- the text after the comma before further arguments, or the end of the list
   abbrev behind_comma : List Argument → Text → Text
   behind_comma [] rest = 41 ∷ rest
   behind_comma (x ∷ xs) rest = 32 ∷ (argument_text m f.locals x ++ (further xs ++ 41 ∷ rest))
 
-  -- what stands behind an argument: the end of the list, or a comma and a further argument
+  -- what follows an argument: the end of the list, or a comma and a further argument
   separator_reads : (xs : List Argument) (i : Input) (rest : Text) (s : ℕ) → AllByRecursion (IsArgument m f) xs → Ready v s i (further xs ++ 41 ∷ rest)
       → Reads v s (lists.separator k.CloseRound) i (behind_comma xs rest) Any
   unfolding lists.separator class_of
@@ -188,7 +188,7 @@ module _ {m : Module} {f : Function} (v : Invariant m f) where
       (ap not (unlike k.CloseRound w.begins_type o refl (argument_begins x o (32 ∷ []) (further xs ++ 41 ∷ rest) s own.0 refl (seam_further xs rest) ready))) ready)
       (λ _ p g e. tt)))
 
-  -- an argument is read, up to the one behind it
+  -- an argument is read, up to the one after it
   argument_reads : (x : Argument) (xs : List Argument) (i : Input) (gap rest : Text) (s : ℕ) → IsArgument m f x → AllByRecursion (IsArgument m f) xs → AreBlanks gap
       → Ready v s i (gap ++ (argument_text m f.locals x ++ (further xs ++ 41 ∷ rest))) → Reads v s lists.argument i (behind_comma xs rest) (ArgumentPrints (argument_text m f.locals x))
   unfolding lists.argument class_of
@@ -224,7 +224,7 @@ module _ {m : Module} {f : Function} (v : Invariant m f) where
       operand_form : WrittenType → Form Argument
       operand_form p = form.operand (w.bits_of p) >>= separator_form p
 
-  -- the arguments behind a comma, up to the end of the list
+  -- the arguments after a comma, up to the end of the list
   arguments_behind : (xs : List Argument) (i : Input) (rest : Text) (s : ℕ) → AllByRecursion (IsArgument m f) xs → Ready v s i (behind_comma xs rest)
       → Reads v s lists.arguments i (41 ∷ rest) (ListPrints (λ n others x. argument_text n others x) (map shown_argument xs))
   unfolding lists.arguments class_of

@@ -49,7 +49,7 @@ lines_before m locals [] last = append-nil (instruction_line m locals last)
 lines_before m locals (x ∷ xs) last =
     ap (λ (t : Text). instruction_line m locals x ++ t) (lines_before m locals xs last) ∙ sym (append_assoc (instruction_line m locals x) (flat_map (instruction_line m locals) xs) (instruction_line m locals last))
 
--- the text of a block, and what stands behind it
+-- the text of a block, and what follows it
 block_is : (m : Module) (locals : List Text) (label : ℕ) (xs : List Instr) (last : Op) (rest : Text)
     → block_text m locals (made label xs last) ++ rest
     ≡ key_text (name_at locals label) ++ 58 ∷ 10 ∷ (flat_map (instruction_line m locals) xs ++ (instruction_line m locals (record { result = None; op = last }) ++ rest))
@@ -69,7 +69,7 @@ alike_before m n locals others (a ∷ xs) [] x y h e = absurd h
 alike_before m n locals others (a ∷ xs) (b ∷ ys) x y h e = (h.0, alike_before m n locals others xs ys x y h.1 e)
 
 module _ (m : Module) (f : Function) (named : AreNamed m f) (ops : OpsRead m f named) where
-  -- the block is written alike, and reading has gone on behind it
+  -- the block is written alike, and reading has gone on after it
   abbrev pub IsBlockRead : Far → (more : List Text) → Block → Block → Far → Input → Type 0
   IsBlockRead far more x y now o =
       Onward far now (value_keys_of f.locals x) (name_at f.locals x.label ∷ []) more
@@ -141,7 +141,7 @@ module _ (m : Module) (f : Function) (named : AreNamed m f) (ops : OpsRead m f n
   lines_long [] = omega arith
   lines_long (x ∷ xs) = let a = length-append (instruction_line m f.locals x) (flat_map (instruction_line m f.locals) xs) in let b = lines_long xs in omega (arith, a, b)
 
-  -- a block is written behind a label, and has these keys
+  -- the block's label and its values are keys
   abbrev pub HasKeys : Block → Type 0
   HasKeys b = IsKey (name_at f.locals b.label) × AllByRecursion IsKey (value_keys_of f.locals b)
 

@@ -80,7 +80,7 @@ module _ (m : Module) (f : Function) (named : AreNamed m f) (ops : OpsRead m f n
 
   -- ---- one instruction
 
-  -- the instruction is written alike, and reading has gone on behind its value
+  -- the instruction is written alike, and reading has gone on after its value
   abbrev pub IsOneRead : Far → (more : List Text) → Instr → Instr → Far → Input → Type 0
   IsOneRead far more x y now o =
       Onward far now (result_keys f.locals x) [] more × (is_phi y.op ≡ is_phi x.op)
@@ -141,7 +141,7 @@ module _ (m : Module) (f : Function) (named : AreNamed m f) (ops : OpsRead m f n
   abbrev pub lines_of : List Instr → Text
   lines_of xs = flat_map (instruction_line m f.locals) xs
 
-  -- a line that ends the block comes behind these, or another one of these
+  -- the next line is another one of these, or the one that ends the block
   pub next_ends : (xs : List Instr) (behind_phis : Bool) (last : Op) (rest : Text) → AreInner m f behind_phis xs → AllByRecursion IsKey (keys_of xs) → ends_block last ≡ true
       → EndsOp (10 ∷ (lines_of xs ++ (instruction_line m f.locals (record { result = None; op = last }) ++ rest)))
   next_ends [] behind_phis last rest inner keys ends = (

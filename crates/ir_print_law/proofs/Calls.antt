@@ -1,4 +1,4 @@
--- Calls, stores and values that depend on the block that is come from, as they are read.
+-- Calls, stores and phis, as they are read.
 use Rattle.std.proofs.Common.{inl, inr, ◌≡◌, ℕ, ◌<◌, Bool, true, false, not, List, [], ◌∷◌, length, slice_get, Option, refl, sym, ap, subst, ◌∙◌, arith}
 use Rattle.std.specs.List.{AllByRecursion}
 use Rattle.ir_ast.specs.declared.function.Function.{Function}
@@ -122,7 +122,7 @@ module _ {m : Module} {f : Function} (v : Within m f) where
             (ab.0, subst (IsCall returned) z.3.0 ((λ is. (is, ab.1, cb.1)), refl, refl, refl)),
       )
 
-  -- `void @f(..)` behind the word
+  -- `void @f(..)` after the word
   pub void_call_keeps : (i : Input) → Keeps v.reading.Fore (Same v.reading.Fore) v.reading.Back void_call IsPlain i
   unfolding void_call
   void_call_keeps i x o h fore =

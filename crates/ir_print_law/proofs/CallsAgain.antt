@@ -62,7 +62,7 @@ use Rattle.ir_print_law.proofs.ArgumentsAgain.{ends_line, EndsLine, undecorated_
 abbrev call_by : (returned callee arguments : Text) → Text
 call_by returned callee arguments = codes "call " ++ returned ++ 32 ∷ callee ++ 40 ∷ arguments ++ 41 ∷ []
 
--- the parts of a call, and what stands behind it
+-- the parts of a call, and what follows it
 call_front : (returned callee arguments rest : Text) → call_by returned callee arguments ++ rest ≡ codes "call" ++ (32 ∷ (returned ++ (32 ∷ (callee ++ (40 ∷ (arguments ++ 41 ∷ rest))))))
 call_front returned callee arguments rest = simp append_assoc
 
@@ -85,7 +85,7 @@ line_no_comma _ e = refl
 pub no_comma_seen : (i : Input) → ends_line (kind i.cursor) ≡ true → sees k.Comma i.cursor ≡ false
 no_comma_seen i e = unlike k.Comma not_comma i refl (line_no_comma (kind i.cursor) e)
 
--- there are no decorations behind an instruction
+-- there are no decorations after an instruction
 pub trailing_said : (t : Trail) (i : Input) → sees k.Comma i.cursor ≡ false → (trailing t).says i tt i
 unfolding trailing
 trailing_said t i e = ([], i, (ap not e, refl), (refl, refl))

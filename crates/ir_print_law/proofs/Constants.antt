@@ -62,7 +62,7 @@ half_is (suc p) some most =
 
 -- ---- constants
 
--- the constant comes next, and the rest stands behind it
+-- the constant comes next, and the rest comes after it
 abbrev pub IsConstantRead : Option ℕ → Constant → Input → Text → Type 0
 IsConstantRead bits x i rest = (constant bits).says i x (advanced i) × Stands (next i.cursor) rest
 

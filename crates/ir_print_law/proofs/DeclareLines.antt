@@ -79,7 +79,7 @@ module _ (m : Module) (f : Function) (named : AreNamed m f) (types : TypesRead m
   abbrev far_named : Text → Far
   far_named name = record far { symbols = far.symbols ++ name ∷ []; functions = far.functions ++ name ∷ [] }
 
-  -- what is known behind the line
+  -- what is known after the line
   abbrev pub far_declared : Text → Declare → Far
   far_declared name d = record far { symbols = far.symbols ++ name ∷ []; functions = far.functions ++ name ∷ []; declares = far.declares ++ d ∷ []; unnamed = 0 }
 

@@ -1,4 +1,4 @@
--- All declared functions of a module, and the functions behind them.
+-- All declared functions of a module, and the functions after them.
 use Rattle.std.proofs.Common.{◌≡◌, ℕ, ◌+◌, ◌≤◌, Bool, true, false, List, [], ◌∷◌, ◌++◌, length, map, refl, sym, ap, subst, ◌∙◌, arith, append_assoc, length-append, inl, inr}
 use Rattle.std.specs.Prelude.{codes}
 use Rattle.std.specs.List.{AllByRecursion, flat_map}
@@ -65,7 +65,7 @@ line_long m d =
     let z = listed_long m d.parameters in
     omega (arith, x, y, z)
 
--- behind a line a declared function comes, or a defined one, or the end
+-- after a line comes a declared function, a defined one, or the end
 pub declares_begin : (m : Module) (ds : List Declare) (fs : List Function) → past_gap false (10 ∷ []) ≡ [] → Comes begins_item (10 ∷ (flat_map (declare_line m) ds ++ flat_map (function_text m) fs))
 declares_begin m [] [] past = λ i at. ap begins_item (ends_there i.cursor (10 ∷ []) past at).0
 declares_begin m [] (f ∷ fs) past = λ i at. ap begins_item (define_comes m f i (10 ∷ []) (flat_map (function_text m) fs) refl at)

@@ -34,7 +34,7 @@ use Rattle.ir_print_law.proofs.Known.{Far, AreNamed, known}
 use Rattle.ir_print_law.proofs.Needs.{TypesRead}
 use Rattle.ir_print_law.proofs.ParameterLists.{Separates, close_separates, comma_separates}
 
--- a comma, or the bracket that closes, behind a type
+-- a comma, or the bracket that closes, after a type
 abbrev IsSeparator : Kind → Type 0
 IsSeparator x = (x ≡ k.Comma) ⊎ (x ≡ k.CloseRound)
 

@@ -1,4 +1,4 @@
--- Decorations keep what holds of the state.
+-- Decorations preserve what holds of the state.
 use Rattle.std.proofs.Common.{◌≡◌, Bool, true, false, not, sym, subst}
 use Rattle.std.specs.Prelude.{nat_lt}
 use Rattle.grammar.specs.Grammar.{pure, look, checked, ◌>>◌}
@@ -91,7 +91,7 @@ module _ {m : Module} (r : Reading m) where
   flags_pass true = past r (many at_no_flag flag flag_takes) (pure tt) (all_pass r at_no_flag flag flag_takes flag_passes) (pure_passes r tt)
   flags_pass false = pure_passes r tt
 
-  -- ---- behind an instruction or a global
+  -- ---- after an instruction or a global
 
   aligned_passes : (t : Bool) → Passes r (aligned t)
   aligned_passes true = past r skip (expect k.Number) (skip_passes r) (expect_passes r k.Number)

@@ -1,4 +1,4 @@
--- Local names that stand for values and blocks from now on, and what is used in the end.
+-- Local names that mean values and blocks from now on, and what is used in the end.
 use Rattle.std.proofs.Common.{◌≡◌, ℕ, zero, suc, ◌+◌, ◌<◌, ◌^◌, Bool, true, false, not, List, [], ◌∷◌, ◌++◌, length, drop, slice_get, if◌then◌else◌, Option, None, Some, refl, sym, ap, subst, ◌∙◌, arith, inl, inr}
 use Rattle.std.specs.Prelude.{nat_lt, slice_set, ◌==◌}
 use Rattle.std.specs.Fmt.{decimal}
@@ -19,7 +19,7 @@ use Rattle.ir_print_law.proofs.LocalNames.{Locals, IsSortOf, keys_at, keys_more,
 use Rattle.ir_print_law.proofs.Reading.{Progress, with_named_value, with_named_label, IsValueSort}
 use Rattle.ir_print_law.proofs.Tables.{begins_with, stays}
 
--- the table in which a name stands for this
+-- the table in which a name means this
 sorted_as : (n : ℕ) (sort : LocalSort) (t : Table LocalSort) → n < length t.sorts → (P : Table LocalSort → Type 0) → P (record { names = t.names; sorts = slice_set t.sorts n sort }) → P (defined n sort t)
 sorted_as n sort t less P h =
     let there : nat_lt n (length t.sorts) ≡ true = grind (arith, nat_tests) in
@@ -89,7 +89,7 @@ labelled g t unnamed next n within h defines =
       ];
     })
 
--- a label that stands for nothing so far
+-- a label that means nothing so far
 pub label_named : (g : Progress) (t : Table LocalSort) (unnamed : ℕ) (key : Text) (n : ℕ) → Locals g None t unnamed → slice_get t.names n ≡ Some key → is_local (slice_get t.sorts n) ≡ false → IsNameKey key
     → Locals (with_named_label g n) None (defined n (local.Block (length g.labels)) t) unnamed
 label_named g t unnamed key n h at none is =
@@ -126,7 +126,7 @@ in_rest [] b n some e = absurd cc
 in_rest (x ∷ xs) zero n some e = absurd cc
 in_rest (x ∷ xs) (suc b) n some e = in_list xs b n e
 
--- a name that stands for what is wanted in the end is one of those
+-- a name that means what is wanted in the end is one of those
 pub wanted_is : (g : Progress) (t : Table LocalSort) (unnamed : ℕ) (wanted : Wanted) (n : ℕ) → Locals g None t unnamed → is_wanted wanted (slice_get t.sorts n) ≡ true → IsIn (used g wanted) n
 wanted_is g t unnamed wanted n h is = by wanted (slice_get t.sorts n) is (h.sorted n) where
   by : (wanted : Wanted) (x : Option LocalSort) → is_wanted wanted x ≡ true → ((sort : LocalSort) → x ≡ Some sort → IsSortOf g n sort) → IsIn (used g wanted) n

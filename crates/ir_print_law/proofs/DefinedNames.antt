@@ -18,7 +18,7 @@ use Rattle.ir_print_law.specs.Shapes.{IsIn}
 abbrev pub IsNameKey : Text → Type 0
 IsNameKey key = (name : Text) × AreBytes name × (key ≡ key_of_name name)
 
--- keys are defined one after another behind those that were seen, each once; the last number is the next one then
+-- keys are defined in this order after those that were seen, each once; `next` is the next number then
 abbrev pub Defines : (seen : List Text) → (unnamed : ℕ) → List Text → (next : ℕ) → Type 0
 Defines seen unnamed [] next = unnamed ≡ next
 Defines seen unnamed (key ∷ keys) next =
@@ -92,7 +92,7 @@ no_name key name n less is same =
 number_same : (k n : ℕ) → k < 2 ^ 64 → n < 2 ^ 64 → decimal k ≡ decimal n → k ≡ n
 number_same k n low less e = sym (number_is k low) ∙ ap numbers.decimal e ∙ number_is n less
 
--- the last number lies not below the first
+-- the last number is not below the first
 pub counts_on : (seen : List Text) (unnamed : ℕ) (keys : List Text) (next : ℕ) → Defines seen unnamed keys next → unnamed ≤ next
 counts_on seen unnamed [] next h = omega (arith, h)
 counts_on seen unnamed (x ∷ keys) next h = elim h.1 [

@@ -1,4 +1,4 @@
--- Where no decoration stands, none is read.
+-- Where there is no decoration, none is read.
 use Rattle.std.proofs.Common.{◌≡◌, false, not, [], refl, ap}
 use Rattle.ir_print_law.proofs.CallsAgain.{trailing_said}
 use Rattle.ir_ast.specs.declared.op.Op.{Op}

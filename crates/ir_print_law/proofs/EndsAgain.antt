@@ -61,11 +61,11 @@ use Rattle.ir_print_law.proofs.Parts.{target_reads, label_later, TargetPrints}
 use Rattle.ir_print_law.proofs.PlaceOperations.{condition_reads}
 use Rattle.ir_ast.specs.declared.operand.Operand.TheVariants as operand
 
--- parts one behind another
+-- parts one after another
 six_parts : (x p c q d r rest : Text) → (x ++ p ++ c ++ q ++ d ++ r) ++ rest ≡ x ++ (p ++ (c ++ (q ++ (d ++ (r ++ rest)))))
 six_parts x p c q d r rest = simp append_assoc
 
--- parts behind an operand with its type
+-- parts after an operand with its type
 parts_front : (w a b p c q d r rest : Text) → (w ++ (a ++ 32 ∷ b) ++ p ++ c ++ q ++ d ++ r) ++ rest ≡ w ++ (a ++ (32 ∷ (b ++ (p ++ (c ++ (q ++ (d ++ (r ++ rest))))))))
 parts_front w a b p c q d r rest =
     let y = p ++ (c ++ (q ++ (d ++ (r ++ rest)))) in

@@ -1,4 +1,4 @@
--- What forms keep of the state, and what they say of what is read.
+-- What forms preserve of the state, and what they tell of what is read.
 use Rattle.std.proofs.Common.{◌≡◌, ◌≤◌, Bool, true, List, [], ◌∷◌, sym, subst}
 use Rattle.std.specs.List.{AllByRecursion}
 use Rattle.grammar.specs.Grammar.{pure, step, checked, ◌>>=◌, ◌>>◌}
@@ -9,12 +9,11 @@ use Rattle.ir_forms.specs.declared.fault.Fault.{Fault}
 use Rattle.ir_forms.specs.declared.input.Input.{Input}
 use Rattle.ir_forms.specs.Input.{Form, left}
 
--- Where the first holds before a form, the second holds behind it; and where the end is known from behind it, it is known from before it,
--- and what was read is good.
+-- If `Fore` holds before a form, `After` holds after it. If `Back` is known after it, it is known before it, and what was read is good.
 abbrev pub Keeps : {A : Type 0} → (Fore : Input → Type 0) → (After : A → Input → Type 0) → (Back : Input → Type 0) → Form A → (Good : A → Type 0) → Input → Type 0
 Keeps {A = A} Fore After Back form Good i = (a : A) (o : Input) → form.says i a o → Fore i → After a o × (Back o → Back i × Good a)
 
--- what holds behind a form is what holds before it
+-- what holds after a form is what holds before it
 abbrev pub Same : {A : Type 0} → (Input → Type 0) → A → Input → Type 0
 Same Fore a o = Fore o
 
@@ -53,7 +52,7 @@ module _ (Back : Input → Type 0) where
       → (test i ≡ true → Keeps F G Back g Q i) → Keeps F G Back (checked test fault >> g) Q i
   where_true F G Q test fault g i on b o h fore = on h.2.0 b o (subst (λ (x : Input). g.says x b o) (sym h.2.1) h.3) fore
 
-  -- more is known before the form, and less behind it
+  -- more is known before the form, and less after it
   pub so : {A : Type 0} (F K : Input → Type 0) (G H : A → Input → Type 0) (P Q : A → Type 0) (g : Form A) (i : Input)
       → (K i → F i) → ((a : A) (o : Input) → G a o → H a o) → ((a : A) → P a → Q a) → Keeps F G Back g P i → Keeps K H Back g Q i
   so F K G H P Q g i before behind good h a o said fore =

@@ -65,7 +65,7 @@ same_listed f g (x ∷ xs) [] h = absurd h
 same_listed f g (x ∷ xs) (y ∷ ys) h =
     ap (λ (t : Text). t ++ flat_map (λ (p : Parameter). codes ", " ++ f p) xs) h.0 ∙ ap (λ (t : Text). g y ++ t) (same_list f g xs ys h.1)
 
--- the head of a function, behind its first word
+-- the head of a function after its parameters
 abbrev behind_close : Function → (rest : Text) → Text
 behind_close f rest = collector_text f.collector ++ 32 ∷ 123 ∷ 10 ∷ rest
 
@@ -86,14 +86,14 @@ head_is m f rest =
     append_assoc (a ++ t ++ g ++ l ++ c) e rest ∙ append_assoc (a ++ t ++ g ++ l) c (e ++ rest) ∙ append_assoc (a ++ t ++ g) l (c ++ (e ++ rest))
     ∙ append_assoc (a ++ t) g (l ++ (c ++ (e ++ rest))) ∙ append_assoc a t (g ++ (l ++ (c ++ (e ++ rest))))
 
--- the text of a function, and what stands behind it
+-- the text of a function, and what follows it
 function_is : (m : Module) (f : Function) (rest : Text) → function_text m f ++ rest ≡ head_line m f ++ (flat_map (block_text m f.locals) f.blocks ++ 125 ∷ 10 ∷ rest)
 function_is m f rest =
     let blocks = flat_map (block_text m f.locals) f.blocks in
     append_assoc (head_line m f ++ blocks) (codes "}\n") rest ∙ append_assoc (head_line m f) blocks (125 ∷ 10 ∷ rest)
 
 module _ (m : Module) (f : Function) (named : AreNamed m f) (nobody_named : AreNamed m nobody) (types : TypesRead m) (ops : OpsRead m f named) (far : Far) where
-  -- what is known behind the name of the function
+  -- what is known after the name of the function
   abbrev far_named : Text → Far
   far_named name = record (outside far) { symbols = far.symbols ++ name ∷ []; functions = far.functions ++ name ∷ [] }
 

@@ -91,7 +91,7 @@ fresh_number g key names new there =
     let at : name_at more (number_of key names) ≡ key = ap (λ (x : Option Text). unwrap_or x []) (name_there key names) in
     new (subst (IsIn (keys_at more g.names)) at (key_there more g.names (number_of key names) there))
 
--- a key that stands for nothing so far, and one that is the next number
+-- a key that means nothing so far, and one that is the next number
 fresh_name : (g : Progress) (t : Table LocalSort) (unnamed : ℕ) (key : Text) → Locals g None t unnamed
     → is_local (slice_get (mentioned key local.Unknown t).sorts (number_of key t.names)) ≡ false
     → IsIn g.names (number_of key t.names) → ⊥
@@ -212,7 +212,7 @@ module _ {m : Module} (w : Outside m) where
   -- ---- the forms
 
   module _ (f : Function) (t : Table LocalSort) (last : ℕ) where
-    -- where the end is known behind a name that was read, it is known before it
+    -- where the end is known after a name that was read, it is known before it
     value_back : (i : Input) → Ends m w f t last (with_value i) → Ends m w f t last i
     value_back i h =
         token_ends w f t last i

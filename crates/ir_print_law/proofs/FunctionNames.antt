@@ -1,4 +1,4 @@
--- What the names of a function stand for where it ends.
+-- What the names of a function mean where it ends.
 use Rattle.std.proofs.Common.{◌≡◌, ℕ, zero, suc, ◌+◌, ◌<◌, true, List, [], ◌∷◌, ◌++◌, length, drop, map, slice_get, unwrap_or, Option, None, Some, refl, sym, ap, subst, ◌∙◌, arith, append_assoc, inl, inr, ◌⊎◌}
 use Rattle.std.proofs.lemmas.List.{append-nil}
 use Rattle.std.proofs.lemmas.Option.{slice_get_within}
@@ -86,7 +86,7 @@ pub parameters_first : (ps : List Parameter) (count : ℕ) → AreFirst (with_pa
 parameters_first ps count h place parameter e =
     h.1 place parameter.value (ap (λ (l : List ℕ). slice_get l place) (parameters_are nothing ps) ∙ mapped (λ parameter. parameter.value) ps place parameter e)
 
--- what a function's names stand for, where nothing is missing
+-- what a function's names mean, where nothing is missing
 pub function_names : (f : Function) (uses : List LocalUse) (unnamed count : ℕ) → unnamed < 4294967296
     → Locals (whole_of f) None (record { names = f.locals; sorts = f.sorts }) unnamed
     → Places (whole_of f) None (record { names = f.locals; sorts = f.sorts }) uses → ((u : LocalUse) → IsIn uses u → is_wanted u.wanted (slice_get f.sorts u.value) ≡ true)

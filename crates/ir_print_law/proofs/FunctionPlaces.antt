@@ -1,4 +1,4 @@
--- The places of a function's names while it is read: each one is defined or used, and those of blocks stand for their blocks.
+-- The places of a function's names while it is read: each one is defined or used, and those of blocks mean their blocks.
 use Rattle.std.proofs.Common.{◌≡◌, ℕ, zero, suc, ◌+◌, ◌<◌, Bool, true, false, List, [], ◌∷◌, ◌++◌, length, slice_get, if◌then◌else◌, is_some, unwrap_or, Option, None, Some, refl, sym, ap, subst, ◌∙◌, arith, length-append, inl, inr, ◌⊎◌}
 use Rattle.std.specs.Prelude.{nat_lt, slice_set}
 use Rattle.std.proofs.lemmas.Bool.Decides.{nat_tests}
@@ -18,7 +18,7 @@ use Rattle.ir_print_law.proofs.LocalNames.{keys_at, in_or_end, in_longer, in_at_
 use Rattle.ir_print_law.proofs.Reading.{Progress, with_named_value, with_named_label}
 use Rattle.ir_print_law.proofs.Tables.{Begins, begins_itself, begins_with, stays, at_end_or_before, name_there}
 
--- the numbers from 0 on, so many
+-- the numbers from 0 to below `count`
 abbrev pub AreFirst : List ℕ → (count : ℕ) → Type 0
 AreFirst ns count = (length ns ≡ count) × ((place n : ℕ) → slice_get ns place ≡ Some n → n ≡ place)
 
@@ -26,7 +26,7 @@ AreFirst ns count = (length ns ≡ count) × ((place n : ℕ) → slice_get ns p
 abbrev pub IsUsed : List LocalUse → ℕ → Type 0
 IsUsed uses n = (u : LocalUse) × IsIn uses u × (u.value ≡ n)
 
--- What is known of the places of names, where so much is defined, but for a value that is pending.
+-- What is known of the places of names, where this much is defined, except for a value that is pending.
 pub record Places (g : Progress) (pending : Option ℕ) (t : Table LocalSort) (uses : List LocalUse) : Type 0 where
   pub value_names : (n : ℕ) → IsIn g.values n → IsIn g.names n
   pub label_names : (n : ℕ) → IsIn g.labels n → IsIn g.names n
@@ -67,7 +67,7 @@ sorts_begin : (place : Option ℕ) (sorts : List LocalSort) → Begins sorts (so
 sorts_begin None sorts = begins_with sorts (local.Unknown ∷ [])
 sorts_begin (Some n) sorts = begins_itself sorts
 
--- a place behind a mention was there before, or is that of the key
+-- a place after a mention was there before, or is that of the key
 old_or_key : (key : Text) (names : List Text) (n : ℕ) → n < length (numbered key names) → (n < length names) ⊎ (number_of key names ≡ n)
 old_or_key key names n = by (place_of key names) where
   longer : length (names ++ key ∷ []) ≡ length names + 1
@@ -151,7 +151,7 @@ value_places g t uses key h fresh =
       first = first_next g t uses key h fresh;
     }
 
--- the table in which a name stands for this
+-- the table in which a name means this
 sorted_as : (n : ℕ) (sort : LocalSort) (t : Table LocalSort) (P : List LocalSort → Type 0) → P t.sorts → P (slice_set t.sorts n sort) → P (defined n sort t).sorts
 sorted_as n sort t P before behind = by (nat_lt n (length t.sorts)) where
   by : (b : Bool) → P (if b then slice_set t.sorts n sort else t.sorts)

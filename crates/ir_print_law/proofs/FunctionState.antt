@@ -23,7 +23,7 @@ use Rattle.ir_print_law.proofs.Outside.{Outside, with_own}
 use Rattle.ir_print_law.proofs.Reading.{Progress, with_named_value, with_named_label, Kit, used_keys, IsValueSort}
 use Rattle.ir_print_law.proofs.Tables.{Begins, begins_itself, begins_further, stays, name_begins, name_there}
 
--- So much of the function is defined, but for the value that is pending.
+-- This much of the function is defined, except for the value that is pending.
 pub record Holds (m : Module) (w : Outside m) (g : Progress) (pending : Option ℕ) (i : Input) : Type 0 where
   pub outside : w.reading.Fore i
   pub names : Locals g pending i.locals i.unnamed
@@ -32,14 +32,14 @@ pub record Holds (m : Module) (w : Outside m) (g : Progress) (pending : Option �
   pub numbers : i.unnamed < 4294967296
   pub places : Places g pending i.locals i.local_uses
 
--- Reading leads on to this table, where each use is right, and where all that the function defines stands.
+-- Reading ends with this table, in which each use is right, and which has all that the function defines.
 pub record Ends (m : Module) (w : Outside m) (f : Function) (t : Table LocalSort) (unnamed : ℕ) (i : Input) : Type 0 where
   pub outside : w.reading.Back i
   pub begins : Begins i.locals.names f.locals
   pub right : (u : LocalUse) → IsIn i.local_uses u → is_wanted u.wanted (slice_get t.sorts u.value) ≡ true
   pub names : Locals (whole_of f) None t unnamed
 
--- the use of the local name that stands here
+-- the use of the local name that is here
 abbrev pub use_here : Wanted → Input → LocalUse
 use_here wanted i = record { value = local_number i; wanted = wanted; start = start i.cursor }
 
@@ -123,7 +123,7 @@ module _ {m : Module} (w : Outside m) where
   pub sort_ends : (f : Function) (t : Table LocalSort) (unnamed n : ℕ) (i : Input) (sort : LocalSort) → Ends m w f t unnamed (with_sort n sort i) → Ends m w f t unnamed i
   sort_ends f t unnamed n i sort h = own_ends f t unnamed i (defined n sort i.locals) i.local_uses i.values i.unnamed h (begins_itself i.locals.names) (λ u there. there)
 
-  -- ---- what forms keep that define nothing
+  -- ---- what forms that define nothing preserve
 
   pub kit : (f : Function) (t : Table LocalSort) (unnamed : ℕ) (g : Progress) (pending : Option ℕ) → Kit m f (Holds m w g pending) (Ends m w f t unnamed)
   kit f t unnamed g pending = record {

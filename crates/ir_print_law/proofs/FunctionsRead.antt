@@ -62,7 +62,7 @@ module _ {m : Module} (r : Reading m) where
         )
     by false c o h fore = (subst r.Fore h.1 fore, λ back. (subst r.Back (sym h.1) back, subst IsCollector h.0 tt))
 
-  -- what stands behind the parameters of a function
+  -- what follows the parameters of a function
   pub head_end_keeps : (s : Spot) (i : Input) → Keeps r.Fore (Same r.Fore) r.Back (head_end s) IsCollector i
   unfolding head_end
   head_end_keeps s i c o h fore =
@@ -116,7 +116,7 @@ begins_here w i locals uses values unnamed fore = record {
   places = subst (Places nothing None i.locals) (sym uses) (subst (λ t. Places nothing None t []) (sym locals) no_places);
 }
 
--- a function behind its name, where none of its own names is read so far, up to the brace that closes it
+-- a function after its name, where none of its own names is read so far, up to the brace that closes it
 function_all : {m : Module} (w : Outside m) (symbol returned : ℕ) (ps : List Parameter) (c : Option Text) (bs : List Block) (i i1 i2 i3 i4 i5 i6 o : Input)
     → (expect k.OpenRound).says i tt i1 → parameters.says i1 ps i2 → (expect k.CloseRound).says i2 tt i3 → (head_end spot.Defined).says i3 c i4
     → open_body.says i4 tt i5 → blocks.says i5 bs i6 → (expect k.CloseBrace).says i6 tt o
@@ -163,7 +163,7 @@ function_all {m = m} w symbol returned ps c bs i i1 i2 i3 i4 i5 i6 o s1 s2 s3 s4
           ),
     )
 
--- the same with what its names stand for
+-- the same with what its names mean
 pub function_keeps : {m : Module} (w : Outside m) (symbol returned : ℕ) (ps : List Parameter) (c : Option Text) (bs : List Block) (i i1 i2 i3 i4 i5 i6 o : Input)
     → (expect k.OpenRound).says i tt i1 → parameters.says i1 ps i2 → (expect k.CloseRound).says i2 tt i3 → (head_end spot.Defined).says i3 c i4
     → open_body.says i4 tt i5 → blocks.says i5 bs i6 → (expect k.CloseBrace).says i6 tt o
@@ -183,7 +183,7 @@ function_keeps {m = m} w symbol returned ps c bs i i1 i2 i3 i4 i5 i6 o s1 s2 s3 
           (y.0, λ is. (y.1 is, function_names f o.local_uses o.unnamed (length i2.locals.names) x.0.0.numbers x.0.0.names x.0.0.places right x.0.1)),
     )
 
--- the same without what its names stand for
+-- the same without what its names mean
 pub function_is : {m : Module} (w : Outside m) (symbol returned : ℕ) (ps : List Parameter) (c : Option Text) (bs : List Block) (i i1 i2 i3 i4 i5 i6 o : Input)
     → (expect k.OpenRound).says i tt i1 → parameters.says i1 ps i2 → (expect k.CloseRound).says i2 tt i3 → (head_end spot.Defined).says i3 c i4
     → open_body.says i4 tt i5 → blocks.says i5 bs i6 → (expect k.CloseBrace).says i6 tt o

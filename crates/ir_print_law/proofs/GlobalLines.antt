@@ -126,7 +126,7 @@ module _ (m : Module) (f : Function) (named : AreNamed m f) (types : TypesRead m
   abbrev far_named : Text → Far
   far_named name = record far { symbols = far.symbols ++ name ∷ []; globals = far.globals ++ name ∷ [] }
 
-  -- what is known behind the line
+  -- what is known after the line
   abbrev pub far_global : Text → Global → Far
   far_global name g = record far { symbols = far.symbols ++ name ∷ []; globals = far.globals ++ name ∷ []; global_items = far.global_items ++ g ∷ [] }
 

@@ -47,7 +47,7 @@ placed_is site i o a less h = (tt, i, (few_places site.place less, refl), h)
 no_comma : (x : Kind) → begins_body_line x ≡ true → x ≡ k.Comma → ⊥
 no_comma x e is = let h = sym (ap begins_body_line is) ∙ e in absurd cc
 
--- behind a line no comma comes
+-- no comma comes after a line
 pub comma_free : (rest : Text) (i : Input) → EndsOp rest → Stands i.cursor rest → sees k.Comma i.cursor ≡ false
 comma_free rest i ends at = unlike k.Comma begins_body_line i refl (ends.1 i at)
 
@@ -61,7 +61,7 @@ valued_line m locals x value rest =
     ∙ append_assoc (codes "  ") (key ++ codes " = ") (text ++ 10 ∷ rest) ∙ ap (λ (t : Text). 32 ∷ 32 ∷ t) (append_assoc key (codes " = ") (text ++ 10 ∷ rest))
 
 module _ (m : Module) (f : Function) (named : AreNamed m f) (ops : OpsRead m f named) (far : Far) where
-  -- what is known behind the instruction's line
+  -- what is known after the instruction's line
   abbrev pub far_result : (key : Text) (unnamed : ℕ) → Far
   far_result key unnamed = record far { seen = far.seen ++ key ∷ []; values = far.values ++ key ∷ []; pending = []; count = far.count + 1; unnamed = unnamed }
 
@@ -104,7 +104,7 @@ module _ (m : Module) (f : Function) (named : AreNamed m f) (ops : OpsRead m f n
 
   -- ---- an instruction with a value
 
-  -- the forms behind the name of the value
+  -- the forms after the name of the value
   abbrev Behind : Site → ℕ → Form Instr
   Behind site value = named_op site value >>= valued value
 

@@ -27,7 +27,7 @@ use Rattle.ir_print_law.proofs.Decorations.{decorations_pass, trailed_keeps}
 use Rattle.ir_print_law.proofs.Operations.{IsNamed, alloca_keeps, bitcast_keeps, load_keeps, element_keeps, compare_keeps, select_keeps, arithmetic_keeps, resize_keeps}
 use Rattle.ir_print_law.proofs.Reading.{Progress, with_named_value, Builder, within_of, naming_of}
 
--- what is defined behind the value of an instruction
+-- what is defined after the value of an instruction
 abbrev pub with_result : Progress → Option ℕ → Progress
 with_result g None = g
 with_result g (Some value) = with_named_value g value
@@ -70,7 +70,7 @@ module _ {m : Module} {f : Function} {Back : Input → Type 0} {Fore : Progress 
   unfolding named_op
   named_op_keeps g n site i = named_op_by_keeps g n site (kind i.cursor) i
 
-  -- an instruction is one that ends no block, and behind it its value is defined
+  -- an instruction is one that ends no block, and after it its value is defined
   abbrev Instructs : Progress → Site → Form Instr → Input → Type 0
   Instructs g site form i = Keeps (Fore g) (λ x. Fore (with_result g x.result)) Back form (IsInner m f site.is_behind_phis) i
 
@@ -80,7 +80,7 @@ module _ {m : Module} {f : Function} {Back : Input → Type 0} {Fore : Progress 
   plain_of : (site : Site) (x : Op) → IsPlain (within_of (b.kit (record { names = []; values = []; labels = [] }))) x → IsInner m f site.is_behind_phis (record { result = None; op = x })
   plain_of site x h = (h.0, h.1, sym h.2, λ e. let none = h.3 in absurd cc)
 
-  -- an operation with this value, and the decorations behind it
+  -- an operation with this value, and the decorations after it
   valued_keeps : (g : Progress) (n : ℕ) (site : Site) (x : Op) (i : Input) (y : Instr) (o : Input) → (valued n x).says i y o → Fore (with_named_value g n) i
       → Fore (with_result g y.result) o × (Back o → Back i × (IsNamed m f site x → IsInner m f site.is_behind_phis y))
   valued_keeps g n site x i y o h fore =

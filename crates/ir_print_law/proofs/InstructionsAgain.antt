@@ -94,7 +94,7 @@ module _ {m : Module} {f : Function} (v u : Invariant m f) where
       (looked u (λ i. integers.resize_of (kind i.cursor)) (integers.resize_by value) i rest s good (Some x) (ap integers.resize_of is ∙ of)
       (resize_reads v u x name value from a to i gap rest s plain own sets blanks ends ready))
 
-  -- what stands behind `%v =`
+  -- what follows `%v =`
   pub named_op_reads : (site : Site) (value : ℕ) (x : Op) (i : Input) (gap rest : Text) (s : ℕ) → AreBlanks gap → IsOp m f x → IsNamed m x → (is_phi x ≡ true → site.is_behind_phis ≡ true) → Sets v u value → EndsLine rest
       → Ready v s i (gap ++ (op_text m f.locals x ++ rest)) → Reads u s (whole.named_op site value) i rest (OpPrints (op_text m f.locals x))
   unfolding word_kind keywords class_of element_word
@@ -175,7 +175,7 @@ module _ {m : Module} {f : Function} (v u : Invariant m f) where
   named_op_reads site value op.ReturnVoid i gap rest s blanks own named first sets ends ready = absurd cc
   named_op_reads site value (op.Return x) i gap rest s blanks own named first sets ends ready = absurd cc
 
-  -- what stands behind `%v`
+  -- what follows `%v`
   pub named_behind_reads : (site : Site) (value : ℕ) (x : Op) (i : Input) (rest : Text) (s : ℕ) → IsOp m f x → IsNamed m x → (is_phi x ≡ true → site.is_behind_phis ≡ true) → Sets v u value → EndsLine rest
       → Ready v s i (codes " = " ++ (op_text m f.locals x ++ rest)) → Reads u s (whole.named_behind site value) i rest (InstrPrints (Some value) (op_text m f.locals x))
   unfolding class_of

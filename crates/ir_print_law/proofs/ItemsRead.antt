@@ -89,7 +89,7 @@ grown_further m Good a b c x y = record {
 abbrev pub IsBetween : Made → Input → Type 0
 IsBetween made i = Stands no_one i × (kept_of i ≡ between made)
 
--- an item leads from items that are made to further ones, which are good where reading leads on
+-- an item goes from the items made so far to further ones, which are good where reading goes on to its end
 abbrev pub Goes : {A : Type 0} → (e : Input) (Good : Function → Type 0) → Form A → Type 0
 Goes {A = A} e Good form =
     (i : Input) (made : Made) (a : A) (o : Input) → form.says i a o → IsBetween made i

@@ -84,7 +84,7 @@ same_or_not x y = by (bytes_eq x y) refl where
 
 -- ---- what is known of names
 
--- what a name of which this holds stands for passes the test
+-- the sort of each name of which this holds passes the test
 abbrev pub Tells : {S : Type 0} → (Fact : Text → Type 0) → (test : Option S → Bool) → Table S → Type 0
 Tells Fact test t = (name : Text) → Fact name → test (sort_at t name) ≡ true
 

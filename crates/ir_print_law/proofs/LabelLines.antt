@@ -57,7 +57,7 @@ module _ (m : Module) (f : Function) (named : AreNamed m f) (far : Far) where
   LabelGoes key block unnamed i rest =
       (n : ℕ) × (o : Input) × (block_label block).says i n o × Ready (known m f named (far_label key unnamed)) 0 o rest × Widens i o × (slice_get o.locals.names n ≡ Some key)
 
-  -- the state behind a label, which the form leaves
+  -- the state after a label, which the form leaves
   behind_label : (key : Text) (i o : Input) (unnamed : ℕ) (rest : Text) → Ready (known m f named far) 0 i (10 ∷ (key_text key ++ 58 ∷ rest)) → (IsIn far.values key → ⊥) → far.pending ≡ []
       → local_key i.cursor ≡ key → Stands o.cursor rest → o ≡ names.with_label (length far.labels) (record i { unnamed = o.unnamed }) → o.unnamed ≡ unnamed
       → Ready (known m f named (far_label key unnamed)) 0 o rest × Widens i o × (slice_get o.locals.names (number_of key i.locals.names) ≡ Some key)

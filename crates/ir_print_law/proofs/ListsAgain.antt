@@ -70,7 +70,7 @@ no_metadata _ e = refl
 pub list_ends : (i : Input) → ends_line (kind i.cursor) ≡ true → lists.at_no_comma i ≡ true
 list_ends i e = ap (λ (b : Bool). not b || lists.is_metadata (kind_behind i.cursor)) (no_comma_seen i e)
 
--- a further part comes behind a comma
+-- a further part comes after a comma
 pub list_goes_on : (i : Input) → kind i.cursor ≡ k.Comma → lists.is_metadata (kind (advanced i).cursor) ≡ false → lists.at_no_comma i ≡ false
 unfolding kind_behind kind next
 list_goes_on i is e = ap (λ (b : Bool). not b || lists.is_metadata (kind_behind i.cursor)) (seen k.Comma i is) ∙ e
@@ -78,7 +78,7 @@ list_goes_on i is e = ap (λ (b : Bool). not b || lists.is_metadata (kind_behind
 module _ {m : Module} {f : Function} (v : Invariant m f) where
   -- ---- indices
 
-  -- indices, each behind a comma
+  -- indices, each after a comma
   abbrev shown_indices : List Argument → Text
   shown_indices xs = flat_map (index_text m f.locals) xs
 
@@ -92,7 +92,7 @@ module _ {m : Module} {f : Function} (v : Invariant m f) where
   abbrev IndicesPrint : List Argument → List Argument → Input → Type 0
   IndicesPrint xs ys o = (n : Module) (others : List Text) → IsLater o n others → flat_map (index_text n others) ys ≡ flat_map (index_text m f.locals) xs
 
-  -- an index, behind others or not
+  -- an index, after others or not
   index_reads : (x : Argument) (xs : List Argument) (is_further : Bool) (i : Input) (rest : Text) (s : ℕ) → IsArgument m f x → EndsLine rest → Ready v s i (codes ", " ++ (argument_text m f.locals x ++ (flat_map (index_text m f.locals) xs ++ rest)))
       → (lists.ends_indices (record { is_further = is_further }) i ≡ false) × Reads v s lists.index i (flat_map (index_text m f.locals) xs ++ rest) (ArgumentPrints (argument_text m f.locals x))
   unfolding lists.index class_of
@@ -198,7 +198,7 @@ module _ {m : Module} {f : Function} (v : Invariant m f) where
       comma_form : Operand → Form Incoming
       comma_form y = expect k.Comma >> label_form y
 
-  -- further entries, each behind a comma
+  -- further entries, each after a comma
   abbrev further_entries : ℕ → List Incoming → Text
   further_entries t xs = flat_map (λ x. codes ", " ++ incoming_text m f.locals t x) xs
 

@@ -86,7 +86,7 @@ names_stay (n ∷ ns) names more within b =
 
 -- ---- the table
 
--- what a name stands for is defined
+-- what a name means is defined
 abbrev pub IsSortOf : Progress → ℕ → LocalSort → Type 0
 IsSortOf g n local.Unknown = Unit {0}
 IsSortOf g n (local.Value t) = IsIn g.values n
@@ -97,7 +97,7 @@ IsSortOf g n (local.Block b) = slice_get g.labels b ≡ Some n
 abbrev pub keys_at : List Text → List ℕ → List Text
 keys_at names ns = map (name_at names) ns
 
--- So much is defined, but for the name that is pending; each name has one place, and numbers are counted on.
+-- This much is defined, except for the name that is pending; each name has one place, and numbers are counted on.
 pub record Locals (g : Progress) (pending : Option ℕ) (t : Table LocalSort) (unnamed : ℕ) : Type 0 where
   pub same : length t.sorts ≡ length t.names
   pub places : (n : ℕ) (key : Text) → slice_get t.names n ≡ Some key → place_of key t.names ≡ Some n
@@ -141,7 +141,7 @@ mention_keeps g pending t unnamed key h = by (place_of key t.names) refl where
 
 -- ---- definitions
 
--- the key is defined nowhere, where its number stands for nothing
+-- the key is defined nowhere, where its number means nothing
 pub key_is_new : (g : Progress) (t : Table LocalSort) (unnamed : ℕ) (key : Text) (n : ℕ) → Locals g None t unnamed → slice_get t.names n ≡ Some key → is_local (slice_get t.sorts n) ≡ false → IsIn (keys_at t.names g.names) key → ⊥
 key_is_new g t unnamed key n h at none there =
     let p = in_map (name_at t.names) g.names key there in
@@ -187,7 +187,7 @@ opened g t unnamed next n less h defines = record {
   ];
 }
 
--- a name of a value that stands for nothing so far
+-- a name of a value that means nothing so far
 pub value_named : (g : Progress) (t : Table LocalSort) (unnamed : ℕ) (key : Text) (n : ℕ) → Locals g None t unnamed → slice_get t.names n ≡ Some key → is_local (slice_get t.sorts n) ≡ false → IsNameKey key
     → Locals (with_named_value g n) (Some n) t unnamed
 value_named g t unnamed key n h at none is =

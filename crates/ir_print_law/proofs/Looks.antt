@@ -11,12 +11,12 @@ use Rattle.ir_forms.specs.Written.{bits_of, is_scalar, is_passed, is_held}
 use Rattle.ir_print_law.specs.Definitions.{defined_structs}
 use Rattle.ir_print_law.specs.Shapes.{Shape, Integer, Pointer, Array, Empty, Struct, Named, HasShape, IsWritten, levels, bits_of_shape, is_scalar_shape, is_pointer_shape, is_passed_shape, is_held_shape}
 
--- a type with so many stars behind it
+-- a type with n stars after it
 abbrev pub starred : ℕ → Shape → Shape
 starred zero shape = shape
 starred (suc count) shape = starred count (Pointer shape)
 
--- what stands before the stars, and how many there are
+-- what is before the stars, and how many stars there are
 abbrev pub base_of : Shape → Base
 base_of (Integer bits) = base.Integer bits
 base_of (Pointer part) = base_of part
@@ -27,7 +27,7 @@ abbrev pub stars_of : Shape → ℕ
 stars_of (Pointer part) = suc (stars_of part)
 stars_of _ = 0
 
--- a type of this shape, where so many levels might be
+-- a type of this shape, with room for `most` levels in all
 pub record IsTypeOf (m : Module) (most : ℕ) (w : WrittenType) (shape : Shape) : Type 0 where
   pub has_shape : HasShape m.types m.struct_names shape w.id
   pub fits : levels shape + w.room ≡ most

@@ -92,7 +92,7 @@ same_number nothing Owns Good t n k a b h x y e =
     let second = h.places k (name_at t.names k) (name_there nothing Owns Good t k b h y) in
     cc
 
--- so they stand for one thing
+-- so they mean the same
 same_sort : {S : Type 0} (nothing : S) (Owns : S → ℕ → Type 0) (Good : Text → Type 0) (t : Table S) (n k : ℕ) (a b : S) → IsTable nothing Owns Good t → Owns a n → Owns b k
     → name_at t.names n ≡ name_at t.names k → Some a ≡ Some b
 same_sort nothing Owns Good t n k a b h x y e =

@@ -132,7 +132,7 @@ declare_pending n = record { structs = []; globals = []; declares = n ∷ []; fu
 abbrev pub function_pending : ℕ → Pending
 function_pending n = record { structs = []; globals = []; declares = []; functions = n ∷ [] }
 
--- the table behind a mention of the name that stands here
+-- the table after a mention of the name that is here
 abbrev seen_symbols : Input → Table SymbolSort
 seen_symbols i = mentioned (spelled i.cursor) symbol.Unknown i.symbols
 

@@ -1,4 +1,4 @@
--- What the names of a module stand for where reading ends.
+-- What the names of a module mean where reading ends.
 use Rattle.std.proofs.Common.{◌≡◌, ℕ, zero, suc, ◌<◌, List, [], ◌∷◌, ◌++◌, length, map, slice_get, Some, refl, ap, subst, arith, inl, inr}
 use Rattle.std.specs.List.{AllByRecursion}
 use Rattle.std.proofs.lemmas.Option.{slice_get_within}
@@ -32,7 +32,7 @@ one_of P (y ∷ xs) zero x all e = let same : y ≡ x = cc in subst P same all.0
 one_of P (y ∷ xs) (suc place) x all e = one_of P xs place x all.1 e
 
 module _ (e : Input) (h : Stands no_one e) where
-  -- what a name stands for owns it
+  -- what a name means owns it
   symbol_owned : (n : ℕ) (sort : SymbolSort) → slice_get e.symbols.sorts n ≡ Some sort → (sort ≡ symbol.Unknown → ⊥) → OwnsSymbol (symbols_of no_one e) sort n
   symbol_owned n sort there some = elim (h.symbols.owned n sort there) [
     | inl none ↦ absurd (some none)
@@ -49,7 +49,7 @@ module _ (e : Input) (h : Stands no_one e) where
         (item_at (λ (s : StructType). s.name) e.structs layout name own, omega (arith, less, same))
   ]
 
-  -- what the names stand for, where each function has its names
+  -- what the names mean, where each function has its names
   pub has_names : AllByRecursion HasNames e.functions → HasModuleNames (module_of e)
   has_names all = record {
     struct_names = λ number name there. (h.structs.bytes number name there, h.structs.places number name there);

@@ -44,7 +44,7 @@ use Rattle.ir_print_law.proofs.Passes.{Passes, skip_passes}
 use Rattle.ir_print_law.proofs.Tables.{begins_itself}
 use Rattle.ir_print_law.proofs.Uses.{struct_right, symbol_right, nothing_late}
 
--- A function that is read is good, and keeps what is known outside of its names.
+-- A function that is read is good, and preserves what is known outside of its names.
 abbrev pub FunctionKeeps : (Module → Function → Type 0) → Type 1
 FunctionKeeps Good =
     (m : Module) (w : Outside m) (symbol returned : ℕ) (ps : List Parameter) (c : Option Text) (bs : List Block) (i i1 i2 i3 i4 i5 i6 o : Input)
@@ -66,11 +66,11 @@ neither (Some place) y e = absurd cc
 abbrev read_function : (symbol returned : ℕ) → List Parameter → Option Text → List Block → Input → Function
 read_function symbol returned ps c bs i = function_of (record { symbol = symbol; returned = returned; parameters = ps; collector = c }) bs i
 
--- the state behind it
+-- the state after it
 abbrev behind_function : (symbol returned : ℕ) → List Parameter → Option Text → List Block → Input → Input
 behind_function symbol returned ps c bs i = with_function (record { symbol = symbol; returned = returned; parameters = ps; collector = c }) bs i
 
--- where reading leads on to behind a function, it does so behind the function's brace, and no name is missing there
+-- where reading goes on to its end from after a function, it does so from the function's brace, and no name is missing there
 leads_function : (e : Input) (symbol returned : ℕ) (ps : List Parameter) (c : Option Text) (bs : List Block) (i : Input) → Leads e (behind_function symbol returned ps c bs i)
     → (first_missing i.locals i.local_uses ≡ None) × Leads e i
 unfolding with_function
@@ -221,7 +221,7 @@ starts bytes lexed own is = (
   refl,
 )
 
--- reading leads to where it ends
+-- the end of reading is its own end
 ends : (o : Input) → Stands no_one o → late_fault o ≡ None → Leads o o
 ends o end none =
     let late = nothing_late o none in
@@ -245,7 +245,7 @@ all_so P Q (x ∷ xs) so h = (so x h.0, all_so P Q xs so h.1)
 no_more : (n most : ℕ) → n + 0 ≤ most → n ≤ most
 no_more n most le = omega (arith, le)
 
--- what a text leads to, from where it begins to where it ends
+-- what holds where the reading of a text ends
 abbrev HasRead : (Module → Function → Type 0) → Input → Type 0
 HasRead Good o = Stands no_one o × AllByRecursion (IsStructType (module_of o)) o.structs × AllByRecursion (IsGlobal (module_of o)) o.globals
     × AllByRecursion (IsDeclare (module_of o)) o.declares × AllByRecursion (Good (module_of o)) o.functions
@@ -291,7 +291,7 @@ read_is_printable = read_so IsFunction (λ m w. function_is w) IsPrintable (end_
 abbrev IsNamedFunction : Module → Function → Type 0
 IsNamedFunction m f = IsFunction m f × HasNames f
 
--- and its names stand for its items
+-- and its names mean its items
 pub read_has_names : (bytes : Text) (m : Module) → AreBytes bytes → IsText bytes m → HasModuleNames m
 read_has_names =
     read_so IsNamedFunction (λ m w. function_keeps w) HasModuleNames

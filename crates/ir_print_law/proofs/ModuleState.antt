@@ -1,4 +1,4 @@
--- What is known of a state between and within the items of a module, and of where reading leads.
+-- What is known of a state between and within the items of a module, and of where reading ends.
 use Rattle.std.proofs.Common.{◌≡◌, ℕ, zero, suc, ◌+◌, ◌≤◌, Bool, true, false, List, [], ◌∷◌, ◌++◌, length, map, slice_get, unwrap_or, Option, None, Some, refl, ap, ◌∙◌, inl, inr, ◌⊎◌}
 use Rattle.ir_ast.specs.Names.{numbered}
 use Rattle.ir_ast.specs.Types.{numbered_type}
@@ -100,9 +100,9 @@ kept_of i = record {
   functions = i.functions;
 }
 
--- ---- behind a place
+-- ---- from a place to the end
 
--- Reading leads on to this end, where each name that is used stands for something that may be used so.
+-- Reading goes on to this end, where each name that is used means something that may be used so.
 pub record Leads (e i : Input) : Type 0 where
   pub end : Stands no_one e
   pub types : Begins i.types e.types
@@ -114,7 +114,7 @@ pub record Leads (e i : Input) : Type 0 where
 
 -- ---- the text that is left
 
--- the text stays behind a token
+-- the text stays the same after a token
 pub next_bytes : (c : Place) → AreBytes c.text → AreBytes (next c).text
 unfolding next
 next_bytes c h = h
@@ -221,7 +221,7 @@ symbol_named e i is_call b = by is_call (slice_get e.symbols.sorts (symbol_numbe
 
 -- ---- the reading of a module that ends there
 
--- behind a token
+-- after a token
 pub stands_next : (p : Pending) (i : Input) → Stands p i → Stands p (advanced i)
 stands_next p i h = record {
   bytes = next_bytes i.cursor h.bytes;
@@ -234,7 +234,7 @@ stands_next p i h = record {
   few_functions = h.few_functions;
 }
 
--- behind a type
+-- after a type
 pub stands_type : (p : Pending) (i : Input) (t : IrType) → AreOrdered (numbered_type t i.types) → Stands p i → Stands p (with_type_interned t i)
 stands_type p i t order h = record {
   bytes = h.bytes;
@@ -247,7 +247,7 @@ stands_type p i t order h = record {
   few_functions = h.few_functions;
 }
 
--- behind a name of a struct
+-- after a name of a struct
 pub stands_struct : (p : Pending) (i : Input) → Stands p i → Stands p (with_struct_use i)
 stands_struct p i h = record {
   bytes = next_bytes i.cursor h.bytes;
@@ -260,7 +260,7 @@ stands_struct p i h = record {
   few_functions = h.few_functions;
 }
 
--- behind a name of a global or a function
+-- after a name of a global or a function
 pub stands_symbol : (p : Pending) (i : Input) (is_call : Bool) → Stands p i → Stands p (with_symbol_use is_call i)
 stands_symbol p i is_call h = record {
   bytes = next_bytes i.cursor h.bytes;
@@ -330,7 +330,7 @@ leads_symbol e i is_call b = record {
   missing = b.missing;
 }
 
--- The reading of a module, where so much is pending, and this holds of what no form changes that reads a type or an operand.
+-- The reading of a module, where these names are pending and `P` holds of what no form changes that reads a type or an operand.
 abbrev pub reading_of : (e : Input) (P : Kept → Type 0) (p : Pending) → Reading (module_of e)
 reading_of e P p = record {
   Fore = λ i. Stands p i × P (kept_of i);
@@ -391,7 +391,7 @@ with_kept k i = record i {
   functions = k.functions;
 }
 
--- where reading leads to depends on none of them
+-- where reading ends depends on none of them
 pub leads_kept : (e i : Input) (k : Kept) → Leads e (with_kept k i) → Leads e i
 leads_kept e i k b = record {
   end = b.end;
@@ -416,7 +416,7 @@ stands_own p i t uses values unnamed h = record {
   few_functions = h.few_functions;
 }
 
--- What is known outside of a function's names, where so much is pending, and these items are made.
+-- What is known outside of a function's names, where these names are pending and these items are made.
 abbrev pub outside_of : (e : Input) (made : Made) (p : Pending) → Outside (module_of e)
 outside_of e made p = record {
   reading = reading_of e (λ k. made_of k ≡ made) p;

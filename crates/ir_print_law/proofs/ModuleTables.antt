@@ -16,7 +16,7 @@ use Rattle.ir_print_law.specs.Printable.{IsSymbol}
 use Rattle.ir_print_law.proofs.LocalNames.{set_length, set_there, set_was}
 use Rattle.ir_print_law.proofs.Tables.{begins_with, stays, at_end_or_before, place_there, place_stays}
 
--- Each name is bytes and stands at its first place. A name that stands for something owns what it stands for, and what is owned stands there under a good name.
+-- Each name is bytes and is at its first place. What a name means, if anything, owns it. What owns a name is what it means, and such a name is good.
 pub record IsTable {S : Type 0} (nothing : S) (Owns : S → ℕ → Type 0) (Good : Text → Type 0) (t : Table S) : Type 0 where
   pub same : length t.sorts ≡ length t.names
   pub bytes : (n : ℕ) (name : Text) → slice_get t.names n ≡ Some name → AreBytes name
@@ -70,7 +70,7 @@ set_or_here (z ∷ xs) zero y (suc k) x e = inl e
 set_or_here (z ∷ xs) (suc n) y zero x e = inl e
 set_or_here (z ∷ xs) (suc n) y (suc k) x e = elim (set_or_here xs n y k x e) [ inl h ↦ inl h | inr h ↦ inr (ap suc h) ]
 
--- a name that stood for nothing so far stands for this from now on
+-- a name that meant nothing so far means this from now on
 table_defines : {S : Type 0} (nothing : S) (Owns Later : S → ℕ → Type 0) (Good : Text → Type 0) (t : Table S) (n : ℕ) (sort : S) (name : Text)
     → slice_get t.names n ≡ Some name → slice_get t.sorts n ≡ Some nothing → Good name → ((k : ℕ) → Owns nothing k → ⊥)
     → ((k : ℕ) (x : S) → Owns x k → Later x k) → Later sort n → ((k : ℕ) (x : S) → Later x k → Owns x k ⊎ ((k ≡ n) × (x ≡ sort)))
@@ -110,7 +110,7 @@ table_defines {S = S} nothing Owns Later Good t n sort name at none is no_one up
 
 -- ---- structs
 
--- these names stand for structs, one after another
+-- the name is that of this struct, by the names of the structs in order
 abbrev pub OwnsStruct : List ℕ → Option ℕ → ℕ → Type 0
 OwnsStruct own None n = ⊥
 OwnsStruct own (Some layout) n = slice_get own layout ≡ Some n
@@ -119,14 +119,14 @@ OwnsStruct own (Some layout) n = slice_get own layout ≡ Some n
 abbrev pub AreStructs : List ℕ → Table (Option ℕ) → Type 0
 AreStructs own t = IsTable None (OwnsStruct own) AreBytes t
 
--- a name that is no struct so far stands for nothing
+-- a name that is no struct so far means nothing
 no_struct : (sorts : List (Option ℕ)) (n : ℕ) → n < length sorts → is_struct (slice_get sorts n) ≡ false → slice_get sorts n ≡ Some None
 no_struct [] n less e = absurd (omega (arith, less))
 no_struct (None ∷ sorts) zero less e = refl
 no_struct (Some layout ∷ sorts) zero less e = absurd cc
 no_struct (x ∷ sorts) (suc n) less e = no_struct sorts n (omega (arith, less)) e
 
--- a name that stands for nothing so far is that of the next struct
+-- a name that means nothing so far is that of the next struct
 pub struct_defines : (own : List ℕ) (t : Table (Option ℕ)) (n : ℕ) (name : Text) → slice_get t.names n ≡ Some name → is_struct (slice_get t.sorts n) ≡ false → AreBytes name
     → AreStructs own t → AreStructs (own ++ n ∷ []) (defined n (Some (length own)) t)
 struct_defines own t n name at none is h =
@@ -144,13 +144,13 @@ struct_defines own t n name at none is h =
 
 -- ---- globals and functions
 
--- which names stand for globals, for declared functions and for defined ones, one after another
+-- the names of the globals, the declared functions and the defined ones, each in order
 pub record Owned : Type 0 where
   pub globals : List ℕ
   pub declares : List ℕ
   pub functions : List ℕ
 
--- these names stand for globals, declared functions and defined ones, one after another
+-- the name is that of this item, by the names of the items in order
 abbrev pub OwnsSymbol : Owned → SymbolSort → ℕ → Type 0
 OwnsSymbol own symbol.Unknown n = ⊥
 OwnsSymbol own (symbol.Global g) n = slice_get own.globals g ≡ Some n
@@ -161,7 +161,7 @@ OwnsSymbol own (symbol.Defined f) n = slice_get own.functions f ≡ Some n
 abbrev pub AreSymbols : Owned → Table SymbolSort → Type 0
 AreSymbols own t = IsTable symbol.Unknown (OwnsSymbol own) IsSymbol t
 
--- a name that is no global and no function so far stands for nothing
+-- a name that is no global and no function so far means nothing
 no_symbol : (sorts : List SymbolSort) (n : ℕ) → n < length sorts → is_symbol (slice_get sorts n) ≡ false → slice_get sorts n ≡ Some symbol.Unknown
 no_symbol [] n less e = absurd (omega (arith, less))
 no_symbol (symbol.Unknown ∷ sorts) zero less e = refl
@@ -176,7 +176,7 @@ IsMore own later sort n =
     ((k : ℕ) (x : SymbolSort) → OwnsSymbol own x k → OwnsSymbol later x k) × OwnsSymbol later sort n
     × ((k : ℕ) (x : SymbolSort) → OwnsSymbol later x k → OwnsSymbol own x k ⊎ ((k ≡ n) × (x ≡ sort)))
 
--- the name stands for what is new
+-- the name means what is new
 symbol_defines : (own later : Owned) (t : Table SymbolSort) (n : ℕ) (sort : SymbolSort) (name : Text) → IsMore own later sort n → slice_get t.names n ≡ Some name
     → is_symbol (slice_get t.sorts n) ≡ false → IsSymbol name → AreSymbols own t → AreSymbols later (defined n sort t)
 symbol_defines own later t n sort name more at none is h =
@@ -243,7 +243,7 @@ defined_more own n = (up, get_end own.functions n, down) where
   down k (symbol.Declared d) o = inl o
   down k (symbol.Defined f) o = elim (at_end_or_before own.functions n f k o) [ inl p ↦ inl p | inr p ↦ inr (sym p.1, ap symbol.Defined p.0) ]
 
--- a name that stands for nothing so far is that of the next global
+-- a name that means nothing so far is that of the next global
 pub global_defines : (own : Owned) (t : Table SymbolSort) (n : ℕ) (name : Text) → slice_get t.names n ≡ Some name → is_symbol (slice_get t.sorts n) ≡ false → IsSymbol name
     → AreSymbols own t → AreSymbols (more_globals own n) (defined n (symbol.Global (length own.globals)) t)
 global_defines own t n name at none is h = symbol_defines own (more_globals own n) t n (symbol.Global (length own.globals)) name (global_more own n) at none is h

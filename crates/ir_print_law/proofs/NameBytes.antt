@@ -22,7 +22,7 @@ drop_bytes zero s h = h
 drop_bytes (suc n) [] h = tt
 drop_bytes (suc n) (b ∷ s) h = drop_bytes n s h.1
 
--- a byte, and bytes behind it
+-- a byte, and bytes after it
 Read : Option (ℕ × Text) → Type 0
 Read None = Unit {0}
 Read (Some p) = (p.0 < 256) × AreBytes p.1

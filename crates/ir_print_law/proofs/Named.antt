@@ -1,4 +1,4 @@
--- Tables of names: what a name stands for, as names are mentioned and defined.
+-- Tables of names: what a name means, as names are mentioned and defined.
 use Rattle.std.proofs.Common.{◌≡◌, ℕ, zero, suc, ◌+◌, ◌<◌, Bool, true, false, cond, List, [], ◌∷◌, ◌++◌, length, slice_get, is_some, unwrap_or, if◌then◌else◌, Option, None, Some, refl, sym, ap, subst, ◌∙◌, arith, length-append, inl, inr, ◌⊎◌}
 use Rattle.std.specs.Prelude.{not, nat_lt, slice_set, option_map, option_and_then, position}
 use Rattle.std.specs.List.{position_or_len}
@@ -84,7 +84,7 @@ place_name name names n e = place_has name names n (sym (place_is name names) �
 pub place_stays : (name : Text) (names more : List Text) (n : ℕ) → place_of name names ≡ Some n → place_of name (names ++ more) ≡ Some n
 place_stays name names more n e = place_is name (names ++ more) ∙ place_before name names more n (sym (place_is name names) ∙ e)
 
--- a name that is numbered stands at its number
+-- a name that is numbered is at its number
 pub place_numbered : (k : Text) (names : List Text) → place_of k (numbered k names) ≡ Some (number_of k names)
 place_numbered k names = by (place_of k names) refl where
   by : (o : Option ℕ) → place_of k names ≡ o → place_of k (if is_some o then names else names ++ k ∷ []) ≡ Some (unwrap_or o (length names))
@@ -98,7 +98,7 @@ numbered_stays k name names n e = by (is_some (place_of k names)) where
   by true = e
   by false = place_stays name names (k ∷ []) n e
 
--- ---- what a name stands for
+-- ---- what a name means
 
 -- as many names as there are sorts
 abbrev pub IsEven : {S : Type 0} → Table S → Type 0
@@ -138,7 +138,7 @@ even_mentioned {S = S} t k nothing even = by (place_of k t.names) where
   by (Some n) = even
   by None = let a = length-append t.names (k ∷ []) in let b = length-append t.sorts (nothing ∷ []) in omega (arith, a, b, even)
 
--- a mention of a name leaves what each name stands for; a new one stands for nothing
+-- a mention of a name leaves what each name means; a new one means nothing
 pub sort_mentioned : {S : Type 0} (t : Table S) (k name : Text) (nothing : S) → IsEven t
     → (sort_at (mentioned k nothing t) name ≡ sort_at t name) ⊎ ((name ≡ k) × (sort_at t name ≡ None) × (sort_at (mentioned k nothing t) name ≡ Some nothing))
 sort_mentioned {S = S} t k name nothing even = by (place_of k t.names) (place_of name t.names) refl refl where
@@ -176,7 +176,7 @@ sort_kept t k name nothing test even same = elim (sort_mentioned t k name nothin
   | inr h ↦ ap test h.2 ∙ sym same ∙ sym (ap test h.1)
 ]
 
--- what stands at the number of a name that is mentioned
+-- what is at the number of a name that is mentioned
 pub sort_number : {S : Type 0} (t : Table S) (k : Text) (nothing : S) → slice_get (mentioned k nothing t).sorts (number_of k t.names) ≡ sort_at (mentioned k nothing t) k
 sort_number t k nothing = sym (sort_by_place (mentioned k nothing t) k (number_of k t.names) (place_numbered k t.names))
 

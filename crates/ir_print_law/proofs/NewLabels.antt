@@ -1,4 +1,4 @@
--- Labels are read, and from there on it is known which blocks they stand for.
+-- Labels are read, and from there on it is known which blocks they mean.
 use Rattle.std.proofs.Common.{◌≡◌, ℕ, ◌+◌, ◌/◌, ◌%◌, ◌<◌, ◌≤◌, ◌^◌, Bool, true, false, not, if◌then◌else◌, [], ◌∷◌, ◌++◌, slice_get, None, Some, refl, sym, ap, ◌∙◌, arith, append_assoc, inl}
 use Rattle.std.specs.Prelude.{nat_lt, ◌==◌, ◌||◌}
 use Rattle.std.specs.Fmt as text

@@ -1,4 +1,4 @@
--- Names that are defined are read, and from there on it is known what they stand for.
+-- Names that are defined are read, and from there on it is known what they mean.
 use Rattle.std.proofs.Common.{◌≡◌, ℕ, suc, ◌+◌, ◌<◌, ◌≤◌, ◌^◌, true, false, not, List, [], ◌∷◌, ◌++◌, length, slice_get, Some, refl, sym, ap, subst, ◌∙◌, arith, length-append}
 use Rattle.ir_print_law.proofs.NamesRead.{few}
 use Rattle.ir_ast.specs.declared.function.Function.{Function}
@@ -22,7 +22,7 @@ use Rattle.ir_print_law.proofs.Known.{Far, AreNamed, StructsKnown, SymbolsKnown,
 use Rattle.ir_print_law.proofs.Defining.{structs_defined, struct_is_new, symbol_is_new}
 use Rattle.ir_print_law.proofs.WholeForms.{Goes}
 
--- behind a sign and a word a byte at least was read
+-- a sign and a word take at least one byte
 pub one_byte : (gap : Text) (b : ℕ) (word rest : Text) (s : ℕ) → suc (length rest + s) ≤ length (gap ++ b ∷ (word ++ rest)) + s
 one_byte gap b word rest s = let a = length-append gap (b ∷ (word ++ rest)) in let w = length-append word rest in omega (arith, a, w)
 

@@ -1,4 +1,4 @@
--- Local names that are defined are read, and from there on it is known what they stand for.
+-- Local names that are defined are read, and from there on it is known what they mean.
 use Rattle.std.proofs.Common.{◌≡◌, ℕ, ◌+◌, ◌<◌, ◌^◌, false, List, [], ◌∷◌, ◌++◌, slice_get, Some, refl, sym, ap, subst, ◌∙◌, arith, inl, inr, ◌⊎◌}
 use Rattle.std.specs.Fmt as text
 use Rattle.ir_ast.specs.LocalKeys.{key_of_name}

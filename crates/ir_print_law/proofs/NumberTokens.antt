@@ -55,7 +55,7 @@ IsOther f = Leaves f (λ x. is_local_number x ≡ false)
 pure_leaves : {A : Type 0} (P : A → Type 0) (a : A) → P a → Leaves (pure a) P
 pure_leaves P a p i b o h = (([], h.1), subst P h.0 p)
 
--- two forms, one behind the other
+-- two forms, one after the other
 bind_leaves : {A B : Type 0} (P : B → Type 0) (g : Form A) (f : A → Form B) → Leaves g Any → ((a : A) → Leaves (f a) P) → Leaves (g >>= f) P
 bind_leaves P g f x y i b o h =
     let first = x i h.0 h.1 h.2 in
@@ -79,7 +79,7 @@ skip_leaves i a o h = (subst (Ends i) h.1 (ends_skipped i), tt)
 span_leaves : (p : ℕ → Bool) → Leaves (span p) Any
 span_leaves p i a o h = ((a, h.0), tt)
 
--- what stands behind the next byte of quoted text
+-- what follows the next byte of quoted text
 Left : Text → Option (ℕ × Text) → Type 0
 Left i None = Unit {0}
 Left i (Some p) = Ends i p.1
@@ -119,7 +119,7 @@ unfolding Left
 ends_quoted i [] o h = (34 ∷ [], h)
 ends_quoted i (b ∷ text) o h = ends_further i h.0 o (subst (Left i) h.1 (next_left i)) (ends_quoted h.0 text o h.2)
 
--- a quoted text is passed over, whatever it stands for
+-- a quoted text is passed over, whatever it spells
 quoted_leaves : Leaves quoted Any
 quoted_leaves i a o h = (ends_quoted i h.0 o h.1, tt)
 
@@ -146,7 +146,7 @@ entry_by : (t : Bool) (x y : Kind) (r : Option Kind) → is_local_number x ≡ f
 entry_by true x y r e f = e
 entry_by false x y r e f = f
 
--- a kind that stands in the list is no such number, and neither is one that stands in its place
+-- a kind in the list is no such number, and neither is the one that a word has that is not in it
 kind_in_is : (entries : List (Text × Kind)) (w : Text) (y : Kind) → AreOther entries → is_local_number y ≡ false → is_local_number (unwrap_or (kind_in entries w) y) ≡ false
 kind_in_is [] w y h e = e
 kind_in_is (entry ∷ entries) w y h e = entry_by (bytes_eq entry.0 w) entry.1 y (kind_in entries w) h.0 (kind_in_is entries w y h.1 e)
@@ -224,7 +224,7 @@ first_digit (b ∷ bytes) e = subst (Told b) e (class_told b)
 
 -- ---- tokens
 
--- the bytes end behind a word of this kind, which spells digits if it is a number in place of a local name
+-- a word of this kind, and the bytes after it; it spells digits if it is a number in place of a local name
 abbrev Reads : Text → Kind → Text → Type 0
 Reads i x o = (w : Text) × (i ≡ w ++ o) × (is_local_number x ≡ true → AreDigits (unquoted (bare x w)))
 
@@ -244,7 +244,7 @@ name_other x e = bind_leaves (λ y. is_local_number y ≡ false) (span is_name) 
 digits_other : (x : Kind) → is_local_number x ≡ false → IsOther (digits x)
 digits_other x e = bind_leaves (λ y. is_local_number y ≡ false) (span is_digit) (λ _. pure x) (span_leaves is_digit) (λ _. pure_leaves _ x e)
 
--- what comes behind a byte
+-- what comes after a byte
 behind_skip : (f : Form Kind) → IsOther f → IsOther (skip >> f)
 behind_skip f other = bind_leaves (λ y. is_local_number y ≡ false) skip (λ _. f) skip_leaves (λ _. other)
 
@@ -300,17 +300,17 @@ metadata_other = behind_skip (look metadata_by) (look_leaves _ metadata_by by) w
 
 -- ---- numbers
 
--- digits that stand together are digits each
+-- each byte of a run of digits is a digit
 all_digits : (w : Text) → Passes is_digit w → list_all is_digit w ≡ true
 all_digits [] h = refl
 all_digits (b ∷ w) h = rw h.0 (all_digits w h.1)
 
--- as many digits as stand together, where one stands
+-- the run of digits at the start, where the first byte is one
 span_digits : (i w o : Text) → begins is_digit i ≡ true → IsSpan is_digit i w o → AreDigits w
 span_digits i [] o e h = absurd (let q = sym e ∙ ap (begins is_digit) h.0 ∙ h.2 in cc)
 span_digits i (b ∷ w) o e h = (omega arith, all_digits (b ∷ w) h.1)
 
--- behind a digit stands no quote
+-- digits have no quotes
 spelled_digits : (w : Text) → AreDigits w → AreDigits (unquoted w)
 spelled_digits w own = subst AreDigits (sym (digits_spelled w own.1)) own
 
@@ -320,7 +320,7 @@ label_digits w b own =
     let long : length (w ++ b ∷ []) - 1 ≡ length w = omega (arith, length-append w (b ∷ [])) in
     subst (λ (x : Text). AreDigits (unquoted x)) (sym (ap (λ (n : ℕ). take n (w ++ b ∷ [])) long ∙ take-append_seam w (b ∷ []))) (spelled_digits w own)
 
--- digits with a byte behind them
+-- digits with a byte after them
 label_reads : (i w m : Text) (x : Kind) (o : Text) → IsSpan is_digit i w m → AreDigits w → first_class m ≡ c.Colon → (skip >> pure k.LabelNumber).says m x o → Reads i x o
 label_reads i w [] x o span own e h = absurd (let q = ap is_end e in cc) where
   is_end : Class → Bool
@@ -340,7 +340,7 @@ number_reads i x o e h = by (first_class h.1) refl h.3 where
   by c.Colon f s = label_reads i h.0 h.1 x o h.2 (span_digits i h.0 h.1 e h.2) f s
   by _ f s = (h.0, h.2.0 ∙ ap (λ (y : Text). h.0 ++ y) s.1, no_number x _ (subst (λ (y : Kind). is_local_number y ≡ false) s.0 refl))
 
--- a number behind its sign
+-- a number after its sign
 number_behind : (b : ℕ) (i : Text) (x : Kind) (o : Text) → begins is_digit i ≡ true → (digits k.LocalNumber).says i x o → Reads (b ∷ i) x o
 number_behind b i x o e h = (
   b ∷ h.0,

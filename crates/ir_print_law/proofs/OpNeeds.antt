@@ -51,7 +51,7 @@ abbrev pub far_set : Text → Far → Far
 far_set key far = record far { values = far.values ++ key ∷ []; pending = [] }
 
 pub record OpsRead (m : Module) (f : Function) (named : AreNamed m f) : Type 0 where
-  -- the operation behind `%v =`, whose value waits for its type
+  -- the operation after `%v =`, whose value waits for its type
   pub named_read : (op : Op) (key : Text) (value : ℕ) (far : Far) (site : Site) (i : Input) (gap rest : Text) → IsOp m f op → ends_block op ≡ false → gives_value m op ≡ true
       → (is_phi op ≡ true → site.is_behind_phis ≡ true) → far.pending ≡ (key, value) ∷ [] → IsIn far.seen key → (IsIn far.labels key → ⊥)
       → AreBlanks gap → EndsOp rest → Ready (known m f named far) 0 i (gap ++ (op_text m f.locals op ++ rest))

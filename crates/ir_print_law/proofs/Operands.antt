@@ -38,7 +38,7 @@ use Rattle.ir_print_law.proofs.Reading.{Reading, Within, used_keys, used_symbols
 use Rattle.ir_print_law.proofs.Tables.{stays, name_there}
 use Rattle.ir_print_law.proofs.TypesThat.{pointer_type_keeps}
 
--- so many bits as an integer type may have, or none
+-- a number of bits that an integer type may have, or none
 abbrev pub AreBits : Option ℕ → Type 0
 AreBits None = Unit {0}
 AreBits (Some bits) = (1 ≤ bits) × (bits ≤ 64)

@@ -154,7 +154,7 @@ local_ends bits i o n h = local_kind bits i o n (kind i.cursor) h
 abbrev cast_by : (from symbol to : Text) → Text
 cast_by from symbol to = codes "bitcast (" ++ from ++ 32 ∷ symbol ++ codes " to " ++ to ++ 41 ∷ []
 
--- the parts of a bitcast, and what stands behind it
+-- the parts of a bitcast, and what follows it
 cast_front : (from symbol to rest : Text) → cast_by from symbol to ++ rest ≡ codes "bitcast" ++ (32 ∷ 40 ∷ (from ++ (32 ∷ (symbol ++ (codes " to " ++ (to ++ 41 ∷ rest))))))
 cast_front from symbol to rest = simp append_assoc
 
@@ -168,15 +168,15 @@ ends_global : (name behind : Text) → AreBytes name → IsSeam behind → EndsT
 unfolding class_of
 ends_global name behind own seam = (refl, λ i at. ap ends_type (global_comes i.cursor (32 ∷ []) name behind refl own seam at).0)
 
--- the forms behind the parts of a bitcast
+-- the forms after the parts of a bitcast
 abbrev cast_end : WrittenType → ℕ → WrittenType → Form Operand
 cast_end from global to = expect k.CloseRound >> pure (operand.CastGlobal from.id global to.id)
 
--- the type that is cast to, and what stands behind it
+-- the type that is cast to, and what follows it
 abbrev cast_type : WrittenType → ℕ → Form Operand
 cast_type from global = w.pointer_type >>= cast_end from global
 
--- the global, and what stands behind it
+-- the global, and what follows it
 abbrev cast_global : WrittenType → Form Operand
 cast_global from = form.cast_operand >>= form.cast_to from
 

@@ -57,7 +57,7 @@ unfolding flags
 flags_said true i e = ([], i, (no_flag_of (kind i.cursor) e, refl), (refl, refl))
 flags_said false i e = (refl, refl)
 
--- one form after another, where other things are known of the names behind the second
+-- one form after another, where other things are known of the names after the second
 pub on : {m : Module} {f : Function} (v w : Invariant m f) {A B : Type 0} (form : Form A) (g : A → Form B) (i : Input) (behind rest : Text) (s t : ℕ) (P : A → Input → Type 0) (Q : B → Input → Type 0)
     → Reads v s form i behind P → ((a : A) (o : Input) → Ready v s o behind → Grows i o → P a o → Reads w t (g a) o rest Q) → Reads w t (form >>= g) i rest Q
 on v w form g i behind rest s t P Q h k =

@@ -47,7 +47,7 @@ use Rattle.ir_print_law.proofs.Needs.{TypesRead}
 use Rattle.ir_print_law.proofs.NewValues.{IsNext, unnamed_then, kind_then, value_by, value_goes}
 use Rattle.ir_print_law.proofs.Steady.{Steady, Onward, onward_itself, onward_further, next_key, steady_value}
 
--- ---- what stands between parameters
+-- ---- what is between parameters
 
 abbrev is_comma : Kind → Bool
 is_comma k.Comma = true
@@ -86,7 +86,7 @@ module _ (m : Module) (f : Function) (named : AreNamed m f) (types : TypesRead m
   abbrev far_parameter : Far → (key : Text) (unnamed : ℕ) → Far
   far_parameter far key unnamed = record far { seen = far.seen ++ key ∷ []; values = far.values ++ key ∷ []; pending = []; count = far.count + 1; unnamed = unnamed }
 
-  -- what the separator does behind the parameter
+  -- what the separator does after the parameter
   abbrev pub Separates : Far → (sep behind : Text) → Type 0
   Separates now sep behind = (o : Input) → Ready (known m f named now) 0 o sep → Goes (known m f named now) 0 (separator k.CloseRound) o behind (λ _ p. Unit {0})
 
@@ -96,7 +96,7 @@ module _ (m : Module) (f : Function) (named : AreNamed m f) (types : TypesRead m
       let e = seen k.CloseRound o (close_round_comes o.cursor rest ready.stands).0 in
       (tt, o, subst (λ (b : Bool). (either (pure tt) (comma k.CloseRound) b).says o tt o) (sym e) (refl, refl), ready, widens_itself o, tt)
 
-  -- behind a comma a type comes
+  -- after a comma comes a type
   pub comma_separates : (now : Far) (shape : Shape) (written : ℕ) (rest : Text) → IsType m shape written → IsSeam rest → Separates now (44 ∷ 32 ∷ (type_text m written ++ rest)) (32 ∷ (type_text m written ++ rest))
   unfolding separator class_of
   comma_separates now shape written rest is_type seam o ready =
@@ -189,7 +189,7 @@ module _ (m : Module) (f : Function) (named : AreNamed m f) (types : TypesRead m
 
   -- ---- all parameters
 
-  -- the parameters behind the first one, and the bracket that closes
+  -- the parameters after the first one, and the bracket that closes
   abbrev pub behind_first : List Parameter → (rest : Text) → Text
   behind_first ps rest = flat_map (λ (p : Parameter). codes ", " ++ parameter_text m f.locals p) ps ++ 41 ∷ rest
 

@@ -77,14 +77,14 @@ TargetPrints text n o = slice_get o.locals.names n ≡ Some text
 abbrev pub IsValueSort : LocalSort → Type 0
 IsValueSort sort = is_wanted wants.Value (Some sort) ≡ true
 
--- what is known of the names behind the value's sort
+-- what is known of the names once the value's sort is set
 abbrev pub Sets : {m : Module} {f : Function} (v w : Invariant m f) → (value : ℕ) → Type 0
 Sets v w value = (i : Input) (sort : LocalSort) → IsValueSort sort → v.Holds i → w.Holds (with_sort value sort i)
 
 module _ {m : Module} {f : Function} (v : Invariant m f) where
   -- ---- operands with their types
 
-  -- an operand behind its type
+  -- an operand after its type
   pub operand_at : (shape : Shape) (t : ℕ) (x : Operand) (p : WrittenType) (at i : Input) (gap rest : Text) (s : ℕ) → IsTypeRead shape 64 p at → HasShape m.types m.struct_names shape t → IsOperand m f (bits_of_shape shape) x
       → AreBlanks gap → IsSeam rest → Ready v s i (gap ++ (operand_text m f.locals t x ++ rest)) → Reads v s (form.operand (w.bits_of p)) i rest (OperandPrints shape (operand_text m f.locals t x))
   operand_at shape t x p at i gap rest s read has own blanks seam ready =

@@ -1,4 +1,4 @@
--- Forms of which nothing is asked but that what holds of the state goes on to hold.
+-- Forms of which it is only asked that they preserve what holds of the state.
 use Rattle.std.proofs.Common.{◌≡◌, ℕ, zero, suc, Bool, Option, None, Some, sym, subst, ◌∙◌}
 use Rattle.std.specs.Prelude.{◌==◌}
 use Rattle.grammar.specs.Grammar.{pure, refuse, look, checked, ◌>>=◌, ◌>>◌}

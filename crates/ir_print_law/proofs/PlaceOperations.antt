@@ -111,7 +111,7 @@ module _ {m : Module} {f : Function} (v : Invariant m f) where
       again_form : ℕ → Form Argument
       again_form bit = w.again (integers.bit_type bit) >> operand_form bit
 
-  -- `T V, T* W` behind its word
+  -- `T V, T* W` after its word
   pub store_reads : (stored : ℕ) (x : Operand) (place_type : ℕ) (y : Operand) (i : Input) (gap rest : Text) (s : ℕ)
       → ((shape : Shape) × IsScalar m shape stored × IsOperand m f (bits_of_shape shape) x × IsPlaceType m shape stored place_type × IsOperand m f None y) → AreBlanks gap → IsSeam rest
       → Ready v s i (gap ++ (op_text m f.locals (op.Store stored x place_type y) ++ rest)) → Reads v s memory.store i rest (OpPrints (op_text m f.locals (op.Store stored x place_type y)))

@@ -1,4 +1,4 @@
--- A type is printed as its shape is shown, and printed types are read where a type of some sort may stand.
+-- A type is printed as its shape is shown, and printed types are read where a type of some sort is allowed.
 use Rattle.std.proofs.Common.{◌≡◌, ℕ, zero, suc, ◌<◌, ◌≤◌, Bool, true, false, List, [], ◌∷◌, ◌++◌, length, slice_get, Option, Some, unwrap_or, if◌then◌else◌, refl, ap, ◌∙◌, arith}
 use Rattle.std.specs.Prelude.{codes, nat_lt}
 use Rattle.std.specs.Fmt.{decimal}
@@ -124,7 +124,7 @@ read_shown shape number o n others h le later =
     type_shown n shape number (shape_stays o.types n.types o.struct_names.names n.struct_names shape number later.types later.structs h) le
 
 module _ {m : Module} {f : Function} (v : Invariant m f) where
-  -- ---- types where they may stand
+  -- ---- types where they are allowed
 
   -- any type
   pub any_type_reads : (shape : Shape) (i : Input) (gap rest : Text) (s : ℕ) → IsWritten (defined_structs m) shape → levels shape ≤ 64 → AreBlanks gap → EndsType rest
@@ -150,7 +150,7 @@ module _ {m : Module} {f : Function} (v : Invariant m f) where
   scalar_reads shape i gap rest s own le word blanks ends ready =
       type_that_reads is_scalar shape i gap rest s own le blanks ends (λ p o read. scalar_read shape 64 p o read ∙ word) ready
 
-  -- a type with a star behind it
+  -- a type with a star after it
   pub pointer_type_reads : (shape : Shape) (i : Input) (gap rest : Text) (s : ℕ) → IsWritten (defined_structs m) shape → levels shape ≤ 64 → is_pointer_shape shape ≡ true → AreBlanks gap → EndsType rest
       → Ready v s i (gap ++ (shown false shape ++ rest)) → Reads v s w.pointer_type i rest (IsTypeRead shape 64)
   unfolding w.pointer_type
@@ -174,7 +174,7 @@ module _ {m : Module} {f : Function} (v : Invariant m f) where
   held_type_reads shape i gap rest s own le is blanks ends ready =
       type_that_reads is_held shape i gap rest s own le blanks ends (λ p o read. held_read shape 64 p o read ∙ is) ready
 
-  -- `{ T, .. }`, the type that a name stands for
+  -- `{ T, .. }` as the definition of a named struct
   pub struct_body_reads : (shape : Shape) (i : Input) (gap rest : Text) (s : ℕ) → IsWritten (defined_structs m) shape → levels shape ≤ 64 → is_struct_shape shape ≡ true → AreBlanks gap
       → Ready v s i (gap ++ (shown false shape ++ rest)) → Reads v s w.struct_body i rest (λ n o. HasShape o.types o.struct_names.names shape n)
   unfolding w.struct_body

@@ -31,7 +31,7 @@ abbrev pub used_symbols : Module → (is_call : Bool) → List Text
 used_symbols m true = functions_of m
 used_symbols m false = defined_globals m
 
--- What holds before a form that names nothing new, and behind it; and that reading leads on to this module, where it does so behind the form.
+-- `Fore` holds after a form that names nothing new where it holds before it. `Back` says that reading goes on to this module: where it holds after such a form, it holds before it.
 pub record Reading (m : Module) : Type 1 where
   pub Fore : Input → Type 0
   pub Back : Input → Type 0
@@ -59,20 +59,20 @@ pub record Within (m : Module) (f : Function) : Type 1 where
   pub from_local : (i : Input) (wanted : Wanted) → reading.Back (with_local_use wanted i) → reading.Back i
   pub local_is : (i : Input) (wanted : Wanted) → reading.Back (with_local_use wanted i) → IsIn (used_keys f wanted) (local_key i.cursor)
 
--- what a name stands for that is a value
+-- what a name means that is a value
 abbrev pub IsValueSort : LocalSort → Type 0
 IsValueSort (local.Value t) = Unit {0}
 IsValueSort (local.Element block place) = Unit {0}
 IsValueSort _ = ⊥
 
--- The same while a value with this number is named that has no type yet, and behind where it has one.
+-- The same while a value with this number is named that has no type yet, and after that, where it has one.
 pub record Naming (m : Module) (f : Function) (value : ℕ) : Type 1 where
   pub within : Within m f
   pub After : Input → Type 0
   pub on_value : (i : Input) (sort : LocalSort) → IsValueSort sort → within.reading.Fore i → After (with_sort value sort i)
   pub from_value : (i : Input) (sort : LocalSort) → within.reading.Back (with_sort value sort i) → within.reading.Back i
 
--- The same for what holds before, and for what is known from behind.
+-- The same for what holds before, and for what is known from after it.
 pub record Kit (m : Module) (f : Function) (Fore Back : Input → Type 0) : Type 0 where
   pub ordered : (i : Input) → Fore i → AreOrdered i.types
   pub bytes : (i : Input) → Fore i → AreBytes (spelled i.cursor)
@@ -133,7 +133,7 @@ with_named_value g n = record { names = g.names ++ n ∷ []; values = g.values +
 abbrev pub with_named_label : Progress → ℕ → Progress
 with_named_label g n = record { names = g.names ++ n ∷ []; values = g.values; labels = g.labels ++ n ∷ [] }
 
--- What holds while the blocks of a function are read, where it defined so much, and while one value more has no type yet.
+-- What holds while the blocks of a function are read, where this much is defined, and while one value more has no type yet.
 pub record Builder (m : Module) (f : Function) (Back : Input → Type 0) (Fore : Progress → Input → Type 0) (Open : Progress → ℕ → Input → Type 0) : Type 0 where
   pub kit : (g : Progress) → Kit m f (Fore g) Back
   pub open_kit : (g : Progress) (n : ℕ) → Kit m f (Open g n) Back

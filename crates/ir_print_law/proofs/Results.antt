@@ -218,7 +218,7 @@ module _ (m : Module) (f : Function) (v : Invariant m f) (types : TypesRead m) w
         here : Ready v 0 i ((32 ∷ []) ++ (codes "gc" ++ 32 ∷ (quoted_text blank.Kept name ++ 32 ∷ 123 ∷ rest)))
         here = subst (λ (t : Text). Ready v 0 i t) (append_assoc (codes " gc ") (quoted_text blank.Kept name) (32 ∷ 123 ∷ rest)) ready
 
-  -- no collector is written behind a declared function, and a further item or the end of the text comes
+  -- no collector is written after a declared function, and a further item or the end of the text comes
   pub declared_end_reads : (i : Input) (rest : Text) → Comes begins_item rest → Ready v 0 i rest → Reads v 0 (head_end spot.Declared) i rest (λ y o. i ≡ o)
   unfolding head_end collector
   declared_end_reads i rest comes ready =

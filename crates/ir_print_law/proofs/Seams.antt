@@ -1,4 +1,4 @@
--- Where a token ends: what stands behind it goes on with no name, and makes no label of it.
+-- Where a token ends: what follows it does not continue a name, and makes no label of it.
 use Rattle.std.proofs.Common.{◌≡◌, ℕ, Bool, true, false, [], ◌∷◌, refl, ap, sym, ◌∙◌}
 use Rattle.std.specs.Prelude.{◌==◌}
 use Rattle.std.proofs.lemmas.Bool.{eqb-true}

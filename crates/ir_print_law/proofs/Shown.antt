@@ -18,7 +18,7 @@ use Rattle.ir_print_law.specs.Shapes.{Shape, Integer, Pointer, Array, Empty, Str
 use Rattle.ir_print_law.proofs.Tables.{Begins, stays, place_stays}
 use Rattle.ir_print_law.proofs.State.{Grows}
 
--- a type by its shape, or the fields of a struct behind others
+-- a type by its shape, or the fields of a struct after others
 abbrev pub shown : (is_rest : Bool) → Shape → Text
 shown false (Integer bits) = 105 ∷ decimal bits
 shown false (Pointer part) = shown false part ++ 42 ∷ []
@@ -34,24 +34,24 @@ abbrev pub field_count : Shape → ℕ
 field_count (Struct first rest) = field_count rest + 1
 field_count _ = 0
 
--- a type with so many stars behind it
+-- a type with n stars after it
 abbrev pub starred : ℕ → Shape → Shape
 starred zero shape = shape
 starred (suc count) shape = starred count (Pointer shape)
 
--- what stands before the stars, and how many there are
+-- what is before the stars, and how many stars there are
 abbrev pub base_of : Shape → Base
 base_of (Integer bits) = base.Integer bits
 base_of (Pointer part) = base_of part
 base_of (Named name) = base.Named
 base_of _ = base.Aggregate
 
--- how many stars stand behind it
+-- how many stars are after it
 abbrev pub stars_of : Shape → ℕ
 stars_of (Pointer part) = suc (stars_of part)
 stars_of _ = 0
 
--- a type of this shape was read, where so many levels might be
+-- a type of this shape was read, with room for `most` levels in all
 pub record IsTypeRead (shape : Shape) (most : ℕ) (w : WrittenType) (o : Input) : Type 0 where
   pub has_shape : HasShape o.types o.struct_names.names shape w.id
   pub fits : levels shape + w.room ≡ most

@@ -1,4 +1,4 @@
--- Where reading stands in a text, and the token that comes next there.
+-- Where reading is in a text, and the token that comes next there.
 use Rattle.std.proofs.Common.{◌≡◌, ℕ, zero, suc, ◌+◌, ◌-◌, ◌<◌, ◌≤◌, Bool, false, List, [], ◌∷◌, ◌++◌, length, take, drop, Some, None, refl, ap, sym, ◌∙◌, arith, append_assoc, length-append}
 use Rattle.std.specs.Prelude.{◌||◌}
 use Rattle.std.proofs.lemmas.List.{take_at, drop_at}
@@ -37,14 +37,14 @@ lex_behind (suc n) total first tokens found bytes = at_by (past_gap false bytes)
         token_is None = refl
         token_is (Some p) = more (make total begins (b ∷ bytes) p.0 p.1) p.1
 
--- one token comes, and those behind it
+-- one token comes, and those after it
 lex_one : (n total : ℕ) (first : Bool) (bytes : Text) (b : ℕ) (bs rest : Text) (x : Kind) → past_gap false bytes ≡ b ∷ bs → token.read (b ∷ bs) ≡ Some (x, rest)
     → lex_from (suc n) total first [] bytes ≡ behind (make total (first || ends_line (before bytes (b ∷ bs))) (b ∷ bs) x rest ∷ []) (lex_from n total false [] rest)
 unfolding lex_from
 lex_one n total first bytes b bs rest x gap read =
     rw (gap, read) (lex_behind n total false (make total (first || ends_line (before bytes (b ∷ bs))) (b ∷ bs) x rest ∷ []) [] rest)
 
--- the token of this kind comes next, spelled by this word, and the rest stands behind it
+-- the token of this kind comes next, spelled by this word, and the rest comes after it
 abbrev pub Comes : Place → Kind → Text → Text → Type 0
 Comes c x word rest = (kind c ≡ x) × (spelling c ≡ word) × (spelled c ≡ unquoted (bare x word)) × Stands (next c) rest
 
@@ -63,7 +63,7 @@ come_by c front word rest n x t text fits is from long there bad =
       (front ++ word, n, false, text ∙ sym (append_assoc front word rest), fits, ap rest_of there, bad),
     )
 
--- behind a gap the token comes that the bytes are read as
+-- after a gap comes the token that the bytes are read as
 pub comes : (c : Place) (gap : Text) (b : ℕ) (bs word rest : Text) (x : Kind) → past_gap false (gap ++ b ∷ bs) ≡ b ∷ bs → token.read (b ∷ bs) ≡ Some (x, rest) → b ∷ bs ≡ word ++ rest → 0 < length word
     → Stands c (gap ++ b ∷ bs) → Comes c x word rest
 comes c gap b bs word rest x past read parts some at = by at.1 at.4 at.5 at.6 where

@@ -45,21 +45,21 @@ pub record Invariant (m : Module) (f : Function) : Type 1 where
   pub no_function : (i : Input) (name : Text) → IsIn (defined_globals m) name → Holds i
       → is_function (option_and_then (slice_get i.symbols.sorts) (place_of name i.symbols.names)) ≡ false
 
--- so much room is left that each byte that is left may bring a new type or name
+-- there is room for this number of new types, and of new names of each sort
 pub record HasRoom (i : Input) (bytes : ℕ) : Type 0 where
   pub types : length i.types + bytes ≤ 16777216
   pub structs : length i.struct_names.names + bytes ≤ 16777216
   pub symbols : length i.symbols.names + bytes ≤ 16777216
   pub locals : length i.locals.names + bytes ≤ 16777216
 
--- reading stands before these bytes, and so many new types and names may come besides
+-- these bytes come next, and there is room for `spare` new types and names besides one for each byte
 pub record Ready {m : Module} {f : Function} (v : Invariant m f) (spare : ℕ) (i : Input) (bytes : Text) : Type 0 where
   pub stands : Stands i.cursor bytes
   pub ordered : AreOrdered i.types
   pub room : HasRoom i (length bytes + spare)
   pub holds : v.Holds i
 
--- what was read stays, and further types and names come behind it
+-- what was read stays, and further types and names come after it
 pub record Grows (i o : Input) : Type 0 where
   pub types : Begins i.types o.types
   pub structs : Begins i.struct_names.names o.struct_names.names

@@ -1,4 +1,4 @@
--- Where reading stands within a function: the names that it has defined, and those that it still defines.
+-- Where reading is within a function: the names that it has defined, and those that it still defines.
 use Rattle.std.proofs.Common.{◌≡◌, ℕ, ◌+◌, ◌≤◌, List, [], ◌∷◌, ◌++◌, length, refl, sym, ap, subst, ◌∙◌, arith, append_assoc, length-append, inl, inr}
 use Rattle.std.proofs.lemmas.List.{append-nil}
 use Rattle.ir_tokens.specs.Bytes.{Text}
@@ -66,7 +66,7 @@ seen_too xs seen key h = λ k is. elim (in_last xs key k is) [
   | inr e ↦ subst (λ (x : Text). IsIn (seen ++ key ∷ []) x) e (is_last seen key)
 ]
 
--- behind a value
+-- after a value
 pub steady_value : (far : Far) (key : Text) (keys : List Text) (is : IsNext far.unnamed key) → Steady far (key ∷ keys) → AreDefined (far.seen ++ key ∷ []) (unnamed_then far.unnamed key is) keys
     → Steady (record far { seen = far.seen ++ key ∷ []; values = far.values ++ key ∷ []; pending = []; count = far.count + 1; unnamed = unnamed_then far.unnamed key is }) keys
 steady_value far key keys is steady further = record {
@@ -78,7 +78,7 @@ steady_value far key keys is steady further = record {
   defines_next = further;
 }
 
--- behind a label
+-- after a label
 pub steady_label : (far : Far) (key : Text) (keys : List Text) (is : IsNext far.unnamed key) → Steady far (key ∷ keys) → AreDefined (far.seen ++ key ∷ []) (unnamed_then far.unnamed key is) keys
     → Steady (record far { seen = far.seen ++ key ∷ []; labels = far.labels ++ key ∷ []; pending = []; unnamed = unnamed_then far.unnamed key is }) keys
 steady_label far key keys is steady further = record {

@@ -118,7 +118,7 @@ module _ {m : Module} {f : Function} (v : Invariant m f) where
     holds = ready.holds;
   }
 
-  -- behind a token
+  -- after a token
   pub passed : (i : Input) (bytes rest : Text) (s t : ℕ) → Ready v s i bytes → Stands (next i.cursor) rest → length rest + t ≤ length bytes + s → Ready v t (advanced i) rest
   passed i bytes rest s t ready at le = record {
     stands = at;
@@ -228,7 +228,7 @@ module _ {m : Module} {f : Function} (v : Invariant m f) where
     same_unnamed = refl;
   }
 
-  -- a type comes into the table, and stands at its number
+  -- a type comes into the table, and is at its number
   pub intern_reads : (t : IrType) (i : Input) (bytes : Text) (s : ℕ) → IsRestBefore (length i.types) t → Ready v (s + 1) i bytes
       → Reads v s (intern t) i bytes (λ n o. slice_get o.types n ≡ Some t)
   intern_reads t i bytes s last ready =

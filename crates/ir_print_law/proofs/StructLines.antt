@@ -40,7 +40,7 @@ line_is m struct rest =
     let body = type_text m struct.body in
     append_assoc (name ++ codes " = type " ++ body) (10 ∷ []) rest ∙ append_assoc (name ++ codes " = type ") body (10 ∷ rest) ∙ append_assoc name (codes " = type ") (body ++ 10 ∷ rest)
 
--- the forms behind the signs of the line
+-- the forms after the signs of the line
 abbrev type_behind : ℕ → Form (Unit {0})
 type_behind number = body >>= λ id. add_struct (record { name = number; body = id })
 
@@ -48,7 +48,7 @@ abbrev equals_behind : ℕ → Form (Unit {0})
 equals_behind number = expect k.Type >> type_behind number
 
 module _ (m : Module) (f : Function) (named : AreNamed m f) (types : TypesRead m) (far : Far) where
-  -- what is known behind the line
+  -- what is known after the line
   abbrev pub far_line : Text → StructType → Far
   far_line name x = record far { structs = far.structs ++ name ∷ []; struct_types = far.struct_types ++ x ∷ [] }
 

@@ -1,4 +1,4 @@
--- All struct types of a module, and the whole text behind them.
+-- All struct types of a module, and the whole text after them.
 use Rattle.std.proofs.Common.{◌≡◌, ◌+◌, ◌<◌, ◌^◌, Bool, true, false, List, [], ◌∷◌, ◌++◌, length, map, refl, sym, ap, subst, ◌∙◌, arith, append_assoc, length-append}
 use Rattle.std.specs.Prelude.{codes}
 use Rattle.std.specs.List.{AllByRecursion, flat_map}
@@ -75,7 +75,7 @@ module _ (m : Module) (is : IsPrintable m) (named : AreNamed m nobody) (ys : Lis
       × ((n : Module) → IsModuleLater o n → AreAlike (λ x y. global_line m x ≡ global_line n y) ys zs)
       × ((n : Module) → IsModuleLater o n → AreAlike (λ x y. declare_line m x ≡ declare_line n y) ds xs) × ((n : Module) → IsModuleLater o n → AreAlike (IsFunctionAgain m n) fs gs)
 
-  -- what the items behind the struct types need
+  -- what the items after the struct types need
   abbrev pub Behind : Far → Type 0
   Behind far =
       (i : Input) (gap : Text) → AreBlanks gap → past_gap false gap ≡ [] → outside far ≡ far → Ready (known m nobody named far) 0 i (gap ++ behind_structs) → GlobalsGo m is named ds fs ys far i

@@ -1,4 +1,4 @@
--- Tables that grow at the end: what stands in them stays.
+-- Tables that grow at the end: what is in them stays.
 use Rattle.std.proofs.Common.{◌≡◌, ℕ, zero, suc, ◌+◌, ◌<◌, ◌≤◌, Bool, true, false, List, [], ◌∷◌, ◌++◌, length, slice_get, is_some, unwrap_or, if◌then◌else◌, Option, None, Some, refl, sym, ap, subst, ◌∙◌, arith, append_assoc, length-append, inl, inr, ◌⊎◌, get_or, cond, not, position}
 use Rattle.std.specs.Prelude.{nat_lt, eqb}
 use Rattle.std.specs.List.{position_or_len}
@@ -22,7 +22,7 @@ use Rattle.ir_ast.specs.declared.ir_type.IrType.TheVariants as type
 abbrev pub Begins : {A : Type 0} → List A → List A → Type 0
 Begins {A = A} xs ys = (more : List A) × (ys ≡ xs ++ more)
 
--- the struct of the further fields of a struct stands before it
+-- the struct of the further fields of a struct is before it
 abbrev pub IsRestBefore : (number : ℕ) → IrType → Type 0
 IsRestBefore number (type.Struct first rest) = rest < number
 IsRestBefore number _ = Unit {0}
@@ -41,11 +41,11 @@ begins_itself xs = ([], sym (append-nil xs))
 pub begins_further : {A : Type 0} (xs ys zs : List A) → Begins xs ys → Begins ys zs → Begins xs zs
 begins_further xs ys zs a b = (a.0 ++ b.0, b.1 ∙ ap (λ l. l ++ b.0) a.1 ∙ append_assoc xs a.0 b.0)
 
--- a list with more behind it begins with itself
+-- a list with more after it begins with itself
 pub begins_with : {A : Type 0} (xs more : List A) → Begins xs (xs ++ more)
 begins_with xs more = (more, refl)
 
--- what stands in front stays
+-- what is in front stays
 in_front : {A : Type 0} (xs more : List A) (n : ℕ) (x : A) → slice_get xs n ≡ Some x → slice_get (xs ++ more) n ≡ Some x
 in_front [] more n x e = absurd cc
 in_front (y ∷ xs) more zero x e = e
@@ -67,14 +67,14 @@ at_end_or_before (z ∷ xs) y (suc n) x e = elim (at_end_or_before xs y n x e) [
 
 -- ---- types
 
--- a new type comes behind the others
+-- a new type comes after the others
 pub type_begins : (t : IrType) (types : List IrType) → Begins types (numbered_type t types)
 type_begins t types = by (is_some (place_of_type t types)) where
   by : (b : Bool) → Begins types (if b then types else types ++ t ∷ [])
   by true = begins_itself types
   by false = begins_with types (t ∷ [])
 
--- the type stands at its number
+-- the type is at its number
 pub type_there : (t : IrType) (types : List IrType) → slice_get (numbered_type t types) (number_of_type t types) ≡ Some t
 type_there t types = by (place_of_type t types) refl where
   by : (place : Option ℕ) → place_of_type t types ≡ place → slice_get (if is_some place then types else types ++ t ∷ []) (unwrap_or place (length types)) ≡ Some t
@@ -100,7 +100,7 @@ type_length t types = by (is_some (place_of_type t types)) where
 
 -- ---- names
 
--- a new name comes behind the others
+-- a new name comes after the others
 pub name_begins : (name : Text) (names : List Text) → Begins names (numbered name names)
 name_begins name names = by (is_some (place_of name names)) where
   by : (b : Bool) → Begins names (if b then names else names ++ name ∷ [])
@@ -121,7 +121,7 @@ number_within name names = by (place_of name names) refl where
   by None e = omega arith
   by (Some place) e = let found = position-Some (bytes_eq name) names place name e in let less = found.0 in omega (arith, less)
 
--- the name stands at its number
+-- the name is at its number
 pub name_there : (name : Text) (names : List Text) → slice_get (numbered name names) (number_of name names) ≡ Some name
 name_there name names = by (place_of name names) refl where
   by : (place : Option ℕ) → place_of name names ≡ place → slice_get (if is_some place then names else names ++ name ∷ []) (unwrap_or place (length names)) ≡ Some name
@@ -161,7 +161,7 @@ place_stays name names others n b e = ap (place_of name) b.1 ∙ place_by p (nam
   less : n < length (names ++ b.0)
   less = let l = found.1 in let a = length-append names b.0 in omega (arith, l, a)
 
--- behind a mention the name has its number
+-- after a mention the name has its number
 pub place_there : (name : Text) (names : List Text) → place_of name (numbered name names) ≡ Some (number_of name names)
 place_there name names = by (place_of name names) refl where
   p : Text → Bool

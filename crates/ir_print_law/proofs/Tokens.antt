@@ -23,7 +23,7 @@ use Rattle.ir_print_law.proofs.Forms.{Keeps, Same, Any, stepped, where_true}
 use Rattle.ir_print_law.proofs.Reading.{Reading}
 use Rattle.ir_print_law.proofs.Tables.{IsRestBefore, stays, type_there, type_ordered, place_there, place_stays}
 
--- this type stands at its number
+-- this type is at its number
 abbrev pub IsAt : Module → IrType → ℕ → Type 0
 IsAt m t n = (slice_get m.types n ≡ Some t) × IsRestBefore n t
 

@@ -41,7 +41,7 @@ use Rattle.ir_print_law.proofs.State.{Invariant, Ready, Grows, Reads}
 use Rattle.ir_print_law.proofs.Shown.{shown, starred, base_of, stars_of, IsTypeRead, shape_stays}
 use Rattle.ir_print_law.proofs.Steps.{go_on, so, given, token_then, shorter, checked_then, looked, sign_skipped, sign_kind, intern_reads, unlike}
 
--- ---- what stands behind a type
+-- ---- what follows a type
 
 -- a token of this kind ends a type
 abbrev pub ends_type : Kind → Bool
@@ -49,7 +49,7 @@ ends_type k.Star = false
 ends_type k.OpenRound = false
 ends_type _ = true
 
--- the token that comes where reading stands before these bytes is of such a kind
+-- where these bytes come next, the kind of the next token passes the test
 abbrev pub Comes : (Kind → Bool) → Text → Type 0
 Comes test rest = (i : Input) → Stands i.cursor rest → test (kind i.cursor) ≡ true
 
@@ -81,7 +81,7 @@ natural_is n less = natural_of (text.decimal n) n (are_digits n less) (number_is
 module _ {m : Module} {f : Function} (v : Invariant m f) where
   -- ---- stars
 
-  -- so many stars were read
+  -- `count` stars were read
   abbrev StarsRead : (count room : ℕ) → Shape → ℕ × ℕ → Input → Type 0
   StarsRead count room shape found o = (found.0 + count ≡ room) × HasShape o.types o.struct_names.names (starred count shape) found.1
 
@@ -121,7 +121,7 @@ module _ {m : Module} {f : Function} (v : Invariant m f) where
       (stars_read count room n (Pointer shape) o rest s (omega (arith, le)) has ends ready)
       (λ found p h read. let e = read.0 in (omega (arith, e), read.1))))
 
-  -- the stars behind what was read
+  -- the stars after what was read
   starred_read : (count room : ℕ) (shape : Shape) (p : WrittenType) (i : Input) (rest : Text) (s : ℕ) → stars_of shape ≡ 0 → levels shape + count ≤ suc room → EndsType rest
       → IsTypeRead shape (suc room) p i → Ready v s i (stars count ++ rest) → Reads v s (with_starred p) i rest (IsTypeRead (starred count shape) (suc room))
   unfolding with_starred

@@ -40,7 +40,7 @@ IsStarred m room pointee found = (shape : Shape) → HasShape m.types m.struct_n
 abbrev pub IsBare : Module → (most : ℕ) → WrittenType → Type 0
 IsBare m most p = (shape : Shape) × IsTypeOf m most p shape × (p.stars ≡ 0)
 
--- a struct, which has so many levels in all
+-- a struct without stars, with room for `most` levels in all
 abbrev pub IsWhole : Module → (most : ℕ) → WrittenType → Type 0
 IsWhole m most p = (shape : Shape) × IsTypeOf m most p shape × (p.stars ≡ 0) × IsStruct shape
 

@@ -1,4 +1,4 @@
--- Types that may stand somewhere, and pointers to them.
+-- Types that are allowed somewhere, and pointers to them.
 use Rattle.std.proofs.Common.{◌≡◌, ℕ, ◌<◌, Bool, true, refl, sym, subst, ◌∙◌, arith}
 use Rattle.std.specs.Prelude.{nat_lt}
 use Rattle.std.proofs.lemmas.Bool.Decides.{nat_tests}
@@ -16,7 +16,7 @@ use Rattle.ir_print_law.proofs.Reading.{Reading}
 use Rattle.ir_print_law.proofs.Tokens.{intern_goes}
 use Rattle.ir_print_law.proofs.TypesRead.{part_keeps, struct_keeps}
 
--- a type that may stand somewhere
+-- a type that is allowed somewhere
 abbrev pub IsFit : Module → (WrittenType → Bool) → WrittenType → Type 0
 IsFit m may_stand w = IsShaped m 64 w × (may_stand w ≡ true)
 
@@ -78,7 +78,7 @@ module _ {m : Module} (r : Reading m) where
             (c.0, subst (λ (y : WrittenType). IsPointer m y.id) t.3.0 (c.1.0, type_of m h.0 c.1.0 c.1.1, sym (pointer_is m 64 h.0 c.1.0 c.1.1) ∙ t.2.0)),
       )
 
-  -- `{ T, .. }` as the type that a name stands for
+  -- `{ T, .. }` as the definition of a named struct
   pub struct_body_keeps : (i : Input) → Keeps r.Fore (Same r.Fore) r.Back struct_body (λ n. (shape : Shape) × IsType m shape n × (is_struct_shape shape ≡ true)) i
   unfolding struct_body
   struct_body_keeps i n o h f =

@@ -87,7 +87,7 @@ pub past_end : (past_gap false (10 ∷ []) ≡ []) × (past_gap false [] ≡ [])
 unfolding past_gap
 past_end = (refl, refl)
 
--- behind the last line the text ends
+-- after the last line the text ends
 pub ends_there : (c : Place) (gap : Text) → past_gap false gap ≡ [] → Stands c gap → (kind c ≡ k.End) × (c.bad ≡ None)
 unfolding kind
 ends_there c gap e at =

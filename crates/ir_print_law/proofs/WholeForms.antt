@@ -13,7 +13,7 @@ use Rattle.ir_print_law.proofs.Tables.{Begins, begins_itself, begins_further}
 use Rattle.ir_print_law.proofs.State.{Invariant, Ready, Grows, IsLater, Reads}
 use Rattle.ir_print_law.proofs.Known.{Far, AreNamed, known}
 
--- further types and names come behind those that were read
+-- further types and names come after those that were read
 pub record Widens (i o : Input) : Type 0 where
   pub types : Begins i.types o.types
   pub structs : Begins i.struct_names.names o.struct_names.names
@@ -91,7 +91,7 @@ ready_as v w i bytes s so ready = record { stands = ready.stands; ordered = read
 
 -- ---- forms after which more is known of the names
 
--- The form reads the bytes up to these, and then so much is known of the names.
+-- The form reads the bytes up to these, and then this much is known of the names.
 abbrev pub Leads : (m : Module) (f : Function) (named : AreNamed m f) (spare : ℕ) {A : Type 0} → Form A → Input → (rest : Text) → (Good : A → Far → Input → Type 0) → Type 0
 Leads m f named spare {A = A} form i rest Good =
     (a : A) × (o : Input) × (far : Far) × form.says i a o × Ready (known m f named far) spare o rest × Widens i o × Good a far o

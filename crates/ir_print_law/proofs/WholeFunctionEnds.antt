@@ -1,4 +1,4 @@
--- The body of a function behind its head, and what is known when the function ends.
+-- The body of a function after its head, and what is known when the function ends.
 use Rattle.std.proofs.Common.{◌≡◌, ℕ, ◌<◌, ◌≤◌, Bool, false, not, List, [], ◌∷◌, ◌++◌, length, slice_get, Option, None, refl, sym, ap, subst, ◌∙◌, arith, length-append}
 use Rattle.std.specs.Prelude.{find, option_map}
 use Rattle.std.specs.List.{AllByRecursion, flat_map}
@@ -99,7 +99,7 @@ all_known f values labels v l wants.Value key is = subst (λ (x : List Text). Is
 all_known f values labels v l wants.Block key is = subst (λ (x : List Text). IsIn x key) (sym l) is
 all_known f values labels v l wants.Target key is = subst (λ (x : List Text). IsIn (known_keys values x wants.Target) key) (sym l) is
 
--- types and names outside of functions come behind those that were read
+-- types and names outside of functions come after those that were read
 pub record Reaches (i o : Input) : Type 0 where
   pub types : Begins i.types o.types
   pub structs : Begins i.struct_names.names o.struct_names.names
@@ -122,7 +122,7 @@ pub record IsModuleLater (i : Input) (n : Module) : Type 0 where
   pub symbols : Begins i.symbols.names n.symbols
 
 module _ (m : Module) (f : Function) (named : AreNamed m f) (nobody_named : AreNamed m nobody) (ops : OpsRead m f named) where
-  -- what is known behind the function
+  -- what is known after the function
   abbrev pub far_function : Far → Function → Far
   far_function far g = record (outside far) { defines = far.defines ++ g ∷ [] }
 

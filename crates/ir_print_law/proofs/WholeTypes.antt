@@ -49,19 +49,19 @@ fields_stay most (Pointer part) ps i o g h = absurd h
 fields_stay most (Array count part) ps i o g h = absurd h
 fields_stay most (Named name) ps i o g h = absurd h
 
--- the forms behind the parts of an array
+-- the forms after the parts of an array
 abbrev square_behind : ℕ → WrittenType → Form WrittenType
 square_behind n p = w.interned base.Aggregate p.room (type.Array n p.id)
 
--- behind the part of an array its bracket closes
+-- after the part of an array its bracket closes
 abbrev part_behind : ℕ → WrittenType → Form WrittenType
 part_behind n p = expect k.CloseSquare >> square_behind n p
 
--- behind the `x` of an array its part stands
+-- after the `x` of an array comes its part
 abbrev x_behind : (room n : ℕ) → Form WrittenType
 x_behind room n = part room >>= part_behind n
 
--- behind the length of an array an `x` stands
+-- after the length of an array comes an `x`
 abbrev length_behind : (room n : ℕ) → Form WrittenType
 length_behind room n = expect k.X >> x_behind room n
 
@@ -75,7 +75,7 @@ abbrev no_close : Kind → Bool
 no_close k.CloseBrace = false
 no_close _ = true
 
--- so do further fields, and the brace behind them
+-- so do further fields, and the brace after them
 ends_field : (shape : Shape) (rest : Text) → IsStruct shape → EndsType (shown true shape ++ (codes " }" ++ rest))
 unfolding class_of
 ends_field Empty rest is = (refl, λ i at. ap ends_type (sign_comes i.cursor (32 ∷ []) 125 rest k.CloseBrace refl refl refl at).0)
@@ -85,7 +85,7 @@ ends_field (Pointer part) rest is = absurd is
 ends_field (Array count part) rest is = absurd is
 ends_field (Named name) rest is = absurd is
 
--- a type that has a shape stands in the table
+-- a type that has a shape is in the table
 shape_within : (types : List IrType) (names : List Text) (shape : Shape) (n : ℕ) → HasShape types names shape n → n < length types
 shape_within types names (Integer bits) n h = slice_get_within types n _ h
 shape_within types names (Pointer part) n h = slice_get_within types n _ h.1
@@ -110,7 +110,7 @@ module _ {m : Module} {f : Function} (v : Invariant m f) where
   pub type_begins : (shape : Shape) (i : Input) (gap behind : Text) → IsWritten (defined_structs m) shape → AreBlanks gap → IsSeam behind → Stands i.cursor (gap ++ (shown false shape ++ behind)) → begins_type (kind i.cursor) ≡ true
   type_begins shape i gap behind own blanks seam at = shape_comes (defined_structs m) shape i.cursor gap behind own blanks seam at
 
-  -- a type with stars behind it is read
+  -- a type with stars after it is read
   abbrev PartClaim : Shape → Type 0
   PartClaim shape =
       (count n : ℕ) (i : Input) (gap rest : Text) (s : ℕ) → IsWritten (defined_structs m) shape → levels shape + count ≤ n → AreBlanks gap → EndsType rest
@@ -178,7 +178,7 @@ module _ {m : Module} {f : Function} (v : Invariant m f) where
   no_brace : (shape : Shape) (i : Input) (behind : Text) (s : ℕ) → IsWritten (defined_structs m) shape → IsSeam behind → Ready v s i (32 ∷ (shown false shape ++ behind)) → w.at_brace i ≡ false
   no_brace shape i behind s own seam ready = unlike k.CloseBrace begins_type i refl (type_begins shape i (32 ∷ []) behind own refl seam ready.stands)
 
-  -- a comma, and a further field behind it
+  -- a comma, and a further field after it
   comma_read : (shape : Shape) (i : Input) (behind : Text) (s : ℕ) → IsWritten (defined_structs m) shape → IsSeam behind → Ready v s i (44 ∷ 32 ∷ (shown false shape ++ behind))
       → Reads v (s + 1) w.behind_field i (32 ∷ (shown false shape ++ behind)) Any
   unfolding w.behind_field class_of
@@ -191,7 +191,7 @@ module _ {m : Module} {f : Function} (v : Invariant m f) where
       (test_reads v (λ i. not (w.at_brace i)) unexpected o (32 ∷ (shown false shape ++ behind)) (s + 1) (ap not (no_brace shape o behind (s + 1) own seam ready)) ready)
       (λ _ p g h. tt)))
 
-  -- a further field is read, and those behind it
+  -- a further field is read, and those after it
   fields_read : (first others : Shape) → PartClaim first → FieldsClaim others → FieldsClaim (Struct first others)
   fields_read first others claim more n i rest s p own is le ready =
       let behind = shown true others ++ (codes " }" ++ rest) in
@@ -210,7 +210,7 @@ module _ {m : Module} {f : Function} (v : Invariant m f) where
         (read_stays first n b.0 b.1 d.2 d.6 b.5, d.7),
       )
 
-  -- behind the last field the brace closes
+  -- after the last field the brace closes
   no_field_read : FieldsClaim Empty
   unfolding w.behind_field class_of
   no_field_read n i rest s p own is le ready =
@@ -355,7 +355,7 @@ module _ {m : Module} {f : Function} (v : Invariant m f) where
     by claim more count (suc room) i gap rest s own le blanks ends ready =
         over_read v count room (Struct first others) i rest s refl le ends (struct_type_read first others room i gap (stars count ++ rest) s claim more own (omega (arith, le)) blanks ready)
 
-  -- the struct that a name stands for
+  -- the body of a named struct
   pub braced_reads : (shape : Shape) (i : Input) (gap rest : Text) (s : ℕ) → is_struct_shape shape ≡ true → IsWritten (defined_structs m) shape → levels shape ≤ 64 → AreBlanks gap
       → Ready v s i (gap ++ (shown false shape ++ rest)) → Reads v s (w.braced 63 (firm 63)) i rest (IsTypeRead shape 64)
   braced_reads Empty i gap rest s is own le blanks ready = empty_braced 63 i gap rest s blanks ready

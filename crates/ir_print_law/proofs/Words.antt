@@ -1,4 +1,4 @@
--- The next token of a printed text, behind blanks.
+-- The next token of a printed text, after blanks.
 use Rattle.std.proofs.Common.{◌≡◌, ℕ, Bool, true, false, if◌then◌else◌, [], ◌∷◌, ◌++◌, Some, refl, sym, arith, append_assoc}
 use Rattle.std.specs.Prelude.{◌==◌, ◌||◌}
 use Rattle.std.specs.List.{list_all, flat_map}

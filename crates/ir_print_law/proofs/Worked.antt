@@ -43,7 +43,7 @@ module_of_one = record {
   functions = one_less ∷ [];
 }
 
--- its name stands in quotes, its block has its label, and its constant has no sign
+-- its name is in quotes, its block has its label, and its constant has no sign
 printed : text_of module_of_one ≡
     codes "define i64 @" ++ 34 ∷ codes "a b" ++ 34 ∷ codes "(i64 %0) {\n1:\n  %2 = add i64 %0, 18446744073709551615\n  ret i64 %2\n}\n"
 unfolding type_within fields_text digits

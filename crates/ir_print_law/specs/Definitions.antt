@@ -52,11 +52,11 @@ value_keys f = parameter_keys f ++ flat_map (value_keys_of f.locals) f.blocks
 abbrev pub label_keys : Function → List Text
 label_keys f = map (λ block. name_at f.locals block.label) f.blocks
 
--- the blocks that may be gone on with: all but the entry
+-- the blocks that may be branched to: all but the entry
 abbrev pub target_keys : Function → List Text
 target_keys f = drop 1 (label_keys f)
 
--- Keys are defined one after another behind those that were seen, each once: a name, or the next number.
+-- Keys are defined in this order after those that were seen, each once: a name, or the next number.
 abbrev pub AreDefined : (seen : List Text) → (unnamed : ℕ) → List Text → Type 0
 AreDefined seen unnamed [] = Unit {0}
 AreDefined seen unnamed (key ∷ keys) =
@@ -66,7 +66,7 @@ AreDefined seen unnamed (key ∷ keys) =
 
 -- ---- a module
 
--- each name is new behind those that were seen
+-- each name is new after those that were seen
 abbrev pub AreNew : (seen : List Text) → List Text → Type 0
 AreNew seen [] = Unit {0}
 AreNew seen (name ∷ names) = (IsIn seen name → ⊥) × AreNew (seen ++ name ∷ []) names

@@ -1,4 +1,4 @@
--- What the names of a function stand for.
+-- What the names of a function mean.
 use Rattle.std.specs.Prelude.{◌≡◌, ℕ, ◌<◌, ◌^◌, length, Some, ◌⊎◌, slice_get}
 use Rattle.std.specs.Fmt.{decimal}
 use Rattle.ir_ast.specs.LocalKeys.{key_of_name}
@@ -19,7 +19,7 @@ IsKeyOfName key = (name : Text) × AreBytes name × (key ≡ key_of_name name)
 abbrev pub IsKeyOfNumber : Text → Type 0
 IsKeyOfNumber key = (number : ℕ) × (number < 2 ^ 32) × (key ≡ decimal number)
 
--- Each key stands at its first place; what has a sort has a key; parameters are the first values; and a block's label stands for that block.
+-- Each key is at its first place, and what has a sort has a key. Parameters are the first values. A block's label means that block.
 pub record HasNames (f : Function) : Type 0 where
   pub keys : (number : ℕ) (key : Text) → slice_get f.locals number ≡ Some key → (IsKeyOfName key ⊎ IsKeyOfNumber key) × (place_of key f.locals ≡ Some number)
   pub values : (value : ℕ) (sort : LocalSort) → slice_get f.sorts value ≡ Some sort → value < length f.locals

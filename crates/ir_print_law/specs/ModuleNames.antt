@@ -1,4 +1,4 @@
--- What the names of a module stand for.
+-- What the names of a module mean.
 use Rattle.std.specs.Prelude.{◌≡◌, ℕ, ◌<◌, List, length, Some, slice_get}
 use Rattle.ir_ast.specs.Names.{place_of}
 use Rattle.ir_ast.specs.declared.function.Function.{Function}
@@ -20,7 +20,7 @@ AreNames names = (number : ℕ) (name : Text) → slice_get names number ≡ Som
 abbrev pub IsNumbered : {A : Type 0} → (name_of : A → ℕ) → List A → (number name : ℕ) → Type 0
 IsNumbered {A = A} name_of items number name = (item : A) × (slice_get items number ≡ Some item) × (name_of item ≡ name)
 
--- The names of a module: each struct, global and function has one of its own, which stands for it, and a name stands for nothing else; and so within each function.
+-- Each struct, global and function has a name of its own, which means it, and a name means nothing else. So it is within each function.
 pub record HasModuleNames (m : Module) : Type 0 where
   pub struct_names : AreNames m.struct_names
   pub structs : (layout : ℕ) (struct : StructType) → slice_get m.structs layout ≡ Some struct → slice_get m.struct_of struct.name ≡ Some (Some layout)

@@ -42,7 +42,7 @@ IsType m shape written = HasShape m.types m.struct_names shape written × (level
 abbrev pub IsScalar : Module → Shape → (written : ℕ) → Type 0
 IsScalar m shape written = IsType m shape written × (is_scalar_shape shape ≡ true)
 
--- a type of which a constant bitcast speaks
+-- a type in a constant bitcast
 abbrev pub IsPointer : Module → (written : ℕ) → Type 0
 IsPointer m written = (shape : Shape) × IsType m shape written × (is_pointer_shape shape ≡ true)
 
@@ -60,7 +60,7 @@ IsPlaceType m shape held place_type = (slice_get m.types place_type ≡ Some (ty
 abbrev pub IsGlobalUse : Module → (symbol : ℕ) → Type 0
 IsGlobalUse m symbol = IsIn (defined_globals m) (name_at m.symbols symbol) × (is_intrinsic (name_at m.symbols symbol) ≡ false)
 
--- what an instruction of this function reads, at an integer type of so many bits or else at a pointer type
+-- what an instruction of this function reads, at an integer type of n bits or else at a pointer type
 abbrev pub IsOperand : Module → Function → Option ℕ → Operand → Type 0
 IsOperand m f bits (operand.Constant x) = FitsType bits x
 IsOperand m f bits (operand.Local value) = IsIn (value_keys f) (name_at f.locals value)
@@ -71,7 +71,7 @@ IsOperand m f bits (operand.CastGlobal from symbol to) = IsPointer m from × IsG
 abbrev pub IsArgument : Module → Function → Argument → Type 0
 IsArgument m f x = (shape : Shape) × IsScalar m shape x.written × IsOperand m f (bits_of_shape shape) x.operand
 
--- a block that may be gone on with
+-- a block that may be branched to
 abbrev pub IsTarget : Function → (label : ℕ) → Type 0
 IsTarget f label = IsIn (target_keys f) (name_at f.locals label)
 
@@ -81,7 +81,7 @@ IsTarget f label = IsIn (target_keys f) (name_at f.locals label)
 abbrev pub IsIncoming : Module → Function → Option ℕ → Incoming → Type 0
 IsIncoming m f bits x = IsOperand m f bits x.operand × IsIn (label_keys f) (name_at f.locals x.from)
 
--- the cases of a switch, behind cases of these values
+-- the cases of a switch, after cases of these values
 abbrev pub AreCases : Function → Option ℕ → (seen : List CaseValue) → List Case → Type 0
 AreCases f bits seen [] = Unit {0}
 AreCases f bits seen (x ∷ xs) =
@@ -139,7 +139,7 @@ gives_value m (op.Store stored value place_type place) = false
 gives_value m (op.Call returned callee arguments) = not (is_void (slice_get m.types returned))
 gives_value m x = not (ends_block x)
 
--- an instruction that ends no block, which stands behind phis alone or not
+-- an instruction that ends no block; it may be a phi only after phis alone
 abbrev pub IsInner : Module → Function → (behind_phis : Bool) → Instr → Type 0
 IsInner m f behind_phis x =
     IsOp m f x.op × (ends_block x.op ≡ false) × (is_some x.result ≡ gives_value m x.op) × (is_phi x.op ≡ true → behind_phis ≡ true)
@@ -159,7 +159,7 @@ IsBlock m f block = (xs : List Instr) × (last : Instr) × (block.instructions �
 
 -- ---- items
 
--- a type that a function takes or gives
+-- a type that a function takes or returns
 abbrev pub IsPassed : Module → (written : ℕ) → Type 0
 IsPassed m written = (shape : Shape) × IsType m shape written × (is_passed_shape shape ≡ true)
 

@@ -8,7 +8,7 @@ use Rattle.ir_print.specs.Items.{text_of}
 use Rattle.ir_print_law.specs.Printable.{IsPrintable}
 use Rattle.ir_print_law.specs.Again.{IsAgain}
 
--- the printed text of this module is a text, and it stands for this module again, whose text it is
+-- the printed text of this module is a text of a module that is this one again, and that prints the same
 abbrev pub IsPrintedAgain : Module → Type 0
 IsPrintedAgain m = (n : Module) × IsText (text_of m) n × IsAgain m n × (text_of m ≡ text_of n)
 

@@ -26,8 +26,8 @@ use Rattle.ir_print.specs.Names.{name_at, local_text}
 use Rattle.ir_print.specs.Fits.{FitsType, constant_shown}
 use Rattle.ir_print.specs.Standing.{Stands, IsSeam, AreBlanks, AreDigits}
 
--- Behind blanks this form reads these bytes as this value and makes this state of what it reads from, and then it stands before the
--- bytes behind them.
+-- After blanks this form reads these bytes as this value, and makes this state of the one that it reads from. Then the bytes after them
+-- come next.
 abbrev pub IsRead : {A : Type 0} → Form A → (bytes : Text) → Input → A → Input → Type 0
 IsRead form bytes i value o =
     (gap rest : Text) → AreBlanks gap → IsSeam rest → Stands i.cursor (gap ++ (bytes ++ rest)) → form.says i value o × Stands o.cursor rest
@@ -79,7 +79,7 @@ StructNamesAreRead =
     → AreBlanks gap → IsSeam rest → Stands i.cursor (gap ++ 37 ∷ (name_text blank.Kept name ++ rest))
     → struct_name.says i (number_of name i.struct_names.names) (with_struct_use i) × (spelled i.cursor ≡ name) × Stands (with_struct_use i).cursor rest
 
--- a printed block that is gone on with is read as that block's name
+-- a printed branch target is read as that block's name
 abbrev pub TargetsAreRead : Type 0
 TargetsAreRead =
     (locals : List Text) (label : ℕ) (i : Input) (gap rest : Text) → IsKey (name_at locals label) → number_of (name_at locals label) i.locals.names < 2 ^ 32
@@ -109,7 +109,7 @@ CollectorsAreRead =
     (name : Text) (i : Input) (gap rest : Text) → AreBytes name → AreBlanks gap → IsSeam rest → Stands i.cursor (gap ++ (quoted_text blank.Kept name ++ rest))
     → quoted.says i name (advanced i) × Stands (next i.cursor) rest
 
--- a printed integer type is read as an integer type of so many bits
+-- a printed integer type is read as an integer type of that number of bits
 abbrev pub IntegerTypesAreRead : Type 0
 IntegerTypesAreRead =
     (bits : ℕ) (i : Input) (gap rest : Text) → 1 ≤ bits → bits ≤ 64 → AreBlanks gap → IsSeam rest → Stands i.cursor (gap ++ (105 ∷ decimal bits ++ rest))

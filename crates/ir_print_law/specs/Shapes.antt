@@ -20,7 +20,7 @@ pub data Shape : Type 0 where
   Struct : (first rest : Shape) → Shape
   Named : (name : Text) → Shape
 
--- the type with this number has this shape in a table of types, where names of structs have numbers; the rest of a struct stands before it
+-- The type with this number has this shape in a table of types, where names of structs have numbers. The rest of a struct is before it.
 abbrev pub HasShape : (types : List IrType) → (names : List Text) → Shape → (number : ℕ) → Type 0
 HasShape types names (Integer bits) number = slice_get types number ≡ Some (type.Integer bits)
 HasShape types names (Pointer part) number = (p : ℕ) × (slice_get types number ≡ Some (type.Pointer p)) × HasShape types names part p
@@ -39,7 +39,7 @@ levels Empty = 1
 levels (Struct first rest) = max (suc (levels first)) (levels rest)
 levels (Named name) = 1
 
--- the struct of the fields behind the first
+-- the struct of the fields after the first
 abbrev pub IsStruct : Shape → Type 0
 IsStruct Empty = Unit {0}
 IsStruct (Struct first rest) = Unit {0}
@@ -76,13 +76,13 @@ is_struct_shape Empty = true
 is_struct_shape (Struct first rest) = true
 is_struct_shape _ = false
 
--- a function may take and give a pointer to it
+-- a function may take and return a pointer to it
 abbrev pub is_passed_part : Shape → Bool
 is_passed_part (Integer bits) = bits == 8
 is_passed_part (Named name) = true
 is_passed_part _ = false
 
--- a function may take and give it: an integer, a reference or `i8*`
+-- a function may take and return it: an integer, a reference or `i8*`
 abbrev pub is_passed_shape : Shape → Bool
 is_passed_shape (Integer bits) = true
 is_passed_shape (Pointer part) = is_passed_part part

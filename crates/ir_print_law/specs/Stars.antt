@@ -10,12 +10,12 @@ use Rattle.ir_forms.specs.declared.input.Input.{Input}
 use Rattle.ir_forms.specs.Written.{pointers}
 use Rattle.ir_print.specs.Standing.{Stands}
 
--- so many stars
+-- n stars
 abbrev pub stars : ℕ → Text
 stars zero = []
 stars (suc count) = 42 ∷ stars count
 
--- the number of the type with so many stars behind the one with this number
+-- the number of the type with `count` stars after the one with this number
 abbrev pub starred_number : (count number : ℕ) → List IrType → ℕ
 starred_number zero number types = number
 starred_number (suc count) number types = starred_number count (number_of_type (Pointer number) types) (numbered_type (Pointer number) types)
@@ -25,11 +25,11 @@ abbrev pub starred_types : (count number : ℕ) → List IrType → List IrType
 starred_types zero number types = types
 starred_types (suc count) number types = starred_types count (number_of_type (Pointer number) types) (numbered_type (Pointer number) types)
 
--- no star comes where reading stands before these bytes
+-- no star comes where these bytes come next
 abbrev pub EndsStars : Text → Type 0
 EndsStars rest = (i : Input) → Stands i.cursor rest → sees k.Star i.cursor ≡ false
 
--- so many stars behind a type are read as the pointers to it, where the type may have so many levels more
+-- n stars after a type are read as the pointers to it, where the type has room for n further levels
 abbrev pub StarsAreRead : Type 0
 StarsAreRead =
     (count room number : ℕ) (i : Input) (rest : Text) → count ≤ room → length i.types + count < 2 ^ 32 → EndsStars rest → Stands i.cursor (stars count ++ rest)

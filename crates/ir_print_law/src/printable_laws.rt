@@ -6,7 +6,7 @@ pub fn printable_law()
     ensures { ArePrintable }
 {}
 
-/// The names of a module that is read from a text stand for its items.
+/// The names of a module that is read from a text mean its items.
 pub fn named_law()
     ensures { AreNamed }
 {}

@@ -34,7 +34,7 @@ pub fn name_law()
     ensures collectors { CollectorsAreRead }
 {}
 
-/// Printed stars are read as the pointer types behind a type.
+/// Printed stars are read as the pointer types that they make of a type.
 pub fn star_law()
     ensures { StarsAreRead }
 {}

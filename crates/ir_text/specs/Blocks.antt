@@ -32,7 +32,7 @@ block_label number = has_room number >> look (λ i. kind i.cursor) (label_by num
 abbrev pub block_of : ℕ → List Instr → Form Block
 block_of l xs = pure (record { label = l; instructions = xs })
 
--- the instructions behind a label
+-- the instructions after a label
 abbrev pub block_behind : ℕ → ℕ → Form Block
 block_behind number l = instructions number >>= block_of l
 
@@ -46,7 +46,7 @@ block_takes number = second_takes (block_label number) (block_behind number) (λ
 
 -- ---- the blocks of a function
 
--- the block behind so many
+-- the block after those so far
 abbrev pub further : Blocks → Form Block
 further b = block b.count
 
@@ -61,6 +61,6 @@ at_close b i = nat_lt 0 b.count && sees k.CloseBrace i.cursor
 abbrev pub behind_block : Blocks → Block → Blocks
 behind_block b x = record b { count = b.count + 1 }
 
--- the blocks of a function, up to the brace behind them
+-- the blocks of a function, up to the brace after them
 unfoldable pub blocks : Form (List Block)
 blocks = many_with at_close further further_takes behind_block (record { count = 0 })

@@ -58,7 +58,7 @@ with_struct_type_falls s i = omega arith
 abbrev pub add_struct : StructType → Form (Unit {0})
 add_struct s = step (λ _. tt) (with_struct_type s) (with_struct_type_falls s)
 
--- what stands behind the name of a struct type
+-- what follows the name of a struct type
 abbrev pub struct_behind : ℕ → Form (Unit {0})
 struct_behind n = do
   expect k.Equals
@@ -77,7 +77,7 @@ abbrev pub is_one : Option ℕ → Bool
 is_one None = false
 is_one (Some bits) = bits == 1
 
--- a global's first value fits its type, which is an integer type of so many bits or else a pointer type
+-- a global's first value fits its type, which is an integer type of n bits or else a pointer type
 abbrev pub is_initial : Option ℕ → Kind → Bool
 is_initial bits k.Undef = true
 is_initial bits k.Zeroinitializer = true
@@ -113,7 +113,7 @@ with_global_falls g i = omega arith
 abbrev pub add_global : Global → Form (Unit {0})
 add_global g = step (λ _. tt) (with_global g) (with_global_falls g)
 
--- what stands behind the name of a global
+-- what follows the name of a global
 abbrev pub global_behind : ℕ → Form (Unit {0})
 global_behind s = do
   expect k.Equals
@@ -123,7 +123,7 @@ global_behind s = do
   trailing trail.Memory
   add_global (record { symbol = s; is_constant = is_fixed; held = w.id; initial = x })
 
--- there are fewer than so many
+-- the count is below this bound
 abbrev pub below : ℕ → (Input → ℕ) → Form (Unit {0})
 below most count = checked (λ i. nat_lt (count i) most) limit
 
@@ -145,7 +145,7 @@ collector_name = skip >> quoted >>= λ text. pure (Some text)
 unfoldable pub collector : Form (Option (List ℕ))
 collector = look (λ i. sees k.Gc i.cursor) (either collector_name (pure None))
 
--- what decorates a function behind its parameters, with the collector's name
+-- what decorates a function after its parameters, with the collector's name
 unfoldable pub head_end : Spot → Form (Option (List ℕ))
 head_end s = do
   decorations s
@@ -189,7 +189,7 @@ with_declare_falls d i = omega arith
 abbrev pub add_declare : Declare → Form (Unit {0})
 add_declare d = step (λ _. tt) (with_declare d) (with_declare_falls d)
 
--- what stands behind the result of a declared function
+-- what follows the result of a declared function
 abbrev pub declare_behind : ℕ → ℕ → Option Runtime → Form (Unit {0})
 declare_behind number returned runtime = do
   s ← function_name (symbol.Declared number)
@@ -199,7 +199,7 @@ declare_behind number returned runtime = do
   head_end spot.Declared
   add_declare (record { symbol = s; runtime = runtime; returned = returned; parameters = ps })
 
--- what stands behind `declare`, with the function of the runtime that is named, if it is one
+-- what follows `declare`, with the function of the runtime that is named, if it is one
 abbrev pub declare_parts : ℕ → Form (Unit {0})
 declare_parts number = declared_result >>= λ returned. look (λ i. runtime_of (spelled i.cursor)) (declare_behind number returned)
 
@@ -218,7 +218,7 @@ abbrev pub defined_result_by : Kind → Form ℕ
 defined_result_by k.Void = void_result
 defined_result_by _ = passed_type >>= λ w. pure w.id
 
--- `void`, or a type that a defined function may give, with what decorates the function
+-- `void`, or a type that a defined function may return, with what decorates the function
 unfoldable pub defined_result : Form ℕ
 defined_result = decorations spot.Result >> look (λ i. kind i.cursor) defined_result_by
 
@@ -227,7 +227,7 @@ abbrev pub open_body_by : Kind → Form (Unit {0})
 open_body_by k.OpenBrace = skip
 open_body_by _ = refuse unexpected
 
--- the brace that opens a body, which must stand here
+-- the brace that opens a body, which must be here
 unfoldable pub open_body : Form (Unit {0})
 open_body = look (λ i. kind i.cursor) open_body_by
 
@@ -248,7 +248,7 @@ function_of h bs i = record {
   blocks = bs;
 }
 
--- the function is there, its names are looked at, and the next function begins with none
+-- the function is added, its names are checked, and the next function begins with none
 unfoldable pub with_function : FunctionHead → List Block → Input → Input
 with_function h bs i = record i {
   functions = i.functions ++ function_of h bs i ∷ [];
@@ -267,7 +267,7 @@ with_function_falls h bs i = omega arith
 abbrev pub end_function : FunctionHead → List Block → Form (Unit {0})
 end_function h bs = step (λ _. tt) (with_function h bs) (with_function_falls h bs)
 
--- what stands behind the result of a defined function
+-- what follows the result of a defined function
 abbrev pub head_behind : ℕ → ℕ → Form FunctionHead
 head_behind number returned = do
   s ← function_name (symbol.Defined number)
@@ -285,7 +285,7 @@ head_result number = defined_result >>= head_behind number
 unfoldable pub head : ℕ → Form FunctionHead
 head number = skip >> head_result number
 
--- the body behind a head
+-- the body after a head
 abbrev pub body_behind : FunctionHead → Form (Unit {0})
 body_behind h = do
   open_body
@@ -382,6 +382,6 @@ at_end_of_text i = sees k.End i.cursor
 unfoldable pub items : Form (List (Unit {0}))
 items = many at_end_of_text item item_takes
 
--- a text is its items, and no bad byte stands behind them
+-- a text is its items, and there is no bad byte after them
 unfoldable pub whole : Form (Unit {0})
 whole = items >> checked (λ i. not (is_some i.cursor.bad)) (λ i. at_end i.cursor)

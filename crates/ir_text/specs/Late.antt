@@ -1,4 +1,4 @@
--- Names that are looked at behind the whole text, where each one may be defined.
+-- Names that are checked after the whole text, since each may be defined further on.
 use Rattle.std.specs.Prelude.{ℕ, Bool, true, false, not, ◌&&◌, Option, Some, None, slice_get, find, option_map, min}
 use Rattle.ir_ast.specs.declared.items_of_module.SymbolSort.{SymbolSort}
 use Rattle.ir_ast.specs.declared.items_of_module.SymbolSort.TheVariants as symbol
@@ -20,7 +20,7 @@ is_right is_call (Some (symbol.Defined f)) = is_call
 abbrev pub sort_of : Input → SymbolUse → Option SymbolSort
 sort_of i u = slice_get i.symbols.sorts u.symbol
 
--- a function stands as an operand
+-- a function is used as an operand
 abbrev pub is_function_operand : Input → SymbolUse → Bool
 is_function_operand i u = not u.is_call && is_right true (sort_of i u)
 
@@ -46,7 +46,7 @@ operand_fault u = LeftOut u.start u.length
 abbrev pub function_operand : Input → Option Fault
 function_operand i = option_map operand_fault (find (is_function_operand i) i.symbol_uses)
 
--- the first use of a global name that is nowhere defined, or stands for something of another sort
+-- the first use of a global name that is nowhere defined, or means something of another sort
 abbrev pub wrong_symbol : Input → Option ℕ
 wrong_symbol i = option_map (λ u. u.start) (find (λ u. not (is_right_symbol i u)) i.symbol_uses)
 

@@ -26,11 +26,11 @@ target_part_by k.Datalayout = skip
 target_part_by k.Triple = skip
 target_part_by _ = refuse unexpected
 
--- `datalayout` or `triple`, which must stand here
+-- `datalayout` or `triple`, which must be here
 unfoldable pub target_part : Form (Unit {0})
 target_part = look (λ i. kind i.cursor) target_part_by
 
--- what stands behind `target`
+-- what follows `target`
 abbrev pub target_behind : Form (Unit {0})
 target_behind = target_part >> text_behind
 
@@ -48,7 +48,7 @@ at_brace i = sees k.CloseBrace i.cursor
 unfoldable pub braced : Form (List Kind)
 braced = many at_brace any_token any_token_takes
 
--- what stands behind `attributes`
+-- what follows `attributes`
 abbrev pub group_behind : Form (Unit {0})
 group_behind = do
   expect k.AttributeGroup
@@ -73,11 +73,11 @@ abbrev pub is_dollar : List ℕ → Bool
 is_dollar (byte ∷ []) = byte == 36
 is_dollar _ = false
 
--- a comdat's name stands here
+-- a comdat's name is here
 abbrev pub is_comdat_name : Form (Unit {0})
 is_comdat_name = checked (λ i. begins_dollar (spelling i.cursor)) unexpected
 
--- the sign `$` alone has a quoted text behind it
+-- the sign `$` alone has a quoted text after it
 abbrev pub dollar_name_by : Bool → Form (Unit {0})
 dollar_name_by = either (skip >> expect k.Quoted) skip
 
@@ -85,7 +85,7 @@ dollar_name_by = either (skip >> expect k.Quoted) skip
 unfoldable pub dollar_name : Form (Unit {0})
 dollar_name = look (λ i. is_dollar (spelling i.cursor)) dollar_name_by
 
--- what stands behind the name of a comdat
+-- what follows the name of a comdat
 abbrev pub comdat_behind : Form (Unit {0})
 comdat_behind = do
   expect k.Equals

@@ -27,7 +27,7 @@ declared_name_by _ = take_number
 unfoldable pub declared_name : Form (Unit {0})
 declared_name = look (λ i. kind i.cursor) declared_name_by
 
--- a declared function's parameter behind its type
+-- a declared function's parameter after its type
 abbrev pub type_of_parameter : WrittenType → Form ℕ
 type_of_parameter w = do
   decorations spot.Parameter
@@ -35,7 +35,7 @@ type_of_parameter w = do
   separator k.CloseRound
   pure w.id
 
--- the type of a parameter of a declared function, whose name is left aside
+-- the type of a parameter of a declared function, whose name is ignored
 unfoldable pub declared_parameter : Form ℕ
 declared_parameter = any_type >>= type_of_parameter
 
@@ -78,7 +78,7 @@ parameter_name_by _ = refuse unexpected
 unfoldable pub parameter_name : Form ℕ
 parameter_name = look (λ i. kind i.cursor) parameter_name_by
 
--- a defined function's parameter behind its type
+-- a defined function's parameter after its type
 abbrev pub parameter_of : WrittenType → Form Parameter
 parameter_of w = do
   decorations spot.Parameter

@@ -1,4 +1,4 @@
--- Whole texts: which module a text stands for, and which fault it has first.
+-- Whole texts: which module a text is read as, and which fault it has first.
 use Rattle.std.specs.Prelude.{◌≡◌, ◌<◌, ◌≤◌, ◌⊎◌, ℕ, List, length, take, drop, Option, Some, None, Result, Ok, Err}
 use Rattle.grammar.specs.Outcome as outcome
 use Rattle.ir_tokens.specs.declared.lexed.Lexed.{Lexed}
@@ -14,7 +14,7 @@ use Rattle.ir_text.specs.declared.read_fault.ReadFault.TheVariants as shown
 use Rattle.ir_text.specs.ItemsOfText.{whole}
 use Rattle.ir_text.specs.Late.{late_fault}
 
--- what a function answers is this, unless memory runs out
+-- a function returns this, unless memory runs out
 abbrev pub Gives : {X : Type 0} → Result X ReadFault → Result X ReadFault → Type 0
 Gives = outcome.Gives shown.Memory
 
@@ -92,7 +92,7 @@ abbrev pub judged : List ℕ → Input → Option Fault → Result Module ReadFa
 judged bytes o None = Ok (module_of o)
 judged bytes o (Some f) = Err (located bytes f)
 
--- what reading the tokens comes to, judged by the names
+-- the result of reading the tokens, judged by the names
 abbrev pub answered : List ℕ → Outcome (Unit {0}) → Result Module ReadFault
 answered bytes (Ok p) = judged bytes p.1 (late_fault p.1)
 answered bytes (Err f) = Err (located bytes f)

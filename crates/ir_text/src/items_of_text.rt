@@ -50,7 +50,7 @@ fn body(alloc: Global, input: &mut Input<'_>) -> Result<TypeId, Fault>
 
 // ---- globals
 
-/// Whether a token of this kind may be the first value of a global, whose type has so many bits or is a pointer.
+/// Whether a token of this kind may be the first value of a global, whose type has n bits or is a pointer.
 fn is_initial(bits: Option<u32>, kind: Kind) -> bool
     ensures { result ≡ form.is_initial bits kind }
 {
@@ -75,7 +75,7 @@ fn initial(input: &mut Input<'_>, bits: Option<u32>) -> Result<Constant, Fault>
     input.constant(bits)
 }
 
-/// `global` or `constant`, with what decorates the global. Answers whether it is `constant`.
+/// `global` or `constant`, with what decorates the global. Returns whether it is `constant`.
 #[tactic(auto, unfolding(crate::specs::ItemsOfText::is_constant))]
 fn is_constant(alloc: Global, input: &mut Input<'_>) -> Result<bool, Fault>
     ensures { Reads (form.is_constant.read input.old) result input.new }
@@ -141,7 +141,7 @@ fn declared_result(alloc: Global, input: &mut Input<'_>) -> Result<TypeId, Fault
     }
 }
 
-/// `void`, or a type that a defined function may give, with what decorates the function.
+/// `void`, or a type that a defined function may return, with what decorates the function.
 #[tactic(auto, unfolding(crate::specs::ItemsOfText::defined_result))]
 fn defined_result(alloc: Global, input: &mut Input<'_>) -> Result<TypeId, Fault>
     ensures { Reads (form.defined_result.read input.old) result input.new }
@@ -218,7 +218,7 @@ fn collector(alloc: Global, input: &mut Input<'_>) -> Result<Option<Items<u8>>, 
     Ok(Some(input.quoted(alloc)?))
 }
 
-/// What decorates a function behind its parameters. Answers the collector's name.
+/// What decorates a function after its parameters. Returns the collector's name.
 #[tactic(auto, unfolding(crate::specs::ItemsOfText::head_end))]
 fn head_end(alloc: Global, input: &mut Input<'_>, spot: Spot) -> Result<Option<Items<u8>>, Fault>
     ensures { Reads ((form.head_end spot).read input.old) result input.new }
@@ -258,7 +258,7 @@ fn head(alloc: Global, input: &mut Input<'_>, number: FuncId) -> Result<Function
     })
 }
 
-/// The end of a function: its names are looked at, and the next function begins with none.
+/// The end of a function: its names are checked, and the next function begins with none.
 #[tactic(auto, unfolding(crate::specs::ItemsOfText::with_function))]
 fn end_function(
     alloc: Global,
@@ -345,7 +345,7 @@ impl Listed for TextItems {
     }
 }
 
-/// All items of a text, behind which no bad byte stands.
+/// All items of a text, with no bad byte after them.
 #[tactic(auto, unfolding(crate::specs::ItemsOfText::whole, crate::specs::ItemsOfText::items))]
 pub fn whole(alloc: Global, input: &mut Input<'_>) -> Result<(), Fault>
     ensures { Reads (form.whole.read input.old) result input.new }

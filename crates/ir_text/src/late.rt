@@ -1,4 +1,4 @@
-//! Names that are looked at behind the whole text.
+//! Names that are checked after the whole text.
 ghost use Rattle.std.specs.Prelude.{◌≡◌};
 ghost use Rattle.ir_text.specs.Late as spec;
 

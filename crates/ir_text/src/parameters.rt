@@ -27,7 +27,7 @@ fn declared_name(alloc: Global, input: &mut Input<'_>) -> Result<(), Fault>
     }
 }
 
-/// The type of a parameter of a declared function, whose name is left aside.
+/// The type of a parameter of a declared function, whose name is ignored.
 #[tactic(auto, unfolding(crate::specs::Parameters::declared_parameter))]
 fn declared_parameter(alloc: Global, input: &mut Input<'_>) -> Result<TypeId, Fault>
     ensures { Reads (form.declared_parameter.read input.old) result input.new }

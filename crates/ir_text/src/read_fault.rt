@@ -3,7 +3,7 @@ use items::Items;
 use std::alloc::AllocError;
 use thiserror::Error;
 
-/// Why a text is no module: its first fault, and the line and column at which it stands.
+/// Why a text is no module: its first fault, and the line and column where it is.
 #[derive(Debug, Drop, Error)]
 pub enum ReadFault {
     #[error("memory ran out")]

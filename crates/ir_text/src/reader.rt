@@ -15,7 +15,7 @@ use ir_tokens::{Lexed, Position, TEXT_LIMIT, read_tokens};
 use items::Items;
 use std::alloc::Global;
 
-/// The bytes behind so many.
+/// The bytes after the first `count`.
 fn behind(bytes: &[u8], count: usize) -> &[u8]
     ensures { result.now ≡ spec.behind count bytes.now }
 {
@@ -26,7 +26,7 @@ fn behind(bytes: &[u8], count: usize) -> &[u8]
     }
 }
 
-/// At most so many bytes.
+/// The first `count` bytes, or all if there are fewer.
 fn front(bytes: &[u8], count: usize) -> &[u8]
     ensures { result.now ≡ spec.front count bytes.now }
 {
@@ -81,7 +81,7 @@ fn module_of(input: Input<'_>) -> Module
     }
 }
 
-/// The module that the tokens of a text tell.
+/// The module that the tokens of a text give.
 #[tactic(auto, unfolding(crate::specs::Read::read_lexed))]
 fn read_lexed(alloc: Global, bytes: &[u8], lexed: &Lexed) -> Result<Module, ReadFault>
     requires { length bytes.now ≤ spec.text_limit }
@@ -102,7 +102,7 @@ fn read_lexed(alloc: Global, bytes: &[u8], lexed: &Lexed) -> Result<Module, Read
     }
 }
 
-/// The module that a text stands for.
+/// The module that a text is read as.
 pub fn read(alloc: Global, bytes: &[u8]) -> Result<Module, ReadFault>
     // What is read is the module of this text.
     ensures found { IfOk result (λ m. IsText bytes.now m) }

@@ -49,7 +49,7 @@ kind_in-starting [] word = refl
 kind_in-starting (entry ∷ entries) word =
     filter_by (bytes_eq entry.0 word) (starts (slice_index word 0) entry) entry entries word refl refl (kind_in-starting entries word)
 
--- a word that begins with no lower-case letter stands in no list of lower-case words
+-- a word that begins with no lower-case letter is in no list of lower-case words
 upper_by : (t : Bool) (entry : Text × Kind) (entries : Entries) (word : Text) → bytes_eq entry.0 word ≡ t → is_lowercase (slice_index entry.0 0) ≡ true → is_lowercase (slice_index word 0) ≡ false
     → kind_in entries word ≡ None → cond t (Some entry.1) (kind_in entries word) ≡ None
 upper_by true entry entries word e l f h =

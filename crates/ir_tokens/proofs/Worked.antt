@@ -31,7 +31,7 @@ kinds_of_words : both (seen (codes "alloca sdiv i64 i i64x nounwind dso_Local ..
 unfolding lex_from past_gap token class_of word number word_kind keywords is_name
 kinds_of_words = (refl, refl)
 
--- A `:` directly behind a name, a number or quoted text makes a label, and stands nowhere else.
+-- A `:` directly after a name, a number or quoted text makes a label, and is allowed nowhere else.
 labels : both (seen (codes "add: 5: -5: \"x y\": ret :")) (
     (k.LabelName, true, codes "add") ∷ (k.LabelNumber, false, codes "5") ∷ (k.LabelName, false, codes "-5") ∷ (k.LabelName, false, codes "x y")
     ∷ (k.Ret, false, codes "ret") ∷ []) (Some 23)
@@ -45,7 +45,7 @@ names : both (seen (codes "%a %5 %\"5\" %5a @x @\"\" #0 !dbg !3 !{")) (
 unfolding lex_from past_gap token class_of word number word_kind keywords is_name quote quoted_from next digit unescaped_from local global group metadata
 names = (refl, refl)
 
--- Two hexadecimal digits, or a second backslash, behind a backslash.
+-- Two hexadecimal digits, or a second backslash, after a backslash.
 escapes : both (seen (codes "\"a\\41\\\\b\"")) ((k.Quoted, true, codes "aA\\b") ∷ []) None
 unfolding lex_from past_gap token class_of quote quoted_from next digit unescaped_from
 escapes = (refl, refl)

@@ -73,7 +73,7 @@ digit byte =
     else (if within 65 70 byte then Some (byte - 65 + 10)
     else None))
 
--- what stands behind a reference
+-- an optional value, mapped by this function
 abbrev pub shown : {A B : Type 0} → (A → B) → Option A → Option B
 shown f None = None
 shown f (Some a) = Some (f a)
@@ -84,7 +84,7 @@ pair_of rest None low = None
 pair_of rest (Some high) None = None
 pair_of rest (Some high) (Some low) = Some (16 * high + low, rest)
 
--- the byte that a backslash and the bytes behind it stand for: another backslash, or two hexadecimal digits
+-- the byte that a backslash and the bytes after it spell: another backslash, or two hexadecimal digits
 abbrev pub after_backslash : Text → Option (ℕ × Text)
 after_backslash [] = None
 after_backslash (a ∷ []) = if a == 92 then Some (92, []) else None

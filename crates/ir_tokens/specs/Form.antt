@@ -1,4 +1,4 @@
--- A form of bytes: what it says of a text, how it is read, and that both are one.
+-- A form of bytes: its relation to a text, how it is read, and that both agree.
 use Rattle.std.specs.Prelude.{◌≡◌, ℕ, zero, suc, ◌<◌, ◌≤◌, Bool, true, false, cond, if◌then◌else◌, ◌==◌, [], ◌∷◌, ◌++◌, length, take, drop, Option, Some, None, refl}
 use Rattle.std.specs.List.{prefix_len}
 use Rattle.std.proofs.Common.{◌∙◌, ap, subst, arith, length-drop, length-append}
@@ -12,10 +12,10 @@ use Rattle.ir_tokens.specs.Bytes.{Text, first_class, next, after_backslash, pair
 abbrev pub Outcome : Type 0 → Type 0
 Outcome A = Option (A × Text)
 
--- A form of bytes. Its reading and its relation say the same: what is read is said (`sound`), and what is said is read (`again`).
+-- A form of bytes. Its reading and its relation agree: what is read is in the relation (`sound`), and what is in the relation is read (`again`).
 pub record Form (A : Type 0) : Type 1 where
   pub read : Text → Outcome A
-  -- the first bytes begin with this form, which stands for this value, and the second bytes come after it
+  -- the first bytes begin with this form, which has this value, and the second bytes come after it
   pub says : Text → A → Text → Type 0
   pub sound : (i : Text) (a : A) (o : Text) → read i ≡ Some (a, o) → says i a o
   pub again : (i : Text) (a : A) (o : Text) → says i a o → read i ≡ Some (a, o)
@@ -129,7 +129,7 @@ refuse = record {
   moves = λ i a o h. absurd h;
 }
 
--- ---- bytes that pass a test, as many as stand together
+-- ---- the longest run of bytes that pass a test
 
 -- each byte passes the test
 abbrev pub Passes : (ℕ → Bool) → Text → Type 0
@@ -175,18 +175,18 @@ span_again p i a o h = rw (h.0, span_len p a o h.1 h.2, take_at a o (length a) r
 pub span_moves : (p : ℕ → Bool) (i a o : Text) → IsSpan p i a o → length o ≤ length i
 span_moves p i a o h = let q = ap length h.0 in omega (arith, length-append a o)
 
--- bytes that pass the test, as many as stand together
+-- the longest run of bytes that pass the test
 abbrev pub span : (ℕ → Bool) → Form Text
 span p = record { read = span_at p; says = IsSpan p; sound = span_sound p; again = span_again p; moves = span_moves p }
 
 -- ---- quoted text
 
--- the bytes up to a quote stand for this text, and go on behind the quote
+-- the bytes up to a quote spell this text, and go on after the quote
 abbrev pub IsQuoted : Text → Text → Text → Type 0
 IsQuoted i [] o = i ≡ 34 ∷ o
 IsQuoted i (b ∷ bs) o = (m : Text) × (next i ≡ Some (b, m)) × IsQuoted m bs o
 
--- some text stands up to a quote
+-- the bytes up to a quote spell some text
 abbrev pub EndsQuoted : Text → Unit {0} → Text → Type 0
 EndsQuoted i u o = (text : Text) × IsQuoted i text o
 
@@ -200,7 +200,7 @@ abbrev pub on_next : {X : Type 0} → Option (ℕ × Text) → X → (ℕ → Te
 on_next None x f = x
 on_next (Some p) x f = f p.0 p.1
 
--- a quoted text of at most so many bytes, up to its closing quote
+-- a quoted text of at most n bytes, up to its closing quote
 unfoldable pub quoted_from : ℕ → Text → Outcome (Unit {0})
 quoted_from zero i = close_at i
 quoted_from (suc n) i = on_next (next i) (close_at i) (λ b m. quoted_from n m)
@@ -271,6 +271,6 @@ quoted_sound_all i u o e = quoted_sound (length i) i u o e
 pub quoted_moves_all : (i : Text) (u : Unit {0}) (o : Text) → EndsQuoted i u o → length o ≤ length i
 quoted_moves_all i u o h = quoted_moves i h.0 o h.1
 
--- the rest of a quoted text, behind its first quote
+-- the rest of a quoted text, after its first quote
 abbrev pub quoted : Form (Unit {0})
 quoted = record { read = λ i. quoted_from (length i) i; says = EndsQuoted; sound = quoted_sound_all; again = quoted_again_all; moves = quoted_moves_all }

@@ -100,7 +100,7 @@ keywords =
     item_words ++ type_words ++ constant_words ++ instruction_words ++ condition_words ++ decoration_words
     ++ left_out (division_words ++ float_words ++ part_words ++ pointer_words ++ control_words ++ thread_words ++ further_words)
 
--- the kind beside a word in a list
+-- the kind of a word in a list
 abbrev pub kind_in : List (Text × Kind) → Text → Option Kind
 kind_in [] word = None
 kind_in (entry ∷ entries) word = if bytes_eq entry.0 word then Some entry.1 else kind_in entries word
@@ -124,7 +124,7 @@ is_negative_number (b ∷ bs) = b == 45 && is_number bs
 abbrev pub is_lowercase : ℕ → Bool
 is_lowercase b = within 97 122 b
 
--- a byte that stands in a lower-case word
+-- a byte that a lower-case word may have
 abbrev pub is_lowercase_part : ℕ → Bool
 is_lowercase_part b = is_lowercase b || is_digit b || b == 95
 

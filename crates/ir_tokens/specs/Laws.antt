@@ -183,7 +183,7 @@ abbrev IsEnd : ℕ → Option ℕ → Text → Type 0
 IsEnd total None last = last ≡ []
 IsEnd total (Some place) last = (place + length last ≡ total) × (last ≢ []) × (begins_gap last ≡ false) × ((x : Kind) (rest : Text) → token.says last x rest → ⊥)
 
--- what reading gives of these bytes, behind the tokens found before
+-- what reading gives of these bytes, after the tokens found before
 abbrev Reads : ℕ → Bool → List Token → Text → Lexed → Type 0
 Reads total first found bytes r =
     (more : List Token) × (last : Text) × (found ++ more ≡ r.tokens) × Cut total first bytes more last × IsEnd total r.bad last

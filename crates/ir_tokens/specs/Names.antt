@@ -28,16 +28,16 @@ abbrev pub begins_quote : Text → Bool
 begins_quote [] = false
 begins_quote (b ∷ bs) = b == 34
 
--- what stands between the first byte and the last
+-- what is between the first byte and the last
 abbrev pub inside : Text → Text
 inside s = take (length s - 2) (drop 1 s)
 
--- the bytes that quoted text stands for, at most so many
+-- the bytes that quoted text spells, at most n
 unfoldable pub unescaped_from : ℕ → Text → Text
 unescaped_from zero s = []
 unescaped_from (suc n) s = on_next (next s) [] (λ b rest. b ∷ unescaped_from n rest)
 
--- the bytes that quoted text stands for, up to the quote that ends it
+-- the bytes that quoted text spells, up to the quote that ends it
 abbrev pub unescaped : Text → Text
 unescaped s = unescaped_from (length s) s
 

@@ -8,7 +8,7 @@ use Rattle.ir_tokens.specs.Bytes.{Text}
 abbrev pub is_line_end : ℕ → Bool
 is_line_end b = b == 10
 
--- One line more than there are line ends before the place, and one column more than there are bytes behind the last of them.
+-- One line more than there are line ends before the place, and one column more than there are bytes after the last of them.
 abbrev pub position_of : Text → ℕ → Position
 position_of bytes place =
     record { line = count_by is_line_end (take place bytes) + 1; column = suffix_len (λ b. not (is_line_end b)) (take place bytes) + 1 }

@@ -17,7 +17,7 @@ use Rattle.ir_tokens.specs.Keywords.{word_kind}
 abbrev pub name : Kind → Form Kind
 name x = span is_name >>= λ _. pure x
 
--- digits, as many as stand together
+-- the longest run of digits
 abbrev pub digits : Kind → Form Kind
 digits x = span is_digit >>= λ _. pure x
 
@@ -29,7 +29,7 @@ quotation x = skip >> quoted >> pure x
 abbrev pub sign : Kind → Form Kind
 sign x = skip >> pure x
 
--- what stands behind `%`
+-- what follows `%`
 abbrev pub local_by : Class → Form Kind
 local_by c.Quote = quotation k.LocalName
 local_by c.Letter = name k.LocalName
@@ -40,7 +40,7 @@ local_by _ = refuse
 unfoldable pub local : Form Kind
 local = skip >> look local_by
 
--- what stands behind `@`
+-- what follows `@`
 abbrev pub global_by : Class → Form Kind
 global_by c.Quote = quotation k.GlobalName
 global_by c.Letter = name k.GlobalName
@@ -50,7 +50,7 @@ global_by _ = refuse
 unfoldable pub global : Form Kind
 global = skip >> look global_by
 
--- what stands behind `#`
+-- what follows `#`
 abbrev pub group_by : Class → Form Kind
 group_by c.Digit = digits k.AttributeGroup
 group_by _ = refuse
@@ -59,7 +59,7 @@ group_by _ = refuse
 unfoldable pub group : Form Kind
 group = skip >> look group_by
 
--- what stands behind `!`, if anything
+-- what follows `!`, if anything
 abbrev pub metadata_by : Class → Form Kind
 metadata_by c.Letter = name k.MetadataName
 metadata_by c.Digit = digits k.MetadataNumber
@@ -69,7 +69,7 @@ metadata_by _ = pure k.Exclamation
 unfoldable pub metadata : Form Kind
 metadata = skip >> look metadata_by
 
--- with `:` directly behind it a label, else this
+-- with `:` directly after it a label, else this
 abbrev pub label_or : (colon other : Kind) → Class → Form Kind
 label_or colon other c.Colon = skip >> pure colon
 label_or colon other _ = pure other
@@ -102,7 +102,7 @@ token_by _ = refuse
 unfoldable pub token : Form Kind
 token = look token_by
 
--- ---- what stands between tokens
+-- ---- what is between tokens
 
 -- space, tab, and the bytes that end a line
 abbrev pub is_blank : ℕ → Bool
@@ -124,7 +124,7 @@ begins_gap (b ∷ bs) = b == 59 || is_blank b
 abbrev pub ends_line : Text → Bool
 ends_line gap = list_any (λ b. b == 10) gap
 
--- the bytes behind blanks and comments; the flag as above
+-- the bytes after blanks and comments; the flag as above
 unfoldable pub past_gap : Bool → Text → Text
 past_gap comment [] = []
 past_gap true (b ∷ bs) = past_gap (not (b == 10)) bs
@@ -132,8 +132,8 @@ past_gap false (b ∷ bs) = if b == 59 then past_gap true bs else (if is_blank b
 
 -- ---- a text and its tokens
 
--- These tokens stand at the front of the bytes, up to `last`, with their places in a text of `total` bytes. The flag says whether no
--- token stands before these bytes.
+-- These tokens are at the front of the bytes, up to `last`, with their places in a text of `total` bytes. The flag says whether no
+-- token is before these bytes.
 abbrev pub Cut : (total : ℕ) → (first : Bool) → Text → List Token → Text → Type 0
 Cut total first bytes [] last = (gap : Text) × (bytes ≡ gap ++ last) × IsGap false gap last
 Cut total first bytes (t ∷ ts) last =
@@ -156,7 +156,7 @@ IsLexed bytes lexed = MatchOption lexed.bad (IsTokens bytes lexed.tokens) (IsBad
 
 -- ---- reading
 
--- the token of this kind between two places, told by the bytes that stand from there on
+-- the token of this kind between two places, told by the bytes from there on
 abbrev pub make : (total : ℕ) → Bool → (at : Text) → Kind → (rest : Text) → Token
 make total begins at x rest =
     record { kind = x; begins_line = begins; start = total - length at; length = (total - length rest) - (total - length at) }
@@ -171,7 +171,7 @@ abbrev pub on_token : {X : Type 0} → Outcome Kind → X → (Kind → Text →
 on_token None x f = x
 on_token (Some p) x f = f p.0 p.1
 
--- the token at the front, and more behind it
+-- the token at the front, and more after it
 abbrev pub lex_at : ℕ → Bool → List Token → Text → (List Token → Text → Lexed) → Lexed
 lex_at total begins found [] more = record { tokens = found; bad = None }
 lex_at total begins found (b ∷ bs) more =
@@ -182,7 +182,7 @@ lex_at total begins found (b ∷ bs) more =
 abbrev pub before : (bytes rest : Text) → Text
 before bytes rest = take (length bytes - length rest) bytes
 
--- at most so many tokens of the bytes, behind those found before
+-- at most n tokens of the bytes, after those found before
 unfoldable pub lex_from : ℕ → ℕ → Bool → List Token → Text → Lexed
 lex_from zero total first found bytes = ended total found (past_gap false bytes)
 lex_from (suc n) total first found bytes =

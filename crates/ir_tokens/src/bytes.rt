@@ -1,4 +1,4 @@
-//! Steps over bytes. Each answers what it read, and the bytes after it.
+//! Steps over bytes. Each returns what it read, and the bytes after it.
 ghost use Rattle.std.specs.Prelude.{◌≡◌, ◌≤◌, ◌-◌, length, Some, None, IfSome};
 ghost use Rattle.std.specs.List.{prefix_len};
 ghost use Rattle.ir_tokens.specs.Bytes as spec;
@@ -71,7 +71,7 @@ fn close(bytes: &[u8]) -> Option<&[u8]>
     }
 }
 
-/// The bytes behind a quoted text whose first quote stands before these bytes.
+/// The bytes after a quoted text whose first quote is before these bytes.
 pub fn past_quoted(bytes: &[u8]) -> Option<&[u8]>
     ensures { spec.shown (λ x. (tt, x.now)) result ≡ form.quoted.read bytes.now }
 {

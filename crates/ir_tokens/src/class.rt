@@ -19,7 +19,7 @@ pub enum Class {
     Colon,
     /// A token of this one byte.
     Sign(Kind),
-    /// Blanks, `;`, and bytes that stand in quotes and comments alone.
+    /// Blanks, `;`, and bytes that are in quotes and comments alone.
     Other,
 }
 

@@ -1,4 +1,4 @@
-//! The text of LLVM IR as tokens: what each one is, and where it stands.
+//! The text of LLVM IR as tokens: what each one is, and where it is.
 #![tactic(auto)]
 
 mod bytes;

@@ -9,14 +9,14 @@ use crate::token::{Kind, Token};
 use items::Items;
 use std::alloc::{AllocError, Global};
 
-/// The first so many bytes, or all.
+/// The first `len` bytes, or all if there are fewer.
 pub fn front(bytes: &[u8], len: usize) -> &[u8]
     ensures { result.now ≡ take len bytes.now }
 {
     &bytes[..len.min(bytes.len())]
 }
 
-/// The bytes behind so many, if any.
+/// The bytes after the first `len`, if any.
 fn behind(bytes: &[u8], len: usize) -> &[u8]
     ensures { result.now ≡ drop len bytes.now }
 {
@@ -50,7 +50,7 @@ fn begins_quote(spelling: &[u8]) -> bool
     }
 }
 
-/// What stands between two quotes.
+/// What is between two quotes.
 fn inside(spelling: &[u8]) -> &[u8]
     ensures { result.now ≡ spec.inside spelling.now }
 {

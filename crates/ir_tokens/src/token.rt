@@ -1,4 +1,4 @@
-/// What a token is. Words that stand in a form of an item, an instruction, a type or a constant have kinds of their own.
+/// What a token is. Words of a form of an item, an instruction, a type or a constant have kinds of their own.
 #[derive(Clone, Copy, PartialEq, Eq)]
 pub enum Kind {
     /// What comes after the last token. No token has this kind.
@@ -29,7 +29,7 @@ pub enum Kind {
     Label,
     /// The word `x` between the length of an array and the type of its elements.
     X,
-    /// The letter `i` with digits behind it, and nothing else.
+    /// The letter `i` with digits after it, and nothing else.
     IntegerType,
 
     // Words of constants.
@@ -101,9 +101,9 @@ pub enum Kind {
     LocalNumber,
     /// `@name` or `@"name"`.
     GlobalName,
-    /// A name or quoted text with `:` directly behind it.
+    /// A name or quoted text with `:` directly after it.
     LabelName,
-    /// Digits with `:` directly behind them.
+    /// Digits with `:` directly after them.
     LabelNumber,
     /// `"text"`.
     Quoted,
@@ -117,7 +117,7 @@ pub enum Kind {
     MetadataNumber,
 
     // Signs.
-    /// `!` with neither a name nor a number behind it.
+    /// `!` with neither a name nor a number after it.
     Exclamation,
     Equals,
     Comma,
@@ -137,10 +137,10 @@ pub enum Kind {
 #[derive(Clone, Copy, PartialEq, Eq)]
 pub struct Token {
     pub kind: Kind,
-    /// Whether no token stands before it on its line: it is the first of the text, or a line ends between it and the
+    /// Whether no token is before it on its line: it is the first of the text, or a line ends between it and the
     /// token before it.
     pub begins_line: bool,
-    /// Where its first byte stands, from 0: the sign before a name, the quote before a text.
+    /// Where its first byte is, from 0: the sign before a name, the quote before a text.
     pub start: u32,
     /// How many bytes spell it, with its sign, its quotes and the `:` of a label.
     pub length: u32,

@@ -291,7 +291,7 @@ module _ (m : Module) (marks : List Mark) (fields : List ℕ) (settled : IsSettl
   pub span_within : (t : ℕ) (span : Span) → span ≡ span_of (mark_at marks t) → IsWithin fields span
   span_within t span is = subst (IsWithin fields) (sym is) (span_at t (mark_at marks t) refl)
 
-  -- ---- the answers
+  -- ---- the results
 
   by_places : first_fault m marks fields ≡ None → (position (struct_is_endless marks) m.structs ≡ None) × (position (struct_is_large marks) m.structs ≡ None) × (position (points_nowhere m marks fields) m.structs ≡ None)
   by_places e = cases (position (struct_is_endless marks) m.structs) (position (struct_is_large marks) m.structs) (position (points_nowhere m marks fields) m.structs) e where

@@ -1,4 +1,4 @@
--- A turn at the type on top of the stack leads on.
+-- A turn at the type on top of the stack makes progress.
 use Rattle.std.proofs.Common.{◌≡◌, ◌<◌, ◌≤◌, ◌+◌, ◌-◌, ◌*◌, ◌⊎◌, inl, inr, ℕ, zero, suc, false, List, [], ◌∷◌, ◌++◌, length, None, Some, refl, sym, ap, ◌∙◌, subst, arith, length-append, append_assoc}
 use Rattle.std.proofs.lemmas.List.{append-nil}
 use Rattle.std.proofs.lemmas.Option.{slice_get_past}
@@ -46,7 +46,7 @@ module _ (m : Module) (marks : List Mark) (fields s : List ℕ) (top : ℕ) (sur
       let len = length_at fields span h.0 in
       behind (copies times (fields_at fields span)) (times * span.count) (copies_length times (fields_at fields span) ∙ ap (λ n. times * n) len) h.1 h.2
 
--- a turn leads on
+-- a turn makes progress
 pub advances : (m : Module) (marks : List Mark) (fields s : List ℕ) (top : ℕ) → IsSurvey m marks fields (s ++ top ∷ []) → (turn : Turn) → turn ≡ turn_at m marks (slice_get m.types top)
     → IsAdvance m marks fields (s ++ top ∷ []) (marks_after turn marks fields top) (fields_after turn fields top) (stack_after turn s top)
 advances m marks fields s top survey turn is =
@@ -68,7 +68,7 @@ grown old fields later span times left within inv some is =
 pub grown_within : (old fields : List ℕ) (span : Span) (n : ℕ) → IsWithin old span → fields ≡ old ++ copies n (fields_at old span) → IsWithin fields span
 grown_within old fields span n within is = subst (λ l. IsWithin l span) (sym is) (within_more old (copies n (fields_at old span)) span within)
 
--- a turn leads to where it is said to
+-- a turn ends where it is said to
 pub arrives : (m : Module) (marks : List Mark) (fields s : List ℕ) (top : ℕ) → IsSurvey m marks fields (s ++ top ∷ []) → (turn : Turn) → turn ≡ turn_at m marks (slice_get m.types top)
     → (later_marks : List Mark) (later_fields later_stack : List ℕ) → later_marks ≡ marks_after turn marks fields top → later_fields ≡ fields_after turn fields top → later_stack ≡ stack_after turn s top
     → IsAdvance m marks fields (s ++ top ∷ []) later_marks later_fields later_stack
@@ -98,7 +98,7 @@ begins m marks fields first survey new = record {
   open_at p waits (Here at is) = (0, ap Some (sym at))
   open_at p waits (Outside at is was) = absurd (let e : Endless ≡ Open = sym is ∙ waits in cc)
 
--- a turn keeps the loop's invariant
+-- a turn preserves the loop's invariant
 pub goes_on : (m : Module) (marks : List Mark) (first : ℕ) (now_marks : List Mark) (now_fields now_stack s : List ℕ) (top : ℕ) (later_marks : List Mark) (later_fields later_stack : List ℕ)
     → IsSettling m marks first now_marks now_fields now_stack → now_stack ≡ s ++ top ∷ [] → IsAdvance m now_marks now_fields (s ++ top ∷ []) later_marks later_fields later_stack
     → IsSettling m marks first later_marks later_fields later_stack

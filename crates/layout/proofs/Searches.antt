@@ -147,7 +147,7 @@ meets_parts m (Some (Named name)) met stack = meets_body m name met stack (body_
 
 -- ---- the search
 
--- a turn of the search leads on
+-- a turn of the search makes progress
 pub goes_on : (m : Module) (body struct : ℕ) (met : List Bool) (now_stack stack : List ℕ) (top : ℕ) (later_met : List Bool) (later_stack : List ℕ)
     → IsSearch m body struct met now_stack → now_stack ≡ stack ++ top ∷ [] → (layout_of_struct m (slice_get m.types top) ≡ Some struct → ⊥)
     → later_met ≡ met_parts m met (slice_get m.types top) → later_stack ≡ stack_parts m met stack (slice_get m.types top) → IsSearch m body struct later_met later_stack

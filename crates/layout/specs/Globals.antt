@@ -18,8 +18,8 @@ word_held m (Some held) = word_of m held
 abbrev pub global_word : Module → (symbol : ℕ) → Option WordKind
 global_word m symbol = word_held m (global_held m symbol)
 
--- what the word of a global is taken to hold: a global that is neither an integer nor a reference counts as an integer of 64 bits, since no
--- instruction reads or stores it
+-- What the word of a global is taken to hold. A global that is neither an integer nor a reference counts as an integer of 64 bits, since no
+-- instruction reads or stores it.
 abbrev pub kind_of_global : Module → Global → WordKind
 kind_of_global m global = unwrap_or (word_of m global.held) (Integer 64)
 

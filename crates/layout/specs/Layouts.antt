@@ -68,8 +68,8 @@ pub record StructHoldsItself (m : Module) (struct : ℕ) : Type 0 where
   pub body_is : body_of_layout m (Some struct) ≡ Some body
   pub again : HoldsStruct m body struct
 
--- the struct to name where one has no end: the first that holds itself, and where none does, since a type that is written out holds itself, the first that
--- has no end
+-- The struct to name where one has no end: the first that holds itself. Where none does, a type that is written out holds itself, and the first
+-- struct that has no end is named.
 abbrev pub IsFirstRing : Module → (struct : ℕ) → Type 0
 IsFirstRing m struct = IsFirst (StructHoldsItself m) struct ⊎ (((other : ℕ) → StructHoldsItself m other → ⊥) × IsFirst (HasNoEnd m) struct)
 
@@ -89,8 +89,8 @@ pub record PointsNowhere (m : Module) (struct : ℕ) : Type 0 where
   pub scalars : Scalars m body fields
   pub nowhere : list_any (λ field. is_none (word_of m field)) fields ≡ true
 
--- the first fault in its layouts: a struct that holds itself goes before too many words, and that before a word that points nowhere, each at the first
--- struct that has it
+-- The first fault in its layouts. A struct that holds itself goes before one of too many words, and that before one with a word that points
+-- nowhere. Each is found at the first struct that has it.
 abbrev pub IsLayoutFault : Module → LayoutFault → Type 0
 IsLayoutFault m (HoldsItself struct) = IsFirstRing m struct
 IsLayoutFault m (TooManyWords struct) = ((other : ℕ) → HasNoEnd m other → ⊥) × IsFirst (HasTooManyWords m) struct

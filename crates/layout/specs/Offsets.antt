@@ -27,7 +27,7 @@ words_before program _ n = None
 abbrev pub field_offset : LaidOut → (written n : ℕ) → Option ℕ
 field_offset program written n = words_before program (type_at program.of_module (written_out program.of_module written (slice_get program.of_module.types written))) n
 
--- the step to a field of this type behind so many words
+-- the step to a field of this type, after this number of words
 abbrev pub to_field : (words part : Option ℕ) → Option Step
 to_field (Some words) (Some part) = Some (Field words part)
 to_field _ _ = None
@@ -37,7 +37,7 @@ abbrev pub to_field_by : LaidOut → (written : ℕ) → (number : Option ℕ) �
 to_field_by program written None = None
 to_field_by program written (Some n) = to_field (field_offset program written n) (field_at program.of_module written n)
 
--- the step to the elements of an array, of so many words each
+-- the step to the elements of an array, of n words each
 abbrev pub to_elements : (length part : ℕ) → (words : Option ℕ) → Option Step
 to_elements length part (Some words) = Some (Elements length words part)
 to_elements length part None = None

@@ -22,7 +22,7 @@ use Rattle.layout.specs.declared.survey.Turn.TheVariants.{Wait, Done, Alone, Joi
 abbrev pub mark_at : List Mark → (written : ℕ) → Mark
 mark_at marks written = unwrap_or (slice_get marks written) Endless
 
--- the scalar fields that stand at a span
+-- the scalar fields at a span
 abbrev pub fields_at : List ℕ → Span → List ℕ
 fields_at fields span = take span.count (drop span.start fields)
 
@@ -153,7 +153,7 @@ new_count (mark ∷ marks) = (if is_new mark then 1 else 0) + new_count marks
 abbrev pub turns_left : List Mark → (stack : List ℕ) → ℕ
 turns_left marks stack = 2 * new_count marks + length stack
 
--- a turn at the type on top of the stack leads on: what is known stays so, and fewer turns are left
+-- a turn at the type on top of the stack makes progress: what is known stays so, and fewer turns are left
 pub record IsAdvance (m : Module) (marks : List Mark) (fields stack : List ℕ) (later_marks : List Mark) (later_fields later_stack : List ℕ) : Type 0 where
   pub survey : IsSurvey m later_marks later_fields later_stack
   pub fewer : turns_left later_marks later_stack < turns_left marks stack
@@ -212,7 +212,7 @@ abbrev pub is_large : Mark → Bool
 is_large Large = true
 is_large _ = false
 
--- where the fields of a type stand
+-- where the fields of a type are
 abbrev pub span_of : Mark → Span
 span_of (Known span) = span
 span_of _ = no_fields

@@ -8,7 +8,7 @@ use Rattle.pools.specs.declared.word_kind.WordKind.TheVariants as kind
 use Rattle.types.specs.Elements.{body_named}
 use Rattle.types.specs.References.{layout_of_struct}
 
--- a list so many times, one copy behind the other
+-- a list n times, one copy after the other
 abbrev pub copies : (count : ℕ) → List ℕ → List ℕ
 copies zero fields = []
 copies (suc count) fields = fields ++ copies count fields
@@ -22,7 +22,7 @@ is_scalar m (Some (Struct first rest)) = false
 is_scalar m (Some (Named name)) = is_none (body_named m name)
 is_scalar m _ = true
 
--- the scalar fields of a type, in order: a scalar is one, and structs and arrays are laid out in place, so a type that holds itself has none
+-- The scalar fields of a type, in order. A scalar is one, and structs and arrays are laid out in place. So a type that holds itself has none.
 pub data Scalars (m : Module) : (written : ℕ) → (fields : List ℕ) → Type 0 where
   Scalar : (written : ℕ) → is_scalar m (slice_get m.types written) ≡ true → Scalars m written (written ∷ [])
   Elements : (written length part : ℕ) (fields : List ℕ) → slice_get m.types written ≡ Some (Array length part) → Scalars m part fields → Scalars m written (copies length fields)

@@ -223,8 +223,9 @@ pub(crate) fn table(
     Ok((layouts, sizes))
 }
 
-/// The words of each struct of a module. Of several faults a struct that holds itself goes before too many words, and that before a word that
-/// points to no named struct, each at the first struct in text order. The section of the LLVM Language Reference is 'Structure Type'.
+/// The words of each struct of a module. Of several faults a struct that holds itself goes before one of too many words, and that before one
+/// with a word that points to no named struct. Each is found at the first such struct in text order. The section of the LLVM Language Reference
+/// is 'Structure Type'.
 pub fn layouts(alloc: Global, module: &Module) -> Result<Layouts, LayoutFault>
     ensures found { IfOk result (λ layouts. AreLayouts «module».now layouts) }
     ensures only { (layouts : List (List AWord)) → AreLayouts «module».now layouts → (result ≡ Ok layouts) ⊎ (result ≡ Err Memory) }

@@ -13,7 +13,7 @@ const WORD_LIMIT: u32 = 64;
 
 pub const NO_FIELDS: Span = Span { start: 0, count: 0 };
 
-/// Some scalar fields that stand behind one another.
+/// Some scalar fields, one after another.
 #[derive(Clone, Copy, Debug, PartialEq, Eq)]
 pub struct Span {
     pub start: usize,
@@ -31,7 +31,7 @@ pub enum Mark {
     Endless,
     /// It has more than 64 scalar fields.
     Large,
-    /// Where its scalar fields stand.
+    /// Where its scalar fields are.
     Known(Span),
 }
 
@@ -45,7 +45,7 @@ pub enum Turn {
     Alone,
     /// Its fields are those of two parts.
     Join(Span, Span),
-    /// Its fields are those of a part so many times.
+    /// Its fields are those of a part, this number of times.
     Repeat(u64, Span),
 }
 
@@ -193,7 +193,7 @@ impl Survey {
     }
 }
 
-/// The fields at a span once more, behind the others.
+/// The fields at a span once more, after the others.
 fn copy(fields: &mut Vec<TypeId>, span: Span) -> Result<(), AllocError>
     requires { IsWithin fields.old.items span }
     ensures { OnOk result (fields.new.items ≡ fields.old.items ++ fields_at fields.old.items span) }
@@ -201,7 +201,7 @@ fn copy(fields: &mut Vec<TypeId>, span: Span) -> Result<(), AllocError>
     fields.extend_from_within(span.start..span.start + span.count)
 }
 
-/// The fields at a span so many times more, behind the others.
+/// The fields at a span `times` times more, after the others.
 fn repeat(fields: &mut Vec<TypeId>, times: u64, span: Span) -> Result<(), AllocError>
     requires { IsWithin fields.old.items span }
     ensures { OnOk result (fields.new.items ≡ fields.old.items ++ copies times (fields_at fields.old.items span)) }

@@ -1,4 +1,4 @@
--- What stands behind a word, blanks or a line's end is no longer than the text, and behind a word that has bytes it is shorter.
+-- What follows a word, blanks or a line's end is no longer than the text. After a word that has bytes it is shorter.
 use Rattle.std.specs.Prelude.{◌≡◌, ℕ, zero, suc, nat_eq, refl, ◌-◌, ◌<◌, ◌≤◌, Bool, true, false, cond, not, ◌||◌, ◌&&◌, ◌==◌, [], ◌∷◌, length, take}
 use Rattle.std.proofs.Common.{arith, ap}
 use Rattle.std.specs.Str.{bytes_eq}
@@ -11,21 +11,21 @@ one_of : (t : Bool) (n : ℕ) (x y : Text) → length x ≤ n → length y ≤ n
 one_of true n x y h k = h
 one_of false n x y h k = k
 
--- no more is left behind a word
+-- no more is left after a word
 past_word_len : (quoted : Bool) (bytes : Text) → length (past_word quoted bytes) ≤ length bytes
 past_word_len quoted [] = omega arith
 past_word_len quoted (byte ∷ bytes) =
     let rest = past_word_len (turned quoted byte) bytes in
     one_of (not quoted && ends_word byte) (length (byte ∷ bytes)) (byte ∷ bytes) (past_word (turned quoted byte) bytes) (omega arith) (omega (arith, rest))
 
--- no more is left behind a comment
+-- no more is left after a comment
 past_comment_len : (bytes : Text) → length (past_comment bytes) ≤ length bytes
 past_comment_len [] = omega arith
 past_comment_len (byte ∷ bytes) =
     let rest = past_comment_len bytes in
     one_of (ends_line (byte ∷ bytes)) (length (byte ∷ bytes)) (byte ∷ bytes) (past_comment bytes) (omega arith) (omega (arith, rest))
 
--- no more is left behind blanks
+-- no more is left after blanks
 past_blanks_len : (bytes : Text) → length (past_blanks bytes) ≤ length bytes
 past_blanks_len [] = omega arith
 past_blanks_len (byte ∷ bytes) =
@@ -34,7 +34,7 @@ past_blanks_len (byte ∷ bytes) =
     one_of (byte == 59) (length (byte ∷ bytes)) (past_comment bytes) (cond (byte == 32) (past_blanks bytes) (byte ∷ bytes)) (omega (arith, comment))
     (one_of (byte == 32) (length (byte ∷ bytes)) (past_blanks bytes) (byte ∷ bytes) (omega (arith, rest)) (omega arith))
 
--- no more is left behind empty lines
+-- no more is left after empty lines
 pub past_lines_len : (comment : Bool) (bytes : Text) → length (past_lines comment bytes) ≤ length bytes
 past_lines_len comment [] = omega arith
 past_lines_len true (byte ∷ bytes) = let rest = past_lines_len (not (byte == 10)) bytes in omega (arith, rest)
@@ -55,25 +55,25 @@ take_len zero bytes = omega arith
 take_len (suc n) [] = omega arith
 take_len (suc n) (byte ∷ bytes) = let rest = take_len n bytes in omega (arith, rest)
 
--- what stands behind the next word and the blanks after it
+-- what follows the next word and the blanks after it
 abbrev pub behind_word : Text → Text
 behind_word bytes = past_blanks (past_word false bytes)
 
--- no more is left behind a word and the blanks after it
+-- no more is left after a word and the blanks after it
 pub behind_word_falls : (bytes : Text) → length (behind_word bytes) ≤ length bytes
 behind_word_falls bytes =
     let word = past_word_len false bytes in
     let blanks = past_blanks_len (past_word false bytes) in
     omega (arith, word, blanks)
 
--- behind a word that has bytes less is left
+-- after a word that has bytes less is left
 pub word_takes : (bytes : Text) → 0 < length (word_at bytes) → length (behind_word bytes) < length bytes
 word_takes bytes some =
     let within = take_len (length bytes - length (past_word false bytes)) bytes in
     let blanks = past_blanks_len (past_word false bytes) in
     omega (arith, within, blanks, some)
 
--- so is it behind this word, which has bytes
+-- so is it after this word, which has bytes
 pub wanted_takes : (wanted : Text) → 0 < length wanted → (bytes : Text) → bytes_eq (word_at bytes) wanted ≡ true → length (behind_word bytes) < length bytes
 wanted_takes wanted some bytes e =
     let same = same_len (word_at bytes) wanted e in

@@ -30,7 +30,7 @@ module _ (blank : Blank) where
       stays_open (hexadecimal (b / 16)) (hexadecimal (b % 16) ∷ rest) (no_quote (b / 16))
       ∙ stays_open (hexadecimal (b % 16)) rest (no_quote (b % 16))
 
-  -- the quotes stay open up to the quote behind the name
+  -- the quotes stay open up to the quote after the name
   inside : (name rest : Text) → closes true (flat_map (quoted_byte blank) name ++ rest) ≡ closes true rest
   inside [] rest = refl
   inside (b ∷ name) rest =

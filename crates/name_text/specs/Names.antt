@@ -11,7 +11,7 @@ use Rattle.name_text.specs.declared.blank.Blank.TheVariants as blank
 use Rattle.name_text.specs.declared.quoted.QuotedByte.{QuotedByte}
 use Rattle.name_text.specs.declared.quoted.QuotedByte.TheVariants as quoted
 
--- whether a letter stands at the front
+-- whether a letter is at the front
 abbrev pub begins_plain : Text → Bool
 begins_plain [] = false
 begins_plain (first ∷ rest) = is_letter first
@@ -20,12 +20,12 @@ begins_plain (first ∷ rest) = is_letter first
 abbrev pub is_plain : Text → Bool
 is_plain name = begins_plain name && list_all (λ byte. is_letter byte || is_digit byte) name
 
--- the lowest byte that may stand for itself: the blank, or the one behind it
+-- the lowest byte that may be printed as it is: the blank, or the one after it
 abbrev pub first_shown : Blank → ℕ
 first_shown blank.Kept = 32
 first_shown blank.Escaped = 33
 
--- up to ~, but for the quote and the backslash
+-- up to ~, except the quote and the backslash
 abbrev pub is_shown : Blank → ℕ → Bool
 is_shown blank byte = nat_le (first_shown blank) byte && nat_le byte 126 && not (byte == 34) && not (byte == 92)
 

@@ -1,4 +1,4 @@
--- What a word names behind its sign.
+-- What a word names after its sign.
 use Rattle.std.specs.Prelude.{ℕ, ◌^◌, nat_le, ◌==◌, if◌then◌else◌, List, [], ◌∷◌, Option, Some, None, length}
 use Rattle.ir_ast.specs.LocalKeys.{key_of_name, key_of_digits}
 use Rattle.ir_tokens.specs.Bytes.{Text}
@@ -10,8 +10,8 @@ use Rattle.ir_tokens.specs.declared.token.Kind.TheVariants as k
 use Rattle.name_text.specs.declared.naming.Sigil.{Sigil}
 use Rattle.name_text.specs.declared.naming.Sigil.TheVariants as sigil
 
--- by what a name of the IR with this sign is looked up: a local name by its key, and so is the number of a value or a block
--- that has no name
+-- What a name of the IR with this sign is looked up by: a local name by its key, and so is the number of a value or a block
+-- that has no name.
 abbrev pub name_by : Sigil → Kind → Text → Option Text
 name_by sigil.Global k.GlobalName name = Some name
 name_by sigil.Local k.LocalName name = Some (key_of_name name)

@@ -13,7 +13,7 @@ is_nil (byte ∷ bytes) = false
 abbrev pub is_number : Text → Bool
 is_number word = not (is_nil word) && list_all is_digit word
 
--- the number that digits spell behind those that spell n
+-- the number that digits spell after those that spell n
 abbrev pub decimal_behind : ℕ → Text → ℕ
 decimal_behind n [] = n
 decimal_behind n (digit ∷ digits) = decimal_behind (10 * n + (digit - 48)) digits

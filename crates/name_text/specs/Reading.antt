@@ -62,7 +62,7 @@ escaped b rest less =
     rw (no_backslash, hexadecimal_read (b / 16) high, hexadecimal_read (b % 16) low) (ap (λ (n : ℕ). Some (n, rest)) same)
 
 module _ (blank : Blank) where
-  -- a byte that stands for itself is no quote and no backslash
+  -- a byte that is printed as it is can be no quote and no backslash
   pub shown_is : (b : ℕ) → is_shown blank b ≡ true → ((b == 34) ≡ false) × ((b == 92) ≡ false)
   shown_is b e =
       let shown = and_parts (nat_le (first_shown blank) b && nat_le b 126 && not (b == 34)) (not (b == 92)) e in
@@ -77,7 +77,7 @@ module _ (blank : Blank) where
   byte_read : (b : ℕ) (rest : Text) → b < 256 → next (quoted_byte blank b ++ rest) ≡ Some (b, rest)
   byte_read b rest less = byte_by b rest (is_shown blank b) refl less
 
-  -- what stands between the quotes
+  -- what is between the quotes
   abbrev inner : Text → Text
   inner = flat_map (quoted_byte blank)
 
@@ -140,7 +140,7 @@ module _ (blank : Blank) (name : Text) (own : AreBytes name) where
   pub in_quotes : (rest : Text) → quoted_text blank name ++ rest ≡ 34 ∷ (flat_map (quoted_byte blank) name ++ 34 ∷ rest)
   in_quotes rest = ap (λ (x : Text). 34 ∷ x) (append_assoc (flat_map (quoted_byte blank) name) (34 ∷ []) rest)
 
-  -- what stands behind a sign
+  -- what follows a sign
   behind_sign : (rest : Text) → begins is_name rest ≡ false → (f : Class → Form Kind) (x : Kind) → ((i : Text) → (f c.Letter).read i ≡ (tokens.name x).read i)
       → ((i : Text) → (f c.Quote).read i ≡ (quotation x).read i) → (t : Bool) → is_plain name ≡ t → (f (first_class (written t ++ rest))).read (written t ++ rest) ≡ Some (x, rest)
   unfolding class_of
@@ -153,12 +153,12 @@ module _ (blank : Blank) (name : Text) (own : AreBytes name) where
       let read = (quotation x).again bytes x rest (tt, rest, (tt, flat_map (quoted_byte blank) name ++ 34 ∷ rest, (refl, refl), (name, quotes_read blank name rest own)), (refl, refl)) in
       ap (λ (i : Text). (f (first_class i)).read i) (in_quotes rest) ∙ quote bytes ∙ read
 
-  -- a printed name behind `@` is one token, where no name goes on behind it
+  -- a printed name after `@` is one token, where no name goes on after it
   pub global_token : (rest : Text) → begins is_name rest ≡ false → token.read (64 ∷ (name_text blank name ++ rest)) ≡ Some (k.GlobalName, rest)
   unfolding token global class_of
   global_token rest ends = behind_sign rest ends global_by k.GlobalName (λ i. refl) (λ i. refl) (is_plain name) refl
 
-  -- so is one behind `%`
+  -- so is one after `%`
   pub local_token : (rest : Text) → begins is_name rest ≡ false → token.read (37 ∷ (name_text blank name ++ rest)) ≡ Some (k.LocalName, rest)
   unfolding token local class_of
   local_token rest ends = behind_sign rest ends local_by k.LocalName (λ i. refl) (λ i. refl) (is_plain name) refl
@@ -198,7 +198,7 @@ pub digits_pass : (digits : Text) → list_all is_digit digits ≡ true → Pass
 digits_pass [] e = tt
 digits_pass (b ∷ digits) e = let parts = and_parts (is_digit b) (list_all is_digit digits) e in (parts.0, digits_pass digits parts.1)
 
--- a number behind `%` is one token, where no digit goes on behind it
+-- a number after `%` is one token, where no digit goes on after it
 pub number_token : (b : ℕ) (digits rest : Text) → list_all is_digit (b ∷ digits) ≡ true → begins is_digit rest ≡ false → token.read (37 ∷ b ∷ (digits ++ rest)) ≡ Some (k.LocalNumber, rest)
 unfolding token local class_of
 number_token b digits rest e ends =

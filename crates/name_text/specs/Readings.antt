@@ -27,15 +27,15 @@ whole kind text = record { kind = kind; begins_line = true; start = 0; length = 
 abbrev pub IsName : Kind → (text name : Text) → Type 0
 IsName kind text name = (lexed_of text ≡ record { tokens = whole kind text ∷ []; bad = None }) × (name_of text (whole kind text) ≡ name)
 
--- a printed name behind `@`
+-- a printed name after `@`
 abbrev pub GlobalsAreRead : Type 0
 GlobalsAreRead = (blank : Blank) (name : Text) → AreBytes name → IsName k.GlobalName (64 ∷ name_text blank name) name
 
--- a printed name behind `%`
+-- a printed name after `%`
 abbrev pub LocalsAreRead : Type 0
 LocalsAreRead = (blank : Blank) (name : Text) → AreBytes name → IsName k.LocalName (37 ∷ name_text blank name) name
 
--- a number behind `%`
+-- a number after `%`
 abbrev pub NumbersAreRead : Type 0
 NumbersAreRead = (digits : Text) → 0 < length digits → list_all is_digit digits ≡ true → IsName k.LocalNumber (37 ∷ digits) digits
 

@@ -1,4 +1,4 @@
--- Where words end, and what stands behind them.
+-- Where words end, and what follows them.
 use Rattle.std.proofs.Common.{◌≡◌, ℕ, ◌-◌, Bool, true, false, not, ◌&&◌, ◌||◌, [], ◌∷◌, ◌++◌, length, refl, ap, ◌∙◌, arith, length-append, inl, inr}
 use Rattle.std.specs.Prelude.{◌==◌}
 use Rattle.std.specs.List.{list_all}
@@ -36,7 +36,7 @@ five false false false true e h = absurd cc
 five false false false false true h = absurd cc
 five false false false false false h = (refl, refl, refl, refl)
 
--- no blank and no empty line stands before a word
+-- there is no blank and no empty line before a word
 pub blanks_on : (w t : Text) → is_word w ≡ true → past_blanks (w ++ t) ≡ w ++ t
 blanks_on [] t e = absurd cc
 blanks_on (b ∷ w) t e =

@@ -10,7 +10,7 @@ ends_word byte = byte == 32 || byte == 9 || byte == 10 || byte == 13 || byte == 
 abbrev pub turned : (quoted : Bool) → ℕ → Bool
 turned quoted byte = if byte == 34 then not quoted else quoted
 
--- what stands behind a word; inside quotes every byte belongs to it
+-- what follows a word; inside quotes every byte belongs to it
 abbrev pub past_word : (quoted : Bool) → Text → Text
 past_word quoted [] = []
 past_word quoted (byte ∷ bytes) = if not quoted && ends_word byte then byte ∷ bytes else past_word (turned quoted byte) bytes
@@ -19,7 +19,7 @@ past_word quoted (byte ∷ bytes) = if not quoted && ends_word byte then byte �
 abbrev pub word_at : Text → Text
 word_at bytes = take (length bytes - length (past_word false bytes)) bytes
 
--- whether this byte stands at the front
+-- whether this byte is at the front
 abbrev pub begins_with : ℕ → Text → Bool
 begins_with byte [] = false
 begins_with byte (first ∷ bytes) = first == byte
@@ -34,12 +34,12 @@ abbrev pub past_comment : Text → Text
 past_comment [] = []
 past_comment (byte ∷ bytes) = if ends_line (byte ∷ bytes) then byte ∷ bytes else past_comment bytes
 
--- what stands behind the blanks and the comment of a line
+-- what follows the blanks and the comment of a line
 abbrev pub past_blanks : Text → Text
 past_blanks [] = []
 past_blanks (byte ∷ bytes) = if byte == 59 then past_comment bytes else (if byte == 32 then past_blanks bytes else byte ∷ bytes)
 
--- the first word behind blanks, comments and line ends
+-- the first word after blanks, comments and line ends
 abbrev pub past_lines : (comment : Bool) → Text → Text
 past_lines comment [] = []
 past_lines true (byte ∷ bytes) = past_lines (not (byte == 10)) bytes
@@ -47,7 +47,7 @@ past_lines false (byte ∷ bytes) = if byte == 32 || byte == 59 || ends_line (by
 
 -- ---- one word
 
--- no word ends among these bytes, and quotes are closed behind them
+-- no word ends among these bytes, and quotes are closed after them
 abbrev pub closes : (quoted : Bool) → Text → Bool
 closes quoted [] = not quoted
 closes quoted (byte ∷ bytes) = not (not quoted && ends_word byte) && closes (turned quoted byte) bytes

@@ -1,8 +1,8 @@
-/// How a blank stands between quotes.
+/// How a blank is printed between quotes.
 #[derive(Clone, Copy, PartialEq, Eq)]
 pub enum Blank {
     /// As it is.
     Kept,
-    /// As `\20`, where words stand apart by blanks.
+    /// As `\20`, where words are separated by blanks.
     Escaped,
 }

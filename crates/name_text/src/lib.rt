@@ -1,4 +1,4 @@
-//! The words of a text, where they stand, and what they are: decimal numbers, and names with a sign before them; how names
+//! The words of a text, where they are, and what they are: decimal numbers, and names with a sign before them. How names
 //! and numbers are printed, plain or in quotes, and that names are read again.
 #![tactic(auto)]
 

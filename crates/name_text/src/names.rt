@@ -30,14 +30,14 @@ fn has_plain_bytes(name: &[u8]) -> bool
     name.iter().all(|byte| is_letter(*byte) || is_digit(*byte))
 }
 
-/// Whether a name stands without quotes.
+/// Whether a name is printed without quotes.
 pub fn is_plain(name: &[u8]) -> bool
     ensures { result ≡ spec.is_plain name.now }
 {
     begins_plain(name) && has_plain_bytes(name)
 }
 
-/// The lowest byte that may stand for itself between quotes.
+/// The lowest byte that may be printed as it is between quotes.
 fn first_shown(blank: Blank) -> u8
     ensures { result ≡ spec.first_shown blank }
 {
@@ -47,7 +47,7 @@ fn first_shown(blank: Blank) -> u8
     }
 }
 
-/// Whether a byte stands for itself between quotes.
+/// Whether a byte is printed as it is between quotes.
 fn is_shown(byte: u8, blank: Blank) -> bool
     ensures { result ≡ spec.is_shown blank byte }
 {
@@ -61,7 +61,7 @@ fn hexadecimal(digit: u8) -> u8
     if digit < 10 { 48 + digit } else { 55 + digit }
 }
 
-/// A byte as it stands between quotes.
+/// A byte as it is printed between quotes.
 pub fn quoted_byte(byte: u8, blank: Blank) -> QuotedByte
     ensures { spec.bytes_of result ≡ spec.quoted_byte blank byte }
 {

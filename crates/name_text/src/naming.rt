@@ -1,4 +1,4 @@
-//! The name that a word is, behind its sign.
+//! The name that a word is, after its sign.
 ghost use Rattle.std.specs.Prelude.{◌≡◌, IfOk};
 ghost use Rattle.ir_ast.specs.LocalKeys as keys;
 ghost use Rattle.ir_tokens.specs.Names.{name_of};

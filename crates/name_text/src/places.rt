@@ -24,7 +24,7 @@ fn last_line_len(bytes: &[u8]) -> usize
         .count()
 }
 
-/// The line and the column at which so much of the text is left.
+/// The line and the column at which `rest` bytes of the text are left.
 pub fn place(bytes: &[u8], rest: usize) -> Position
     ensures { result ≡ spec.place bytes.now rest }
 {

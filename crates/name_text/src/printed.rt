@@ -1,4 +1,4 @@
-//! The text of names with their signs, and of numbers, as they stand in modules, traces and certificates.
+//! The text of names with their signs, and of numbers, as they are in modules, traces and certificates.
 ghost use Rattle.std.specs.Prelude.{◌≡◌, ◌++◌, OnOk};
 ghost use Rattle.std.specs.Fmt.{decimal};
 ghost use Rattle.name_text.specs.Names as spec;

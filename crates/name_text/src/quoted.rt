@@ -2,7 +2,7 @@
 ghost use Rattle.std.specs.Prelude.{◌≡◌};
 ghost use Rattle.name_text.specs.Names as spec;
 
-/// The bytes that stand for one byte between quotes.
+/// The bytes that are printed for one byte between quotes.
 #[derive(Clone, Copy, PartialEq, Eq)]
 pub enum QuotedByte {
     /// The byte itself.

@@ -8,7 +8,7 @@ fn ends_word(byte: u8) -> bool
     matches!(byte, b' ' | b'\t' | b'\n' | b'\r' | b';')
 }
 
-/// What stands behind the word at the front.
+/// What follows the word at the front.
 pub fn past_word(bytes: &[u8]) -> &[u8]
     ensures value { result.now ≡ spec.past_word false bytes.now }
     ensures within { length result.now ≤ length bytes.now }
@@ -58,7 +58,7 @@ fn past_comment(bytes: &[u8]) -> &[u8]
     rest
 }
 
-/// What stands behind the blanks and the comment of a line.
+/// What follows the blanks and the comment of a line.
 pub fn past_blanks(bytes: &[u8]) -> &[u8]
     ensures { result.now ≡ spec.past_blanks bytes.now }
 {
@@ -73,7 +73,7 @@ pub fn past_blanks(bytes: &[u8]) -> &[u8]
     &[]
 }
 
-/// The first word behind blanks, comments and line ends.
+/// The first word after blanks, comments and line ends.
 pub fn past_lines(bytes: &[u8]) -> &[u8]
     ensures { result.now ≡ spec.past_lines false bytes.now }
 {

@@ -1,4 +1,4 @@
--- The ends of pools rise, and the pool of a cell is the first that ends behind it.
+-- The ends of pools rise, and the pool of a cell is the first that ends after it.
 use Rattle.std.proofs.Math.Seq.{take-suc}
 use Rattle.std.proofs.Common.{add-one, take, slice_index, ◌≡◌, ℕ, zero, suc, ◌+◌, ◌-◌, ◌<◌, ◌≤◌, true, false, nat_lt, nat_le, List, [], ◌∷◌, ◌++◌, length, slice_index_or, sum, refl, ap, arith, ◌∙◌, subst}
 use Rattle.std.proofs.lemmas.Bool.Decides.{nat_tests}

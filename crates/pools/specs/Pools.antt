@@ -6,7 +6,7 @@ use Rattle.pools.specs.Heap.{cells_in}
 abbrev pub first_cell : (counts : List ℕ) → (layout : ℕ) → ℕ
 first_cell counts layout = suc (sum (take layout counts))
 
--- for each pool the number behind that of its last cell, where the first pool begins at this number
+-- for each pool the number after that of its last cell, where the first pool begins at this number
 abbrev pub ends_from : (first : ℕ) → (counts : List ℕ) → List ℕ
 ends_from first [] = []
 ends_from first (count ∷ counts) = (first + count) ∷ ends_from (first + count) counts

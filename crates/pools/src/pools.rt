@@ -18,7 +18,7 @@ pub const CELL_LIMIT: u32 = 1 << 20;
 #[derive(Drop)]
 pub struct Pools {
     counts: Items<u32>,
-    /// For each pool the number behind that of its last cell.
+    /// For each pool the number after that of its last cell.
     ends: Items<u32>,
 }
 
@@ -70,7 +70,7 @@ impl Pools {
             .unwrap_or(0)
     }
 
-    /// The number of a layout's first cell. Its other cells have the numbers behind it.
+    /// The number of a layout's first cell. Its other cells have the numbers after it.
     pub fn first_cell(&self, layout: LayoutId) -> u32
         requires { layout < length self.now }
         ensures { result ≡ first_cell self.now layout }
@@ -93,7 +93,7 @@ impl Pools {
     }
 }
 
-/// Whether so many cells are within the limit.
+/// Whether this number of cells is within the limit.
 fn fits(counts: &[u32]) -> bool
     ensures { IsTrue result ↔ (cells_in counts.now ≤ 2 ^ 20) }
 {
@@ -107,7 +107,7 @@ fn fits(counts: &[u32]) -> bool
     true
 }
 
-/// For each pool the number behind that of its last cell.
+/// For each pool the number after that of its last cell.
 fn ends_of(alloc: Global, counts: &[u32]) -> Result<Items<u32>, AllocError>
     requires { cells_in counts.now ≤ 2 ^ 20 }
     ensures { IfOk result (λ ends. ends ≡ ends_from 1 counts.now) }

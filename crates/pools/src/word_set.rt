@@ -27,7 +27,7 @@ impl WordSet {
         self.members.get(word as usize).copied().unwrap_or(false)
     }
 
-    /// The set with this word too; a word past 63 is left aside.
+    /// The set with this word too; a word past 63 is ignored.
     pub fn add(&mut self, word: u32)
         ensures { self.new.members ≡ adds_word self.old.members word }
     {

@@ -41,7 +41,7 @@ map_itself : (xs : List Origin) → xs ≡ map (λ o. o) xs
 map_itself [] = refl
 map_itself (x ∷ xs) = ap (λ l. x ∷ l) (map_itself xs)
 
--- after no turn each origin stands as it was
+-- after no turn each origin is as it was
 pub hops_none : (origins : List Origin) → origins ≡ map (hops origins zero) origins
 hops_none origins = map_itself origins
 
@@ -61,7 +61,7 @@ row_doubled origins row next n is_row is_next =
     ∙ map_same (λ o. hop (map (hops origins n) origins) (hops origins n o)) (hops origins (n + suc n)) origins
     (λ v. hop_in_row origins n (hops origins n (origin_at origins v)) ∙ sym (hops_add origins n (suc n) (origin_at origins v)))
 
--- whether a slot shows after so many turns
+-- whether a slot shows after k turns
 abbrev done : List Origin → ℕ → Origin → Bool
 done origins k o = is_some (slot_at (hops origins k o))
 

@@ -52,12 +52,12 @@ noted_op name (Alloca held) draft = record { origins = put name (Slot (length dr
 noted_op name (Bitcast from operand to) draft = record { origins = put name (origin_of operand) draft.origins; held = draft.held }
 noted_op name _ draft = draft
 
--- what is noted behind these instructions
+-- what is noted after these instructions
 abbrev pub noted : List Instr → Draft → Draft
 noted [] draft = draft
 noted (instr ∷ instrs) draft = noted instrs (noted_op instr.result instr.op draft)
 
--- what is noted behind these blocks
+-- what is noted after these blocks
 abbrev pub noted_blocks : List Block → Draft → Draft
 noted_blocks [] draft = draft
 noted_blocks (block ∷ blocks) draft = noted_blocks blocks (noted block.instructions draft)
@@ -81,7 +81,7 @@ hop origins Nowhere = Nowhere
 hop origins (Slot slot) = Slot slot
 hop origins (Same value) = origin_at origins value
 
--- so many bitcasts back
+-- n bitcasts back
 abbrev pub hops : List Origin → ℕ → Origin → Origin
 hops origins zero origin = origin
 hops origins (suc n) origin = hops origins n (hop origins origin)
@@ -126,12 +126,12 @@ abbrev pub with_root : Module → (held : List ℕ) → Option ℕ → (roots : 
 with_root m held None roots = roots
 with_root m held (Some slot) roots = if is_reference_held m (slice_get held slot) then (if is_among roots slot then roots else roots ++ slot ∷ []) else roots
 
--- the roots with those of these instructions behind them
+-- the roots with those of these instructions after them
 abbrev pub with_roots : Module → (names : List (Option ℕ)) → (held : List ℕ) → List Instr → (roots : List ℕ) → List ℕ
 with_roots m names held [] roots = roots
 with_roots m names held (instr ∷ instrs) roots = with_roots m names held instrs (with_root m held (slot_rooted_by m names instr.op) roots)
 
--- the roots with those of these blocks behind them
+-- the roots with those of these blocks after them
 abbrev pub with_roots_of : Module → (names : List (Option ℕ)) → (held : List ℕ) → List Block → (roots : List ℕ) → List ℕ
 with_roots_of m names held [] roots = roots
 with_roots_of m names held (block ∷ blocks) roots = with_roots_of m names held blocks (with_roots m names held block.instructions roots)

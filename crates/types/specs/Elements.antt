@@ -1,4 +1,4 @@
--- The parts of a type, and the part that the indices of a getelementptr lead to. The section of the LLVM Language Reference is
+-- The parts of a type, and the part that the indices of a getelementptr select. The section of the LLVM Language Reference is
 -- 'getelementptr Instruction'.
 use Rattle.std.specs.Prelude.{ℕ, zero, suc, Bool, true, false, ◌==◌, List, [], ◌∷◌, Option, Some, None, slice_get, if◌then◌else◌}
 use Rattle.ir_ast.specs.declared.module.Module.{Module}
@@ -11,17 +11,17 @@ use Rattle.ir_ast.specs.declared.operand.Operand.{Operand}
 use Rattle.ir_ast.specs.declared.operand.Operand.TheVariants.{Constant as Fixed}
 use Rattle.types.specs.References.{struct_named}
 
--- the struct type that a struct's name stands for
+-- the struct type that a struct's name is defined as
 abbrev pub body_in : Option StructType → Option ℕ
 body_in None = None
 body_in (Some struct) = Some struct.body
 
--- the struct type that a named struct stands for, by its layout
+-- the struct type that a named struct is defined as, by its layout
 abbrev pub body_of_layout : Module → (layout : Option ℕ) → Option ℕ
 body_of_layout m None = None
 body_of_layout m (Some layout) = body_in (slice_get m.structs layout)
 
--- the struct type that a name of the table of names stands for, if it is defined
+-- the struct type that a name of the table of names is defined as, if it is defined
 abbrev pub body_named : Module → (name : ℕ) → Option ℕ
 body_named m name = body_of_layout m (struct_named m name)
 
@@ -36,7 +36,7 @@ field_in m (Some (Struct first rest)) zero = Some first
 field_in m (Some (Struct first rest)) (suc n) = field_in m (slice_get m.types rest) n
 field_in m _ n = None
 
--- the struct type for which a type stands: of a name its body, and else the type itself
+-- the struct type that a type is when it is written out: of a name its body, and else the type itself
 abbrev pub written_out : Module → (written : ℕ) → Option IrType → Option ℕ
 written_out m written None = None
 written_out m written (Some (Named name)) = body_named m name
@@ -65,27 +65,27 @@ number_in _ = None
 abbrev pub index_number : Module → Argument → Option ℕ
 index_number m index = if is_i32 (slice_get m.types index.written) then number_in index.operand else None
 
--- the field to which a number leads, if there is a number
+-- the field that a number selects, if there is a number
 abbrev pub field_by : Module → (written : ℕ) → Option ℕ → Option ℕ
 field_by m written None = None
 field_by m written (Some n) = field_at m written n
 
--- the part of a type to which an index leads, by what the type is: of an array its elements' type at each integer, of a struct a field
+-- the part of a type that an index selects: of an array its elements' type at any integer, of a struct a field
 abbrev pub part_of : Module → (written : ℕ) → Option IrType → Argument → Option ℕ
 part_of m written (Some (Array length part)) index = if is_integer (slice_get m.types index.written) then Some part else None
 part_of m written _ index = field_by m written (index_number m index)
 
--- the part of a type to which an index leads
+-- the part of a type that an index selects
 abbrev pub part_at : Module → (written : ℕ) → Argument → Option ℕ
 part_at m written index = part_of m written (slice_get m.types written) index
 
--- the part of a type to which some indices lead, one behind the other
+-- the part of a type that some indices select, one after the other
 abbrev pub part_behind : Module → Option ℕ → List Argument → Option ℕ
 part_behind m None indices = None
 part_behind m (Some written) [] = Some written
 part_behind m (Some written) (index ∷ indices) = part_behind m (part_at m written index) indices
 
--- the type to which the indices of a getelementptr lead: the first steps over the pointer itself, the others into its parts
+-- The type that the indices of a getelementptr select. The first steps over the pointer itself, the others into its parts.
 abbrev pub element_type : Module → (source : ℕ) → List Argument → Option ℕ
 element_type m source [] = None
 element_type m source (first ∷ indices) = part_behind m (Some source) indices

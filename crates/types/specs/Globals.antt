@@ -7,7 +7,7 @@ use Rattle.ir_ast.specs.declared.module.Module.{Module}
 use Rattle.types.specs.References.{pointee}
 use Rattle.types.specs.ValueTypes.{is_same}
 
--- what a global name with this number stands for, if it is there
+-- what a global name with this number means, if it is there
 abbrev pub sort_at : Module → Option ℕ → Option SymbolSort
 sort_at m None = None
 sort_at m (Some symbol) = slice_get m.sorts symbol

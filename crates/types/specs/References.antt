@@ -4,7 +4,7 @@ use Rattle.ir_ast.specs.declared.module.Module.{Module}
 use Rattle.ir_ast.specs.declared.ir_type.IrType.{IrType}
 use Rattle.ir_ast.specs.declared.ir_type.IrType.TheVariants.{Void, Integer, Pointer, Array, EmptyStruct, Struct, Named}
 
--- what a type leads to, if it is a pointer
+-- what a type points to, if it is a pointer
 abbrev pub part_of_pointer : Option IrType → Option ℕ
 part_of_pointer None = None
 part_of_pointer (Some Void) = None
@@ -15,16 +15,16 @@ part_of_pointer (Some EmptyStruct) = None
 part_of_pointer (Some (Struct first rest)) = None
 part_of_pointer (Some (Named name)) = None
 
--- the type of what a pointer leads to
+-- the type of what a pointer points to
 abbrev pub pointee : Module → (written : ℕ) → Option ℕ
 pointee m written = part_of_pointer (slice_get m.types written)
 
--- what stands beside a name: its struct, if it is defined
+-- the struct of a name, if the name is defined
 abbrev pub struct_in : Option (Option ℕ) → Option ℕ
 struct_in None = None
 struct_in (Some layout) = layout
 
--- the struct that a name of the table of names stands for
+-- the struct that a name of the table of names means
 abbrev pub struct_named : Module → (name : ℕ) → Option ℕ
 struct_named m name = struct_in (slice_get m.struct_of name)
 
@@ -44,7 +44,7 @@ layout_of_struct m (Some EmptyStruct) = None
 layout_of_struct m (Some (Struct first rest)) = None
 layout_of_struct m (Some (Named name)) = struct_named m name
 
--- the layout of the struct that a pointer leads to
+-- the layout of the struct that a pointer points to
 abbrev pub layout_behind : Module → Option ℕ → Option ℕ
 layout_behind m None = None
 layout_behind m (Some part) = layout_of_struct m (slice_get m.types part)

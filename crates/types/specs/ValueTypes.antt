@@ -20,12 +20,12 @@ instruction_in (Some block) place = slice_get block.instructions place
 abbrev pub instruction_at : Function → (block place : ℕ) → Option Instr
 instruction_at f block place = instruction_in (slice_get f.blocks block) place
 
--- the type to which a getelementptr leads
+-- the type that a getelementptr selects
 abbrev pub element_of_op : Module → Op → Option ℕ
 element_of_op m (Element source base_type base indices) = element_type m source indices
 element_of_op m _ = None
 
--- the type to which an instruction leads, if it is a getelementptr
+-- the type that an instruction selects, if it is a getelementptr
 abbrev pub element_of : Module → Option Instr → Option ℕ
 element_of m None = None
 element_of m (Some instr) = element_of_op m instr.op
@@ -35,7 +35,7 @@ abbrev pub is_same : Option ℕ → Option ℕ → Bool
 is_same (Some one) (Some other) = one == other
 is_same _ _ = false
 
--- whether what a local name stands for is a value of this written type
+-- whether what a local name means is a value of this written type
 abbrev pub is_value_of : Module → Function → (written : ℕ) → Option LocalSort → Bool
 is_value_of m f written (Some (Value given)) = given == written
 is_value_of m f written (Some (ElementOf block place)) = is_same (pointee m written) (element_of m (instruction_at f block place))

@@ -4,7 +4,7 @@ ghost use Rattle.types.specs.Elements.{body_named, field_in, written_out, field_
 use crate::reference::struct_named;
 use ir_ast::{Argument, Constant, IrType, Module, Operand, StructNameId, TypeId};
 
-/// The struct type that a struct's name stands for, if the name is defined.
+/// The struct type that a struct's name is defined as, if the name is defined.
 pub fn body_named(module: &Module, name: StructNameId) -> Option<TypeId>
     ensures { result ≡ body_named «module».now name }
 {
@@ -15,7 +15,7 @@ pub fn body_named(module: &Module, name: StructNameId) -> Option<TypeId>
     }
 }
 
-/// The struct type for which a type stands: of a name its body, and else the type itself.
+/// The struct type that a type is when it is written out: of a name its body, and else the type itself.
 pub fn written_out(module: &Module, written: TypeId) -> Option<TypeId>
     ensures { result ≡ written_out «module».now written (slice_get «module».now.types written) }
 {
@@ -61,7 +61,7 @@ pub fn index_number(module: &Module, index: Argument) -> Option<u64>
     }
 }
 
-/// The part of a type to which an index leads: of an array its elements' type, of a struct the field with that number.
+/// The part of a type that an index selects: of an array its elements' type, of a struct the field with that number.
 pub fn part_at(module: &Module, written: TypeId, index: Argument) -> Option<TypeId>
     ensures { result ≡ part_at «module».now written index }
 {
@@ -84,7 +84,7 @@ fn part_behind(module: &Module, written: TypeId, indices: &[Argument]) -> Option
     Some(part)
 }
 
-/// The type to which the indices of a getelementptr lead: the first steps over the pointer itself, the others into its parts.
+/// The type that the indices of a getelementptr select. The first steps over the pointer itself, the others into its parts.
 pub fn element_type(module: &Module, source: TypeId, indices: &[Argument]) -> Option<TypeId>
     ensures { result ≡ element_type «module».now source indices.now }
 {

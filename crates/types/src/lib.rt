@@ -1,4 +1,4 @@
-//! What types and names of a module stand for.
+//! What types and names of a module mean.
 #![tactic(auto)]
 
 mod element;

@@ -4,7 +4,7 @@ ghost use Rattle.types.specs.References.{pointee, referenced_layout, struct_name
 use ir_ast::{IrType, Module, TypeId};
 use pools::LayoutId;
 
-/// The type of what a pointer leads to; None where the type is no pointer.
+/// The type of what a pointer points to; None where the type is no pointer.
 pub fn pointee(module: &Module, written: TypeId) -> Option<TypeId>
     ensures { result ≡ pointee «module».now written }
 {

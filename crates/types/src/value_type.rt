@@ -5,7 +5,7 @@ use crate::element::element_type;
 use crate::reference::pointee;
 use ir_ast::{BlockId, Function, Instr, LocalSort, Module, Op, TypeId, ValueId};
 
-/// The type to which the getelementptr at a place of a block leads.
+/// The type that the getelementptr at a place of a block selects.
 fn element_of(module: &Module, function: &Function, block: BlockId, place: u32) -> Option<TypeId>
     ensures { result ≡ element_of «module».now (instruction_at function.now block place) }
 {

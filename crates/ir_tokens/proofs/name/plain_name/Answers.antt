@@ -6,7 +6,7 @@ use Rattle.ir_tokens.specs.Bytes.{Text, next}
 use Rattle.ir_tokens.specs.Names.{bare, inside, begins_quote, unquoted, unescaped_from, is_special}
 use Rattle.ir_tokens.proofs.name.plain_name.Goals as goal
 
--- text without escapes stands for itself
+-- text without escapes is itself
 plain : (n : ℕ) (s : Text) → length s ≤ n → list_any is_special s ≡ false → unescaped_from n s ≡ s
 unfolding unescaped_from next
 plain zero [] le h = refl

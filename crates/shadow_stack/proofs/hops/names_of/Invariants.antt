@@ -3,7 +3,7 @@ use Rattle.std.specs.Prelude.{map}
 use Rattle.shadow_stack.specs.Slots.{hops}
 use Rattle.shadow_stack.proofs.hops.names_of.Given as goal
 
--- the row shows what stands so many bitcasts back
+-- the row shows what is `reach` - 1 bitcasts back
 abbrev pub invariant-loop-reach : goal.invariant-loop-reach
 invariant-loop-reach l = record { positive : 0 < l.reach; row : l.row.items ≡ map (hops l.fn.origins (l.reach - 1)) l.fn.origins }
 
