@@ -1,4 +1,4 @@
--- The words to which addresses lead, and the loads and stores of them that keep the discipline.
+-- The words to which addresses lead, and the loads and stores of them that obey the discipline.
 use Rattle.std.proofs.Common.{◌≡◌, ◌≢◌, ℕ, zero, suc, ◌<◌, List, length, refl, sym, ap, ◌∙◌, subst, arith, true, false, Bool, Option, Some, None, slice_get, inr}
 use Rattle.std.specs.Prelude.{◌||◌, not}
 use Rattle.ir_ast.specs.declared.items_of_module.Global.{Global as AGlobal}
@@ -89,7 +89,7 @@ module _ (heap : Setup) (p : LaidOut) (table : SlotTable) (guarded : Guarded) (l
         pick true z y = z
         pick false z y = absurd cc
 
-  -- a read of that word keeps the discipline
+  -- a read of that word obeys the discipline
   pub read_keeps : (layout : ℕ) (words : WordSet) (v : Value) → (l : Located heap p log layout words v) → Keeps heap log (Read l.at l.word)
   read_keeps layout words v l = (inr l.held, λ z. l.there (sym l.kind ∙ z))
 

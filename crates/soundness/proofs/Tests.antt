@@ -60,7 +60,7 @@ not_is true false e = refl
 not_is false true e = refl
 not_is false false e = absurd cc
 
--- a list is as it was where an element is put that stands there
+-- a list is as it was where an element is put that is there
 set_same : {X : Type 0} (xs : List X) (i : ℕ) (d : X) → slice_set xs i (get_or xs i d) ≡ xs
 set_same [] i d = refl
 set_same (x ∷ xs) zero d = refl

@@ -39,7 +39,7 @@ use Rattle.soundness.proofs.Lists.{both, equal, equal_test, negated}
 use Rattle.soundness.proofs.Tests.{Decides, test_learned}
 use Rattle.soundness.proofs.Steps.{all_hold, none_of, kind_bits, number_usable}
 
--- what is an integer of so many bits is an integer
+-- an integer of n bits is an integer
 bits_integer : (n : ℕ) (x : TypeKind) → is_bits n x ≡ true → is_integer x ≡ true
 bits_integer n NoValue e = absurd cc
 bits_integer n (Bits bits) e = refl
@@ -104,7 +104,7 @@ module _ (heap : Setup) (program : LaidOut) (certs : List Section) (f : Function
       let s = shown_first (w.open_way label) [] shown in
       record { label = label; leads = refl; acts = refl; known = facts; holds = h; opened = record { named = all.0; shown = s.0 } }
 
-  -- a condition that the rules let stand is one of the machine
+  -- a condition that the rules allow is one of the machine
   condition_is : (written : ℕ) (x : Operand) → o.is_available table facts x ≡ true → r.is_condition program.of_module f facts written x ≡ true → o.is_no_slot table x ≡ true
       → a.is_condition program.of_module f table frame.registers written x ≡ true
   condition_is written x available is no_slot =
@@ -219,7 +219,7 @@ module _ (heap : Setup) (program : LaidOut) (certs : List Section) (f : Function
 
   -- ---- the target
 
-  -- the block to which an open way leads, and what holds behind its phis
+  -- the block to which an open way leads, and what holds after its phis
   pub record Target (label : ℕ) : Type 0 where
     pub to : ℕ
     pub is : target_of f label ≡ Some to
