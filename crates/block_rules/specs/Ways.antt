@@ -69,7 +69,7 @@ given_at s block = elim (block == 0) [ true ↦ entry_facts s | false ↦ line_f
 
 -- ---- the ways out
 
--- a way out: the label of its target, and the value that decides it, if a value does, with what it is on this way
+-- a way out, an edge to another block: the label of its target, and the value that decides it, if a value does, with what it is on this edge
 pub record Way : Type 0 where
   pub target : ℕ
   pub decided : Option (ℕ × Bool)
@@ -144,7 +144,7 @@ abbrev pub comes_in : Module → Function → (from : ℕ) → FactSet → List 
 comes_in m f from facts [] = []
 comes_in m f from facts (instr ∷ instrs) = if is_phi instr.op then named_comes_in m f from facts instr.result instr.op ++ comes_in m f from facts instrs else []
 
--- what is known behind the phis of a block that is entered from another
+-- what is known after the phis of a block that is entered from another
 abbrev pub entered : Scene → (from to : ℕ) → FactSet → FactSet
 entered s from to facts = after_phis (comes_in s.program.of_module s.function from facts (instructions_of s.function to)) facts
 
