@@ -78,7 +78,7 @@ may_cast_value p from to (value.Address at) = may_cast_place p to at
 abbrev pub may_cast : LaidOut → (from to : ℕ) → Value → Bool
 may_cast p from to v = is_set v && ((from == to) || may_cast_value p from to v)
 
--- a slot that holds references may stand as a place of this type
+-- a slot that holds references may be a place of this type
 abbrev pub is_slot_under : Module → (held : Option ℕ) → (part : ℕ) → Bool
 is_slot_under m None part = false
 is_slot_under m (Some layout) part = refers_to m layout part
@@ -119,7 +119,7 @@ plain_action p stored v (Some place.OfNull) = Wrong
 plain_action p stored v (Some (place.Word layout at word)) = only_if (takes_value p.of_module stored (kind_of_word p.layouts layout word) v) (StorePlain at word v)
 plain_action p stored v (Some (place.Global g)) = only_if (takes_value p.of_module stored (global_kind p.of_module g) v) (StorePlain globals_cell g v)
 
--- the same behind the barrier
+-- the same with the barrier
 abbrev pub barrier_action : LaidOut → (stored : ℕ) → Value → Option Place → Action
 barrier_action p stored v None = Wrong
 barrier_action p stored v (Some place.OfNull) = Wrong
@@ -234,7 +234,7 @@ gcread_action p f slots registers returned (object ∷ place ∷ []) =
     (read_action p returned (address_at_place p.of_module f slots registers place.written place.operand))
 gcread_action p f slots registers returned arguments = Wrong
 
--- gcwrite puts a value at a place behind the barrier, for an object
+-- gcwrite puts a value at a place with the barrier, for an object
 abbrev pub gcwrite_action : LaidOut → Function → SlotTable → List Value → (returned : ℕ) → List Argument → Action
 gcwrite_action p f slots registers returned (v ∷ object ∷ place ∷ []) =
     only_if (are_gcwrite_types p.of_module returned (v.written ∷ object.written ∷ place.written ∷ [])
@@ -242,7 +242,7 @@ gcwrite_action p f slots registers returned (v ∷ object ∷ place ∷ []) =
     (barrier_action p v.written (value_of p.of_module registers v.written v.operand) (address_at_place p.of_module f slots registers place.written place.operand))
 gcwrite_action p f slots registers returned arguments = Wrong
 
--- the layout that a number stands for
+-- the layout that a number means
 abbrev pub layout_numbered : Module → (n : ℕ) → Option ℕ
 layout_numbered m n = if nat_lt n (length m.structs) && nat_lt n 4294967296 then Some n else None
 
@@ -311,7 +311,7 @@ call_action p f slots registers returned arguments declare callee None = defined
 
 -- ---- the end of a block
 
--- a way to a block whose phis may take their entries for this block; to a label of no block there is none
+-- an edge to a block whose phis may take their entries for this block; to a label of no block there is none
 abbrev pub enter_action : Module → Function → SlotTable → (from : ℕ) → (target : Option ℕ) → Action
 enter_action m f slots from None = End
 enter_action m f slots from (Some block) = only_if (phis_fit m f slots from (phis_of (slice_get f.blocks block))) Local

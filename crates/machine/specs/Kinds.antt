@@ -27,7 +27,7 @@ abbrev pub is_integer : Option IrType → Bool
 is_integer (Some (Integer bits)) = true
 is_integer _ = false
 
--- an integer of so many bits
+-- an integer of `bits` bits
 abbrev pub is_integer_of : (bits : ℕ) → Option IrType → Bool
 is_integer_of n (Some (Integer bits)) = bits == n
 is_integer_of n _ = false
@@ -92,11 +92,11 @@ may_cast_global m from symbol to = (from == to) || may_cast_word m to (global_wo
 
 -- ---- numbers
 
--- how many values an integer of so many bits has; none has more than 64 bits
+-- how many values an integer of `bits` bits has; none has more than 64 bits
 abbrev pub modulus : (bits : ℕ) → ℕ
 modulus bits = if nat_lt bits 64 then 2 ^ bits else 2 ^ 64
 
--- a number as an integer of so many bits
+-- a number as an integer of `bits` bits
 abbrev pub wrapped : (bits n : ℕ) → ℕ
 wrapped bits n = n % modulus bits
 
@@ -145,7 +145,7 @@ abbrev pub fits_layout_of : Option ℕ → Value → Bool
 fits_layout_of None v = true
 fits_layout_of (Some layout) v = fits_layout layout v
 
--- two references may stand beside one another: they are of one layout, or one of them is null
+-- two references are of one layout, or one of them is null
 abbrev pub are_of_one_layout : (first second : Value) → Bool
 are_of_one_layout (value.Cell layout at) second = fits_layout layout second
 are_of_one_layout first second = is_reference first && is_reference second

@@ -122,7 +122,7 @@ fn plain_action(program: &Program, stored: TypeId, value: Value, address: Option
     }
 }
 
-/// What a store behind the barrier asks for, to the word to which an address leads.
+/// What a store with the barrier asks for, to the word to which an address leads.
 pub fn barrier_action(
     program: &Program,
     stored: TypeId,
