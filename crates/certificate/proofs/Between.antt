@@ -30,7 +30,7 @@ got_set [] i x y e = absurd cc
 got_set (z ∷ xs) zero x y e = refl
 got_set (z ∷ xs) (suc i) x y e = got_set xs i x y e
 
--- what stands at a place behind a write: what is written, or what was there
+-- what is at a place after a write: what is written, or what was there
 got_cases : {A : Type 0} (xs : List A) (i j : ℕ) (y : A) → ((i ≡ j) × (slice_get (slice_set xs i y) j ≡ Some y)) ⊎ (slice_get (slice_set xs i y) j ≡ slice_get xs j)
 got_cases [] i j y = inr refl
 got_cases (x ∷ xs) zero zero y = inl (refl, refl)
