@@ -174,7 +174,7 @@ impl Rooms {
         )
     }
 
-    /// What is known behind the phis of the target.
+    /// What is known after the phis of the target.
     fn enter(
         &mut self,
         alloc: Global,
