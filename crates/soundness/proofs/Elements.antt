@@ -192,7 +192,7 @@ module _ (p : LaidOut) where
   integer_too (Some (Struct first rest)) e = absurd cc
   integer_too (Some (Named name)) e = absurd cc
 
-  -- a step that there is leads to the part of which it says so
+  -- a step that exists leads to the part that it names
   field_part : (words part : Option ℕ) (step : Step) → to_field words part ≡ Some step → part ≡ r.step_part (Some step)
   field_part None part step e = absurd cc
   field_part (Some words) None step e = absurd cc

@@ -218,7 +218,7 @@ load_members v s layout facts members = by (slot_at rest.slots s).nonnull (slot_
 
 -- ---- what an instruction leaves
 
--- as it is either way, it is the way that is taken
+-- what holds of both arms holds of the one that is taken
 either_way : (b : Bool) (f g : FactSet) → HaveMembers f → HaveMembers g → HaveMembers (if b then f else g)
 either_way true f g m n = m
 either_way false f g m n = n

@@ -45,7 +45,7 @@ first_passes (condition ∷ first) rest e = pick condition.1 (first_passes first
   pick true others e = others e
   pick false others e = absurd cc
 
--- no condition of an instruction fails, and each of its ways shows the lines of its target
+-- no condition of an instruction fails, and each of its edges shows the lines of its target
 pub record Kept (s : Scene) (block : ℕ) (here : Standing) (facts : FactSet) (instr : Instr) : Type 0 where
   pub allowed : first_failing (conditions s.program s.certs s.function s.slots here facts instr) ≡ None
   pub shown : unshown_on s block facts (ways instr.op) ≡ None

@@ -1,4 +1,4 @@
--- The words to which addresses lead, and the loads and stores of them that obey the discipline.
+-- The words to which addresses point, and the loads and stores of them that obey the discipline.
 use Rattle.std.proofs.Common.{◌≡◌, ◌≢◌, ℕ, zero, suc, ◌<◌, List, length, refl, sym, ap, ◌∙◌, subst, arith, true, false, Bool, Option, Some, None, slice_get, inr}
 use Rattle.std.specs.Prelude.{◌||◌, not}
 use Rattle.ir_ast.specs.declared.items_of_module.Global.{Global as AGlobal}
@@ -73,7 +73,7 @@ module _ (heap : Setup) (p : LaidOut) (table : SlotTable) (guarded : Guarded) (l
       }
   located layout words (value.Address x) v ne r o a = absurd r
 
-  -- an address with a base that is a reference, not stale and not null, leads to a word of a held cell
+  -- an address with a base that is a reference, not stale and not null, points to a word of a held cell
   pub address_located : (v base c layout : ℕ) (words : WordSet) → known_at facts.values v ≡ Address base words → known_at facts.values base ≡ Cell c layout false → (class_at facts.classes c).nonnull ≡ true
       → Located heap p log layout words (register_at registers v)
   address_located v base c layout words is known nonnull =

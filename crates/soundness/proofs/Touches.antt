@@ -1,4 +1,4 @@
--- Operands that are places: the words to which they lead.
+-- Operands that are places: the words to which they point.
 use Rattle.std.proofs.Common.{◌≡◌, ◌≢◌, ℕ, List, length, refl, sym, ap, ◌∙◌, subst, true, false, Bool, Option, Some, None, inl, inr}
 use Rattle.std.specs.Prelude.{◌==◌, if◌then◌else◌}
 use Rattle.ir_ast.specs.declared.function.Function.{Function}
@@ -186,7 +186,7 @@ module _ (heap : Setup) (p : LaidOut) (certs : List Section) (reaches : Bool) (f
     by (Address other more) at e s n = absurd cc
     by (GlobalAddress symbol) at e s n = absurd cc
 
-  -- an operand that is an address leads to a word of its base's cell
+  -- an operand that is an address points to a word of its base's cell
   word_at : (written : ℕ) (x : Operand) (base class layout : ℕ) (words : WordSet) → o.known_of facts x ≡ Address base words → known_at facts.values base ≡ Cell class layout false → (class_at facts.classes class).nonnull ≡ true
       → Located heap p log layout words (value_of p.of_module frame.registers written x)
   word_at written (operand.Constant d) base class layout words is at nonnull = absurd cc
