@@ -64,12 +64,12 @@ Follows s block place facts (instr ∷ instrs) last =
 abbrev pub IsCertified : Scene → (block : ℕ) → Type 0
 IsCertified s block = (last : FactSet) × Follows s block 0 (given_at s block) (instructions_of s.function block) last
 
--- the instruction at a place breaks a rule so
+-- the instruction at a place breaks a rule in this way
 abbrev pub BreaksRule : Scene → (block place : ℕ) → FactSet → Option Instr → Breach → Type 0
 BreaksRule s block place facts None broken = ⊥
 BreaksRule s block place facts (Some instr) broken = breach s block (stands s block place) facts instr ≡ Some broken
 
--- the rules lead up to a place of the block, and there one is broken so
+-- the rules lead up to a place of the block, and there one is broken in this way
 abbrev pub BreaksAt : Scene → (block place : ℕ) → Breach → Type 0
 BreaksAt s block place broken =
     (before : FactSet)

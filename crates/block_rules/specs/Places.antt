@@ -22,13 +22,13 @@ use Rattle.block_rules.specs.declared.type_kind.TypeKind.TheVariants.{Bits, Refe
 use Rattle.block_rules.specs.Operands.{slot_named, known_of, known_fits, is_null_constant}
 use Rattle.block_rules.specs.TypeKinds.{kind_of, is_any_reference, is_word}
 
--- a value is moved between a slot that holds this type and an instruction that writes this type for it: they are the same, or the slot holds references and i8* is written
+-- a value may be moved between a slot and an instruction: the type that the slot holds is the one that the instruction writes, or the slot holds references and i8* is written
 abbrev pub moves_kind : (same : Bool) → (written : TypeKind) → (held : TypeKind) → Bool
 moves_kind same written (Bits bits) = same
 moves_kind same written (Reference layout) = same || is_any_reference written
 moves_kind same written _ = false
 
--- the same by the types; a slot that there is not holds nothing
+-- the same by the types; a slot that does not exist holds nothing
 abbrev pub moves : Module → (written : ℕ) → (held : Option ℕ) → Bool
 moves m written None = false
 moves m written (Some held) = moves_kind (written == held) (kind_of m written) (kind_of m held)

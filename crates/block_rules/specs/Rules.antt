@@ -82,7 +82,7 @@ are_cases m f written cases = list_all (is_case m f written) cases
 abbrev pub is_condition : Module → Function → FactSet → (written : ℕ) → Operand → Bool
 is_condition m f facts written condition = is_bits 1 (kind_of m written) && is_value m f facts written condition
 
--- the conditions of what an instruction does, in the order of their numbers; those of a phi's entries and of the ways out of a block are with the blocks
+-- the conditions of what an instruction does, in the order of their numbers; those of a phi's entries and of the edges out of a block are with the blocks
 abbrev pub op_conditions : LaidOut → (certs : List Section) → Function → SlotTable → Standing → FactSet → (result : Option ℕ) → Op → List (Rule × Bool)
 op_conditions p certs f slots here facts result (Alloca held) =
     (K8, may_hold p.of_module slots result held) ∷ (K11, here.in_entry) ∷ (K12, here.collected) ∷ []
