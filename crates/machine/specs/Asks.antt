@@ -60,7 +60,7 @@ fits_held m (Some held) v = fits_type m held v
 
 -- ---- bitcasts
 
--- an address may be cast to this type as its word may, or where it leads to no word to each type of places of references
+-- an address may be cast to this type as its word may, or where it points to no word to each type of places of references
 abbrev pub may_cast_place : LaidOut → (to : ℕ) → Place → Bool
 may_cast_place p to place.OfNull = may_lead p.of_module to
 may_cast_place p to (place.Word layout at word) = may_cast_word p.of_module to (kind_of_word p.layouts layout word)
@@ -100,7 +100,7 @@ cast_action p f slots registers from o to None =
 
 -- ---- loads and stores
 
--- a read of the word to which an address leads
+-- a read of the word to which an address points
 abbrev pub read_action : LaidOut → (loaded : ℕ) → Option Place → Action
 read_action p loaded None = Wrong
 read_action p loaded (Some place.OfNull) = Wrong
@@ -112,7 +112,7 @@ abbrev pub load_action : LaidOut → SlotTable → (loaded : ℕ) → Option ℕ
 load_action p slots loaded (Some slot) address = only_if (is_held_as p.of_module (held_type slots slot) loaded) Local
 load_action p slots loaded None address = read_action p loaded address
 
--- a store of a value under its type to the word to which an address leads, without the barrier
+-- a store of a value under its type to the word to which an address points, without the barrier
 abbrev pub plain_action : LaidOut → (stored : ℕ) → Value → Option Place → Action
 plain_action p stored v None = Wrong
 plain_action p stored v (Some place.OfNull) = Wrong

@@ -46,7 +46,7 @@ bits_of _ = 0
 abbrev pub bits_at : Module → (written : ℕ) → ℕ
 bits_at m written = bits_of (slice_get m.types written)
 
--- whether the type that a pointer leads to passes a test
+-- whether the type to which a pointer points passes a test
 abbrev pub leads_to : (ℕ → Bool) → (part : Option ℕ) → Bool
 leads_to test None = false
 leads_to test (Some part) = test part
@@ -80,7 +80,7 @@ is_layout (Some other) layout = other == layout
 abbrev pub refers_to : Module → (layout : ℕ) → (written : ℕ) → Bool
 refers_to m layout written = is_byte_pointer m written || is_layout (referenced_layout m written) layout
 
--- an address may be cast to this type: it is one of a word of references of a layout to which the type leads
+-- an address may be cast to this type: it is one of a word of references of a layout to which the type points
 abbrev pub may_cast_word : Module → (to : ℕ) → Option WordKind → Bool
 may_cast_word m to None = false
 may_cast_word m to (Some (Numeric bits)) = false
@@ -180,7 +180,7 @@ value_of m registers written (operand.Local v) = register_at registers v
 value_of m registers written (operand.Global symbol) = global_address (global_named m symbol)
 value_of m registers written (operand.CastGlobal from symbol to) = global_address (global_named m symbol)
 
--- an operand is a constant that fits the written type, or a local name of that type that names no slot, or a global to which the type points, which may be cast to it
+-- an operand is a constant that fits the written type, a local name of that type that names no slot, a global to which the type points, or a global that may be cast to the type
 abbrev pub is_typed : Module → Function → SlotTable → (written : ℕ) → Operand → Bool
 is_typed m f slots written (operand.Constant c) = constant_fits m written c
 is_typed m f slots written (operand.Local v) = has_type m f written v && is_none (slot_of slots v)

@@ -93,7 +93,7 @@ MayBeRead heap log (Some (Referring layout)) answer.Null = Unit {0}
 MayBeRead heap log (Some (Referring layout)) (answer.Cell at) = IsOfLayout heap layout at.cell × (IsFresh log at.cell → ⊥)
 MayBeRead heap log kind given = ⊥
 
--- what may be answered: to an alloc null, or a cell of the asked pool to which the thread holds no reference; to a safepoint that nothing new was posted, or that the stage was answered
+-- what may be answered: to an alloc null, or a cell of the asked pool to which the thread holds no reference. To a safepoint: that nothing new was posted, or that the stage was answered
 abbrev pub Possible : Setup → Log → Action → Answer → Type 0
 Possible heap log Local answer.Done = Unit {0}
 Possible heap log (Read at word) given = MayBeRead heap log (kind_of heap at.cell word) given
