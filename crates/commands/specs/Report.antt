@@ -113,7 +113,7 @@ abbrev pub line_of : List Section → Module → (func : ℕ) → Option Detail 
 line_of certs m func None = []
 line_of certs m func (Some detail) = line_shown certs m func detail.target detail.line
 
--- the target of a way out and the line that is not shown on it, if there are any
+-- the target of an edge and the line that is not shown on it, if there are any
 abbrev pub detail_text : Module → (func : ℕ) → (line : List ℕ) → Option Detail → List ℕ
 detail_text m func line None = []
 detail_text m func line (Some detail) = codes " %" ++ found_key (name_of_block m func detail.target) ++ 32 ∷ line

@@ -23,7 +23,7 @@ pub fn accepted<W: Write>(out: &mut W, functions: usize) -> io::Result<u8>
     Ok(STATUS_YES)
 }
 
-/// The target of a way out and the line of its certificate that is not shown on it, if there are any, as they come after
+/// The target of an edge and the line of its certificate that is not shown on it, if there are any, as they come after
 /// a rule: ` %loop %p ref Node nonnull`.
 fn write_detail<W: Write>(
     out: &mut W,
