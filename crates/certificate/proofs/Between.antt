@@ -163,7 +163,7 @@ wanted_in b values (w ∷ wanted) v e h =
 
 -- ---- a section between its blocks
 
--- what is read of a section, apart from the lines of the block at hand, fits; the blocks that list values and slots have had their lines, but this one
+-- what is read of a section fits, apart from the lines of the block at hand; each other block that lists values or slots has had its lines
 pub record Fitting (m : Module) (f : Function) (IsNow : ℕ → Type 0) (d : Draft) : Type 0 where
   pub roots : d.roots ≡ root_names m f
   pub promises : parameters_fit m f d.parameters ≡ true
