@@ -117,7 +117,7 @@ module _ (s : Setup) where
   constant_fits_heap m written constant.Null = tt
   constant_fits_heap m written (constant.Truth b) = tt
 
-  -- the address of a global leads to no cell of a layout
+  -- the address of a global points to no cell of a layout
   global_fits : (g : Option ℕ) → FitsHeap s (global_address g)
   global_fits None = tt
   global_fits (Some g) = tt
