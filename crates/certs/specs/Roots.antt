@@ -67,7 +67,7 @@ unfoldable pub allocated_within : Function → ℕ → (value : ℕ) → Option 
 allocated_within f zero value = allocated_at value (source_of f value)
 allocated_within f (suc n) value = allocated_by value (source_of f value) (λ other. allocated_within f n other)
 
--- the alloca to which a name leads: no chain of bitcasts is longer than there are names, but a ring
+-- the alloca to which a name leads: no chain of bitcasts is longer than there are names, unless it is a cycle
 abbrev pub allocated : Function → (value : ℕ) → Option SlotName
 allocated f value = allocated_within f (length f.locals) value
 
