@@ -67,7 +67,7 @@ pub data OfCheck (module_path cert_path : List ℕ) (first second : Option (List
 
 -- ---- replay and soak
 
--- what `replay` says of a program and its trace: the outcome of the trace, the first thread that may not begin, or want of memory
+-- what `replay` says of a program and its trace: the outcome of the trace, the first thread that may not begin, or out of memory
 pub data OfTrace (p : LaidOut) (t : Trace) : Said → Type 0 where
   came : (outcome : Outcome) → HasNoFault p t.setup → IsOutcome p t outcome → OfTrace p t (OnOutput (of_outcome outcome))
   not_begun : (fault : SetupFault) → (fault ≢ setup.Memory → IsSetupFault p t.setup fault) → OfTrace p t (OnError (of_setup_fault fault))

@@ -64,7 +64,7 @@ unread line = record { text = codes "error " ++ line ++ 10 ∷ []; status = 2 }
 abbrev pub fault_at : (code : List ℕ) → Position → Answer
 fault_at code at = unread (code ++ 32 ∷ decimal at.line ++ 58 ∷ decimal at.column)
 
--- want of memory
+-- out of memory
 abbrev pub no_memory : Answer
 no_memory = record { text = codes "error memory" ++ 10 ∷ []; status = 3 }
 
