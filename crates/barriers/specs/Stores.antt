@@ -1,4 +1,4 @@
--- Stores of references into cells: which may go without a barrier, and what is known behind one.
+-- Stores of references into cells: which may go without a barrier, and what is known after one.
 use Rattle.std.specs.Prelude.{◌↔◌, ℕ, Bool, false, not, ◌&&◌}
 use Rattle.facts.specs.declared.known.Known.{Known}
 use Rattle.facts.specs.declared.known.Known.TheVariants.{Cell}
@@ -18,7 +18,7 @@ may_store_plain facts v = is_fresh_cell facts (known_at facts.values v)
 abbrev pub IsOwnCell : FactSet → (v : ℕ) → Type 0
 IsOwnCell facts v = Says facts (IsFresh v) × Says facts (IsCurrent v)
 
--- what is known behind a store of a value where others may find it
+-- what is known after a store of a value where others may find it
 abbrev pub publish : (v : ℕ) → FactSet → FactSet
 publish v facts = drop_fresh_of (known_at facts.values v) facts
 

@@ -1,4 +1,4 @@
-//! Stores of references into cells: which may go without a barrier, and what is known behind one.
+//! Stores of references into cells: which may go without a barrier, and what is known after one.
 #![tactic(auto)]
 
 mod stores;

@@ -15,7 +15,7 @@ pub fn may_store_plain(facts: &Facts, v: ValueId) -> bool
     }
 }
 
-/// Goes on behind a store of a value where others may find it.
+/// Goes on to the facts after a store of a value where others may find it.
 pub fn after_store(facts: &mut Facts, v: ValueId)
     ensures facts { facts.new ≡ publish v facts.old }
     ensures statements { EndsFresh v facts.old facts.new }

@@ -45,7 +45,7 @@ same_truth false false f g = refl
 
 -- ---- what is added
 
--- one way after another
+-- one addition after another
 pub adds_both : (a b c : List (List ℕ)) (from : ℕ) (p q : ℕ → Bool) → Adds a b from p → Adds b c from q → Adds a c from (λ to. p to || q to)
 adds_both a b c from p q h k = record {
   as_many = k.as_many ∙ h.as_many;
@@ -118,7 +118,7 @@ below_more f n a b h k = record {
       ∙ or_nothing (nat_lt other n && is_predecessor f to other) (is_predecessor f to n)
       ∙ ap (λ x. x && is_predecessor f to other) (same_truth (nat_lt other n) (nat_lt other (n + 1)) (λ t. lt-ltb other (n + 1) (omega (arith, ltb-true other n t))) (λ t. lt-ltb other n (nearer other (ltb-true other (n + 1) t) ne)))
 
--- a block that there is not leads nowhere
+-- a block that does not exist leads nowhere
 pub beyond : (f : Function) (to from : ℕ) → length f.blocks ≤ from → is_predecessor f to from ≡ false
 beyond f to from ge = ap (λ b. list_any (instruction_leads f to) (block_instructions b)) (none_past f.blocks from ge)
 

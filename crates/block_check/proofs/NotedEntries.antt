@@ -16,7 +16,7 @@ use Rattle.block_check.specs.Subject.{IsReady}
 use Rattle.block_check.specs.declared.subject.Subject.{Subject}
 use Rattle.block_check.proofs.Leads.{same_truth, beyond}
 
--- the table of a block; of a block that there is not it is empty
+-- the table of a block; of a block that does not exist it is empty
 table_at : (f : Function) (blocks : List Block) (tables : List OperandTable) → AreOperandTables f blocks tables → (to : ℕ) → AreOperands f (block_instructions (slice_get blocks to)) (slice_index_or tables to [])
 table_at f [] [] h to = λ place from. refl
 table_at f [] (t ∷ ts) h to = absurd h

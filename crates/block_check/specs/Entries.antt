@@ -13,7 +13,7 @@ use Rattle.block_check.specs.declared.subject.Subject.{Subject}
 abbrev pub noted_from : Subject → (to place from : ℕ) → Option Operand
 noted_from s to place from = operand_at (slice_index_or s.operands.now to []) place from
 
--- a block that there is is listed
+-- a block that exists is listed
 abbrev pub is_target_listed : Subject → (to : ℕ) → (from : Option ℕ) → Bool
 is_target_listed s to None = false
 is_target_listed s to (Some from) = is_listed s.predecessors.now to from

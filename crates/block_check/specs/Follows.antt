@@ -1,4 +1,4 @@
--- Lists of fact sets that follow the rules: one more instruction, and that no two answers hold of one block.
+-- Lists of fact sets that follow the rules: one more instruction, and that no two verdicts hold of one block.
 use Rattle.std.proofs.Common.{◌≡◌, ℕ, zero, suc, ◌+◌, ◌<◌, List, [], ◌∷◌, ◌++◌, length, take, get_or, refl, sym, ap, ◌∙◌, subst, arith, Some, None, slice_get, Bool, ◌==◌, nat_lt, not, ◌||◌}
 use Rattle.std.proofs.lemmas.List.{take_more, length-take-le}
 use Rattle.std.specs.Prelude.{Option}
@@ -23,7 +23,7 @@ module _ (s : Scene) (b : ℕ) where
   follows_more place at facts mid (i ∷ instrs) instr next e h a =
       (h.0, h.1, follows_more (suc place) at h.0 mid instrs instr next (omega (arith, e)) h.2 a)
 
-  -- an instruction that keeps the rules breaks none
+  -- an instruction that obeys the rules breaks none
   not_both : (here : Standing) (facts next : FactSet) (instr : Instr) (broken : Breach) → Passes s b here facts instr next → breach s b here facts instr ≡ Some broken → ⊥
   not_both here facts next instr broken a r = let e : None ≡ Some broken = sym a.keeps ∙ r in cc
 
@@ -61,7 +61,7 @@ module _ (s : Scene) (b : ℕ) where
       let rest = one_break (suc place) p q i j xs h.0 c d r t (omega (arith, e)) (omega (arith, g)) h.2 k (subst (λ y. Follows s b (suc place) y (take j xs) d) e1 l.2) n in
       (ap suc rest.0, rest.1)
 
-  -- where an instruction stands, by how far the head goes and whether its function may begin
+  -- where an instruction is, by how far the head goes and whether its function may begin
   pub standing_is : (place head : ℕ) (begins : Bool) (promised : Option Promise) (mark : Mark) (here : Standing) → head ≡ head_in s.program.of_module s.function s.slots b → begins ≡ begins_collected s.program.of_module s.function b → promised ≡ promised_in s.section → mark ≡ own_mark s.section → here ≡ record { in_entry = b == 0; in_head = nat_lt place head; collected = not (place == 0) || begins; promised = promised; mark = mark } → here ≡ stands s b place
   standing_is place head begins promised mark here e g k n h =
       h ∙ ap (λ x. record { in_entry = b == 0; in_head = nat_lt place x; collected = not (place == 0) || begins; promised = promised; mark = mark }) e

@@ -11,7 +11,7 @@ use Rattle.block_check.specs.declared.subject.Subject.{Subject}
 abbrev pub seen : Subject → Scene
 seen s = record { program = s.scene.program.now; certs = s.scene.certs.now; function = s.scene.function.now; slots = s.scene.slots.now; section = slice_get s.scene.certs.now s.func }
 
--- what is found of a function once is right: it is the one with its number, with its slots; its blank facts are those where nothing is known, its predecessors are listed, and what comes in to its phis is noted
+-- what is found of a function once is right: it is the one with its number, with its slots. Its blank facts are those where nothing is known, its predecessors are listed, and what comes in to its phis is noted
 pub record IsReady (s : Subject) : Type 0 where
   pub there : slice_get s.scene.program.now.of_module.functions s.func ≡ Some s.scene.function.now
   pub slots : s.scene.slots.now ≡ slots_of s.scene.program.now.of_module s.scene.function.now

@@ -19,7 +19,7 @@ use ir_ast::{BlockId, FuncId, Function, Module};
 use layout::Program;
 use std::alloc::{AllocError, Global};
 
-/// Whether a block keeps the rules. What is found of its function is found anew, in time linear in the function.
+/// Whether a block obeys the rules. What is found of its function is found anew, in time linear in the function.
 pub fn check_block(
     alloc: Global,
     program: &Program,
@@ -35,7 +35,7 @@ pub fn check_block(
     answer_block(alloc, program, certs, func, block)
 }
 
-/// Whether each block of a function keeps the rules; the first instruction in text order that breaks one is refused.
+/// Whether each block of a function obeys the rules; the first instruction in text order that breaks one is refused.
 pub fn check_function(
     alloc: Global,
     program: &Program,

@@ -1,4 +1,4 @@
-//! One block, or each block of a function, against its certificate: the rules of every instruction, and what each way out shows.
+//! One block, or each block of a function, against its certificate: the rules of every instruction, and what each edge out shows.
 #![tactic(auto)]
 
 mod block_set;

@@ -78,7 +78,7 @@ impl<'a> Subject<'a> {
     }
 }
 
-/// The instructions of a block; a block that there is not has none.
+/// The instructions of a block; a block that does not exist has none.
 pub fn instructions_of(function: &Function, block: BlockId) -> &[Instr]
     ensures { result.now ≡ instructions_of function.now block }
 {

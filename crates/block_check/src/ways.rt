@@ -1,4 +1,4 @@
-//! The ways out of a block, and the first line of a target that is not shown.
+//! The edges out of a block, and the first line of a target that is not shown.
 ghost use Rattle.std.specs.Prelude.{◌≡◌, [], map, position, not, Some, OnOk, IfOk};
 ghost use Rattle.facts.specs.Facts.{nothing_known};
 ghost use Rattle.facts.specs.Lines.{shows_line};
@@ -19,14 +19,14 @@ use shadow_stack::Slots;
 use std::alloc::{AllocError, Global};
 use types::target_of;
 
-/// Where a way comes from: a block, with what is known at its end.
+/// Where an edge comes from: a block, with what is known at its end.
 #[derive(Clone, Copy)]
 pub struct Exit<'a> {
     pub block: BlockId,
     pub facts: &'a Facts,
 }
 
-/// Room for what is known on a way, and for what its target begins with.
+/// Room for what is known on an edge, and for what its target begins with.
 #[derive(Drop)]
 pub struct Rooms {
     way: Facts,
@@ -50,7 +50,7 @@ impl Rooms {
         })
     }
 
-    /// The first line that is not shown, on the first way where one is not.
+    /// The first line that is not shown, on the first edge where one is not.
     pub fn unshown_on(
         &mut self,
         alloc: Global,
@@ -121,7 +121,7 @@ impl Rooms {
         Ok(None)
     }
 
-    /// The first line of the target that is not shown on one way.
+    /// The first line of the target that is not shown on one edge.
     fn unshown_at(
         &mut self,
         alloc: Global,
@@ -161,7 +161,7 @@ impl Rooms {
         }
     }
 
-    /// The first line of the target that what is known on the way does not show.
+    /// The first line of the target that what is known on the edge does not show.
     fn unshown_line(&self, subject: &Subject, to: BlockId) -> Option<usize>
         requires { self.now.there ≡ line_facts (seen subject.now) to }
         ensures { result ≡ unshown_line (seen subject.now) to self.now.way }
@@ -174,7 +174,7 @@ impl Rooms {
         )
     }
 
-    /// What is known behind the phis of the target.
+    /// What is known after the phis of the target.
     fn enter(
         &mut self,
         alloc: Global,
@@ -202,7 +202,7 @@ fn decided_by(condition: &Operand, taken: bool) -> Option<(ValueId, bool)>
     }
 }
 
-/// What a way shows by what decides it.
+/// What an edge shows by what decides it.
 fn learn(facts: &mut Facts, decided: Option<(ValueId, bool)>) -> Result<(), AllocError>
     ensures { OnOk result (facts.new ≡ decided_facts decided facts.old) }
 {

@@ -27,7 +27,7 @@ range_next a n m e = ap (λ k. range_with_len a k) e
 pub range_from : (a b : ℕ) → a < b → range_with_len a (b - a) ≡ a ∷ range_with_len (a + 1) (b - (a + 1))
 range_from a b lt = range_next a (b - a) (b - (a + 1)) (omega (arith, lt))
 
--- none is left behind the last
+-- none is left after the last
 pub range_end : (a b : ℕ) → b ≤ a → range_with_len a (b - a) ≡ []
 range_end a b le = let e : b - a ≡ 0 = omega (arith, le) in ap (λ k. range_with_len a k) e
 

@@ -9,7 +9,7 @@ use Rattle.block_rules.proofs.Ranges.{chosen, passed, range_next, range_from, ra
 use Rattle.block_rules.specs.declared.stride.Stride.{Stride}
 use Rattle.block_rules.specs.Elements.{gathered, reached, all_reached, strode}
 
--- of so many from a first one
+-- of `count` from a first one
 pub range_step : (first count i : ℕ) → i < count → range_with_len (first + i) (count - i) ≡ (first + i) ∷ range_with_len (first + (i + 1)) (count - (i + 1))
 range_step first count i lt =
     let g : first + i + 1 ≡ first + (i + 1) = omega arith in
@@ -36,7 +36,7 @@ pick_too : (fits : Bool) (one both : Option WordSet) (other : List ℕ) → both
 pick_too true one both other is = is
 pick_too false one both other is = refl
 
--- words that stand behind others are added after them
+-- words that come after others are added after them
 pub gathered_join : (one other : List ℕ) (set : WordSet) → gathered (one ++ other) set ≡ gathered_too other (gathered one set)
 gathered_join [] other set = refl
 gathered_join (word ∷ one) other set =
@@ -69,7 +69,7 @@ strode_in stride from set i total one lt is reaches so_far =
 pub strode_out : (stride : Stride) (from set : WordSet) (i : ℕ) (total : Option WordSet) → i < 64 → has_word from.members i ≡ false → total ≡ gathered (left_from stride from i) set → total ≡ gathered (left_from stride from (i + 1)) set
 strode_out stride from set i total lt is so_far = so_far ∙ ap (λ ns. gathered ns set) (left_out stride from i lt is)
 
--- behind the last
+-- after the last
 pub strode_end : (stride : Stride) (from set : WordSet) (i : ℕ) (total : Option WordSet) → 64 ≤ i → total ≡ gathered (left_from stride from i) set → total ≡ Some set
 strode_end stride from set i total le so_far =
     so_far ∙ ap (λ ns. gathered (all_reached stride (filter (has_word from.members) ns)) set) (range_end i 64 le)

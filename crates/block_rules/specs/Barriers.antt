@@ -1,4 +1,4 @@
--- Accesses through the barrier, gcread and gcwrite, and stores without it: what they ask, and what is known behind them.
+-- Accesses through the barrier, gcread and gcwrite, and stores without it: what they ask, and what is known after them.
 use Rattle.std.specs.Prelude.{ℕ, Bool, true, false, not, ◌&&◌, ◌||◌, List, [], ◌∷◌, Option, Some, None, is_some}
 use Rattle.ir_ast.specs.declared.function.Function.{Function}
 use Rattle.ir_ast.specs.declared.module.Module.{Module}
@@ -82,7 +82,7 @@ read_conditions p f slots here facts returned object place =
     ∷ (K12, here.collected)
     ∷ (K19, casts_operand p.of_module place.operand) ∷ []
 
--- behind gcread: its result is the reference that was read at the place
+-- after gcread: its result is the reference that was read at the place
 abbrev pub after_read : LaidOut → (v : ℕ) → List Argument → FactSet → FactSet
 after_read p v (object ∷ place ∷ []) facts = load_known p v AnyReference (known_of facts place.operand) facts
 after_read p v _ facts = define v Nothing facts
@@ -121,7 +121,7 @@ write_conditions p f slots here facts returned value object place =
     ∷ (K12, here.collected)
     ∷ (K19, casts_operand p.of_module place.operand) ∷ []
 
--- behind gcwrite: the class of the value that was written is fresh no more
+-- after gcwrite: the class of the value that was written is fresh no more
 abbrev pub after_write : List Argument → FactSet → FactSet
 after_write [] facts = facts
 after_write (value ∷ rest) facts = drop_fresh_of (known_of facts value.operand) facts

@@ -1,4 +1,4 @@
--- Calls: what they ask, and what is known behind them.
+-- Calls: what they ask, and what is known after them.
 use Rattle.std.specs.Prelude.{ℕ, ◌==◌, Bool, true, false, not, ◌&&◌, if◌then◌else◌, List, [], ◌∷◌, length, slice_get, nat_lt, Option, Some, None}
 use Rattle.std.specs.List.{list_all, zip}
 use Rattle.ir_ast.specs.declared.function.Function.{Function}
@@ -50,7 +50,7 @@ abbrev pub holds_reference : Module → (held : Option ℕ) → Bool
 holds_reference m None = false
 holds_reference m (Some held) = is_reference (kind_of m held)
 
--- K9: a gcroot stands in the head, names a reference slot that no gcroot named before, and its metadata is null
+-- K9: a gcroot is in the head, names a reference slot that no gcroot named before, and its metadata is null
 abbrev pub is_unrooted : Module → SlotTable → FactSet → (slot : Option ℕ) → Bool
 is_unrooted m slots facts None = false
 is_unrooted m slots facts (Some s) = holds_reference m (held_type slots s) && not (slot_at facts.slots s).rooted
@@ -174,7 +174,7 @@ abbrev pub after_alloc : (v : ℕ) → List Argument → FactSet → FactSet
 after_alloc v [] facts = define v Nothing facts
 after_alloc v (size ∷ rest) facts = alloc_layout v size.operand facts
 
--- behind a call of dg_alloc, whose result may have no name
+-- after a call of dg_alloc, whose result may have no name
 abbrev pub after_alloc_call : (result : Option ℕ) → List Argument → FactSet → FactSet
 after_alloc_call None arguments facts = facts
 after_alloc_call (Some v) arguments facts = after_alloc v arguments facts
@@ -189,12 +189,12 @@ abbrev pub receive_result : Module → (result : Option ℕ) → (returned : ℕ
 receive_result m None returned promise facts = facts
 receive_result m (Some v) returned promise facts = receive v (given_by (kind_of m returned)) promise facts
 
--- behind a call of a function that the module defines, with its certificate
+-- after a call of a function that the module defines, with its certificate
 abbrev pub after_defined : Module → (result : Option ℕ) → (returned : ℕ) → List Argument → (section : Option Section) → FactSet → FactSet
 after_defined m result returned arguments section facts =
     receive_result m result returned (promised_in section) (after_mark (callee_mark section) (drop_arguments arguments facts))
 
--- behind a call
+-- after a call
 abbrev pub after_call : LaidOut → (certs : List Section) → SlotTable → (result : Option ℕ) → (returned : ℕ) → List Argument → Callee → FactSet → FactSet
 after_call p certs slots result returned arguments (OfRuntime Alloc) facts = after_alloc_call result arguments facts
 after_call p certs slots result returned arguments (OfRuntime GcRoot) facts = after_root_call slots arguments facts

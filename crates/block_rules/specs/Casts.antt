@@ -1,4 +1,4 @@
--- Bitcasts: to which types they may lead, and what is known behind them.
+-- Bitcasts: to which types they may lead, and what is known after them.
 use Rattle.std.specs.Prelude.{ℕ, ◌==◌, Bool, true, false, ◌&&◌, ◌||◌, if◌then◌else◌, List, Option, Some, None}
 use Rattle.ir_ast.specs.declared.module.Module.{Module}
 use Rattle.ir_ast.specs.declared.operand.Constant.{Constant}
@@ -59,7 +59,7 @@ casts_to (Some layout) to = fits_layout layout to
 abbrev pub casts_global : Module → (to symbol : ℕ) → Bool
 casts_global m to symbol = casts_to (layout_of_word (global_word m symbol)) (place_kind m to)
 
--- K19: a global stands under its own type, or under one of the same layout; other operands are not cast where they stand
+-- K19: a global is used at its own type, or at one of the same layout; other operands are not cast where they are used
 abbrev pub casts_operand : Module → Operand → Bool
 casts_operand m (CastGlobal from symbol to) = (from == to) || casts_global m to symbol
 casts_operand m _ = true
@@ -103,12 +103,12 @@ cast_constant m v from to (Numeral n) facts = cast_number v n (kind_of m to) fac
 cast_constant m v from to (Truth b) facts = define v Nothing facts
 cast_constant m v from to NullWritten facts = define_held v (layout_of_null (kind_of m from) (kind_of m to)) false facts
 
--- a value under another name, but for an address whose base had this name; what has this name already stays, and a slot is no value, and is only named anew
+-- a value under another name has what is known of it, but for an address whose base had this name. A value that is named as itself stays, and a slot is no value and only gets another name
 abbrev pub cast_local : (v u : ℕ) → Known → (slot : Option ℕ) → FactSet → FactSet
 cast_local v u known None facts = if u == v then facts else define v (off_base v known) facts
 cast_local v u known (Some s) facts = facts
 
--- behind a bitcast
+-- after a bitcast
 abbrev pub after_cast : Module → SlotTable → (v from to : ℕ) → Operand → FactSet → FactSet
 after_cast m slots v from to (Written c) facts = cast_constant m v from to c facts
 after_cast m slots v from to (Local u) facts = cast_local v u (known_at facts.values u) (slot_of slots u) facts

@@ -22,7 +22,7 @@ use Rattle.block_rules.specs.declared.block_fault.Detail.{Detail}
 use Rattle.block_rules.specs.declared.block_fault.Refusal.{Refusal}
 use Rattle.block_rules.specs.Ways.{Scene, given_at, ways, unshown_on, are_entries}
 
--- where the instruction at a place of a block stands
+-- where the instruction at a place of a block is
 abbrev pub stands : Scene → (block place : ℕ) → Standing
 stands s block place = standing s.program.of_module s.function s.slots (promised_in s.section) (own_mark s.section) block place
 
@@ -49,12 +49,12 @@ breach_of (Some rule) detail = Some (record { rule = rule; detail = None })
 abbrev pub breach : Scene → (block : ℕ) → Standing → FactSet → Instr → Option Breach
 breach s block here facts instr = breach_of (failing s block here facts instr) (unshown_on s block facts (ways instr.op))
 
--- an instruction of a block keeps the rules, and leads to these facts
+-- an instruction of a block obeys the rules, and these are the facts after it
 pub record Passes (s : Scene) (block : ℕ) (here : Standing) (facts : FactSet) (instr : Instr) (next : FactSet) : Type 0 where
   pub keeps : breach s block here facts instr ≡ None
   pub facts_after : next ≡ after s.program s.certs s.slots facts instr
 
--- there is a list of fact sets, from before these instructions to behind them, each next one by the rules; the first of them stands at this place of the block
+-- there is a list of fact sets, from before these instructions to after them, each next one by the rules; the first instruction is at this place of the block
 abbrev pub Follows : Scene → (block place : ℕ) → FactSet → List Instr → FactSet → Type 0
 Follows s block place facts [] last = last ≡ facts
 Follows s block place facts (instr ∷ instrs) last =
@@ -64,12 +64,12 @@ Follows s block place facts (instr ∷ instrs) last =
 abbrev pub IsCertified : Scene → (block : ℕ) → Type 0
 IsCertified s block = (last : FactSet) × Follows s block 0 (given_at s block) (instructions_of s.function block) last
 
--- the instruction at a place breaks a rule so
+-- the instruction at a place breaks a rule in this way
 abbrev pub BreaksRule : Scene → (block place : ℕ) → FactSet → Option Instr → Breach → Type 0
 BreaksRule s block place facts None broken = ⊥
 BreaksRule s block place facts (Some instr) broken = breach s block (stands s block place) facts instr ≡ Some broken
 
--- the rules lead up to a place of the block, and there one is broken so
+-- the rules lead up to a place of the block, and there one is broken in this way
 abbrev pub BreaksAt : Scene → (block place : ℕ) → Breach → Type 0
 BreaksAt s block place broken =
     (before : FactSet)
@@ -80,7 +80,7 @@ BreaksAt s block place broken =
 abbrev pub scene_of : LaidOut → (certs : List Section) → Function → Option Section → Scene
 scene_of program certs f section = record { program = program; certs = certs; function = f; slots = slots_of program.of_module f; section = section }
 
--- a block of a function of the program is certified; a function that there is not has no such block
+-- a block of a function of the program is certified; a function that does not exist has no such block
 abbrev pub IsCertifiedIn : LaidOut → (certs : List Section) → Option Section → Option Function → (block : ℕ) → Type 0
 IsCertifiedIn program certs section None block = ⊥
 IsCertifiedIn program certs section (Some f) block = IsCertified (scene_of program certs f section) block

@@ -45,7 +45,7 @@ abbrev pub register_stride : (size bits length : ℕ) → (below : Option ℕ) �
 register_stride size bits length None = None
 register_stride size bits length (Some n) = bounded_stride size bits length n
 
--- an index of so many bits into an array
+-- an index of n bits into an array
 abbrev pub operand_stride : FactSet → (size bits length : ℕ) → Operand → (constant : Option ℕ) → Option Stride
 operand_stride facts size bits length operand (Some n) = constant_stride size bits length n
 operand_stride facts size bits length operand None = register_stride size bits length (below_known (known_of facts operand))
@@ -94,7 +94,7 @@ abbrev pub strode : Option Stride → WordSet → Option WordSet
 strode None set = None
 strode (Some stride) set = gathered (all_reached stride (members set.members)) empty_set
 
--- the words to which some indices lead, one behind the other
+-- the words to which some indices lead, one after the other
 abbrev pub words_behind : LaidOut → FactSet → (part : Option ℕ) → List Argument → Option WordSet → Option WordSet
 words_behind p facts None indices words = None
 words_behind p facts (Some written) [] words = words
@@ -108,7 +108,7 @@ abbrev pub is_zero : Option ℕ → Bool
 is_zero None = false
 is_zero (Some n) = n == 0
 
--- the words to which a getelementptr leads: its first index is 0, and another stands behind it
+-- the words to which a getelementptr leads: its first index is 0, and another follows it
 abbrev pub element_words : LaidOut → FactSet → (source : ℕ) → List Argument → (start : WordSet) → Option WordSet
 element_words p facts source [] start = None
 element_words p facts source (first ∷ []) start = None
@@ -125,7 +125,7 @@ abbrev pub base_layout : FactSet → Known → Option ℕ
 base_layout facts (Address base words) = known_layout (known_at facts.values base)
 base_layout facts known = known_layout known
 
--- each word of a set is one of so many
+-- each word of a set is one of the first `count`
 abbrev pub lie_below : (count : ℕ) → WordSet → Bool
 lie_below count set = list_all (λ w. not (has_word set.members w) || nat_lt w count) cell_words
 
@@ -174,7 +174,7 @@ abbrev pub define_words : (v u : ℕ) → Known → (words : Option WordSet) →
 define_words v u base None facts = define v Nothing facts
 define_words v u base (Some words) facts = define_element v u base words facts
 
--- behind a getelementptr; a global that stands there leads to itself, and from null nothing is known
+-- after a getelementptr; from a global it leads to the global itself, and from null nothing is known
 abbrev pub after_element : LaidOut → (v source : ℕ) → (base : Operand) → List Argument → FactSet → FactSet
 after_element p v source (Local u) indices facts =
     let base = known_at facts.values u in

@@ -54,7 +54,7 @@ abbrev pub define_number : (v : ℕ) → TypeKind → (below : Option ℕ) → F
 define_number v (Bits bits) below facts = define v (Number bits below) facts
 define_number v _ below facts = define v Nothing facts
 
--- a number of so many bits may be changed to so many
+-- a number of `from` bits may be changed to `to` bits
 abbrev pub changes_width : Resize → (from to : ℕ) → Bool
 changes_width resize.ZeroExtend from to = nat_lt from to
 changes_width resize.SignExtend from to = nat_lt from to
@@ -83,7 +83,7 @@ may_compare kind (Reference layout) = is_equality kind
 may_compare kind AnyReference = is_equality kind
 may_compare kind _ = false
 
--- a comparison of a value with a constant is one from which the ways on learn
+-- a comparison of a value with a constant is kept as a test, from which the edges that it decides learn
 abbrev pub after_compare : (v : ℕ) → Comparison → (first second : Operand) → FactSet → FactSet
 after_compare v kind (Local u) (Written c) facts = define_test v (record { tested = u; kind = kind; constant = c }) facts
 after_compare v kind _ _ facts = define v (Number 1 None) facts
@@ -114,12 +114,12 @@ may_choose _ = false
 abbrev pub chosen_layout : TypeKind → (chosen other : Known) → Option ℕ
 chosen_layout kind chosen other = or_else (layout_of_kind kind) (or_else (known_layout chosen) (known_layout other))
 
--- one of two references: whatever it is, nothing is known of its sames, and neither class is fresh
+-- one of two references, with a new class of its own; neither of their classes is fresh any more
 abbrev pub choose_reference : (v : ℕ) → TypeKind → (chosen other : Known) → FactSet → FactSet
 choose_reference v kind chosen other facts =
     define_held v (chosen_layout kind chosen other) (is_nonnull facts chosen && is_nonnull facts other) (drop_fresh_of other (drop_fresh_of chosen facts))
 
--- behind a choice
+-- after a choice
 abbrev pub after_select : (v : ℕ) → TypeKind → (chosen other : Operand) → FactSet → FactSet
 after_select v (Bits bits) chosen other facts = define v (Number bits (larger (below_of facts chosen) (below_of facts other))) facts
 after_select v kind chosen other facts = choose_reference v kind (known_of facts chosen) (known_of facts other) facts

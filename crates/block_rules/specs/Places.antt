@@ -22,13 +22,13 @@ use Rattle.block_rules.specs.declared.type_kind.TypeKind.TheVariants.{Bits, Refe
 use Rattle.block_rules.specs.Operands.{slot_named, known_of, known_fits, is_null_constant}
 use Rattle.block_rules.specs.TypeKinds.{kind_of, is_any_reference, is_word}
 
--- a value is moved between a slot that holds this type and an instruction that writes this type for it: they are the same, or the slot holds references and i8* is written
+-- a value may be moved between a slot and an instruction: the type that the slot holds is the one that the instruction writes, or the slot holds references and i8* is written
 abbrev pub moves_kind : (same : Bool) → (written : TypeKind) → (held : TypeKind) → Bool
 moves_kind same written (Bits bits) = same
 moves_kind same written (Reference layout) = same || is_any_reference written
 moves_kind same written _ = false
 
--- the same by the types; a slot that there is not holds nothing
+-- the same by the types; a slot that does not exist holds nothing
 abbrev pub moves : Module → (written : ℕ) → (held : Option ℕ) → Bool
 moves m written None = false
 moves m written (Some held) = moves_kind (written == held) (kind_of m written) (kind_of m held)
@@ -90,7 +90,7 @@ loads_known p facts kind (Address base words) = loads_base p kind words (known_a
 loads_known p facts kind (GlobalAddress symbol) = loads_word kind (global_word p.of_module symbol)
 loads_known p facts kind _ = false
 
--- the same of a slot, or of what a name stands for that names no slot
+-- the same by the slot that a name names, or by what is known of the name where it names none
 abbrev pub loads_local : LaidOut → SlotTable → FactSet → Known → (loaded : ℕ) → (slot : Option ℕ) → Bool
 loads_local p slots facts known loaded None = loads_known p facts (kind_of p.of_module loaded) known
 loads_local p slots facts known loaded (Some s) = moves p.of_module loaded (held_type slots s)
@@ -151,7 +151,7 @@ fits_held m value (Some held) = known_fits (kind_of m held) value
 abbrev pub stores_slot : Module → SlotTable → (stored : ℕ) → (value : Known) → (slot : ℕ) → Bool
 stores_slot m slots stored value s = moves m stored (held_type slots s) && fits_held m value (held_type slots s)
 
--- the same for the slot that a name names, or for what it stands for
+-- the same for the slot that a name names, or by what is known of the name where it names none
 abbrev pub stores_local : LaidOut → SlotTable → FactSet → Known → (stored : ℕ) → (value : Known) → (slot : Option ℕ) → Bool
 stores_local p slots facts place stored value None = stores_known p facts (kind_of p.of_module stored) value place
 stores_local p slots facts place stored value (Some s) = stores_slot p.of_module slots stored value s
@@ -203,16 +203,16 @@ load_known p v kind (Address base words) facts = load_base p v kind words (known
 load_known p v kind (GlobalAddress symbol) facts = load_word v kind (global_word p.of_module symbol) facts
 load_known p v kind _ facts = define v Nothing facts
 
--- behind a load, by the slot that the place is
+-- after a load, by the slot that the place is
 abbrev pub load_place : LaidOut → SlotTable → (v loaded : ℕ) → Operand → (slot : Option ℕ) → FactSet → FactSet
 load_place p slots v loaded place None facts = load_known p v (kind_of p.of_module loaded) (known_of facts place) facts
 load_place p slots v loaded place (Some s) facts = load_held_type p.of_module v s (held_type slots s) facts
 
--- behind a load
+-- after a load
 abbrev pub after_load : LaidOut → SlotTable → (v loaded : ℕ) → (place : Operand) → FactSet → FactSet
 after_load p slots v loaded place facts = load_place p slots v loaded place (slot_named slots place) facts
 
--- behind a store: a slot holds the value, or null, or a number; in a word others may find it, so its class is fresh no more
+-- after a store: a slot holds the value, or null, or a number; in a word others may find it, so its class is fresh no more
 abbrev pub after_store : (value : Known) → (slot : Option ℕ) → FactSet → FactSet
 after_store value None facts = drop_fresh_of value facts
 after_store value (Some s) facts = store_slot s value facts

@@ -1,4 +1,4 @@
--- The rules: when an instruction is allowed, and what is known behind it.
+-- The rules: when an instruction is allowed, and what is known after it.
 use Rattle.std.specs.Prelude.{◌≡◌, ℕ, ◌==◌, Bool, false, not, ◌&&◌, ◌||◌, List, [], ◌∷◌, length, slice_get, nat_lt, Option, Some, None, is_some}
 use Rattle.std.specs.List.{list_all}
 use Rattle.ir_ast.specs.declared.function.Function.{Function}
@@ -82,7 +82,7 @@ are_cases m f written cases = list_all (is_case m f written) cases
 abbrev pub is_condition : Module → Function → FactSet → (written : ℕ) → Operand → Bool
 is_condition m f facts written condition = is_bits 1 (kind_of m written) && is_value m f facts written condition
 
--- the conditions of what an instruction does, in the order of their numbers; those of a phi's entries and of the ways out of a block stand with the blocks
+-- the conditions of what an instruction does, in the order of their numbers; those of a phi's entries and of the edges out of a block are with the blocks
 abbrev pub op_conditions : LaidOut → (certs : List Section) → Function → SlotTable → Standing → FactSet → (result : Option ℕ) → Op → List (Rule × Bool)
 op_conditions p certs f slots here facts result (Alloca held) =
     (K8, may_hold p.of_module slots result held) ∷ (K11, here.in_entry) ∷ (K12, here.collected) ∷ []
@@ -176,7 +176,7 @@ abbrev pub after_alloca : (slot : Option ℕ) → FactSet → FactSet
 after_alloca None facts = facts
 after_alloca (Some s) facts = end_slot s facts
 
--- what is known behind an instruction that defines this name
+-- what is known after an instruction that defines this name
 abbrev pub after_named : LaidOut → SlotTable → (v : ℕ) → Op → FactSet → FactSet
 after_named p slots v (Alloca held) facts = after_alloca (slot_of slots v) facts
 after_named p slots v (Bitcast from operand to) facts = after_cast p.of_module slots v from to operand facts
@@ -188,18 +188,18 @@ after_named p slots v (Compare kind written first second) facts = after_compare 
 after_named p slots v (Select condition_type condition written chosen other) facts = after_select v (kind_of p.of_module written) chosen other facts
 after_named p slots v _ facts = facts
 
--- behind an instruction, by the name that it defines, if it does; a phi has its facts from the way in
+-- after an instruction, by the name that it defines, if it does; a phi has its facts from the edge on which its block is entered
 abbrev pub after_op : LaidOut → (certs : List Section) → SlotTable → (result : Option ℕ) → Op → FactSet → FactSet
 after_op p certs slots result (Store stored value place_type place) facts = after_store (known_of facts value) (slot_named slots place) facts
 after_op p certs slots result (Call returned callee arguments) facts = after_call p certs slots result returned arguments (callee_of p.of_module callee (length arguments)) facts
 after_op p certs slots None _ facts = facts
 after_op p certs slots (Some v) op facts = after_named p slots v op facts
 
--- what is known behind an instruction
+-- what is known after an instruction
 abbrev pub after : LaidOut → (certs : List Section) → SlotTable → FactSet → Instr → FactSet
 after p certs slots facts instr = after_op p certs slots instr.result instr.op facts
 
--- the rule relation: an instruction is allowed where each of its conditions holds, and leads to these facts
+-- the rule relation: an instruction is allowed where each of its conditions holds, and these are the facts after it
 pub record Allows (p : LaidOut) (certs : List Section) (f : Function) (slots : SlotTable) (here : Standing) (facts : FactSet) (instr : Instr) (next : FactSet) : Type 0 where
   pub conditions_hold : first_failing (conditions p certs f slots here facts instr) ≡ None
   pub facts_after : next ≡ after p certs slots facts instr

@@ -57,7 +57,7 @@ is_written_as m returned arguments runtime =
     let signature = signature_of runtime in
     is_runtime_type m returned signature.returned && list_all (is_argument_of m) (zip arguments signature.parameters)
 
--- what a call of a declared name is of: a function of the runtime, if the name is declared with its types, and it takes so many arguments
+-- what a call of a declared name is of: a function of the runtime, if the name is declared with its types, and it takes this number of arguments
 abbrev pub callable : Module → (arguments : ℕ) → Declare → Option Runtime → Callee
 callable m arguments declared None = NoFunction
 callable m arguments declared (Some runtime) =
@@ -68,13 +68,13 @@ abbrev pub callable_declare : Module → (arguments : ℕ) → Option Declare �
 callable_declare m arguments None = NoFunction
 callable_declare m arguments (Some declared) = callable m arguments declared declared.runtime
 
--- the same of a defined function, if there is one: it takes so many arguments, and its name is none of the runtime's
+-- the same of a defined function, if there is one: it takes this number of arguments, and its name is none of the runtime's
 abbrev pub callable_function : Module → (callee arguments number : ℕ) → Option Function → Callee
 callable_function m callee arguments number None = NoFunction
 callable_function m callee arguments number (Some function) =
     if (arguments == length function.parameters) && not (names_runtime (slice_get m.symbols callee)) then OfModule number else NoFunction
 
--- the same of what a name stands for
+-- the same by what a name is
 abbrev pub callable_sort : Module → (callee arguments : ℕ) → Option SymbolSort → Callee
 callable_sort m callee arguments None = NoFunction
 callable_sort m callee arguments (Some Unknown) = NoFunction
@@ -82,6 +82,6 @@ callable_sort m callee arguments (Some (Global g)) = NoFunction
 callable_sort m callee arguments (Some (Declared d)) = callable_declare m arguments (slice_get m.declares d)
 callable_sort m callee arguments (Some (Defined f)) = callable_function m callee arguments f (slice_get m.functions f)
 
--- the function that a call with so many arguments is of
+-- the function that a call with this number of arguments is of
 abbrev pub callee_of : Module → (callee arguments : ℕ) → Callee
 callee_of m callee arguments = callable_sort m callee arguments (slice_get m.sorts callee)

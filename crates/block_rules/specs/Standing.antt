@@ -1,4 +1,4 @@
--- Where an instruction stands: in the entry block, in its head, and whether its function may move references; and what its function's certificate says.
+-- Where an instruction is: in the entry block, in its head, and whether its function may move references; and what its function's certificate says.
 use Rattle.std.specs.Prelude.{ℕ, ◌==◌, Bool, true, false, not, ◌&&◌, ◌||◌, List, [], ◌∷◌, length, slice_get, nat_lt, Option, Some, None, is_some}
 use Rattle.std.specs.List.{list_any, take_while}
 use Rattle.std.specs.Str.{bytes_eq}
@@ -81,7 +81,7 @@ function_moves m f =
 abbrev pub shadow_stack_text : List ℕ
 shadow_stack_text = 115 ∷ 104 ∷ 97 ∷ 100 ∷ 111 ∷ 119 ∷ 45 ∷ 115 ∷ 116 ∷ 97 ∷ 99 ∷ 107 ∷ []
 
--- the text behind `gc` names it
+-- the text after `gc` names it
 abbrev pub is_shadow_stack : Option (List ℕ) → Bool
 is_shadow_stack None = false
 is_shadow_stack (Some text) = bytes_eq text shadow_stack_text
@@ -103,11 +103,11 @@ instructions_of f block = block_instructions (slice_get f.blocks block)
 abbrev pub head_in : Module → Function → SlotTable → (block : ℕ) → ℕ
 head_in m f slots block = elim (block == 0) [ true ↦ head_of m f slots (instructions_of f block) | false ↦ 0 ]
 
--- whether the first instruction of a block may stand there: the entry's names a missing shadow stack
+-- whether the first instruction of a block may be there: that of the entry may not where a shadow stack is missing
 abbrev pub begins_collected : Module → Function → (block : ℕ) → Bool
 begins_collected m f block = not (block == 0) || keeps_shadow_stack m f
 
--- where the instruction at a place of a block stands, in a function of whose result this is promised, and which is marked so
+-- where the instruction at a place of a block is, in a function of whose result this is promised, and which is marked so
 abbrev pub standing : Module → Function → SlotTable → (promised : Option Promise) → Mark → (block place : ℕ) → Standing
 standing m f slots promised mark block place = record {
   in_entry = block == 0;

@@ -64,7 +64,7 @@ is_void AnyReference = false
 is_void Address = false
 is_void Other = false
 
--- an integer of so many bits
+-- an integer of n bits
 abbrev pub is_bits : ℕ → TypeKind → Bool
 is_bits n NoValue = false
 is_bits n (Bits bits) = bits == n

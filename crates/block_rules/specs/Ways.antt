@@ -1,4 +1,4 @@
--- The ways out of a block: where they lead, what they show, and which lines of their targets are not shown.
+-- The edges out of a block: where they lead, what they show, and which lines of their targets are not shown.
 use Rattle.std.specs.Prelude.{ℕ, ◌==◌, Bool, true, false, not, ◌&&◌, ◌||◌, if◌then◌else◌, List, [], ◌∷◌, ◌++◌, map, length, position, slice_get, Option, Some, None}
 use Rattle.std.specs.List.{list_all, list_any, range_with_len}
 use Rattle.ir_ast.specs.declared.function.Function.{Function}
@@ -67,30 +67,30 @@ line_facts s block = facts_of_lines s.slots (length s.function.locals) (length s
 abbrev pub given_at : Scene → (block : ℕ) → FactSet
 given_at s block = elim (block == 0) [ true ↦ entry_facts s | false ↦ line_facts s block ]
 
--- ---- the ways out
+-- ---- the edges out of a block
 
--- a way out: the label of its target, and the value that decides it, if a value does, with what it is on this way
+-- an edge out of a block: the label of its target, and the value that decides it, if a value does, with what it is on this edge
 pub record Way : Type 0 where
   pub target : ℕ
   pub decided : Option (ℕ × Bool)
 
--- a way that no value decides
+-- an edge that no value decides
 abbrev pub open_way : (target : ℕ) → Way
 open_way target = record { target = target; decided = None }
 
--- the ways of a branch on an operand
+-- the edges of a branch on an operand
 abbrev pub branch_ways : Operand → (taken other : ℕ) → List Way
 branch_ways (Local c) taken other = record { target = taken; decided = Some (c, true) } ∷ record { target = other; decided = Some (c, false) } ∷ []
 branch_ways _ taken other = open_way taken ∷ open_way other ∷ []
 
--- the ways out that an instruction has, in the order in which it names them
+-- the edges that an instruction has, in the order in which it names them
 abbrev pub ways : Op → List Way
 ways (Jump target) = open_way target ∷ []
 ways (Branch condition_type condition taken other) = branch_ways condition taken other
 ways (Switch written value otherwise cases) = open_way otherwise ∷ map (λ case. open_way case.target) cases
 ways _ = []
 
--- what a way shows by what decides it
+-- what an edge shows by what decides it
 abbrev pub decided_facts : Option (ℕ × Bool) → FactSet → FactSet
 decided_facts None facts = facts
 decided_facts (Some (c, taken)) facts = learn_test (test_at facts.tests c) taken facts
@@ -144,7 +144,7 @@ abbrev pub comes_in : Module → Function → (from : ℕ) → FactSet → List 
 comes_in m f from facts [] = []
 comes_in m f from facts (instr ∷ instrs) = if is_phi instr.op then named_comes_in m f from facts instr.result instr.op ++ comes_in m f from facts instrs else []
 
--- what is known behind the phis of a block that is entered from another
+-- what is known after the phis of a block that is entered from another
 abbrev pub entered : Scene → (from to : ℕ) → FactSet → FactSet
 entered s from to facts = after_phis (comes_in s.program.of_module s.function from facts (instructions_of s.function to)) facts
 
@@ -159,7 +159,7 @@ abbrev pub unshown_at : Scene → (from : ℕ) → FactSet → (to : Option ℕ)
 unshown_at s from facts None = None
 unshown_at s from facts (Some to) = elim (unshown_line s to (entered s from to facts)) [ None ↦ None | Some line ↦ Some (record { target = to; line = line }) ]
 
--- the first of some ways on which a line is not shown
+-- the first line that is not shown, on the first of some edges where one is not
 abbrev pub unshown_on : Scene → (from : ℕ) → FactSet → List Way → Option Detail
 unshown_on s from facts [] = None
 unshown_on s from facts (way ∷ ways) =
@@ -175,7 +175,7 @@ instruction_leads f to instr = list_any (λ way. is_number to (target_of f way.t
 abbrev pub is_predecessor : Function → (to from : ℕ) → Bool
 is_predecessor f to from = list_any (instruction_leads f to) (instructions_of f from)
 
--- a block that there is is entered from it
+-- a block that exists is entered from it
 abbrev pub precedes : Function → (to : ℕ) → (from : Option ℕ) → Bool
 precedes f to None = false
 precedes f to (Some from) = is_predecessor f to from

@@ -164,7 +164,7 @@ pub fn read_refusal(
     ])
 }
 
-/// Goes on behind a call of gcread.
+/// Goes on to the facts after a call of gcread.
 pub fn after_read_call(
     scene: &Scene,
     facts: &mut Facts,
@@ -263,7 +263,7 @@ pub fn write_refusal(
     ])
 }
 
-/// Goes on behind a call of gcwrite.
+/// Goes on to the facts after a call of gcwrite.
 pub fn after_write(facts: &mut Facts, arguments: &[Argument])
     ensures { facts.new ≡ after_write arguments.now facts.old }
 {

@@ -13,7 +13,7 @@ pub struct Detail {
     pub line: usize,
 }
 
-/// What an instruction breaks: a rule, and for a fact that an edge does not show where that one stands.
+/// What an instruction breaks: a rule, and for a fact that an edge does not show where that one is.
 #[derive(Clone, Copy, PartialEq, Eq)]
 pub struct Breach {
     pub rule: Rule,

@@ -414,7 +414,7 @@ fn after_defined(
     receive_result(module, facts, defined, returned, promised_in(section))
 }
 
-/// Goes on behind a call.
+/// Goes on to the facts after a call.
 pub fn after_call(
     scene: &Scene,
     facts: &mut Facts,

@@ -72,7 +72,7 @@ fn casts_global(module: &Module, to: TypeId, symbol: SymbolId) -> bool
     }
 }
 
-/// Whether an operand stands under a type of its layout.
+/// Whether an operand is used at a type of its layout.
 pub fn casts_operand(module: &Module, operand: &Operand) -> bool
     ensures { result ≡ casts_operand «module».now operand.now }
 {
@@ -201,7 +201,7 @@ fn cast_local(
     }
 }
 
-/// Goes on behind a bitcast.
+/// Goes on to the facts after a bitcast.
 pub fn after_cast(
     scene: &Scene,
     facts: &mut Facts,

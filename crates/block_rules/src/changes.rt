@@ -17,7 +17,7 @@ use facts::Facts;
 use ir_ast::{Instr, Op, ValueId};
 use std::alloc::AllocError;
 
-/// Goes on to what is known behind an instruction. Where memory is refused the facts are of no more use.
+/// Goes on to what is known after an instruction. Where memory is refused the facts are of no more use.
 pub fn advance(scene: &Scene, facts: &mut Facts, instr: &Instr) -> Result<(), AllocError>
     ensures { OnOk result (facts.new ≡ after scene.now.program.now scene.now.certs.now scene.now.slots.now facts.old instr.now) }
 {
@@ -84,7 +84,7 @@ fn advance_named(scene: &Scene, facts: &mut Facts, v: ValueId, op: &Op) -> Resul
     }
 }
 
-/// The same behind an instruction that does not make its value of others.
+/// The same for an instruction that does not make its value of others.
 fn advance_place(scene: &Scene, facts: &mut Facts, v: ValueId, op: &Op) -> Result<(), AllocError>
     ensures { makes_value op.now ≡ false → OnOk result (facts.new ≡ after_named scene.now.program.now scene.now.slots.now v op.now facts.old) }
 {

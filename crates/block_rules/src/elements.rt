@@ -320,7 +320,7 @@ fn define_element(
     }
 }
 
-/// Goes on behind a getelementptr.
+/// Goes on to the facts after a getelementptr.
 pub fn after_element(
     scene: &Scene,
     facts: &mut Facts,

@@ -10,7 +10,7 @@ use ir_ast::{Arithmetic, Comparison, Operand, Resize, ValueId};
 use pools::LayoutId;
 use std::alloc::AllocError;
 
-/// The number behind this one, which it is below; 2 to the 64 is no bound.
+/// The number after this one, which it is below; 2 to the 64 is no bound.
 pub fn below_next(number: u64) -> Option<u64>
     ensures { result ≡ below_next number }
 {
@@ -147,7 +147,7 @@ pub fn may_compare(comparison: Comparison, kind: TypeKind) -> bool
     }
 }
 
-/// Goes on behind a comparison.
+/// Goes on to the facts after a comparison.
 pub fn after_compare(
     facts: &mut Facts,
     v: ValueId,
@@ -265,7 +265,7 @@ fn choose_reference(
     define_held(facts, v, layout, chosen_nonnull && other_nonnull)
 }
 
-/// Goes on behind a choice.
+/// Goes on to the facts after a choice.
 pub fn after_select(
     facts: &mut Facts,
     v: ValueId,

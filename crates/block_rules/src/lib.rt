@@ -1,4 +1,4 @@
-//! The rules: what an instruction has to keep by what is known before it, what is known after it, and when a block is certified.
+//! The rules: what an instruction has to satisfy by what is known before it, what is known after it, and when a block is certified.
 #![tactic(auto)]
 
 mod barrier;

@@ -400,7 +400,7 @@ fn load_word(
     }
 }
 
-/// Goes on behind a load of this kind from what is known of a place.
+/// Goes on to the facts after a load of this kind from what is known of a place.
 pub fn load_known(
     program: &Program,
     facts: &mut Facts,
@@ -422,7 +422,7 @@ pub fn load_known(
     }
 }
 
-/// Goes on behind a load.
+/// Goes on to the facts after a load.
 pub fn after_load(
     scene: &Scene,
     facts: &mut Facts,
@@ -451,7 +451,7 @@ pub fn publish(facts: &mut Facts, value: &Operand)
     }
 }
 
-/// Goes on behind a store.
+/// Goes on to the facts after a store.
 pub fn after_store(
     facts: &mut Facts,
     value: &Operand,

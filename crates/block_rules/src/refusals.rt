@@ -27,7 +27,7 @@ use facts::Facts;
 use ir_ast::{Argument, Case, Comparison, Incoming, Instr, Op, Operand, Resize, TypeId, ValueId};
 use shadow_stack::Slots;
 
-/// The rule that an instruction breaks, if it breaks one; the ways in and out of a block are looked at elsewhere.
+/// The rule that an instruction breaks, if it breaks one; the edges in and out of a block are checked elsewhere.
 pub fn refusal(scene: &Scene, here: Standing, facts: &Facts, instr: &Instr) -> Option<Rule>
     ensures { result ≡ first_failing (conditions scene.now.program.now scene.now.certs.now scene.now.function.now scene.now.slots.now here facts.now instr.now) }
 {

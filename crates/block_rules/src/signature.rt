@@ -98,7 +98,7 @@ fn are_arguments_of(module: &Module, arguments: &[Argument], parameters: &[Runti
     ))
 }
 
-/// The function that a call with so many arguments is of.
+/// The function that a call with this number of arguments is of.
 pub fn callee_of(module: &Module, callee: SymbolId, arguments: usize) -> Callee
     ensures { result ≡ callee_of «module».now callee arguments }
 {

@@ -1,10 +1,10 @@
 use certs::{Mark, Promise};
 
-/// Where an instruction stands.
+/// Where an instruction is.
 #[derive(Clone, Copy, PartialEq, Eq)]
 pub struct Standing {
     pub in_entry: bool,
-    /// In the head of the entry block, where gcroot stands.
+    /// In the head of the entry block, where gcroot is allowed.
     pub in_head: bool,
     /// Not the first instruction of a function that moves references without a shadow stack.
     pub collected: bool,

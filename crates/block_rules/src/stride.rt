@@ -1,4 +1,4 @@
-/// What an index leads past: so many words for each of the numbers that it may be.
+/// What an index leads past: `size` words for each of the numbers that it may be.
 #[derive(Clone, Copy, PartialEq, Eq)]
 pub struct Stride {
     pub size: u32,

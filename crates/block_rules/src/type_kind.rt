@@ -11,7 +11,7 @@ use types::pointee;
 pub enum TypeKind {
     /// `void`: no value.
     NoValue,
-    /// An integer of so many bits.
+    /// An integer of this number of bits.
     Bits(u32),
     /// A pointer to a named struct: a reference to a cell of its layout.
     Reference(LayoutId),
@@ -51,7 +51,7 @@ impl TypeKind {
         matches!(self, TypeKind::NoValue)
     }
 
-    /// Whether it is an integer of so many bits.
+    /// Whether it is an integer of this number of bits.
     pub fn is_bits(self, number: u32) -> bool
         ensures { result ≡ is_bits number self }
     {

@@ -3,7 +3,7 @@ use pools::LayoutId;
 /// What a word has to hold.
 #[derive(Clone, Copy, PartialEq, Eq)]
 pub enum Wanted {
-    /// Integers of so many bits.
+    /// Integers of this number of bits.
     Integer(u32),
     /// References to this layout.
     Reference(LayoutId),

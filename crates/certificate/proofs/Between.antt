@@ -30,7 +30,7 @@ got_set [] i x y e = absurd cc
 got_set (z ∷ xs) zero x y e = refl
 got_set (z ∷ xs) (suc i) x y e = got_set xs i x y e
 
--- what stands at a place behind a write: what is written, or what was there
+-- what is at a place after a write: what is written, or what was there
 got_cases : {A : Type 0} (xs : List A) (i j : ℕ) (y : A) → ((i ≡ j) × (slice_get (slice_set xs i y) j ≡ Some y)) ⊎ (slice_get (slice_set xs i y) j ≡ slice_get xs j)
 got_cases [] i j y = inr refl
 got_cases (x ∷ xs) zero zero y = inl (refl, refl)
@@ -138,7 +138,7 @@ wanted_in b values (w ∷ wanted) v e h =
 
 -- ---- a section between its blocks
 
--- what is read of a section, apart from the lines of the block at hand, fits; the blocks that list values and slots have had their lines, but this one
+-- what is read of a section fits, apart from the lines of the block at hand; each other block that lists values or slots has had its lines
 pub record Fitting (m : Module) (f : Function) (IsNow : ℕ → Type 0) (d : Draft) : Type 0 where
   pub roots : d.roots ≡ root_names m f
   pub promises : parameters_fit m f d.parameters ≡ true

@@ -1,4 +1,4 @@
--- Words behind commas are words with commas between, behind one comma.
+-- Words that each come after a comma are words with commas between, after one comma.
 use Rattle.std.proofs.Common.{◌≡◌, ℕ, Bool, true, false, cond, List, [], ◌∷◌, ◌++◌, drop, map, refl, ap, sym, ◌+◌, ◌∙◌, arith}
 use Rattle.std.specs.Prelude.{filter}
 use Rattle.std.specs.List.{flat_map, join_by, range_with_len}
@@ -9,7 +9,7 @@ use Rattle.std.specs.Fmt.{decimal}
 use Rattle.pools.specs.WordSets.{has_word}
 use Rattle.certificate.specs.Print.{word_if, listed_word, words_text}
 
--- each word behind a comma
+-- each word after a comma
 abbrev behind_commas : List ℕ → List ℕ
 behind_commas = flat_map (λ word. (44 ∷ []) ++ decimal word)
 

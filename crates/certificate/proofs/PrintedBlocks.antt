@@ -139,13 +139,13 @@ lined_named block n (line.Slot slot nonnull holds) i e =
 
 -- ---- lines
 
--- the text goes on with a word that ends the lines of a block
+-- the text continues with a word that ends the lines of a block
 abbrev pub EndsLines : Text → Type 0
 EndsLines t = ((bytes_eq (word_at t) (codes "block") || bytes_eq (word_at t) (codes "end")) ≡ true) × (past_lines false t ≡ t)
 
 -- ---- what is read, with what is known then
 
--- lines that stand there
+-- lines that are the next text
 pub record LinesOn (m : Module) (f : Function) (i : Input) (block : ℕ) (lines : List Line) (t : Text) : Type 0 where
   pub out : Input
   pub count : List (Unit {0})
@@ -155,7 +155,7 @@ pub record LinesOn (m : Module) (f : Function) (i : Input) (block : ℕ) (lines 
   pub lines_are : out.draft.lines ≡ i.draft.lines ++ lines
   pub rest : SameRest i out
 
--- a block that stands there
+-- a block that is the next text
 pub record BlockOn (m : Module) (f : Function) (i : Input) (number : ℕ) (b : Block) (lines : List Line) (t : Text) : Type 0 where
   pub out : Input
   pub read : (text.block m f).says (at i (block_text m f b lines ++ t)) tt (at out t)
@@ -164,7 +164,7 @@ pub record BlockOn (m : Module) (f : Function) (i : Input) (number : ℕ) (b : B
   pub blocks : out.draft.blocks ≡ slice_set i.draft.blocks number lines
   pub given : out.draft.given ≡ slice_set i.draft.given number true
 
--- a line and those behind it
+-- a line and those after it
 one_text : (m : Module) (f : Function) (l : Line) (lines : List Line) (t : Text) → lines_text m f (l ∷ lines) ++ t ≡ line_text m f l ++ (10 ∷ (lines_text m f lines ++ t))
 one_text m f l lines t = append_assoc (line_text m f l ++ 10 ∷ []) (lines_text m f lines) t ∙ append_assoc (line_text m f l) (10 ∷ []) (lines_text m f lines ++ t)
 

@@ -61,11 +61,11 @@ all_end (false ∷ xs) e = absurd cc
 
 -- ---- the blocks of a section
 
--- the text goes on with the section's end
+-- the text continues with the section's end
 abbrev EndsBlocks : Text → Type 0
 EndsBlocks t = (word_at t ≡ codes "end") × (past_lines false t ≡ t)
 
--- blocks that stand there
+-- blocks that are the next text
 record BlocksOn (m : Module) (f : Function) (i : Input) (bs : List Block) (lists : List (List Line)) (done : List (List Line)) (t : Text) : Type 0 where
   pub out : Input
   pub count : List (Unit {0})
@@ -76,7 +76,7 @@ record BlocksOn (m : Module) (f : Function) (i : Input) (bs : List Block) (lists
   pub blocks : out.draft.blocks ≡ done ++ lists
   pub given : list_all (λ b. b) out.draft.given ≡ true
 
--- promises of parameters that stand there
+-- promises of parameters that are the next text
 record ParametersOn (m : Module) (f : Function) (i : Input) (ps : List Parameter) (promises done : List (Option Promise)) (t : Text) : Type 0 where
   pub out : Input
   pub count : List (Unit {0})
@@ -88,7 +88,7 @@ record ParametersOn (m : Module) (f : Function) (i : Input) (ps : List Parameter
   pub given : i.draft.given ≡ out.draft.given
 
 module _ (m : Module) (f : Function) (named : IsNamed m) (own : IsNamedFunction f) where
-  -- what stands behind a block ends its lines
+  -- what follows a block ends its lines
   block_ends : (bs : List Block) (lists : List (List Line)) (t : Text) → EndsBlocks t → EndsLines (blocks_text m f bs lists ++ t)
   block_ends [] lists t ends = (ap (λ x. bytes_eq x (codes "block") || bytes_eq x (codes "end")) ends.0, ends.1)
   block_ends (b ∷ bs) [] t ends = (ap (λ x. bytes_eq x (codes "block") || bytes_eq x (codes "end")) ends.0, ends.1)
@@ -254,7 +254,7 @@ module _ (m : Module) (f : Function) (named : IsNamed m) (own : IsNamedFunction 
   all_blocks_on (b ∷ bs) ([] ∷ lists) i t are len entry fits blocks given between ends =
       ([] ∷ [], blocks_on_from bs lists 1 i t ([] ∷ []) (true ∷ []) (λ k. (let e : 1 + k ≡ suc k = omega arith in ap (slice_get f.blocks) e ∙ ap (λ x. slice_get x (suc k)) are)) (omega arith) fits refl blocks refl refl given between ends, refl)
 
-  -- a section that stands there
+  -- a section that is the next text
   section_on : (n : ℕ) (section : Section) (i : Input) (t : Text) → slice_get m.functions n ≡ Some f → slice_get i.sections n ≡ Some None → section_fits m f section ≡ true → past_lines false t ≡ t
       → (o : Input) × (text.section m).says (at i (section_text m f section ++ t)) tt (at o t) × (o.sections ≡ slice_set i.sections n (whole_kept section))
   unfolding text.section text.section_behind text.section_of text.body text.parameters text.blocks begin begun new_function marked with_section

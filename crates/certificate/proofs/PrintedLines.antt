@@ -42,11 +42,11 @@ use Rattle.certs.specs.declared.section.Line.TheVariants as line
 
 -- ---- one word
 
--- so much of the text is left
+-- this text is left
 abbrev pub at : Input → Text → Input
 at i text = record i { rest = text }
 
--- behind a word stands this
+-- after a word comes this
 abbrev pub Behind : (t u : Text) → Type 0
 Behind t u = (stops t ≡ true) × (past_blanks t ≡ u)
 
@@ -87,11 +87,11 @@ pub flag_no : (i : Input) (wanted w t : Text) → word_at t ≡ w → bytes_eq w
 unfolding flag
 flag_no i wanted w t e differ = subst (λ x. (flag_by x).says (at i t) false (at i t)) (sym (ap (λ x. bytes_eq x wanted) e ∙ differ)) (refl, refl)
 
--- no word stands where a line ends
+-- there is no word where a line ends
 pub no_word : (t : Text) → word_at (10 ∷ t) ≡ []
 no_word t = word_on [] (10 ∷ t) refl refl
 
--- ---- what may stand behind
+-- ---- what may follow
 
 below_on : (i : Input) (n : Option ℕ) (t : Text) → below_fits n ≡ true → below.says (at i (past_blanks (below_text n ++ 10 ∷ t))) n (at i (10 ∷ t))
 unfolding below
@@ -133,7 +133,7 @@ module _ (m : Module) (f : Function) (named : IsNamed m) (own : IsNamedFunction 
       subst (λ x. (listed_by x).says here value (at now u)) (sym (ap (value_of_word f) (word_is i w t u p.1 b) ∙ p.0))
       (tt, at now u, (tt, at now (w ++ t), (refl, refl), skip_on now w t u p.1 b), (refl, refl))
 
-  -- a word with a value behind it, where there is one, and the line's end
+  -- a word with a value after it, where there is one, and the line's end
   optional_on : (i : Input) (wanted : Text) (value : Option ℕ) (t : Text) → is_word wanted ≡ true → bytes_eq [] wanted ≡ false → IsValue f value
       → (n : ℕ) × (listed_behind f wanted).says (at i (past_blanks (value_text f (32 ∷ (wanted ++ 32 ∷ [])) value ++ 10 ∷ t))) value (at (noting value n i) (10 ∷ t))
   unfolding listed_behind
@@ -162,7 +162,7 @@ module _ (m : Module) (f : Function) (named : IsNamed m) (own : IsNamedFunction 
 
   -- ---- facts of references
 
-  -- what stands behind the age
+  -- what follows the age
   abbrev same_end : Option ℕ → Text → Text
   same_end same t = value_text f (codes " same ") same ++ 10 ∷ t
 
@@ -216,7 +216,7 @@ module _ (m : Module) (f : Function) (named : IsNamed m) (own : IsNamedFunction 
 
   -- ---- facts
 
-  -- a fact behind its value's name, and the line's end
+  -- a fact after its value's name, and the line's end
   abbrev FactOn : Input → Family → Fact → Text → Type 0
   FactOn i family fact t = (stops (fact_text m f fact ++ 10 ∷ t) ≡ true) × (n : ℕ) × (fact_of m f family).says (at i (past_blanks (fact_text m f fact ++ 10 ∷ t))) fact (at (noting (named_in_fact fact) n i) (10 ∷ t))
 
@@ -504,7 +504,7 @@ module _ (m : Module) (f : Function) (named : IsNamed m) (own : IsNamedFunction 
       null true = flag_yes i (codes "nonnull") (holds_end holds t) (past_blanks (holds_end holds t)) refl ((holds_first holds t).1, refl)
       null false = flag_no i (codes "nonnull") (holds_word holds) (past_blanks (holds_end holds t)) (holds_first holds t).0 (holds_first holds t).2
 
-  -- a value of which something may be said is a value
+  -- a value of which a fact may be given is a value
   pub value_is : (value : ℕ) (said : Fact) → fact_fits m (family_of_value m f value) said ≡ true → is_value f value ≡ true
   value_is value said e = by (slice_get f.sorts value) refl e
     where

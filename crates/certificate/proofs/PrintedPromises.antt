@@ -75,7 +75,7 @@ module _ (m : Module) (f : Function) (named : IsNamed m) (own : IsNamedFunction 
       subst (λ x. (promise_by m family no_promise x).says (at i (codes "below" ++ 32 ∷ end)) q (at i (10 ∷ t))) (sym kind)
       (n, at i (10 ∷ t), (tt, at i end, skip_on i (codes "below") (32 ∷ end) end refl behind, count_on i n (10 ∷ t) (10 ∷ t) fits (refl, refl)), (refl, refl))
 
-  -- a word stands where `nonnull` does, so that the line goes on
+  -- the word is `nonnull`, so that the line goes on
   null_more : (i : Input) (family : Family) (layout : Option ℕ) (t : Text) → is_reference family ≡ true
       → (more_facts m family (record { layout = layout; nonnull = false; below = None })).says (at i (codes "nonnull" ++ 10 ∷ t)) (record { layout = layout; nonnull = true; below = None }) (at i (10 ∷ t))
   unfolding more_facts

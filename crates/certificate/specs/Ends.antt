@@ -35,7 +35,7 @@ skip_takes : TakesWhere (λ i. 0 < length (word i)) skip
 unfolding skip
 skip_takes = step_takes Found (λ i. 0 < length (word i)) (λ _. tt) after after_falls word_takes
 
--- so it does where it stands for a value
+-- so it does where it means a value
 taken_takes : {A : Type 0} (a : A) → TakesWhere (λ i. 0 < length (word i)) (taken a)
 taken_takes a = first_takes_where (λ i. 0 < length (word i)) skip (λ _. pure a) skip_takes
 

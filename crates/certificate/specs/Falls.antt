@@ -1,4 +1,4 @@
--- What is left of the text never grows, and behind a word that has bytes it is shorter.
+-- What is left of the text never grows, and after a word that has bytes it is shorter.
 use Rattle.std.specs.Prelude.{◌≡◌, ℕ, ◌<◌, ◌≤◌, true, length, false, Option}
 use Rattle.std.proofs.Common.{arith}
 use Rattle.ir_tokens.specs.Bytes.{Text}
@@ -11,12 +11,12 @@ use Rattle.certs.specs.declared.section.Line.{Line}
 use Rattle.certs.specs.declared.section.Mark.{Mark}
 use Rattle.certs.specs.declared.section.Promise.{Promise}
 
--- no more is left behind a word and the blanks after it
+-- no more is left after a word and the blanks that follow it
 pub after_falls : (i : Input) → left (after i) ≤ left i
 unfolding after
 after_falls i = behind_word_falls i.rest
 
--- no more is left behind a line's end
+-- no more is left after a line's end
 pub next_line_falls : (i : Input) → left (next_line i) ≤ left i
 unfolding next_line
 next_line_falls i = past_lines_len false i.rest
@@ -65,12 +65,12 @@ emptied_falls i = omega arith
 pub same_falls : (i : Input) → left i ≤ left i
 same_falls i = omega arith
 
--- less is left behind this word, which has bytes
+-- less is left after this word, which has bytes
 pub after_takes : (wanted : Text) → 0 < length wanted → (i : Input) → begins wanted i ≡ true → left (after i) < left i
 unfolding after
 after_takes wanted some i e = wanted_takes wanted some i.rest e
 
--- behind a word that has bytes less is left
+-- after a word that has bytes less is left
 pub word_takes : (i : Input) → 0 < length (word i) → left (after i) < left i
 unfolding after
 word_takes i some = words.word_takes i.rest some

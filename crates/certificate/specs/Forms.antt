@@ -28,7 +28,7 @@ use Rattle.certificate.specs.declared.found.Found.TheVariants.{Syntax, UnknownNa
 
 -- ---- words and lines
 
--- no form goes on with the next word
+-- no form continues with the next word
 abbrev pub syntax : {A : Type 0} → Form A
 syntax = refuse (λ i. Syntax (left i))
 
@@ -44,16 +44,16 @@ twice = refuse (λ i. ListedTwice (left i))
 unfoldable pub skip : Form (Unit {0})
 skip = step (λ _. tt) after after_falls
 
--- the next word, which stands for this value
+-- the next word, which means this value
 abbrev pub taken : {A : Type 0} → A → Form A
 taken a = skip >> pure a
 
--- the next word, if it may stand there
+-- the next word, if it is allowed there
 abbrev pub taken_if : {A : Type 0} → Bool → A → Form A
 taken_if true a = taken a
 taken_if false a = syntax
 
--- the next word, if it stands for some value
+-- the next word, if it means some value
 abbrev pub taken_as : {A : Type 0} → Option A → Form A
 taken_as None = syntax
 taken_as (Some a) = taken a
@@ -66,7 +66,7 @@ expect wanted = checked (begins wanted) (λ i. Syntax (left i)) >> skip
 unfoldable pub line_end : Form (Unit {0})
 line_end = checked line_ends (λ i. Syntax (left i)) >> step (λ _. tt) next_line next_line_falls
 
--- a word that stands there, or not
+-- the next word, if it is the one that is asked for, or nothing
 abbrev pub flag_by : Bool → Form Bool
 flag_by true = taken true
 flag_by false = pure false

@@ -53,7 +53,7 @@ word i = word_at i.rest
 abbrev pub begins : (wanted : Text) → Input → Bool
 begins wanted i = bytes_eq (word i) wanted
 
--- behind the next word and the blanks that follow it
+-- after the next word and the blanks that follow it
 unfoldable pub after : Input → Input
 after i = record i { rest = past_blanks (past_word false i.rest) }
 
@@ -61,7 +61,7 @@ after i = record i { rest = past_blanks (past_word false i.rest) }
 abbrev pub line_ends : Input → Bool
 line_ends i = is_nil i.rest || ends_line i.rest
 
--- behind the line's end, at the next word
+-- after the line's end, at the next word
 unfoldable pub next_line : Input → Input
 next_line i = record i { rest = past_lines false i.rest }
 
@@ -85,7 +85,7 @@ with_line block value line i = record i { draft = listing block value line i.dra
 unfoldable pub with_slot_line : (block slot : ℕ) → Line → Input → Input
 with_slot_line block slot line i = record i { draft = listing_slot block slot line i.draft }
 
--- behind the lines of this block
+-- after the lines of this block
 unfoldable pub with_block : (block : ℕ) → Input → Input
 with_block block i = record i { draft = block_ended block i.draft }
 
@@ -93,7 +93,7 @@ with_block block i = record i { draft = block_ended block i.draft }
 abbrev pub kept : Mark → (result : Option Promise) → Draft → Kept
 kept mark promise draft = record { section = record { mark = mark; parameters = draft.parameters; result = promise; blocks = draft.blocks }; missing = first_missing draft }
 
--- behind the section of this function
+-- after the section of this function
 unfoldable pub with_section : (function : ℕ) → Mark → (result : Option Promise) → Input → Input
 with_section function mark promise i = record i { sections = slice_set i.sections function (Some (kept mark promise i.draft)); draft = no_draft }
 

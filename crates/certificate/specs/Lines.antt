@@ -35,7 +35,7 @@ no_promise = record { layout = None; nonnull = false; below = None }
 abbrev pub fact_if : (given fits : Bool) → Promised → Promised
 fact_if given fits fact = if given then promised.Again else (if fits then fact else promised.Other)
 
--- what a word promises of such a value, behind what is promised so far
+-- what a word promises of such a value, after what is promised so far
 abbrev pub promised_by : Family → Promise → Bytes → Promised
 promised_by family promise word =
     if bytes_eq word (codes "ref") then fact_if (is_some promise.layout) (is_reference family) promised.Layout
@@ -86,7 +86,7 @@ head_by family word =
     if bytes_eq word (codes "ref") then (if is_reference family then head.Reference else head.Other)
     else (if bytes_eq word (codes "addr") then (if is_address family then head.Address else head.Other) else number_head (same_bits family (bits_of_word word)))
 
--- a number behind `below`, if the word stands there
+-- a number after `below`, if that is the next word
 abbrev pub below_by : Bool → Form (Option ℕ)
 below_by true = skip >> count >>= λ n. pure (Some n)
 below_by false = pure None
@@ -95,7 +95,7 @@ below_by false = pure None
 unfoldable pub below : Form (Option ℕ)
 below = look (begins (codes "below")) below_by
 
--- a value behind such a word, if the word stands there
+-- a value after such a word, if that is the next word
 abbrev pub listed_if : Function → Bool → Form (Option ℕ)
 listed_if f true = skip >> listed_name f >>= λ value. pure (Some value)
 listed_if f false = pure None
@@ -192,7 +192,7 @@ slot_end nonnull holds = checked (λ i. line_ends i || not (slot_has_word nonnul
 
 -- ---- lines
 
--- a line of a value behind the value's name
+-- a line of a value after the value's name
 abbrev pub value_behind : Module → Function → (block value : ℕ) → Form (Unit {0})
 value_behind m f block value = do
   fact ← fact_of m f (family_of_value m f value)
@@ -203,7 +203,7 @@ value_behind m f block value = do
 unfoldable pub value_line : Module → Function → (block : ℕ) → Form (Unit {0})
 value_line m f block = new_value f block >>= λ value. value_behind m f block value
 
--- a line of a slot behind its first word
+-- a line of a slot after its first word
 abbrev pub slot_behind : Function → (block : ℕ) → Form (Unit {0})
 slot_behind f block = do
   slot ← new_slot f block

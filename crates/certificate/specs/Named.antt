@@ -1,4 +1,4 @@
--- Modules whose names lead back to what they name.
+-- Modules in which each name is found as what it names.
 use Rattle.std.specs.Prelude.{◌≡◌, ℕ, ◌^◌, ◌<◌, true, List, length, slice_get, Some, is_some, ◌⊎◌}
 use Rattle.std.specs.List.{list_all}
 use Rattle.ir_ast.specs.LocalKeys.{key_of_name, key_of_digits}

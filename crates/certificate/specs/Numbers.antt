@@ -15,7 +15,7 @@ abbrev pub bits_of_word : Text → Option ℕ
 bits_of_word [] = None
 bits_of_word (byte ∷ digits) = if byte == 105 then number_of_word digits else None
 
--- one digit more behind the number that is read
+-- one digit more after the number that is read
 abbrev pub with_digit : Option ℕ → (digit : ℕ) → ℕ
 with_digit None digit = digit - 48
 with_digit (Some n) digit = 10 * n + (digit - 48)
@@ -25,7 +25,7 @@ abbrev pub closed : WordSet → Option ℕ → Option WordSet
 closed set None = None
 closed set (Some n) = Some (record { members = adds_word set.members n })
 
--- a comma stands behind each number but the last
+-- a comma comes after each number but the last
 abbrev pub words_behind : WordSet → (number : Option ℕ) → Text → Option WordSet
 words_behind set number [] = closed set number
 words_behind set number (byte ∷ bytes) =

@@ -25,7 +25,7 @@ use Rattle.certs.specs.declared.section.Section.{Section}
 
 -- ---- names
 
--- a name, in quotes where it is not plain; words stand apart by blanks, so it shows none
+-- a name, in quotes where it is not plain; words are separated by blanks, so it shows none
 abbrev pub name_text : Text → Text
 name_text = names.name_text blank.Escaped
 
@@ -47,7 +47,7 @@ layout_text = names.layout_text blank.Escaped
 
 -- ---- facts
 
--- a word that may stand there
+-- a word that may be there
 abbrev pub word_if : Bool → (word : Text) → Text
 word_if stands word = if stands then word else []
 
@@ -75,11 +75,11 @@ words_of set = filter (has_word set) (range_with_len 0 64)
 unfoldable pub words_text : List Bool → Text
 words_text set = join_by decimal (44 ∷ []) (words_of set)
 
--- a word behind a comma, if the set has it
+-- a word after a comma, if the set has it
 abbrev pub listed_word : List Bool → (word : ℕ) → Text
 listed_word set word = word_if (has_word set word) (44 ∷ decimal word)
 
--- what is said of a value
+-- the text of a value's fact
 abbrev pub fact_text : Module → Function → Fact → Text
 fact_text m f (fact.Number bits below) = codes " i" ++ decimal bits ++ below_text below
 fact_text m f (fact.Reference layout nonnull age same) = codes " ref " ++ layout_text m layout ++ word_if nonnull (codes " nonnull") ++ age_text age ++ value_text f (codes " same ") same

@@ -35,7 +35,7 @@ version = do
 
 -- ---- parameters and the result
 
--- what is promised of a parameter, behind its first word
+-- what is promised of a parameter, after its first word
 abbrev pub parameter_behind : Module → Function → Form (Unit {0})
 parameter_behind m f = do
   place ← new_parameter f
@@ -59,7 +59,7 @@ parameter_takes m f = first_takes (expect (codes "param")) (λ _. parameter_behi
 unfoldable pub parameters : Module → Function → Form (Unit {0})
 parameters m f = many past_parameters (parameter m f) (parameter_takes m f) >> pure tt
 
--- what is promised of the result, if its word stands there
+-- what is promised of the result, if its word is there
 abbrev pub result_by : Module → Function → Bool → Form (Option Promise)
 result_by m f true = skip >> promise m (family_of_type m f.returned) >>= λ promise. pure (Some promise)
 result_by m f false = pure None
@@ -87,7 +87,7 @@ listed_by (Some left) = refuse (λ _. UnknownName left)
 unfoldable pub all_listed : (block : ℕ) → Form (Unit {0})
 all_listed block = look (λ i. first_unlisted block i.draft.values i.draft.wanted) listed_by
 
--- a block behind its first word
+-- a block after its first word
 abbrev pub block_behind : Module → Function → Form (Unit {0})
 block_behind m f = do
   block ← new_block f
@@ -124,7 +124,7 @@ body m f = do
   blocks m f
   pure promise
 
--- a section behind its function's name
+-- a section after its function's name
 unfoldable pub section_of : Module → (function : ℕ) → Function → Form (Unit {0})
 section_of m function f = do
   mark ← marked
@@ -139,7 +139,7 @@ abbrev pub section_by : Module → (function : ℕ) → Option Function → Form
 section_by m function None = unknown
 section_by m function (Some f) = section_of m function f
 
--- a section behind its first word
+-- a section after its first word
 unfoldable pub section_behind : Module → Form (Unit {0})
 section_behind m = new_function m >>= λ function. section_by m function (slice_get m.functions function)
 

@@ -4,7 +4,7 @@ use thiserror::Error;
 /// The first fault of a certificate's text, with its place.
 #[derive(Clone, Copy, Debug, PartialEq, Eq, Error)]
 pub enum CertFault {
-    /// The fault C1: no form goes on with this word or line end.
+    /// The fault C1: no form continues with this word or line end.
     #[error("certificate syntax at {}:{}", .0.line, .0.column)]
     Syntax(Position),
     /// The fault C2.

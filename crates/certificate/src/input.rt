@@ -95,7 +95,7 @@ impl<'a> Input<'a> {
         &self.draft
     }
 
-    /// Goes on behind the next word.
+    /// Goes on after the next word.
     #[tactic(auto, unfolding(crate::specs::Input::after))]
     pub fn skip(&mut self)
         ensures { self.new ≡ spec.after self.old }
@@ -155,7 +155,7 @@ impl<'a> Input<'a> {
         Ok(())
     }
 
-    /// Promises this of the parameter at this place; where there is none it is left aside.
+    /// Promises this of the parameter at this place; where there is none it is ignored.
     #[tactic(auto, unfolding(crate::specs::Input::with_promise))]
     pub fn promise(&mut self, place: usize, promise: &Promise)
         ensures { self.new ≡ spec.with_promise place promise.now self.old }

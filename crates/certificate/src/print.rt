@@ -9,7 +9,7 @@ use name_text::{Blank, put_global, put_layout, put_local, put_number};
 use pools::WordSet;
 use std::alloc::{AllocError, Global};
 
-/// A word that may stand there.
+/// A word that may be there.
 pub(crate) fn put_if(out: &mut Vec<u8>, stands: bool, word: &[u8]) -> Result<(), AllocError>
     ensures { OnOk result (out.new.items ≡ out.old.items ++ spec.word_if stands word.now) }
 {
@@ -79,7 +79,7 @@ fn put_listed(
     put_number(alloc, out, word as u64)
 }
 
-/// The words of a set, each behind a comma.
+/// The words of a set, each after a comma.
 fn commas_and_words(alloc: Global, words: &WordSet) -> Result<Vec<u8>, AllocError>
     ensures { IfOk result (λ text. drop 1 text.items ≡ spec.words_text words.now.members) }
 {

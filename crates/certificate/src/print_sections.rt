@@ -214,7 +214,7 @@ fn put_sections(
 /// were given.
 pub fn print_cert(alloc: Global, certs: &Certs, module: &Module) -> Result<Vec<u8>, AllocError>
     ensures text { IfOk result (λ text. text.items ≡ spec.cert_text certs.now «module».now) }
-    // Of certificates that fit it is a text of them, where the module's names are bytes, printed below 2 to the 24 of them, and each leads back to what it names.
+    // It is a text of certificates that fit, where each of the module's names is of bytes, is printed in fewer than 2 to the 24 of them, and is found as what it names.
     ensures same { IsNamed «module».now → fits «module».now certs.now ≡ true → IfOk result (λ text. IsCert text.items «module».now certs.now) }
 {
     let mut out = Vec::new(alloc);

@@ -231,7 +231,7 @@ fn body(
     Ok(promised)
 }
 
-/// A section behind its function's name.
+/// A section after its function's name.
 #[tactic(auto, unfolding(crate::specs::Text::section_of))]
 fn section_of(
     alloc: Global,
@@ -265,7 +265,7 @@ fn section_of(
     Ok(())
 }
 
-/// A section behind its first word.
+/// A section after its first word.
 #[tactic(auto, unfolding(crate::specs::Text::section_behind))]
 fn section_behind(alloc: Global, input: &mut Input<'_>, module: &Module) -> Result<(), Found>
     ensures { Reads ((text.section_behind «module».now).read input.old) result input.new }

@@ -118,7 +118,7 @@ blocks_agree value (block ∷ blocks) d s within h =
 abbrev Apart : Draft → Type 0
 Apart d = ((i j slot : ℕ) → origin_at d.origins i ≡ origin.Slot slot → origin_at d.origins j ≡ origin.Slot slot → i ≡ j) × ((i slot : ℕ) → origin_at d.origins i ≡ origin.Slot slot → slot < length d.held)
 
--- what stands at a place behind a write: what is written, or what was there
+-- what is at a place after a write: what is written, or what was there
 set_cases : (os : List Origin) (name : ℕ) (o : Origin) (i : ℕ) → ((i ≡ name) × (origin_at (slice_set os name o) i ≡ o)) ⊎ (origin_at (slice_set os name o) i ≡ origin_at os i)
 set_cases [] name o i = inr refl
 set_cases (x ∷ os) zero o zero = inl (refl, refl)

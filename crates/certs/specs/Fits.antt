@@ -26,16 +26,16 @@ abbrev pub from_one : Option ℕ → Option ℕ
 from_one None = None
 from_one (Some n) = if n == 0 then None else Some n
 
--- a number that may stand behind `below`
+-- a number that may come after `below`
 abbrev pub is_count : ℕ → Bool
 is_count n = is_some (from_one (small n))
 
--- below such a number, if that is said
+-- below such a number, if a bound is given
 abbrev pub below_fits : Option ℕ → Bool
 below_fits None = true
 below_fits (Some n) = is_count n
 
--- a struct's name stands for this layout
+-- a struct's name names this layout
 abbrev pub stands_for : (layout : ℕ) → Option ℕ → Bool
 stands_for layout None = false
 stands_for layout (Some own) = own == layout
@@ -98,7 +98,7 @@ parameter_fits m f parameter promise = promised_fits m (family_of_value m f para
 
 -- ---- lines
 
--- a fact that may be said of such a value
+-- a fact that may be given of such a value
 abbrev pub fact_fits : Module → Family → Fact → Bool
 fact_fits m family (fact.Number bits below) = is_some (same_bits family (small bits)) && below_fits below
 fact_fits m family (fact.Reference layout nonnull age same) = layout_fits m family layout
@@ -119,7 +119,7 @@ is_value f value = is_value_sort (slice_get f.sorts value)
 abbrev pub is_root_name : Module → Function → (slot : ℕ) → Bool
 is_root_name m f slot = is_value f slot && unwrap_or (slice_get (root_names m f) slot) false
 
--- a line that may be said, wherever it stands
+-- a line that is allowed, wherever it is
 abbrev pub line_fits : Module → Function → Line → Bool
 line_fits m f (line.Value value fact) = fact_fits m (family_of_value m f value) fact
 line_fits m f (line.Slot slot nonnull holds) = is_root_name m f slot

@@ -32,18 +32,18 @@ abbrev pub source_of_operand : Operand → Source
 source_of_operand (Local value) = Same value
 source_of_operand _ = Nowhere
 
--- what a name is behind an instruction
+-- what a name is after an instruction
 abbrev pub source_noted : (value : ℕ) → (name : Option ℕ) → Op → Source → Source
 source_noted value name (Alloca held) source = if is_name value name then Held held else source
 source_noted value name (Bitcast from operand to) source = if is_name value name then source_of_operand operand else source
 source_noted value name _ source = source
 
--- what a name is behind instructions
+-- what a name is after instructions
 abbrev pub source_behind : (value : ℕ) → List Instr → Source → Source
 source_behind value [] source = source
 source_behind value (instr ∷ instrs) source = source_behind value instrs (source_noted value instr.result instr.op source)
 
--- what a name is behind blocks
+-- what a name is after blocks
 abbrev pub source_behind_blocks : (value : ℕ) → List Block → Source → Source
 source_behind_blocks value [] source = source
 source_behind_blocks value (block ∷ blocks) source = source_behind_blocks value blocks (source_behind value block.instructions source)
@@ -62,12 +62,12 @@ abbrev pub allocated_by : (value : ℕ) → Source → (ℕ → Option SlotName)
 allocated_by value (Same other) behind = behind other
 allocated_by value source behind = allocated_at value source
 
--- the alloca to which a name leads, with at most so many bitcasts
+-- the alloca to which a name leads, with at most this number of bitcasts
 unfoldable pub allocated_within : Function → ℕ → (value : ℕ) → Option SlotName
 allocated_within f zero value = allocated_at value (source_of f value)
 allocated_within f (suc n) value = allocated_by value (source_of f value) (λ other. allocated_within f n other)
 
--- the alloca to which a name leads: no chain of bitcasts is longer than there are names, but a ring
+-- the alloca to which a name leads: no chain of bitcasts is longer than there are names, unless it is a cycle
 abbrev pub allocated : Function → (value : ℕ) → Option SlotName
 allocated f value = allocated_within f (length f.locals) value
 

@@ -55,7 +55,7 @@ impl Certs {
     }
 
     /// Whether these are certificates of this module. It takes no memory: of each block the lines are compared with one
-    /// another, and for each slot the function's instructions are gone over once for each bitcast behind each gcroot call.
+    /// another, and for each slot the function's instructions are gone over once for each bitcast between an alloca and a gcroot call.
     pub fn fits(&self, module: &Module) -> bool
         ensures { result ≡ spec.fits «module».now self.now }
     {

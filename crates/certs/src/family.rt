@@ -8,10 +8,10 @@ use ir_ast::{BlockId, Function, IrType, LocalSort, Module, Op, TypeId, ValueId};
 use pools::LayoutId;
 use types::element_type;
 
-/// What a value is, and so what can be said of it.
+/// What a value is, and so which facts may be given of it.
 #[derive(Clone, Copy, PartialEq, Eq)]
 pub enum Family {
-    /// An integer of so many bits.
+    /// An integer of this number of bits.
     Number(u32),
     /// A reference to cells of one layout.
     Reference(LayoutId),

@@ -139,7 +139,7 @@ fn parameter_fits(
     promised_fits(module, &family, promise)
 }
 
-/// Whether a fact may be said of such a value.
+/// Whether a fact may be given of such a value.
 fn fact_fits(module: &Module, family: Family, fact: &Fact) -> bool
     ensures { result ≡ spec.fact_fits «module».now family fact.now }
 {
@@ -171,7 +171,7 @@ fn is_root_name(module: &Module, function: &Function, slot: ValueId) -> bool
     is_value(function, slot) && is_root_found(module, function, slot)
 }
 
-/// Whether a line may be said, wherever it stands.
+/// Whether a line is allowed, wherever it is.
 fn line_fits(module: &Module, function: &Function, line: &Line) -> bool
     ensures { result ≡ spec.line_fits «module».now function.now line.now }
 {

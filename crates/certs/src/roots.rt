@@ -41,7 +41,7 @@ fn source_of_operand(operand: &Operand) -> Source
     }
 }
 
-/// What a name is behind an instruction.
+/// What a name is after an instruction.
 fn source_noted(value: ValueId, instr: &Instr, source: Source) -> Source
     ensures { result ≡ spec.source_noted value instr.now.result instr.now.op source }
 {

@@ -22,7 +22,7 @@ pub struct Promise {
 /// Whether a reference was published, or has lost its cell.
 #[derive(Clone, Copy, PartialEq, Eq)]
 pub enum Age {
-    /// No word and no other name leads to its cell.
+    /// No word and no other name points to its cell.
     Fresh,
     Held,
     /// A safepoint came between.

@@ -9,12 +9,12 @@ use Rattle.commands.specs.declared.asked.Line.TheVariants.{Check, Replay, Soak}
 use Rattle.commands.specs.declared.asked.LineFault.{LineFault}
 use Rattle.commands.specs.declared.asked.LineFault.TheVariants.{Memory, Words}
 
--- whether the kind of error is want of memory
+-- whether the kind of error is out of memory
 abbrev pub is_memory_kind : ErrorKind → Bool
 is_memory_kind OutOfMemory = true
 is_memory_kind _ = false
 
--- want of memory, or the error with the text that `clap` has for it
+-- out of memory, or the error with the text that `clap` has for it
 abbrev pub fault_of_error : Error → LineFault
 fault_of_error error = if is_memory_kind (kind_of error) then Memory else Words error
 

@@ -67,12 +67,12 @@ pub data OfCheck (module_path cert_path : List ℕ) (first second : Option (List
 
 -- ---- replay and soak
 
--- what `replay` says of a program and its trace: what came of the trace, the first thread that may not begin, or want of memory
+-- what `replay` says of a program and its trace: the outcome of the trace, the first thread that may not begin, or out of memory
 pub data OfTrace (p : LaidOut) (t : Trace) : Said → Type 0 where
   came : (outcome : Outcome) → HasNoFault p t.setup → IsOutcome p t outcome → OfTrace p t (OnOutput (of_outcome outcome))
   not_begun : (fault : SetupFault) → (fault ≢ setup.Memory → IsSetupFault p t.setup fault) → OfTrace p t (OnError (of_setup_fault fault))
 
--- what `soak` says of them: what came of so many seeds with so many steps each
+-- what `soak` says of them: the outcome of `seeds` seeds with `steps` steps each
 pub data OfSeeds (seeds steps : ℕ) (p : LaidOut) (t : Trace) : Said → Type 0 where
   soaked : (outcome : SoakOutcome) → HasNoFault p t.setup → IsSoakOutcome p t.setup seeds steps outcome → OfSeeds seeds steps p t (OnOutput (of_soak seeds outcome))
   not_started : (fault : SetupFault) → (fault ≢ setup.Memory → IsSetupFault p t.setup fault) → OfSeeds seeds steps p t (OnError (of_setup_fault fault))

@@ -1,4 +1,4 @@
--- The files of a line, and what a module and a trace among them come to.
+-- The files of a line, and the module and the trace that are read from them.
 use Rattle.std.specs.Prelude.{◌≡◌, ◌≢◌, ◌⊎◌, ℕ, List, Option, None, Some, Vec, slice_get, option_and_then}
 use Rattle.std.specs.Global.{Global}
 use Rattle.std.specs.Option.{option_map}

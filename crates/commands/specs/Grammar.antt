@@ -47,7 +47,7 @@ dgc_app =
     with_subcommand (with_subcommand (with_subcommand (with_version_and_commands (new_app (codes "dgc"))) check_app.top)
     replay_app.top) soak_app.top
 
--- the number that a text of decimal digits writes, where it is below 2 to the 32; a plus may stand first
+-- the number that a text of decimal digits writes, where it is below 2 to the 32; a plus may come first
 abbrev pub number_in : Text → Option ℕ
 number_in text =
     let digits = without_leading_plus text in

@@ -1,4 +1,4 @@
--- The lines that the check's answers and the faults of its texts are printed as, and the status behind each.
+-- The lines that the check's verdicts and the faults of its texts are printed as, and the status that the program then ends with.
 use Rattle.std.specs.Prelude.{◌≡◌, ◌++◌, ℕ, List, [], ◌∷◌, Option, Some, None, slice_get, option_and_then, codes}
 use Rattle.std.specs.Fmt.{decimal}
 use Rattle.std.specs.Io.KnownBytes.{Appends}
@@ -47,7 +47,7 @@ found_key (Some key) = key_text key
 
 -- ---- answers
 
--- what is printed, and the status with which the program ends behind it
+-- what is printed, and the status with which the program ends after it
 pub record Answer : Type 0 where
   pub text : List ℕ
   pub status : ℕ
@@ -64,7 +64,7 @@ unread line = record { text = codes "error " ++ line ++ 10 ∷ []; status = 2 }
 abbrev pub fault_at : (code : List ℕ) → Position → Answer
 fault_at code at = unread (code ++ 32 ∷ decimal at.line ++ 58 ∷ decimal at.column)
 
--- want of memory
+-- out of memory
 abbrev pub no_memory : Answer
 no_memory = record { text = codes "error memory" ++ 10 ∷ []; status = 3 }
 
@@ -104,7 +104,7 @@ of_layout_fault m layout.Memory = no_memory
 
 -- ---- the check
 
--- a module is accepted that defines so many functions
+-- a module is accepted that defines this number of functions
 abbrev pub yes : (functions : ℕ) → Answer
 yes functions = record { text = codes "yes " ++ decimal functions ++ 10 ∷ []; status = 0 }
 
@@ -113,17 +113,17 @@ abbrev pub line_of : List Section → Module → (func : ℕ) → Option Detail 
 line_of certs m func None = []
 line_of certs m func (Some detail) = line_shown certs m func detail.target detail.line
 
--- the target of a way out and the line that is not shown on it, if there are any
+-- the target of an edge and the line that is not shown on it, if there are any
 abbrev pub detail_text : Module → (func : ℕ) → (line : List ℕ) → Option Detail → List ℕ
 detail_text m func line None = []
 detail_text m func line (Some detail) = codes " %" ++ found_key (name_of_block m func detail.target) ++ 32 ∷ line
 
--- where a refused instruction stands: its function, its block and its place there
+-- where a refused instruction is: its function, its block and its place there
 abbrev pub place_text : Module → Refusal → List ℕ
 place_text m refusal =
     codes "@" ++ found_name (name_of_function m refusal.func) ++ codes " %" ++ found_key (name_of_block m refusal.func refusal.block) ++ 32 ∷ decimal refusal.instr
 
--- an instruction is refused: where it stands and the rule that it breaks
+-- an instruction is refused: where it is and the rule that it breaks
 abbrev pub no : Module → (line : List ℕ) → Refusal → Answer
 no m line refusal = record {
   text = codes "no " ++ place_text m refusal ++ 32 ∷ rule_name refusal.rule ++ detail_text m refusal.func line refusal.detail ++ 10 ∷ [];

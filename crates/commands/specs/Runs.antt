@@ -1,4 +1,4 @@
--- The lines that what came of a trace or of many seeds is printed as, and the status behind each.
+-- The lines that the outcome of a trace or of many seeds is printed as, and the status that the program then ends with.
 use Rattle.std.specs.Prelude.{◌++◌, ℕ, List, [], ◌∷◌, Some, None, codes}
 use Rattle.std.specs.Fmt.{decimal}
 use Rattle.std.specs.List.{enumerate_from, flat_map}
@@ -45,7 +45,7 @@ abbrev pub actor_text : Actor → List ℕ
 actor_text (actor.Thread t) = codes "t " ++ decimal t
 actor_text actor.Collector = codes "c"
 
--- the first step behind which a run is broken
+-- the first step after which a run is broken
 abbrev pub break_text : Break → List ℕ
 break_text at = decimal at.step ++ 32 ∷ actor_text at.actor ++ 32 ∷ cause_name at.cause ++ 10 ∷ []
 
@@ -57,7 +57,7 @@ returned_text value.Null = codes " null"
 returned_text (value.Cell layout at) = codes " ref " ++ decimal at.cell
 returned_text (value.Address place) = []
 
--- where a thread stands
+-- where a thread is
 abbrev pub standing_text : ThreadEnd → List ℕ
 standing_text (thread.Returned None) = codes " returned"
 standing_text (thread.Returned (Some value)) = codes " returned" ++ returned_text value
@@ -72,11 +72,11 @@ end_text end = codes "t " ++ decimal end.0 ++ standing_text end.1 ++ 10 ∷ []
 abbrev pub counts_text : Report → List ℕ
 counts_text report = codes "claims " ++ decimal report.claims ++ codes " frees " ++ decimal report.frees ++ codes " posted " ++ decimal report.posted ++ 10 ∷ []
 
--- where the actors stand behind a run that no step broke: a line for the steps, one for each thread, and one for what was counted
+-- where the actors are after a run that no step broke: a line for the steps, one for each thread, and one for what was counted
 abbrev pub report_text : Report → List ℕ
 report_text report = codes "sound " ++ decimal report.steps ++ 10 ∷ [] ++ flat_map end_text (enumerate_from 0 report.threads) ++ counts_text report
 
--- what came of a trace: the status is 1 where its run is broken, 0 otherwise
+-- the outcome of a trace: the status is 1 where its run is broken, 0 otherwise
 abbrev pub of_outcome : Outcome → Answer
 of_outcome (outcome.Broken at) = record { text = codes "broken " ++ break_text at; status = 1 }
 of_outcome (outcome.Sound report) = record { text = report_text report; status = 0 }
@@ -85,7 +85,7 @@ of_outcome (outcome.Sound report) = record { text = report_text report; status =
 abbrev pub seed_text : SeedBreak → List ℕ
 seed_text at = codes "broken seed " ++ decimal at.seed ++ codes " " ++ break_text at.broken
 
--- what came of so many seeds
+-- the outcome of this number of seeds
 abbrev pub of_soak : (seeds : ℕ) → SoakOutcome → Answer
 of_soak seeds soak.Sound = record { text = codes "sound " ++ decimal seeds ++ codes " seeds" ++ 10 ∷ []; status = 0 }
 of_soak seeds (soak.Broken at) = record { text = seed_text at; status = 1 }

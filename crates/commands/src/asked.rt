@@ -20,7 +20,7 @@ pub enum Line<'a> {
         module_path: &'a str,
         trace_path: &'a str,
     },
-    /// From the start of a trace of a module, make so many steps by the schedule of each of so many seeds.
+    /// From the start of a trace of a module, make `steps` steps by the schedule of each of `seeds` seeds.
     Soak {
         module_path: &'a str,
         trace_path: &'a str,

@@ -48,7 +48,7 @@ fn of_name<W: Write>(err: &mut W, before: &str, name: Option<&[u8]>) -> io::Resu
     Ok(STATUS_UNREADABLE)
 }
 
-/// Want of memory: `error memory`.
+/// Out of memory: `error memory`.
 pub fn memory<W: Write>(err: &mut W) -> io::Result<u8>
     ensures { IfOk result (λ status. IsTold (W.contents err.old) (W.contents err.new) status (spec.no_memory)) }
 {

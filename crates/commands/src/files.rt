@@ -1,4 +1,4 @@
-//! The files of a command, and what a module and a trace come to.
+//! The files of a command, and the module and the trace that are read from them.
 ghost use Rattle.std.specs.Prelude.{◌≡◌, IfOk, IfErr};
 ghost use Rattle.std.specs.Option.{option_copied};
 ghost use Rattle.trace_text.specs.Traces.{IsTraceOf};

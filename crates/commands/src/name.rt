@@ -11,7 +11,7 @@ use name_text::{Blank, is_plain, quoted_byte};
 use std::io;
 use std::io::Write;
 
-/// Writes the bytes of a name that stands between quotes.
+/// Writes the bytes of a name that is put in quotes.
 fn write_quoted<W: Write>(out: &mut W, name: &[u8]) -> io::Result<()>
     ensures { OnOk result (Appends (W.contents out.old) (W.contents out.new) (flat_map (spec.quoted_byte blank.Kept) name.now)) }
 {

@@ -1,4 +1,4 @@
-//! How what came of a trace or of many seeds is printed: an answer goes to the standard output, a fault to the standard error.
+//! How the outcome of a trace or of many seeds is printed: an answer goes to the standard output, a fault to the standard error.
 ghost use Rattle.std.specs.Prelude.{◌≡◌, IfOk, OnOk};
 ghost use Rattle.std.specs.Io.KnownBytes.{Appends};
 ghost use Rattle.std.specs.List.{enumerate_from, flat_map};
@@ -55,7 +55,7 @@ pub fn no_threads<W: Write>(err: &mut W, fault: ReplayFault) -> io::Result<u8>
     Ok(STATUS_UNREADABLE)
 }
 
-/// Writes the first step behind which a run is broken: `32 t 0 touch-blue 1`.
+/// Writes the first step after which a run is broken: `32 t 0 touch-blue 1`.
 fn write_break<W: Write>(out: &mut W, broken: &Break) -> io::Result<()>
     ensures { OnOk result (Appends (W.contents out.old) (W.contents out.new) (spec.break_text broken.now)) }
 {
@@ -80,7 +80,7 @@ fn write_returned<W: Write>(out: &mut W, value: Value) -> io::Result<()>
     }
 }
 
-/// Where a thread stands: `t 0 returned`, `t 0 ended`, `t 0 running 3`.
+/// Where a thread is: `t 0 returned`, `t 0 ended`, `t 0 running 3`.
 fn write_end<W: Write>(out: &mut W, thread: usize, end: &ThreadEnd) -> io::Result<()>
     ensures { OnOk result (Appends (W.contents out.old) (W.contents out.new) (spec.end_text (thread, end.now))) }
 {
@@ -121,7 +121,7 @@ fn write_counts<W: Write>(out: &mut W, report: &Report) -> io::Result<()>
     writeln!(out, "claims {claims} frees {frees} posted {posted}")
 }
 
-/// Where the actors stand behind a run that no step broke: a line for the steps, one for each thread, and one for what was
+/// Where the actors are after a run that no step broke: a line for the steps, one for each thread, and one for what was
 /// counted.
 fn sound<W: Write>(out: &mut W, report: &Report) -> io::Result<u8>
     ensures { IfOk result (λ status. IsTold (W.contents out.old) (W.contents out.new) status (record { text = spec.report_text report.now; status = 0 })) }
@@ -132,7 +132,7 @@ fn sound<W: Write>(out: &mut W, report: &Report) -> io::Result<u8>
     Ok(STATUS_YES)
 }
 
-/// What came of a trace.
+/// The outcome of a trace.
 pub fn replayed<W: Write>(out: &mut W, outcome: &Outcome) -> io::Result<u8>
     ensures { IfOk result (λ status. IsTold (W.contents out.old) (W.contents out.new) status (spec.of_outcome outcome.now)) }
 {
@@ -155,7 +155,7 @@ fn write_seed_break<W: Write>(out: &mut W, at: &SeedBreak) -> io::Result<()>
     Ok(())
 }
 
-/// What came of so many seeds: `sound 20 seeds`, or the least broken one: `broken seed 3 32 t 0 touch-blue 1`.
+/// The outcome of this number of seeds: `sound 20 seeds`, or the least broken one: `broken seed 3 32 t 0 touch-blue 1`.
 pub fn soaked<W: Write>(out: &mut W, seeds: u32, outcome: SoakOutcome) -> io::Result<u8>
     ensures { IfOk result (λ status. IsTold (W.contents out.old) (W.contents out.new) status (spec.of_soak seeds outcome)) }
 {

@@ -27,7 +27,7 @@ fn replay_traced<O: Write, E: Write>(
     }
 }
 
-/// Replays the trace of the second path in the module of the first. Behind the faults of the files, the first thread
+/// Replays the trace of the second path in the module of the first. After the faults of the files, the first thread
 /// counts that does not begin.
 pub fn replay_files<O: Write, E: Write>(
     alloc: Global,

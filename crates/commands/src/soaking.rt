@@ -12,7 +12,7 @@ use std::io;
 use std::io::Write;
 use std::thread::Threads;
 
-/// Makes the steps that each of so many seeds draws, from the start of a trace.
+/// Makes the steps that each of `seeds` seeds draws, from the start of a trace.
 fn soak_traced<O: Write, E: Write>(
     rt: &(impl Threads + Sync),
     alloc: Global,
@@ -38,7 +38,7 @@ fn soak_traced<O: Write, E: Write>(
     }
 }
 
-/// Runs so many seeds with so many steps each, from the start of the trace of the second path in the module of the first. The
+/// Runs `seeds` seeds with `steps` steps each, from the start of the trace of the second path in the module of the first. The
 /// steps of the trace are left out.
 pub fn soak_files<O: Write, E: Write>(
     rt: &(impl Threads + Sync),

@@ -18,7 +18,7 @@ pub const STATUS_MEMORY: u8 = 3;
 /// The command line is refused, a file cannot be read, or a write failed.
 pub const STATUS_USAGE: u8 = 4;
 
-/// The status behind a line that was printed, or where a write failed.
+/// The status after a line that was printed, or where a write failed.
 pub fn status_of(printed: io::Result<u8>) -> u8
     ensures printed { IfOk printed (λ status. result ≡ status) }
     ensures failed { IfErr printed (λ _. result ≡ 4) }

@@ -1,4 +1,4 @@
-//! How the check's answers are printed, each a line that goes to the standard output.
+//! How the check's verdicts are printed, each a line that goes to the standard output.
 ghost use Rattle.std.specs.Prelude.{◌≡◌, ◌∷◌, IfOk, OnOk};
 ghost use Rattle.std.specs.Io.KnownBytes.{Appends};
 ghost use Rattle.commands.specs.Report as spec;
@@ -23,7 +23,7 @@ pub fn accepted<W: Write>(out: &mut W, functions: usize) -> io::Result<u8>
     Ok(STATUS_YES)
 }
 
-/// The target of a way out and the line of its certificate that is not shown on it, if there are any, as they stand behind
+/// The target of an edge and the line of its certificate that is not shown on it, if there are any, as they come after
 /// a rule: ` %loop %p ref Node nonnull`.
 fn write_detail<W: Write>(
     out: &mut W,
@@ -60,7 +60,7 @@ pub fn line_of_refusal(
     }
 }
 
-/// Writes where an instruction stands: `@f %b 3`.
+/// Writes where an instruction is: `@f %b 3`.
 fn write_place<W: Write>(out: &mut W, of_module: &Module, refusal: &Refusal) -> io::Result<()>
     ensures { OnOk result (Appends (W.contents out.old) (W.contents out.new) (spec.place_text of_module.now refusal.now)) }
 {
@@ -74,7 +74,7 @@ fn write_place<W: Write>(out: &mut W, of_module: &Module, refusal: &Refusal) -> 
     write!(out, " {}", refusal.instr)
 }
 
-/// Writes the code of a rule behind a blank.
+/// Writes the code of a rule after a blank.
 fn write_rule<W: Write>(out: &mut W, rule: Rule) -> io::Result<()>
     ensures { OnOk result (Appends (W.contents out.old) (W.contents out.new) (32 ∷ rule_name rule)) }
 {
@@ -82,7 +82,7 @@ fn write_rule<W: Write>(out: &mut W, rule: Rule) -> io::Result<()>
 }
 
 /// The first refused instruction, by its function, its block and its place there, and the rule that it breaks:
-/// `no @f %b 3 K6`. Behind K15 stand the target and its line that is not shown.
+/// `no @f %b 3 K6`. After K15 come the target and its line that is not shown.
 pub fn refused<W: Write>(
     out: &mut W,
     of_module: &Module,

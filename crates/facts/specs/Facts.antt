@@ -43,7 +43,7 @@ class_at classes c = slice_index_or classes c lost_class
 abbrev pub test_at : List (Option Test) → ℕ → Option Test
 test_at tests v = slice_index_or tests v None
 
--- where nothing is known of so many values and slots
+-- where nothing is known of this number of values and slots
 abbrev pub nothing_known : (values slots : ℕ) → FactSet
 nothing_known values slots = record { values = replicate values Nothing; slots = replicate slots open_slot; classes = replicate values lost_class; tests = replicate values None }
 
@@ -78,7 +78,7 @@ let_go c nonnull slot = if holds_class c slot.holds then record slot { nonnull =
 abbrev pub slots_of_class : (c : ℕ) → List Known → List Class → List SlotFact → List SlotFact
 slots_of_class c values classes slots = if list_any (is_of c) values then slots else map (let_go c (class_at classes c).nonnull) slots
 
--- the slots behind the end of what was known of a value: they hold its class on only while another value is of it
+-- the slots after the end of what was known of a value: they hold its class on only while another value is of it
 abbrev pub slots_without : Known → List Known → List Class → List SlotFact → List SlotFact
 slots_without (Cell c layout stale) values classes slots = slots_of_class c values classes slots
 slots_without _ values classes slots = slots
@@ -171,13 +171,13 @@ learn_known_nonnull _ f = f
 abbrev pub learn_up_to : ℕ → ℕ → FactSet → FactSet
 learn_up_to v n f = if nat_lt n 18446744073709551615 then learn_below v (suc n) f else f
 
--- what the way on says of a value that was compared with null: whether it is the way on which the comparison is true
+-- what the edge says of a value that was compared with null: whether it is the one on which the comparison is true
 abbrev pub learn_null_test : (v : ℕ) → Comparison → (taken : Bool) → FactSet → FactSet
 learn_null_test v Equal false f = learn_known_nonnull (known_at f.values v) f
 learn_null_test v NotEqual true f = learn_known_nonnull (known_at f.values v) f
 learn_null_test v _ taken f = f
 
--- what the way on says of a value that was compared with n
+-- what the edge says of a value that was compared with n
 abbrev pub learn_number_test : (v n : ℕ) → Comparison → (taken : Bool) → FactSet → FactSet
 learn_number_test v n UnsignedLess true f = learn_below v n f
 learn_number_test v n UnsignedLessOrEqual true f = learn_up_to v n f
@@ -187,13 +187,13 @@ learn_number_test v n UnsignedGreater false f = learn_up_to v n f
 learn_number_test v n NotEqual false f = learn_up_to v n f
 learn_number_test v n _ taken f = f
 
--- what the way on says of a value that was compared with a constant
+-- what the edge says of a value that was compared with a constant
 abbrev pub learn_constant_test : (v : ℕ) → Constant → Comparison → (taken : Bool) → FactSet → FactSet
 learn_constant_test v (constant.Number n) kind taken f = learn_number_test v n kind taken f
 learn_constant_test v constant.Null kind taken f = learn_null_test v kind taken f
 learn_constant_test v (constant.Truth b) kind taken f = f
 
--- what the way on shows where this comparison decides it
+-- what the edge shows where this comparison decides it
 abbrev pub learn_test : Option Test → (taken : Bool) → FactSet → FactSet
 learn_test None taken f = f
 learn_test (Some test) taken f = learn_constant_test test.tested test.constant test.kind taken f

@@ -140,7 +140,7 @@ abbrev pub promised_layout : Option Promise → Option ℕ
 promised_layout None = None
 promised_layout (Some promise) = promise.layout
 
--- a parameter is a reference to a layout, if one is said
+-- a parameter is a reference to a layout, if one is given
 abbrev pub receive_reference : ℕ → (layout : Option ℕ) → (nonnull : Bool) → FactSet → FactSet
 receive_reference v None nonnull f = define v Nothing f
 receive_reference v (Some layout) nonnull f = define_new v layout (record { nonnull = nonnull; fresh = false }) f

@@ -19,7 +19,7 @@ pub data Statement : Type 0 where
   SlotNonnull : (s : ℕ) → Statement
   SlotHolds : (s v : ℕ) → Statement
 
--- an integer of so many bits
+-- an integer of `bits` bits
 abbrev pub NumberOf : (bits : ℕ) → Known → Type 0
 NumberOf bits (Number n below) = n ≡ bits
 NumberOf bits _ = ⊥
@@ -102,7 +102,7 @@ FreshOf f v _ = ⊥
 abbrev pub PublishEndsFresh : Type 0
 PublishEndsFresh = (f : FactSet) (v : ℕ) (statement : Statement) → Says (drop_fresh_of (known_at f.values v) f) statement ↔ (Says f statement × (FreshOf f v statement → ⊥))
 
--- the class of a reference is one of so many
+-- the class of a reference is one of the first `count`
 abbrev pub IsWithin : (count : ℕ) → Known → Type 0
 IsWithin count (Cell c layout stale) = c < count
 IsWithin count _ = Unit {0}

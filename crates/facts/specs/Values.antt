@@ -22,7 +22,7 @@ the_facts values classes tests = record { values = values; classes = classes; te
 abbrev pub facts_of_rows : List Row → List Class → ValueFacts
 facts_of_rows rows added = record { values = map known_of rows; classes = map class_of rows ++ added; tests = map test_of rows }
 
--- where nothing is known of so many values
+-- where nothing is known of this number of values
 abbrev pub no_values : ℕ → ValueFacts
 no_values count = record { values = replicate count Nothing; classes = replicate count lost_class; tests = replicate count None }
 

@@ -8,7 +8,7 @@ use ir_ast::{Comparison, Constant, ValueId};
 use std::alloc::AllocError;
 
 impl Facts {
-    /// What the way on shows where this comparison decides it: `taken` where it is true.
+    /// What the edge shows where this comparison decides it: `taken` where it is true.
     pub fn learn_test(&mut self, test: Option<Test>, taken: bool) -> Result<(), AllocError>
         ensures { OnOk result (self.new ≡ learn_test test taken self.old) }
     {

@@ -12,7 +12,7 @@ use shadow_stack::SlotId;
 use std::alloc::{AllocError, Global};
 use std::marker::Model;
 
-/// What is known at a place of a function. A value names its class, and what is known of a class stands there once.
+/// What is known at a place of a function. A value names its class, and what is known of a class is kept there once.
 #[derive(Drop)]
 pub struct Facts {
     values: Values,
@@ -28,7 +28,7 @@ impl Model for Facts {
 }
 
 impl Facts {
-    /// Nothing is known of so many values and slots.
+    /// Nothing is known of this number of values and slots.
     pub fn new(alloc: Global, values: usize, slots: usize) -> Result<Self, AllocError>
         ensures { IfOk result (λ facts. facts ≡ nothing_known values slots) }
     {

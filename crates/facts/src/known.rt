@@ -17,7 +17,7 @@ pub struct Class {
 #[derive(Clone, Copy, Debug, PartialEq, Eq)]
 pub enum Known {
     Nothing,
-    /// An integer of so many bits, which is below a number.
+    /// An integer of this number of bits, which is below a number.
     Number {
         bits: u32,
         below: Option<u64>,
@@ -67,7 +67,7 @@ pub struct SlotFact {
 #[derive(Clone, Copy, PartialEq, Eq)]
 pub enum Given {
     Nothing,
-    /// An integer of so many bits.
+    /// An integer of this number of bits.
     Number(u32),
     /// A reference to this layout.
     Reference(LayoutId),

@@ -10,7 +10,7 @@ use crate::values::Values;
 use ir_ast::ValueId;
 use std::alloc::{AllocError, Global};
 
-/// Nothing is known of so many slots.
+/// `count` slots of which nothing is known.
 pub fn open_slots(alloc: Global, count: usize) -> Result<Vec<SlotFact>, AllocError>
     ensures { IfOk result (λ rows. rows.items ≡ replicate count open_slot) }
 {

@@ -31,7 +31,7 @@ impl Model for Sheet {
 }
 
 impl Sheet {
-    /// So many blank rows.
+    /// `count` blank rows.
     pub fn new(alloc: Global, count: usize) -> Result<Self, AllocError>
         ensures { IfOk result (λ sheet. sheet ≡ replicate count blank) }
     {

@@ -22,7 +22,7 @@ pub enum Change {
     Settle,
 }
 
-/// So many blank rows.
+/// `count` blank rows.
 pub fn blank_rows(alloc: Global, count: usize) -> Result<Vec<Row>, AllocError>
     ensures { IfOk result (λ rows. rows.items ≡ replicate count blank) }
 {

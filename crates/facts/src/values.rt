@@ -35,7 +35,7 @@ impl Model for Values {
 }
 
 impl Values {
-    /// Nothing is known of so many values.
+    /// Nothing is known of `count` values.
     pub fn new(alloc: Global, count: usize) -> Result<Self, AllocError>
         ensures { IfOk result (λ values. values ≡ no_values count) }
     {

@@ -60,7 +60,7 @@ fits_held m (Some held) v = fits_type m held v
 
 -- ---- bitcasts
 
--- an address may be cast to this type as its word may, or where it leads to no word to each type of places of references
+-- an address may be cast to this type as its word may, or where it points to no word to each type of places of references
 abbrev pub may_cast_place : LaidOut → (to : ℕ) → Place → Bool
 may_cast_place p to place.OfNull = may_lead p.of_module to
 may_cast_place p to (place.Word layout at word) = may_cast_word p.of_module to (kind_of_word p.layouts layout word)
@@ -78,7 +78,7 @@ may_cast_value p from to (value.Address at) = may_cast_place p to at
 abbrev pub may_cast : LaidOut → (from to : ℕ) → Value → Bool
 may_cast p from to v = is_set v && ((from == to) || may_cast_value p from to v)
 
--- a slot that holds references may stand as a place of this type
+-- a slot that holds references may be a place of this type
 abbrev pub is_slot_under : Module → (held : Option ℕ) → (part : ℕ) → Bool
 is_slot_under m None part = false
 is_slot_under m (Some layout) part = refers_to m layout part
@@ -100,7 +100,7 @@ cast_action p f slots registers from o to None =
 
 -- ---- loads and stores
 
--- a read of the word to which an address leads
+-- a read of the word to which an address points
 abbrev pub read_action : LaidOut → (loaded : ℕ) → Option Place → Action
 read_action p loaded None = Wrong
 read_action p loaded (Some place.OfNull) = Wrong
@@ -112,14 +112,14 @@ abbrev pub load_action : LaidOut → SlotTable → (loaded : ℕ) → Option ℕ
 load_action p slots loaded (Some slot) address = only_if (is_held_as p.of_module (held_type slots slot) loaded) Local
 load_action p slots loaded None address = read_action p loaded address
 
--- a store of a value under its type to the word to which an address leads, without the barrier
+-- a store of a value under its type to the word to which an address points, without the barrier
 abbrev pub plain_action : LaidOut → (stored : ℕ) → Value → Option Place → Action
 plain_action p stored v None = Wrong
 plain_action p stored v (Some place.OfNull) = Wrong
 plain_action p stored v (Some (place.Word layout at word)) = only_if (takes_value p.of_module stored (kind_of_word p.layouts layout word) v) (StorePlain at word v)
 plain_action p stored v (Some (place.Global g)) = only_if (takes_value p.of_module stored (global_kind p.of_module g) v) (StorePlain globals_cell g v)
 
--- the same behind the barrier
+-- the same with the barrier
 abbrev pub barrier_action : LaidOut → (stored : ℕ) → Value → Option Place → Action
 barrier_action p stored v None = Wrong
 barrier_action p stored v (Some place.OfNull) = Wrong
@@ -234,7 +234,7 @@ gcread_action p f slots registers returned (object ∷ place ∷ []) =
     (read_action p returned (address_at_place p.of_module f slots registers place.written place.operand))
 gcread_action p f slots registers returned arguments = Wrong
 
--- gcwrite puts a value at a place behind the barrier, for an object
+-- gcwrite puts a value at a place with the barrier, for an object
 abbrev pub gcwrite_action : LaidOut → Function → SlotTable → List Value → (returned : ℕ) → List Argument → Action
 gcwrite_action p f slots registers returned (v ∷ object ∷ place ∷ []) =
     only_if (are_gcwrite_types p.of_module returned (v.written ∷ object.written ∷ place.written ∷ [])
@@ -242,7 +242,7 @@ gcwrite_action p f slots registers returned (v ∷ object ∷ place ∷ []) =
     (barrier_action p v.written (value_of p.of_module registers v.written v.operand) (address_at_place p.of_module f slots registers place.written place.operand))
 gcwrite_action p f slots registers returned arguments = Wrong
 
--- the layout that a number stands for
+-- the layout that a number means
 abbrev pub layout_numbered : Module → (n : ℕ) → Option ℕ
 layout_numbered m n = if nat_lt n (length m.structs) && nat_lt n 4294967296 then Some n else None
 
@@ -311,7 +311,7 @@ call_action p f slots registers returned arguments declare callee None = defined
 
 -- ---- the end of a block
 
--- a way to a block whose phis may take their entries for this block; to a label of no block there is none
+-- an edge to a block whose phis may take their entries for this block; to a label of no block there is none
 abbrev pub enter_action : Module → Function → SlotTable → (from : ℕ) → (target : Option ℕ) → Action
 enter_action m f slots from None = End
 enter_action m f slots from (Some block) = only_if (phis_fit m f slots from (phis_of (slice_get f.blocks block))) Local

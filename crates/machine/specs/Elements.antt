@@ -25,20 +25,20 @@ use Rattle.machine.specs.Integers.{sign_extended}
 abbrev pub index_value : Module → List Value → Argument → ℕ
 index_value m registers index = wrapped 64 (sign_extended (bits_at m index.written) 64 (number_in (value_of m registers index.written index.operand)))
 
--- where an index leads from behind so many words: how many words it then lies behind, modulo 2 to the 64, and the type of the part there
+-- what an index passes, after `offset` words: the number of words passed by then, modulo 2 to the 64, and the type of the part there
 abbrev pub stepped : (offset index : ℕ) → Option Step → Option (ℕ × ℕ)
 stepped offset index None = None
 stepped offset index (Some (Field words part)) = Some (wrapped 64 (offset + words), part)
 stepped offset index (Some (Elements length words part)) = Some (wrapped 64 (offset + index * words), part)
 
--- how many words some indices pass, one behind the other, from behind so many words of a type; none where a number of words on the way is not known
+-- how many words some indices pass, one after the other, after `offset` words of a type; none where a number of words on the way is not known
 abbrev pub offset_behind : LaidOut → List Value → Option (ℕ × ℕ) → List Argument → Option ℕ
 offset_behind p registers None indices = None
 offset_behind p registers (Some (offset, written)) [] = Some offset
 offset_behind p registers (Some (offset, written)) (index ∷ indices) =
     offset_behind p registers (stepped offset (index_value p.of_module registers index) (step_of p written index)) indices
 
--- behind so many whole types of this size
+-- after `index` whole types of this size
 abbrev pub behind_whole : (source index : ℕ) → (size : Option ℕ) → Option (ℕ × ℕ)
 behind_whole source index None = None
 behind_whole source index (Some size) = Some (wrapped 64 (index * size), source)
@@ -47,7 +47,7 @@ behind_whole source index (Some size) = Some (wrapped 64 (index * size), source)
 abbrev pub first_place : (source index : ℕ) → (size : Option ℕ) → Option (ℕ × ℕ)
 first_place source index size = if index == 0 then Some (0, source) else behind_whole source index size
 
--- how many words the indices of a getelementptr pass: the first so many whole types, the others into the parts
+-- how many words the indices of a getelementptr pass: the first passes that number of whole types, the others lead into the parts
 abbrev pub element_offset : LaidOut → List Value → (source : ℕ) → List Argument → Option ℕ
 element_offset p registers source [] = None
 element_offset p registers source (first ∷ indices) =
@@ -57,7 +57,7 @@ element_offset p registers source (first ∷ indices) =
 abbrev pub word_in : LaidOut → (layout : ℕ) → Reference → (word : ℕ) → Option Place
 word_in p layout at word = if is_some (kind_of_word p.layouts layout word) then Some (place.Word layout at word) else None
 
--- the place so many words behind a word of a cell
+-- the place `offset` words after a word of a cell
 abbrev pub word_behind : LaidOut → (layout : ℕ) → Reference → (word : ℕ) → (offset : Option ℕ) → Option Place
 word_behind p layout at word None = None
 word_behind p layout at word (Some offset) = word_in p layout at (wrapped 64 (word + offset))
@@ -67,7 +67,7 @@ abbrev pub global_behind : (g : ℕ) → (offset : Option ℕ) → Option Place
 global_behind g None = None
 global_behind g (Some offset) = if offset == 0 then Some (place.Global g) else None
 
--- the place so many words behind a base; from null it is no word
+-- the place `offset` words after a base; from null it is no word
 abbrev pub element_place : LaidOut → (offset : Option ℕ) → (base : Value) → Option Place
 element_place p offset value.Null = Some place.OfNull
 element_place p offset (value.Cell layout at) = word_behind p layout at 0 offset

@@ -8,7 +8,7 @@ use Rattle.ir_ast.specs.declared.op.Comparison.{Comparison}
 use Rattle.ir_ast.specs.declared.op.Comparison.TheVariants as compare
 use Rattle.machine.specs.Kinds.{modulus, wrapped}
 
--- the sum, the product and so on of two integers of so many bits
+-- the sum, the product and so on of two integers of `bits` bits
 abbrev pub computed : Arithmetic → (bits first second : ℕ) → ℕ
 computed Add bits a b = wrapped bits (a + b)
 computed Sub bits a b = wrapped bits ((a + modulus bits) - wrapped bits b)
@@ -17,11 +17,11 @@ computed And bits a b = wrapped bits (bit_and a b)
 computed Or bits a b = wrapped bits (bit_or a b)
 computed Xor bits a b = wrapped bits (bit_xor a b)
 
--- the sign bit of an integer of so many bits is set
+-- the sign bit of an integer of `bits` bits is set
 abbrev pub is_negative : (bits n : ℕ) → Bool
 is_negative bits n = nat_le (modulus bits) (2 * n)
 
--- an integer of so many bits, read with its sign, as one of more bits
+-- an integer of `bits` bits, read with its sign, as one of more bits
 abbrev pub sign_extended : (bits to n : ℕ) → ℕ
 sign_extended bits to n = if is_negative bits n then (n + modulus to) - modulus bits else n
 
@@ -41,7 +41,7 @@ may_resize Truncate bits to = nat_lt to bits
 abbrev pub signed_rank : (bits n : ℕ) → ℕ
 signed_rank bits n = if is_negative bits n then n else n + modulus bits
 
--- a comparison of two integers of so many bits
+-- a comparison of two integers of `bits` bits
 abbrev pub compares : Comparison → (bits first second : ℕ) → Bool
 compares compare.Equal bits a b = a == b
 compares compare.NotEqual bits a b = not (a == b)

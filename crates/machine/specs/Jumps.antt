@@ -1,4 +1,4 @@
--- Ways from block to block, and the values that phis take on them.
+-- Edges from block to block, and the values that phis take on them.
 use Rattle.std.specs.Prelude.{ℕ, ◌≤◌, ◌==◌, Bool, true, false, ◌&&◌, List, [], ◌∷◌, length, slice_get, slice_set, Option, Some, None, if◌then◌else◌}
 use Rattle.std.specs.List.{list_all, take_while}
 use Rattle.ir_ast.specs.declared.block.Block.{Block}
@@ -16,7 +16,7 @@ use Rattle.machine.specs.declared.value.Value.{Value}
 use Rattle.machine.specs.declared.value.Value.TheVariants as value
 use Rattle.machine.specs.Kinds.{is_scalar, is_typed, is_no_global, value_of, constant_value, constant_fits, number_in}
 
--- the instructions of a block; a block that there is not has none
+-- the instructions of a block; a block that does not exist has none
 abbrev pub instructions_in : Option Block → List Instr
 instructions_in None = []
 instructions_in (Some block) = block.instructions

@@ -27,7 +27,7 @@ abbrev pub is_integer : Option IrType → Bool
 is_integer (Some (Integer bits)) = true
 is_integer _ = false
 
--- an integer of so many bits
+-- an integer of `bits` bits
 abbrev pub is_integer_of : (bits : ℕ) → Option IrType → Bool
 is_integer_of n (Some (Integer bits)) = bits == n
 is_integer_of n _ = false
@@ -46,7 +46,7 @@ bits_of _ = 0
 abbrev pub bits_at : Module → (written : ℕ) → ℕ
 bits_at m written = bits_of (slice_get m.types written)
 
--- whether the type that a pointer leads to passes a test
+-- whether the type to which a pointer points passes a test
 abbrev pub leads_to : (ℕ → Bool) → (part : Option ℕ) → Bool
 leads_to test None = false
 leads_to test (Some part) = test part
@@ -80,7 +80,7 @@ is_layout (Some other) layout = other == layout
 abbrev pub refers_to : Module → (layout : ℕ) → (written : ℕ) → Bool
 refers_to m layout written = is_byte_pointer m written || is_layout (referenced_layout m written) layout
 
--- an address may be cast to this type: it is one of a word of references of a layout to which the type leads
+-- an address may be cast to this type: it is one of a word of references of a layout to which the type points
 abbrev pub may_cast_word : Module → (to : ℕ) → Option WordKind → Bool
 may_cast_word m to None = false
 may_cast_word m to (Some (Numeric bits)) = false
@@ -92,11 +92,11 @@ may_cast_global m from symbol to = (from == to) || may_cast_word m to (global_wo
 
 -- ---- numbers
 
--- how many values an integer of so many bits has; none has more than 64 bits
+-- how many values an integer of `bits` bits has; none has more than 64 bits
 abbrev pub modulus : (bits : ℕ) → ℕ
 modulus bits = if nat_lt bits 64 then 2 ^ bits else 2 ^ 64
 
--- a number as an integer of so many bits
+-- a number as an integer of `bits` bits
 abbrev pub wrapped : (bits n : ℕ) → ℕ
 wrapped bits n = n % modulus bits
 
@@ -145,7 +145,7 @@ abbrev pub fits_layout_of : Option ℕ → Value → Bool
 fits_layout_of None v = true
 fits_layout_of (Some layout) v = fits_layout layout v
 
--- two references may stand beside one another: they are of one layout, or one of them is null
+-- two references are of one layout, or one of them is null
 abbrev pub are_of_one_layout : (first second : Value) → Bool
 are_of_one_layout (value.Cell layout at) second = fits_layout layout second
 are_of_one_layout first second = is_reference first && is_reference second
@@ -180,7 +180,7 @@ value_of m registers written (operand.Local v) = register_at registers v
 value_of m registers written (operand.Global symbol) = global_address (global_named m symbol)
 value_of m registers written (operand.CastGlobal from symbol to) = global_address (global_named m symbol)
 
--- an operand is a constant that fits the written type, or a local name of that type that names no slot, or a global to which the type points, which may be cast to it
+-- an operand is a constant that fits the written type, a local name of that type that names no slot, a global to which the type points, or a global that may be cast to the type
 abbrev pub is_typed : Module → Function → SlotTable → (written : ℕ) → Operand → Bool
 is_typed m f slots written (operand.Constant c) = constant_fits m written c
 is_typed m f slots written (operand.Local v) = has_type m f written v && is_none (slot_of slots v)

@@ -1,4 +1,4 @@
--- What a thread has done, the newest step first; what it holds by it, what may be answered, and when it keeps the discipline.
+-- What a thread has done, the newest step first; what it holds by it, what may be answered, and when it obeys the discipline.
 use Rattle.std.specs.Prelude.{◌≡◌, ◌≢◌, ℕ, ◌<◌, ◌^◌, ◌⊎◌, List, [], ◌∷◌, Option, Some, None}
 use Rattle.std.specs.List.{Contains}
 use Rattle.pools.specs.declared.word_kind.WordKind.{WordKind}
@@ -46,7 +46,7 @@ abbrev pub StaysHeld : Action → Answer → (roots : List Value) → (was : Typ
 StaysHeld Safepoint answer.Answered roots was r = IsReferredTo roots r
 StaysHeld asked given roots was r = Gives given r ⊎ was
 
--- a thread holds the references that it read or claimed, since it answered a stage, and its roots of then
+-- a thread holds the references that it read or claimed since it last answered a stage, and the roots that it had then
 abbrev pub Held : Log → Reference → Type 0
 Held [] r = ⊥
 Held (step ∷ log) r = StaysHeld step.asked step.given step.roots (Held log r) r
@@ -93,7 +93,7 @@ MayBeRead heap log (Some (Referring layout)) answer.Null = Unit {0}
 MayBeRead heap log (Some (Referring layout)) (answer.Cell at) = IsOfLayout heap layout at.cell × (IsFresh log at.cell → ⊥)
 MayBeRead heap log kind given = ⊥
 
--- what may be answered: to an alloc null, or a cell of the asked pool to which the thread holds no reference; to a safepoint that nothing new was posted, or that the stage was answered
+-- what may be answered: to an alloc null, or a cell of the asked pool to which the thread holds no reference. To a safepoint: that nothing new was posted, or that the stage was answered
 abbrev pub Possible : Setup → Log → Action → Answer → Type 0
 Possible heap log Local answer.Done = Unit {0}
 Possible heap log (Read at word) given = MayBeRead heap log (kind_of heap at.cell word) given
@@ -124,12 +124,12 @@ MayBeStored heap log cell (Some (Integer bits)) (value.Number n) = n < 2 ^ bits
 MayBeStored heap log cell (Some (Referring layout)) v = IsFresh log cell × IsNullOrHeldOf heap log layout v
 MayBeStored heap log cell kind v = ⊥
 
--- a word of this kind may take a value behind the barrier: null, or a held reference of its layout
+-- a word of this kind may take a value with the barrier: null, or a held reference of its layout
 abbrev pub MayBeWritten : Setup → Log → Option WordKind → Value → Type 0
 MayBeWritten heap log (Some (Referring layout)) v = IsNullOrHeldOf heap log layout v
 MayBeWritten heap log kind v = ⊥
 
--- an action is not wrong, and keeps the discipline: it touches words of the globals and of held cells alone
+-- an action is not wrong, and obeys the discipline: it touches words of the globals and of held cells alone
 abbrev pub Keeps : Setup → Log → Action → Type 0
 Keeps heap log Local = Unit {0}
 Keeps heap log (Read at word) = MayTouch log at × (kind_of heap at.cell word ≢ None)
@@ -140,7 +140,7 @@ Keeps heap log Safepoint = Unit {0}
 Keeps heap log End = Unit {0}
 Keeps heap log Wrong = ⊥
 
--- a thread's roots are null or held, and what it asks for keeps the discipline
+-- a thread's roots are null or held, and what it asks for obeys the discipline
 pub record IsSafe (heap : Setup) (p : LaidOut) (s : State) (log : Log) : Type 0 where
   pub rooted : (root : Value) → Contains (roots p.of_module s) root → IsNullOrHeld log root
   pub keeps : Keeps heap log (action p s)

@@ -1,4 +1,4 @@
--- One thread: what it asks for, and its state behind the answer.
+-- One thread: what it asks for, and its state after the answer.
 use Rattle.std.specs.Prelude.{ℕ, suc, ◌+◌, ◌==◌, nat_lt, Bool, true, false, if◌then◌else◌, List, [], ◌∷◌, ◌++◌, length, map, replicate, slice_get, slice_set, unwrap_or, Option, Some, None}
 use Rattle.ir_ast.specs.declared.block.Block.{Block}
 use Rattle.ir_ast.specs.declared.function.Function.{Function}
@@ -40,7 +40,7 @@ slot_value slots slot = unwrap_or (slice_get slots slot) value.Unset
 
 -- ---- how a thread goes on
 
--- behind an instruction
+-- after an instruction
 pub data Onward : Type 0 where
   Next : Onward  -- at the next place
   Way : Onward  -- in the block to which it leads
@@ -48,7 +48,7 @@ pub data Onward : Type 0 where
   Back : Onward  -- in the frame below
   Nowhere : Onward  -- it ends
 
--- behind a call, by the defined function that is called
+-- after a call, by the defined function that is called
 abbrev pub onward_of_call : (function : Option ℕ) → Onward
 onward_of_call None = Next
 onward_of_call (Some function) = Into function
@@ -68,7 +68,7 @@ onward_of m _ = Next
 abbrev pub frame_limit : ℕ
 frame_limit = 10000
 
--- there may be one frame more above the running one, which has so many below
+-- there may be one frame more above the running one, which has this number of frames below
 abbrev pub has_room : (below : ℕ) → Bool
 has_room below = nat_lt (below + 1) frame_limit
 
@@ -79,7 +79,7 @@ abbrev pub instr_in : (place : ℕ) → Option Block → Option Instr
 instr_in place None = None
 instr_in place (Some block) = slice_get block.instructions place
 
--- the instruction at which a frame stands
+-- the instruction at which a frame is
 abbrev pub instr_at : Function → Frame → Option Instr
 instr_at f frame = instr_in frame.place (slice_get f.blocks frame.block)
 
@@ -88,18 +88,18 @@ abbrev pub instr_action : LaidOut → Function → Frame → Option Instr → Ac
 instr_action p f frame None = End
 instr_action p f frame (Some instr) = op_action p f (slots_of p.of_module f) frame.block frame.registers instr.op
 
--- what is asked for above so many other frames: a return to one of them is one step, and a call for whose frame there is no room ends the thread
+-- what is asked for above this number of other frames: a return to one of them is one step, and a call for whose frame there is no room ends the thread
 abbrev pub above : Onward → (below : ℕ) → Action → Action
 above Back (suc below) End = Local
 above (Into function) below Local = if has_room below then Local else End
 above onward below asked = asked
 
--- what an instruction asks for above so many other frames
+-- what an instruction asks for above this number of other frames
 abbrev pub step_action : LaidOut → Function → Frame → (below : ℕ) → Option Instr → Action
 step_action p f frame below None = End
 step_action p f frame below (Some instr) = above (onward_of p.of_module instr.op) below (instr_action p f frame (Some instr))
 
--- what a frame of this function asks for above so many other frames
+-- what a frame of this function asks for above this number of other frames
 abbrev pub frame_action : LaidOut → Frame → (below : ℕ) → Option Function → Action
 frame_action p frame below None = End
 frame_action p frame below (Some f) = step_action p f frame below (instr_at f frame)
@@ -182,7 +182,7 @@ abbrev pub place_of_call : Module → Function → SlotTable → List Value → 
 place_of_call m f slots registers (object ∷ place ∷ arguments) = address_at_place m f slots registers place.written place.operand
 place_of_call m f slots registers _ = None
 
--- the frame behind a call
+-- the frame after a call
 abbrev pub after_call : LaidOut → Function → SlotTable → (name : Option ℕ) → List Argument → Option Runtime → Answer → Frame → Frame
 after_call p f slots name arguments (Some runtime.Alloc) given frame = set_register name (alloc_value (layout_of_call p.of_module arguments) given) frame
 after_call p f slots name arguments (Some runtime.GcRoot) given frame = set_slot (root_of_call p.of_module f slots arguments) value.Null frame
@@ -204,7 +204,7 @@ element_address p registers (Element source base_type base indices) =
     address_of (element_place p (element_offset p registers source indices) (value_of p.of_module registers base_type base))
 element_address p registers _ = value.Unset
 
--- the frame behind a bitcast, a load or a store
+-- the frame after a bitcast, a load or a store
 abbrev pub after_place : LaidOut → Function → SlotTable → (name : Option ℕ) → Op → Answer → Frame → Frame
 after_place p f slots name (Bitcast from o to) given frame = after_cast name (value_of p.of_module frame.registers from o) (operand_slot slots.names o) frame
 after_place p f slots name (Load loaded place_type place) given frame =
@@ -213,7 +213,7 @@ after_place p f slots name (Store stored v place_type place) given frame =
     set_slot (slot_at_place p.of_module f slots place_type place) (value_of p.of_module frame.registers stored v) frame
 after_place p f slots name _ given frame = frame
 
--- the frame behind an instruction that stays in its block
+-- the frame after an instruction that stays in its block
 abbrev pub after_op : LaidOut → Function → SlotTable → (name : Option ℕ) → Op → Answer → Frame → Frame
 after_op p f slots name (Bitcast from o to) given frame = after_place p f slots name (Bitcast from o to) given frame
 after_op p f slots name (Load loaded place_type place) given frame = after_place p f slots name (Load loaded place_type place) given frame
@@ -231,7 +231,7 @@ after_op p f slots name _ given frame = frame
 abbrev pub go_on : Frame → Frame
 go_on frame = record frame { place = frame.place + 1 }
 
--- a block is entered behind its phis
+-- a block is entered after its phis
 abbrev pub enter : Module → Function → (from : ℕ) → (block : ℕ) → List Instr → Frame → Frame
 enter m f from block phis frame =
     record frame { block = block; place = length phis; registers = put_phis m f frame.registers from phis frame.registers }
@@ -272,7 +272,7 @@ abbrev pub called_with : Module → List Value → Op → List Value
 called_with m registers (Call returned callee arguments) = values_of m registers arguments
 called_with m registers _ = []
 
--- the frames behind a call: the called function's stands above the caller's, which goes on at the next place; where there is no room the thread ends
+-- the frames after a call: the called function's is above the caller's, which goes on at the next place; where there is no room the thread ends
 abbrev pub frames_called : Module → (into : Option ℕ) → (arguments : List Value) → (function : ℕ) → (callee : Option Function) → Frame → (below : List Frame) → List Frame
 frames_called m into arguments function None frame below = frame ∷ below
 frames_called m into arguments function (Some callee) frame below =
@@ -283,14 +283,14 @@ abbrev pub result_of : Module → List Value → Op → Value
 result_of m registers (Return argument) = value_of m registers argument.written argument.operand
 result_of m registers _ = value.Unset
 
--- the frames behind a return: the caller's takes the result; behind the last one there is none
+-- the frames after a return: the caller's takes the result; after the last one there is none
 abbrev pub frames_returned : (into : Option ℕ) → (result : Value) → (below : List Frame) → List Frame
 frames_returned into result [] = []
 frames_returned into result (caller ∷ below) = set_register into result caller ∷ below
 
--- ---- the state behind an answer
+-- ---- the state after an answer
 
--- the frames behind an instruction
+-- the frames after an instruction
 abbrev pub after_onward : LaidOut → Function → Instr → Answer → Frame → (below : List Frame) → Onward → List Frame
 after_onward p f instr given frame below Next = go_on (after_op p f (slots_of p.of_module f) instr.result instr.op given frame) ∷ below
 after_onward p f instr given frame below Way = enter_block p.of_module f (target_at f (way_of p.of_module frame.registers instr.op)) frame ∷ below
@@ -304,12 +304,12 @@ abbrev pub after_instr : LaidOut → Function → Option Instr → Answer → Fr
 after_instr p f None given frame below = frame ∷ below
 after_instr p f (Some instr) given frame below = after_onward p f instr given frame below (onward_of p.of_module instr.op)
 
--- the frames behind a step of a frame of this function
+-- the frames after a step of a frame of this function
 abbrev pub after_frame : LaidOut → Option Function → Answer → Frame → (below : List Frame) → List Frame
 after_frame p None given frame below = frame ∷ below
 after_frame p (Some f) given frame below = after_instr p f (instr_at f frame) given frame below
 
--- the state behind an answer
+-- the state after an answer
 abbrev pub after_answer : LaidOut → State → Answer → State
 after_answer p s given = record { frames = after_frames s.frames }
   where
@@ -319,7 +319,7 @@ after_answer p s given = record { frames = after_frames s.frames }
 
 -- ---- the start
 
--- a thread stands at the beginning of its function
+-- a thread is at the beginning of its function
 abbrev pub start : Module → Option Function → (function : ℕ) → (arguments : List Value) → State
 start m None function arguments = record { frames = [] }
 start m (Some f) function arguments = record { frames = entry_frame m f function None arguments ∷ [] }

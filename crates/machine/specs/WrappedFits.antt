@@ -1,4 +1,4 @@
--- A number as an integer of so many bits fits them.
+-- A number that is wrapped to some bits fits them.
 use Rattle.std.proofs.Common.{◌≡◌, ℕ, ◌<◌, ◌≤◌, ◌^◌, true, false, subst, arith, inl, inr}
 use Rattle.std.proofs.lemmas.Nat.{mod_below, pow_below, pow_pos}
 use Rattle.std.proofs.lemmas.Bool.{cases_lt}

@@ -40,7 +40,7 @@ fn fits_held(of_module: &Module, held: Option<TypeId>, value: &Value) -> bool
     }
 }
 
-/// What a read of the word to which an address leads asks for.
+/// What a read of the word to which an address points asks for.
 pub fn read_action(program: &Program, loaded: TypeId, address: Option<Place>) -> Action
     ensures { result ≡ read_action program.now loaded address }
 {
@@ -122,7 +122,7 @@ fn plain_action(program: &Program, stored: TypeId, value: Value, address: Option
     }
 }
 
-/// What a store behind the barrier asks for, to the word to which an address leads.
+/// What a store with the barrier asks for, to the word to which an address points.
 pub fn barrier_action(
     program: &Program,
     stored: TypeId,

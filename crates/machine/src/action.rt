@@ -4,7 +4,7 @@ ghost use Rattle.machine.specs.Asks.{only_if};
 use crate::value::{Reference, Value};
 use pools::LayoutId;
 
-/// What the instruction at which a thread stands asks for.
+/// What the instruction at which a thread is asks for.
 #[derive(Clone, Copy, PartialEq, Eq)]
 pub enum Action {
     /// One step that touches no shared word.
@@ -14,7 +14,7 @@ pub enum Action {
         at: Reference,
         word: u32,
     },
-    /// This reference, or null, is put into a word of a cell, behind the barrier.
+    /// This reference, or null, is put into a word of a cell, with the barrier.
     Write {
         at: Reference,
         word: u32,

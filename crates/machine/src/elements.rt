@@ -45,14 +45,14 @@ fn index_value(of_module: &Module, registers: &[Value], index: &Argument) -> u64
     read_signed(bits_at(of_module, index.written), number_in(&value))
 }
 
-/// So many words further, modulo 2 to the 64.
+/// `words` words further, modulo 2 to the 64.
 fn behind(offset: u64, words: u64) -> u64
     ensures { result ≡ wrapped 64 (offset + words) }
 {
     wrapped_wide(64, u128::from(offset) + u128::from(words))
 }
 
-/// So many times so many words further, modulo 2 to the 64.
+/// `count` times `words` words further, modulo 2 to the 64.
 fn further(offset: u64, count: u64, words: u32) -> u64
     ensures { result ≡ wrapped 64 (offset + count * words) }
 {
@@ -62,7 +62,7 @@ fn further(offset: u64, count: u64, words: u32) -> u64
     )
 }
 
-/// How many words some indices pass from behind so many words of a type.
+/// How many words some indices pass, after `offset` words of a type.
 fn offset_behind(
     program: &Program,
     registers: &[Value],

@@ -111,7 +111,7 @@ impl<'a> Entered<'a> {
         frame.enter(self.program.module(), function, block, &mut self.phi_values);
     }
 
-    /// The roots of a frame behind others.
+    /// Adds the roots of a frame after those of others.
     pub fn add_roots(&self, frame: &Frame, roots: &mut Vec<Value>) -> Result<(), AllocError>
         requires { WasEntered self.now.tables frame.now.function }
         ensures { OnOk result (roots.new.items ≡ roots.old.items ++ frame_roots self.now.program.of_module frame.now (slice_get self.now.program.of_module.functions frame.now.function)) }
@@ -124,7 +124,7 @@ impl<'a> Entered<'a> {
     }
 }
 
-/// For so many functions that none was entered.
+/// A table of `count` functions, none of which was entered.
 #[tactic(auto, using(crate::proofs::Kept::one_more))]
 fn no_tables(alloc: Global, count: usize) -> Result<Items<Option<Slots>>, AllocError>
     ensures { IfOk result (λ tables. tables ≡ replicate count None) }
@@ -144,7 +144,7 @@ pub fn function_of(of_module: &Module, number: FuncId) -> &Function
     &of_module.functions.as_slice()[number.number() as usize]
 }
 
-/// There is room for at least so many values.
+/// There is room for at least `count` values.
 fn make_room(alloc: Global, values: &mut Items<Value>, count: usize) -> Result<(), AllocError>
     ensures grows { length values.old ≤ length values.new }
     ensures room { OnOk result (count ≤ length values.new) }

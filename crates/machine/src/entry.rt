@@ -27,7 +27,7 @@ pub fn most_phis(function: &Function) -> usize
     most
 }
 
-/// So many values, none of which is set.
+/// `count` values, none of which is set.
 pub fn all_unset(alloc: Global, count: usize) -> Result<Items<Value>, AllocError>
     ensures { IfOk result (λ values. values ≡ replicate count Value.Unset) }
 {

@@ -255,7 +255,7 @@ fn put_register(registers: &mut Items<Value>, name: Option<ValueId>, value: Valu
     }
 }
 
-/// The values of some phis, each by the registers as they stand, are kept in order.
+/// The values of some phis, each by the registers as they are, are kept in order.
 fn take_values(
     of_module: &Module,
     function: &Function,

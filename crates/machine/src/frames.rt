@@ -21,7 +21,7 @@ use std::mem;
 /// How many frames a thread may have.
 const FRAME_LIMIT: u128 = 10_000;
 
-/// Whether there may be one frame more above the running one, which has so many below.
+/// Whether there may be one frame more above the running one, which has this number of frames below.
 pub fn has_room(below: usize) -> bool
     ensures { result ≡ has_room below }
 {
@@ -52,7 +52,7 @@ fn with_room(number: FuncId, below: usize, asked: Action) -> Action
     }
 }
 
-/// What an instruction that asks for this alone asks for above so many frames.
+/// What an instruction that asks for this alone asks for above this number of frames.
 pub fn above(of_module: &Module, op: &Op, below: usize, asked: Action) -> Action
     ensures { result ≡ above (onward_of of_module.now op.now) below asked }
 {
@@ -66,7 +66,7 @@ pub fn above(of_module: &Module, op: &Op, below: usize, asked: Action) -> Action
     }
 }
 
-/// A frame stands above the running one, which goes on at the next place once it runs again.
+/// A frame is put above the running one, which goes on at the next place once it runs again.
 fn push_frame(running: &mut Frame, below: &mut Vec<Frame>, frame: Frame) -> Result<(), AllocError>
     requires { running.old.place + 1 < 2 ^ 64 }
     ensures running { running.new ≡ (if is_ok result then frame else running.old) }
@@ -174,7 +174,7 @@ fn leave_function(running: &mut Frame, below: &mut Vec<Frame>, value: Value) -> 
     }
 }
 
-/// The thread goes on behind an instruction of its running frame. Whether it has not ended.
+/// The thread goes on after an instruction of its running frame. Whether it has not ended.
 pub fn step(
     alloc: Global,
     entered: &mut Entered<'_>,

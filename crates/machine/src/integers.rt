@@ -5,7 +5,7 @@ ghost use Rattle.machine.specs.Integers.{computed, is_negative, sign_extended, r
 
 use ir_ast::{Arithmetic, Comparison, Resize};
 
-/// How many values an integer of so many bits has; none has more than 64 bits.
+/// How many values an integer of `bits` bits has; none has more than 64 bits.
 fn modulus(bits: u32) -> u128
     ensures modulus { result ≡ modulus bits }
     ensures within { result < 2 ^ 65 }
@@ -14,21 +14,21 @@ fn modulus(bits: u32) -> u128
     if bits < 64 { 1 << bits } else { 1 << 64 }
 }
 
-/// A number as an integer of so many bits.
+/// A number as an integer of `bits` bits.
 pub fn wrapped_wide(bits: u32, number: u128) -> u64
     ensures { result ≡ wrapped bits number }
 {
     (number % modulus(bits)) as u64
 }
 
-/// A number as an integer of so many bits.
+/// A number as an integer of `bits` bits.
 pub fn wrapped(bits: u32, number: u64) -> u64
     ensures { result ≡ wrapped bits number }
 {
     wrapped_wide(bits, u128::from(number))
 }
 
-/// The sum, the product and so on of two integers of so many bits.
+/// The sum, the product and so on of two integers of `bits` bits.
 pub fn computed(kind: Arithmetic, bits: u32, first: u64, second: u64) -> u64
     ensures { result ≡ computed kind bits first second }
 {
@@ -61,7 +61,7 @@ fn sign_extended(bits: u32, to: u32, number: u64) -> u128
     }
 }
 
-/// An integer of so many bits, read with its sign, modulo 2 to the 64.
+/// An integer of `bits` bits, read with its sign, modulo 2 to the 64.
 pub fn read_signed(bits: u32, number: u64) -> u64
     ensures { result ≡ wrapped 64 (sign_extended bits 64 number) }
 {
@@ -98,7 +98,7 @@ fn signed_rank(bits: u32, number: u64) -> u128
     }
 }
 
-/// A comparison of two integers of so many bits.
+/// A comparison of two integers of `bits` bits.
 pub fn compares(kind: Comparison, bits: u32, first: u64, second: u64) -> bool
     ensures { result ≡ compares kind bits first second }
 {

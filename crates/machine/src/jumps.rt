@@ -1,4 +1,4 @@
-//! Ways from block to block, and the values that phis take on them.
+//! Edges from block to block, and the values that phis take on them.
 ghost use Rattle.std.specs.Prelude.{◌≡◌, Some, length, slice_get};
 ghost use Rattle.std.specs.List.{take_while};
 ghost use Rattle.machine.specs.Jumps.{is_block, is_phi_op, is_phi, phis_of, entry_for, entry_fits, phi_fits, phis_fit, entry_value, phi_value, switch_way, cases_fit};
@@ -116,7 +116,7 @@ fn entry_value(
     }
 }
 
-/// The value that a phi takes behind this block.
+/// The value that a phi takes on the edge from this block.
 pub fn phi_value(
     of_module: &Module,
     function: &Function,

@@ -14,7 +14,7 @@ pub fn is_integer(of_module: &Module, written: TypeId) -> bool
     matches!(of_module.types.get(written), Some(IrType::Integer(_)))
 }
 
-/// An integer of so many bits.
+/// An integer of `bits` bits.
 pub fn is_integer_of(of_module: &Module, bits: u32, written: TypeId) -> bool
     ensures { result ≡ is_integer_of bits (slice_get of_module.now.types written) }
 {

@@ -1,4 +1,4 @@
-//! One thread: its frames, what operands come to, what it asks for at each instruction, and how it goes on with the answer.
+//! One thread: its frames, what operands evaluate to, what it asks for at each instruction, and how it goes on with the answer.
 #![tactic(auto)]
 
 mod accesses;

@@ -85,7 +85,7 @@ fn may_cast_global(of_module: &Module, from: TypeId, global: SymbolId, to: TypeI
     from == to || may_cast_word(of_module, to, global_word(of_module, global))
 }
 
-/// Whether an operand is a constant that fits the written type, or a local name of that type that names no slot, or a global to which the type points, which may be cast to it.
+/// Whether an operand is a constant that fits the written type, a local name of that type that names no slot, a global to which the type points, or a global that may be cast to the type.
 pub fn is_typed(scene: &Scene<'_>, written: TypeId, operand: &Operand) -> bool
     ensures { result ≡ is_typed scene.now.program.now.of_module scene.now.function.now scene.now.slots.now written operand.now }
 {

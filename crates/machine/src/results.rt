@@ -118,7 +118,7 @@ fn are_equal(first: Value, second: Value) -> bool
     }
 }
 
-/// What an icmp of operands of so many bits gives: of two integers, or else of references.
+/// What an icmp of operands of `bits` bits gives: of two integers, or else of references.
 fn compared(kind: Comparison, bits: u32, first: Value, second: Value) -> Value
     ensures { result ≡ compared kind bits first second }
 {

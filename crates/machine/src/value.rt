@@ -8,10 +8,10 @@ pub struct Reference {
     pub birth: u64,
 }
 
-/// Where an address leads.
+/// Where an address points.
 #[derive(Clone, Copy, Debug, PartialEq, Eq)]
 pub enum Place {
-    /// The address was taken from null: it leads to no word.
+    /// The address was taken from null: it points to no word.
     OfNull,
     /// A word of a cell of this layout.
     Word {

@@ -20,7 +20,7 @@ certified_with program certs laid_out sized accepted =
     subst (λ words. IsModuleCertified (record { of_module = program.of_module; layouts = words; sizes = accepted.sizes }) certs (length program.of_module.functions)) layouts accepted.certified in
     subst (λ words. IsModuleCertified (record { of_module = program.of_module; layouts = program.layouts; sizes = words }) certs (length program.of_module.functions)) sizes with_layouts
 
--- the only fault in the functions of a program that goes with acceptance is want of memory
+-- the only fault in the functions of a program that goes with acceptance is out of memory
 pub only_memory : (program : LaidOut) (m : Module) (certs : List Section) (fault : BlockFault) → program.of_module ≡ m → AreLayouts m program.layouts → AreSizes m program.sizes
     → IsModuleFault program certs (length program.of_module.functions) fault → IsAccepted m certs → verdict_of_block fault ≡ Memory
 only_memory program m certs (block.Refused refusal) same laid_out sized first other =

@@ -1,4 +1,4 @@
--- What the threads of an accepted module keep to.
+-- The discipline that the threads of an accepted module obey.
 use Rattle.std.specs.Prelude.{◌≡◌, ℕ, List, [], Some, slice_get}
 use Rattle.ir_ast.specs.declared.function.Function.{Function}
 use Rattle.pools.specs.Heap.{Setup}

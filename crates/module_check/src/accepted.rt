@@ -35,7 +35,7 @@ impl Accepted {
         Accepted { program, certs }
     }
 
-    /// The module with its layouts. Its threads keep to the discipline, and all runs of them and the collector are safe.
+    /// The module with its layouts. Its threads obey the discipline, and all runs of them and the collector are safe.
     pub fn program(&self) -> &Program
         ensures program { result.now ≡ self.now.program }
         ensures certified { IsModuleCertified result.now self.now.certs (length result.now.of_module.functions) }

@@ -88,7 +88,7 @@ fn fault_in_module(alloc: Global, program: &Program, certs: &Certs) -> Option<Bl
 
 /// Checks a module against its certificates. Where it is not accepted, the verdict is the first refusal in the order of
 /// functions, blocks, instructions and targets, or the fault of its layouts; module and certificates are given back.
-/// A thread of an accepted module is never wrong, its roots are null or held, and its steps on the heap keep the discipline,
+/// A thread of an accepted module is never wrong, its roots are null or held, and its steps on the heap obey the discipline,
 /// whatever possible answers it gets. So for every number of threads that begin at its functions and every list of atomic steps
 /// of theirs and the collector's: no cell that is reachable from a global or a root slot is freed, no instruction touches a
 /// freed cell, and none is wrong.

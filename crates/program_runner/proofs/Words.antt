@@ -1,4 +1,4 @@
--- The words of cells behind that of the globals.
+-- The words of cells after that of the globals.
 use Rattle.std.proofs.Common.{◌≡◌, ℕ, zero, suc, refl}
 use Rattle.std.specs.Prelude.{◌-◌, slice_get}
 use Rattle.pools.specs.Heap.{Setup, layout_at, layout_of, kind_of, words_of_cell}
@@ -10,7 +10,7 @@ unfolding layout_of
 words_of_pool s zero n = absurd (n refl)
 words_of_pool s (suc cell) n = refl
 
--- the kind of a word stands in the list of its cell's words
+-- the kind of a word is in the list of its cell's words
 pub kind_is : (s : Setup) (cell word : ℕ) → slice_get (words_of_cell s cell) word ≡ kind_of s cell word
 unfolding kind_of
 kind_is s cell word = refl

@@ -65,7 +65,7 @@ takes_reference m written (Some (kind.Integer bits)) v bytes e =
 takes_reference m written (Some (kind.Reference layout)) v bytes e = refl
 
 module _ (s : Setup) where
-  -- a number may stand in a word of integers
+  -- a number may be in a word of integers
   number_held : (bits : ℕ) (v : Value) → is_number v ≡ true → FitsHeap s v → MayHold s (Some (kind.Integer bits)) (stored v)
   number_held bits (value.Number n) e h = h
   number_held bits value.Unset e h = absurd cc
@@ -122,7 +122,7 @@ module _ (s : Setup) where
         only_asks (takes_value p.of_module written (global_kind p.of_module g) v) (StorePlain globals_cell g v)
         (λ e. (omega arith, subst (λ k. MayHold s k (stored v)) (sym (kind_global s p heap g (takes_there p.of_module written (global_kind p.of_module g) v e))) (may_hold p.of_module written (global_kind p.of_module g) v e h)))
 
-    -- one that is stored behind the barrier holds references too
+    -- one that is stored with the barrier holds references too
     barrier_asks : (written : ℕ) (v : Value) (address : Option Place) → is_byte_pointer p.of_module written ≡ true → FitsHeap s v → PlaceFits s address
         → AsksByKind s (asked_as (barrier_action p written v address))
     barrier_asks written v None bytes h of = tt
@@ -235,7 +235,7 @@ module _ (s : Setup) where
       store_asks written true v None address h of = plain_asks written v address h of
       store_asks written false v None address h of = tt
 
-      -- a way to a block touches no word
+      -- an edge to a block touches no word
       enter_asks : (from : ℕ) (target : Option ℕ) → AsksByKind s (asked_as (enter_action p.of_module f slots from target))
       enter_asks from None = tt
       enter_asks from (Some block) = local_asks _

@@ -1,4 +1,4 @@
--- What a thread holds behind an answer that fits what it asked for: it fits the heap.
+-- What a thread holds after an answer that fits what it asked for: it fits the heap.
 use Rattle.std.proofs.Common.{ℕ, List, [], ◌∷◌, length, true, false, Bool, Option, Some, None, slice_get, inl, inr}
 use Rattle.std.specs.Prelude.{◌⊎◌, if◌then◌else◌}
 use Rattle.ir_ast.specs.declared.function.Function.{Function}
@@ -52,7 +52,7 @@ module _ (s : Setup) where
   slot_fits None v frame new fits = fits
   slot_fits (Some slot) v frame new fits = record { registers = fits.registers; slots = λ other. set_fits s frame.slots slot other v new (fits.slots other) }
 
-  -- and behind a bitcast
+  -- and after a bitcast
   cast_fits : (name : Option ℕ) (v : Value) (slot : Option ℕ) (frame : Frame) → FitsHeap s v → FrameFits s frame → FrameFits s (after_cast name v slot frame)
   cast_fits name v None frame new fits = register_fits name v frame new fits
   cast_fits name v (Some slot) frame new fits = fits
@@ -127,7 +127,7 @@ module _ (s : Setup) where
             by (inr g) = nothing_at s p (address_at_place p.of_module f slots frame.registers place.written place.operand) given g
       gcread_fits returned (object ∷ (place ∷ (other ∷ arguments))) given h = nothing_at s p (address_at_place p.of_module f slots frame.registers place.written place.operand) given h
 
-      -- the frame behind a call of the runtime
+      -- the frame after a call of the runtime
       call_fits : (name : Option ℕ) (returned : ℕ) (arguments : List Argument) (declare : Option Declare) (callee : Option Function) (called : Option Runtime) (given : Answer)
           → FitsAsked s (call_action p f slots frame.registers returned arguments declare callee called) given → FrameFits s (after_call p f slots name arguments called given frame)
       call_fits name returned arguments declare callee (Some runtime.Alloc) given h =
@@ -149,7 +149,7 @@ module _ (s : Setup) where
       abbrev operand : (written : ℕ) (o : Operand) → FitsHeap s (value_of p.of_module frame.registers written o)
       operand written o = operand_fits s p heap f slots frame.registers fits.registers written o
 
-      -- the frame behind an instruction that stays in its block
+      -- the frame after an instruction that stays in its block
       op_fits : (name : Option ℕ) (op : Op) (given : Answer) → FitsAsked s (op_action p f slots frame.block frame.registers op) given → FrameFits s (after_op p f slots name op given frame)
       op_fits name (Alloca held) given h = fits
       op_fits name (Bitcast written o to) given h = cast_fits name (value_of p.of_module frame.registers written o) (operand_slot slots.names o) frame (operand written o) fits
@@ -200,7 +200,7 @@ module _ (s : Setup) where
       result_fits (Return argument) = operand argument.written argument.operand
       result_fits op = tt
 
-      -- the frames behind a call
+      -- the frames after a call
       entered_fit : (into : Option ℕ) (arguments : List Value) (function : ℕ) (callee : Option Function) (below : List Frame) → AllFit s arguments → FramesFit s below
           → FramesFit s (frames_called p.of_module into arguments function callee frame below)
       entered_fit into arguments function None below all others = (fits, others)
@@ -209,12 +209,12 @@ module _ (s : Setup) where
         pick true = (entry_fits s p.of_module callee function into arguments all, (moved_on frame fits, others))
         pick false = tt
 
-      -- and behind a return
+      -- and after a return
       returned_fit : (into : Option ℕ) (v : Value) (below : List Frame) → FitsHeap s v → FramesFit s below → FramesFit s (frames_returned into v below)
       returned_fit into v [] h others = tt
       returned_fit into v (caller ∷ below) h others = (register_fits into v caller h others.0, others.1)
 
-      -- the frames behind an instruction
+      -- the frames after an instruction
       onward_fits : (instr : Instr) (given : Answer) (below : List Frame) (onward : Onward) → FitsAsked s (above onward (length below) (op_action p f (slots_of p.of_module f) frame.block frame.registers instr.op)) given
           → FramesFit s below → FramesFit s (after_onward p f instr given frame below onward)
       onward_fits instr given below Next h others = (moved_on (after_op p f (slots_of p.of_module f) instr.result instr.op given frame) (op_fits instr.result instr.op given h), others)
@@ -224,7 +224,7 @@ module _ (s : Setup) where
       onward_fits instr given below Back h others = returned_fit frame.into (result_of p.of_module frame.registers instr.op) below (result_fits instr.op) others
       onward_fits instr given below Nowhere h others = tt
 
-    -- the frames behind a step
+    -- the frames after a step
     instr_fits : (f : Function) (instr : Option Instr) (given : Answer) (frame : Frame) (below : List Frame) → FrameFits s frame → FramesFit s below
         → FitsAsked s (step_action p f frame (length below) instr) given → FramesFit s (after_instr p f instr given frame below)
     instr_fits f None given frame below fits others h = (fits, others)
@@ -236,7 +236,7 @@ module _ (s : Setup) where
     frame_fits None given frame below fits others h = (fits, others)
     frame_fits (Some f) given frame below fits others h = instr_fits f (instr_at f frame) given frame below fits others h
 
-    -- the state behind an answer
+    -- the state after an answer
     pub answer_fits : (state : State) (given : Answer) → FramesFit s state.frames → FitsAsked s (action p state) given → FramesFit s (after_answer p state given).frames
     answer_fits state given fits h = by state.frames fits h where
       by : (frames : List Frame) → FramesFit s frames → FitsAsked s (action p (record { frames = frames })) given → FramesFit s (after_answer p (record { frames = frames }) given).frames

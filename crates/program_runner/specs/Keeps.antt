@@ -1,4 +1,4 @@
--- What a thread of a program asks for fits its heap, and so does what it holds behind each answer.
+-- What a thread of a program asks for fits its heap, and so does what it holds after each answer.
 use Rattle.std.proofs.Common.{sym, subst}
 use Rattle.pools.specs.Heap.{Setup}
 use Rattle.machine.specs.Machine.{action, roots}

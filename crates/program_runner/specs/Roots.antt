@@ -15,7 +15,7 @@ use Rattle.program_runner.specs.Kinds.{FitsHeap, FrameFits, FramesFit}
 use Rattle.program_runner.specs.Begun.{AllFit}
 
 module _ (s : Setup) where
-  -- values that fit, behind others
+  -- values that fit, after others
   both_fit : (first second : List Value) → AllFit s first → AllFit s second → AllFit s (first ++ second)
   both_fit [] second f g = g
   both_fit (v ∷ first) second f g = (f.0, both_fit first second f.1 g)

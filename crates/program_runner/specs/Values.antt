@@ -105,7 +105,7 @@ module _ (s : Setup) where
   constant_fits_heap m written constant.Null = tt
   constant_fits_heap m written (constant.Truth b) = tt
 
-  -- the address of a global leads to no cell of a layout
+  -- the address of a global points to no cell of a layout
   global_fits : (g : Option ℕ) → FitsHeap s (global_address g)
   global_fits None = tt
   global_fits (Some g) = tt
@@ -132,7 +132,7 @@ module _ (s : Setup) where
   address_fits (value.Cell layout at) h = tt
   address_fits (value.Address at) h = h
 
-  -- a word of a cell, so many behind another one
+  -- a word of a cell, `offset` words after another one
   word_fits : (p : LaidOut) (layout : ℕ) (at : Reference) (word : ℕ) (offset : Option ℕ) → IsOfLayout s layout at.cell → FitsHeap s (address_of (word_behind p layout at word offset))
   word_fits p layout at word None of = tt
   word_fits p layout at word (Some offset) of = pick (is_some (kind_of_word p.layouts layout there)) where

@@ -27,7 +27,7 @@ pub(crate) fn reference_in(value: Value) -> Reference
     }
 }
 
-/// What a value is in a word: a number stands as a cell's number.
+/// What a value is in a word: a number is kept as a cell's number.
 fn stored(value: Value) -> Reference
     ensures { result ≡ stored value }
 {

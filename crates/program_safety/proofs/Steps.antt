@@ -1,4 +1,4 @@
--- What a share bears out of a log, it bears out behind one more call of both; and what the call was answered is possible.
+-- What a share bears out of a log, it bears out after one more call of both; and the answer to the call is possible.
 use Rattle.std.proofs.Common.{◌≡◌, ◌≢◌, ◌<◌, ℕ, ◌==◌, ◌⊎◌, inl, inr, Bool, true, false, ◌&&◌, Option, Some, None, List, ◌∷◌, map, if◌then◌else◌, refl, sym, ap, subst, arith, IsTrue, IsFalse}
 use Rattle.std.specs.List.{Contains}
 use Rattle.lemmas.specs.Numbers.{test_yes, test_false, test_no}
@@ -26,7 +26,7 @@ use Rattle.program_safety.specs.Threads.{in_run, at_thread, reference_in, stored
 use Rattle.program_safety.specs.Sound.{BearsOut}
 use Rattle.program_safety.proofs.Roots.{from_values, among_values}
 
--- the log behind a call
+-- the log after a call
 abbrev with_step : Action → Answer → (roots : List Value) → Log → Log
 with_step asked given roots log = record { asked = asked; given = given; roots = roots } ∷ log
 
@@ -35,7 +35,7 @@ pub record Left (s : Setup) (share : List Move) (log : Log) (asked : Action) (gi
   pub possible : Possible s log asked given
   pub borne_out : BearsOut s (move ∷ share) (with_step asked given roots log)
 
--- held behind a call that brings nothing
+-- held after a call that brings nothing
 none_more : {A B C : Type 0} → (A → B) → ⊥ ⊎ A → C ⊎ (Unit {0} × B)
 none_more f (inl x) = absurd x
 none_more f (inr x) = inr (tt, f x)
@@ -70,7 +70,7 @@ put_behind s share log None v b h = absurd h
 put_behind s share log (Some (kind.Integer bits)) v b h = absurd h
 put_behind s share log (Some (kind.Reference layout)) v b h = (refl, put s share log layout v b h)
 
--- a call that keeps the discipline of a log keeps that of the share
+-- a call that obeys the discipline of a log obeys that of the share
 pub may_call : (s : Setup) (share : List Move) (log : Log) (asked : Action) → BearsOut s share log → Keeps s log asked → MayCall s share (asked_as asked)
 may_call s share log Local b k = tt
 may_call s share log (Read at word) b k = (touch s share log at b k.0, k.1)
@@ -192,7 +192,7 @@ answered s share log roots stage b rooted = record {
 
 -- ---- every call
 
--- behind the last move of a call that kept the discipline
+-- after the last move of a call that obeyed the discipline
 pub behind_call : (s : Setup) (share : List Move) (log : Log) (roots : List Value) (asked : Action) (move : Move) → BearsOut s share log → Keeps s log asked
     → ((root : Value) → Contains roots root → IsNullOrHeld log root) → EndsCall s (map reference_in roots) (asked_as asked) move → IsPossibleMove s share move
     → Left s share log asked (given_as s asked (answer_of (asked_as asked) move)) roots move

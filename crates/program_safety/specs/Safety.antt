@@ -11,7 +11,7 @@ pub use Rattle.soundness.specs.Discipline.{AreCertified, CertifiedIsNeverWrong, 
 use Rattle.runs.specs.Promises.{AreCareful, IsSafe}
 use Rattle.program_safety.specs.Threads.{ProgramThread, program_machine}
 
--- a thread stands at the beginning of a function of the program, over this heap, with arguments that fit and meet what is promised of the parameters
+-- a thread is at the beginning of a function of the program, over this heap, with arguments that fit and meet what is promised of the parameters
 pub record IsBegun (heap : Setup) (program : LaidOut) (certs : List Section) (thread : ProgramThread) : Type 0 where
   pub func : ℕ
   pub function : Function
@@ -26,7 +26,7 @@ AreBegun heap program certs starts = (t : ℕ) → t < heap.threads → IsBegun 
 
 -- ---- what is promised
 
--- over every heap of the program, each thread that begins so keeps to the discipline at each move, as long as each answer is possible
+-- over every heap of the program, each thread that begins so obeys the discipline at each move, as long as each answer is possible
 abbrev pub IsCarefulProgram : LaidOut → List Section → Type 0
 IsCarefulProgram program certs = (heap : Setup) (starts : ℕ → ProgramThread) → IsHeapFor heap program → AreBegun heap program certs starts → AreCareful heap program_machine starts
 

@@ -1,4 +1,4 @@
--- What is known of a thread along its share of a run: it has a log of its own, which the share bears out, and behind which it is safe.
+-- What is known of a thread along its share of a run: it has a log of its own, which the share bears out, and after which it is safe.
 use Rattle.std.specs.Prelude.{ℕ, ◌<◌, ◌≡◌, List}
 use Rattle.pools.specs.Heap.{Setup}
 use Rattle.colours.specs.Mutator.{Fresh}
@@ -14,7 +14,7 @@ pub record BearsOut (heap : Setup) (share : List Move) (log : Log) : Type 0 wher
   pub held : (at : ThreadReference) → Held log at → Holds heap share (in_run at)
   pub fresh : (cell : ℕ) → IsFresh log cell → (0 < cell) × Fresh heap (steps_of share) cell
 
--- a thread over this heap is safe behind such a log, whatever possible answers it gets
+-- a thread over this heap is safe after such a log, whatever possible answers it gets
 pub record Sound (heap : Setup) (share : List Move) (thread : ProgramThread) : Type 0 where
   pub over : thread.heap ≡ heap
   pub log : Log

@@ -31,7 +31,7 @@ abbrev pub reference_in : Value → Reference
 reference_in (value.Cell layout at) = in_run at
 reference_in _ = null
 
--- what a value is in a word: a number stands as a cell's number
+-- what a value is in a word: a number is kept as a cell's number
 abbrev pub stored : Value → Reference
 stored (value.Number n) = record { cell = n; birth = 0 }
 stored v = reference_in v

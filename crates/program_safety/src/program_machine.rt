@@ -2,7 +2,7 @@ use layout::Program;
 use runs::{Judged, Machine};
 use std::marker::Model;
 
-/// The machine of the threads of programs, for the laws of runs. They speak of all threads; a value of this type stands for
+/// The machine of the threads of programs, for the laws of runs. They speak of all threads; a value of this type is
 /// one that has ended.
 #[derive(Drop)]
 pub struct ProgramMachine {

@@ -61,20 +61,20 @@ pub steps-more : (all : List Actor) (done : List Steps) (actor : TracedActor) (a
 steps-more all done actor a left left' is next same =
     is ∙ ap (λ l. actors_of done ++ l) (next ∙ ap (λ (b : Actor). b ∷ left') (sym same)) ∙ sym (append_assoc (actors_of done) (actor_in actor ∷ []) left') ∙ ap (λ l. l ++ left') (sym (actors_of-push done actor))
 
--- its actors are among so many threads and the collector
+-- its actors are among the threads and the collector
 pub actors-more : (threads : ℕ) (done : List Steps) (s : Steps) → AllByRecursion (λ (s : Steps). IsActorOf threads s.actor) done → IsActorOf threads s.actor
     → AllByRecursion (λ (s : Steps). IsActorOf threads s.actor) (done ++ s ∷ [])
 actors-more threads [] s all is = (is, tt)
 actors-more threads (first ∷ done) s all is = (all.0, actors-more threads done s all.1 is)
 
--- and so many
+-- and there is one step more
 pub sum-more : (done : List Steps) (actor : TracedActor) → step_sum (done ++ record { actor = actor; count = 1 } ∷ []) ≡ step_sum done + 1
 sum-more done actor =
     ap sum (map-append (λ (s : Steps). s.count) done (record { actor = actor; count = 1 } ∷ [])) ∙ sum_by_push (λ x. x) (map (λ (s : Steps). s.count) done) 1
 
 -- ---- a world that makes them
 
--- it stands behind as many steps as were drawn
+-- it is after as many steps as were drawn
 pub record IsDrawing (p : LaidOut) (setup : Setup) (all left : List Actor) (made : ℕ) (w : Watch) : Type 0 where
   pub before : List Actor
   pub is : IsWatched p setup before w

@@ -44,7 +44,7 @@ set_same [] i x within = absurd (omega arith)
 set_same (y ∷ xs) zero x within = refl
 set_same (y ∷ xs) (suc i) x within = set_same xs i x (omega arith)
 
--- and what stood at another place still does
+-- and what was at another place still is
 set_other : {A : Type 0} (xs : List A) (i j : ℕ) (x : A) → i ≢ j → slice_get (slice_set xs i x) j ≡ slice_get xs j
 set_other [] i j x other = refl
 set_other (y ∷ xs) zero zero x other = absurd (other refl)
@@ -70,7 +70,7 @@ none_next : (s : Setup) (h : Sight) (stage : ℕ) (roots : List Reference) (old 
     → next_move s h stage roots old action phase ≡ None
 none_next s h stage roots old action phase e = rw e refl
 
--- a thread that stands so behind this run, and the endings that were kept so far
+-- a thread that is so after this run, and the endings that were kept so far
 module _ (p : LaidOut) (setup : traced.Setup) (run : List Happening) (t : ℕ) (stand : Stand ProgramThread) (endings : List ThreadEnd) where
   abbrev Stands : Type 0
   Stands = StandsBehind (heaps.heap_of p setup) program_machine (starts_of p setup) run t (standing names stand)
@@ -101,7 +101,7 @@ module _ (p : LaidOut) (setup : traced.Setup) (run : List Happening) (t : ℕ) (
           ∙ are.each u few before
           ∙ ap (λ (moves : List Move). Some (ending_of (heaps.heap_of p setup) u (starts_of p setup u) moves)) (sym share)
 
-  -- behind a step of the thread, or none
+  -- after a step of the thread, or none
   either : (next : Option Move) → (phase_at (names stand.state) stand.stance ≡ order.Ended → next ≡ None) → Stands → t < length setup.starts → AreEndings p setup run endings
       → Behind (with_next (by_thread t next) run) (ending_in stand.stance stand.state (slice_get endings t))
   either None none stands is_thread are = put (ending_in stand.stance stand.state (slice_get endings t)) run are is_thread (λ u e. refl) (λ ended. own ended (by_stance (names stand.state) stand.stance stand.state (slice_get endings t)))
@@ -129,7 +129,7 @@ module _ (p : LaidOut) (setup : traced.Setup) (run : List Happening) (t : ℕ) (
 
 -- ---- one step
 
--- behind the next step of a thread, what it said before it is how it ended, if it did
+-- after the next step of a thread, what it said before it is how it ended, if it did
 pub kept : (p : LaidOut) (setup : traced.Setup) (before : List Actor) (threads : List (Stand ProgramThread)) (shared : Shared) (c : Collecting) (endings : List ThreadEnd) (t : ℕ)
     → stepping.IsEnd (heaps.heap_of p setup) program_machine (FitsThread (heaps.heap_of p setup)) (starts_of p setup) (run_of p setup before) threads shared c
     → t < length setup.starts → AreEndings p setup (run_of p setup before) endings

@@ -1,4 +1,4 @@
--- The actors behind some steps, as the end of a run of schedules.
+-- The actors after some steps, as the end of a run of schedules.
 use Rattle.std.proofs.Common.{◌≡◌, ℕ, zero, suc, Some, List, [], ◌∷◌, length, map, slice_get, slice_index_or, refl, sym, ap, ◌∙◌, subst}
 use Rattle.std.proofs.lemmas.Option.{get_or_from_slice_get}
 use Rattle.colours.specs.declared.place.Place.TheVariants.{Posted, Stage, Colour, Word}
@@ -25,7 +25,7 @@ use Rattle.replay.specs.Worlds.{World, AreEndings, IsBehind, run_of}
 
 -- ---- the words
 
--- what stands at a place of a list that was made by a function comes from what stood there
+-- what is at a place of a list that was made by a function comes from what was there
 pub from_map : {A B : Type 0} (f : A → B) (xs : List A) (k : ℕ) (b : B) → slice_get (map f xs) k ≡ Some b → (a : A) × (slice_get xs k ≡ Some a) × (f a ≡ b)
 from_map f [] k b at = absurd cc
 from_map f (x ∷ xs) zero b at = (x, refl, cc)
@@ -36,14 +36,14 @@ pub length_of_map : {A B : Type 0} (f : A → B) (xs : List A) → length (map f
 length_of_map f [] = refl
 length_of_map f (x ∷ xs) = ap suc (length_of_map f xs)
 
--- a word of the rows is what stands in its row
+-- a word of the rows is what is in its row
 in_row : (rows : List (List Reference)) (c i : ℕ) (r : Reference) (row : List Reference) → slice_get rows c ≡ Some row → slice_get row i ≡ Some r → word_at rows c i ≡ r
 in_row rows c i r row at within =
     ap (λ (found : List Reference). slice_index_or found i null) (get_or_from_slice_get rows c row [] at) ∙ get_or_from_slice_get row i r null within
 
 -- ---- the end
 
--- where the actors stand at the end of a run, behind which the collector stands so
+-- where the actors are at the end of a run, after which the collector is so
 pub is_end_of : (s : heap.Setup) (m : Machine) (Fits : m.State → Type 0) (starts : ℕ → m.State) (run : List Happening) (threads : List (Stand m.State)) (shared : Shared) (c : Collecting)
     → stepping.IsEnd s m Fits starts run threads shared c → (stands : collector.StandsBehind s (turns_of (heap_of run)) c)
     → IsEndOf s m starts run (record {
@@ -69,7 +69,7 @@ is_end_of s m Fits starts run threads shared c e stands = record {
   collector = stands.collects;
 }
 
--- the world of some actors behind their steps, with these endings
+-- the world of some actors after their steps, with these endings
 pub behind : (w : World) (before : List Actor)
     → stepping.IsBehind (heaps.heap_of w.program w.setup) program_machine (FitsThread (heaps.heap_of w.program w.setup)) (starts_of w.program w.setup) before w.threads w.shared w.collector
     → AreEndings w.program w.setup (run_of w.program w.setup before) w.endings → IsBehind w before

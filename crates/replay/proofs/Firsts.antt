@@ -9,7 +9,7 @@ module _ {X : Type 0} (post : ℕ → X → Type 0) (p : X → Bool) where
   abbrev pub Passed : ℕ → ℕ → Type 0
   Passed k m = (d : ℕ) → k ≤ d → d < m → (x : X) × post d x × (p x ≡ false)
 
-  -- what the answer says
+  -- what the result says
   abbrev pub Found : ℕ → ℕ → Option X → Type 0
   Found k m None = Passed k m
   Found k m (Some x) = (d : ℕ) × (k ≤ d) × (d < m) × post d x × (p x ≡ true) × Passed k d

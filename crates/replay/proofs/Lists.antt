@@ -1,4 +1,4 @@
--- Lists of actors, first and newest first, and the runs behind their first steps.
+-- Lists of actors, first and newest first, and the runs after their first steps.
 use Rattle.std.proofs.Common.{◌≡◌, ◌<◌, ◌≤◌, ◌⊎◌, inl, inr, ℕ, suc, List, [], ◌∷◌, ◌++◌, length, reverse, take, Some, slice_get, refl, sym, ap, subst, ◌∙◌, arith, append_assoc}
 use Rattle.std.proofs.lemmas.List.{append-nil, reverse-append, reverse-reverse, length-reverse}
 use Rattle.std.proofs.Math.Seq.{take-append_seam}
@@ -26,14 +26,14 @@ pub first_reversed : {A : Type 0} (xs ys : List A) → reverse (take (length xs)
 first_reversed xs ys =
     ap (λ n. reverse (take n (reverse xs ++ ys))) (sym (length-reverse xs)) ∙ ap reverse (take-append_seam (reverse xs) ys) ∙ reverse-reverse xs
 
--- what stands behind some in a list
+-- the element after some in a list
 pub slice_get-behind : {A : Type 0} (xs : List A) (y : A) (ys : List A) → slice_get (xs ++ y ∷ ys) (length xs) ≡ Some y
 slice_get-behind [] y ys = refl
 slice_get-behind (x ∷ xs) y ys = slice_get-behind xs y ys
 
 -- ---- runs
 
--- behind the first steps of a list the run is not broken, where it was broken behind none of these
+-- after the first steps of a list the run is not broken, where it was broken after none of these
 pub unbroken_at : (p : LaidOut) (setup : Setup) (before rest : List Actor) (steps : ℕ) → IsUnbroken p setup before → steps ≤ length before → ¬ IsBrokenAt p setup (reverse before ++ rest) steps
 unbroken_at p setup [] rest steps unbroken few =
     let none : steps ≡ 0 = omega arith in

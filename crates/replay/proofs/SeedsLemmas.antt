@@ -51,7 +51,7 @@ stopped p setup steps first past end h =
     by_case seed (Ok (Some b)) told low high before stop = ((low, high, all_passed p setup steps first seed before, told), tt)
     by_case seed (Err fault) told low high before stop = (tt, told)
 
--- what the search answers, from what its two closures say
+-- what the search returns, from what its two closures say
 pub found : (p : LaidOut) (setup : Setup) (steps first past : ℕ) (ys : List ℕ) (xs : List SeedEnd) (bs : List Bool) (r : Option SeedEnd) → first ≤ past → ys ≡ range_with_len first (past - first) → AllZip (Ends p setup steps) ys xs
     → AllZip (λ x b. (q : Bor SeedEnd) × (q.now ≡ x) × (b ≡ stops q.now)) xs bs → r ≡ slice_get (filter_by_mask xs bs) 0 → Found (Ends p setup steps) stops first past r
 found p setup steps first past ys xs bs r low all ends tests is =

@@ -1,4 +1,4 @@
--- One step of an actor behind some others: what it adds to the run, and how it breaks it.
+-- One step of an actor after some others: what it adds to the run, and how it breaks it.
 use Rattle.std.proofs.Common.{◌≡◌, ◌<◌, ◌≤◌, ◌+◌, ◌⊎◌, inl, inr, ℕ, suc, Bool, false, cond, List, [], ◌∷◌, length, Option, Some, None, MatchOption, refl, sym, ap, subst, ◌∙◌, arith}
 use Rattle.std.specs.Prelude.{count_by}
 use Rattle.std.proofs.lemmas.List.Sums.{sum_by-cons, count_by-le-length}
@@ -88,7 +88,7 @@ frees_told : (roots : ℕ → List Reference) (made : Made) (happening : Happeni
 frees_told roots (Thread t move) happening tells = ap frees tells
 frees_told roots (Collector turn) happening tells = ap frees tells ∙ turn-frees turn
 
--- the claims behind a step, or none
+-- the claims after a step, or none
 pub claims-more : (s : Setup) (m : Machine) (starts : ℕ → m.State) (actor : Actor) (before : List Actor) (made : Option Step) (n : ℕ)
     → IsStepOrNone s m starts (run_by s m starts before) actor made → n ≡ count_by claims (run_by s m starts before) → n + cond (claims_cell made) 1 0 ≡ count_by claims (run_by s m starts (actor ∷ before))
 claims-more s m starts actor before None n none is = omega (arith, is, ap (count_by claims) (run-more s m starts actor before None none))
@@ -170,7 +170,7 @@ gone_is_cause s m starts run gone none first = go gone first
         earlier (broken.ReachBlue c) goes shows = first.0 c shows
         earlier (broken.ReachBirth c) goes shows = first.2 c (less c cell 4 goes) shows
 
--- the cause that is told behind a step, or none, is the first
+-- the cause that is told after a step, or none, is the first
 pub cause_told : (s : Setup) (m : Machine) (starts : ℕ → m.State) (actor : Actor) (before : List Actor) (step : Step) → IsStepOrNone s m starts (run_by s m starts before) actor (Some step) → IsStepCause s m starts (run_by s m starts (actor ∷ before)) step.broke
 cause_told s m starts actor before step is = subst (λ run. IsStepCause s m starts run step.broke) (sym (run-more s m starts actor before (Some is.happening) is.next)) is.broke
 

@@ -1,4 +1,4 @@
--- What is told of where the threads of a world stand.
+-- What is told of where the threads of a world are.
 use Rattle.std.proofs.Common.{◌≡◌, ◌<◌, ◌≤◌, ◌⊎◌, inl, inr, ℕ, zero, suc, ◌+◌, Option, Some, List, [], ◌∷◌, ◌++◌, length, slice_get, unwrap_or, refl, sym, ap, ◌∙◌, subst, arith}
 use Rattle.lemmas.specs.Lists.{get_some, get_end}
 use Rattle.colours.specs.Mutator as order
@@ -24,7 +24,7 @@ use Rattle.replay.specs.WorldView.{world_seen}
 
 -- ---- lists
 
--- what stood at a place still does with one element more
+-- what was at a place still is with one element more
 at_front : {A : Type 0} (xs : List A) (x : A) (k : ℕ) → k < length xs → slice_get (xs ++ x ∷ []) k ≡ slice_get xs k
 at_front [] x k within = absurd (omega arith)
 at_front (y ∷ xs) x zero within = refl
@@ -34,7 +34,7 @@ longer : {A : Type 0} (xs : List A) (x : A) → length (xs ++ x ∷ []) ≡ suc 
 longer [] x = refl
 longer (y ∷ xs) x = ap suc (longer xs x)
 
--- so many ends were told
+-- n ends were told
 pub record AreTold (ends : List ThreadEnd) (count : ℕ) (told : ℕ → ThreadEnd) : Type 0 where
   pub many : length ends ≡ count
   pub each : (k : ℕ) → k < count → slice_get ends k ≡ Some (told k)
@@ -61,7 +61,7 @@ one_more_told ends count told last are is = record {
 
 -- ---- the ends
 
--- where a thread stands by its stance, is where it stands by its phase
+-- where a thread is by its stance, is where it is by its phase
 by_phase : (roots : List Reference) (stance : Stance) (stage : ℕ) (kept ending : ThreadEnd) → (phase_at roots stance ≡ order.Ended → kept ≡ ending) → end_at stance stage kept ≡ end_in (phase_at roots stance) stage ending
 by_phase roots Ready stage kept ending same = refl
 by_phase roots (MarkingOld cell word old) stage kept ending same = refl
@@ -71,7 +71,7 @@ by_phase roots (Trying first tried) stage kept ending same = refl
 by_phase roots (Answering stage' marked) stage kept ending same = refl
 by_phase roots Ended stage kept ending same = same refl
 
--- what is told of a thread of a world is where it stands
+-- what is told of a thread of a world is where it is
 told_is : (w : World) (before : List run.Actor) → IsBehind w before → (t : ℕ) → t < length w.setup.starts → end_told (slice_get w.threads t) (slice_get w.endings t) ≡ end_of w.program w.setup (run_of w.program w.setup before) t
 told_is w before b t few =
     let s = heap_of w.program w.setup in

@@ -1,4 +1,4 @@
--- The steps of a trace, some of an actor behind others.
+-- The steps of a trace, some of an actor after others.
 use Rattle.std.proofs.Common.{◌≡◌, ◌<◌, ◌+◌, ℕ, zero, suc, List, [], ◌∷◌, ◌++◌, length, map, reverse, replicate, take, drop, Some, None, refl, sym, ap, subst, ◌∙◌, arith, append_assoc, length-append, add-one, get_or}
 use Rattle.std.specs.List.{AllByRecursion}
 use Rattle.std.proofs.lemmas.List.{append-nil, reverse-append, reverse-reverse, length-replicate, length-reverse}

@@ -25,7 +25,7 @@ use Rattle.replay.proofs.StepsTaken.{claims-more, frees-more, claims-short, free
 
 -- ---- one step
 
--- what is true behind each of some actors is true behind all of them
+-- what is true after each of some actors is true after all of them
 pub unbroken_now : (p : LaidOut) (setup : Setup) (before : List Actor) → IsUnbroken p setup before → ¬ IsBroken (heap_of p setup) program_machine (starts_of p setup) (run_of p setup before)
 unbroken_now p setup [] unbroken = unbroken
 unbroken_now p setup (actor ∷ before) unbroken = unbroken.0
@@ -78,7 +78,7 @@ reverse-replicate zero x = refl
 reverse-replicate (suc n) x =
     reverse-append (x ∷ []) (replicate n x) ∙ ap (λ l. l ++ x ∷ []) (reverse-replicate n x) ∙ replicate-append-replicate n 1 x ∙ ap (λ k. replicate k x) (add-one n)
 
--- so many of one actor, made behind others, before so many more
+-- some steps of one actor, made after others and before more of that actor
 pub replicated : {A : Type 0} (done left count : ℕ) (x : A) (before rest : List A) → done + suc left ≡ count → reverse (replicate done x ++ before) ++ (x ∷ (replicate left x ++ rest)) ≡ reverse before ++ (replicate count x ++ rest)
 replicated done left count x before rest is =
     ap (λ l. l ++ (x ∷ (replicate left x ++ rest))) (reverse-append (replicate done x) before ∙ ap (λ l. reverse before ++ l) (reverse-replicate done x))
@@ -98,7 +98,7 @@ pub room_for_more : (p : LaidOut) (setup : Setup) (before : List Actor) (count d
 room_for_more p setup before count done actor v few more is =
     (p, setup, replicate done actor ++ before, is, omega (arith, few, more, length-append (replicate done actor) before, length-replicate done actor))
 
--- ---- where the actors stand
+-- ---- where the actors are
 
 -- what a world tells of its end
 pub reports : (p : LaidOut) (setup : Setup) (before : List Actor) (w : Watch) (ends : List ThreadEnd) (posted : ℕ) → IsWatched p setup before w → AreEndsOf w.world before ends → posted ≡ w.world.shared.posted

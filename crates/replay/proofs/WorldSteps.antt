@@ -1,4 +1,4 @@
--- A world behind one more step.
+-- A world after one more step.
 use Rattle.std.proofs.Common.{◌≡◌, ◌<◌, ℕ, Option, Some, List, [], ◌∷◌, length, slice_get, refl, sym, ap, ◌∙◌, subst}
 use Rattle.layout.specs.Layouts.{LaidOut}
 use Rattle.certs.specs.declared.section.Section.{Section}
@@ -28,7 +28,7 @@ use Rattle.replay.proofs.Ends.{behind, from_map, length_of_map}
 use Rattle.replay.proofs.Safe.{certified_setup, each_may_begin}
 use Rattle.replay.proofs.Setups.{is_setup}
 
--- the actors of a world are behind the steps that led to it
+-- the actors of a world are those after the steps that led to it
 pub are_behind : (i : Inside) (w : World) (before : List run.Actor) → world_seen i ≡ w → IsKept i → IsBehind w before
     → stepping.AreBehindSteps (heap_of w.program w.setup) program_machine (FitsThread (heap_of w.program w.setup)) (starts_of w.program w.setup) before i.actors
 are_behind i w before seen kept b =
@@ -46,7 +46,7 @@ pub is_actor : (threads : ℕ) (actor : Actor) → IsActorOf threads actor → I
 is_actor threads (Thread t) is = is
 is_actor threads Collector is = tt
 
--- the endings behind a step
+-- the endings after a step
 are_endings : (p : LaidOut) (setup : Setup) (before : List run.Actor) (actors : Actors ProgramThread) (endings : List ThreadEnd) (actor : Actor)
     → stepping.AreBehindSteps (heap_of p setup) program_machine (FitsThread (heap_of p setup)) (starts_of p setup) before actors → IsActorOf (length setup.starts) actor
     → AreEndings p setup (run_of p setup before) endings
@@ -54,7 +54,7 @@ are_endings : (p : LaidOut) (setup : Setup) (before : List run.Actor) (actors : 
 are_endings p setup before actors endings (Thread t) b is are = kept p setup before actors.threads.items actors.shared actors.collector endings t b.is_behind.is_end is are
 are_endings p setup before actors endings Collector b is are = kept_by_collector p setup before endings are
 
--- the fields of a world behind a step
+-- the fields of a world after a step
 abbrev pub stepped : Inside → (actor : Actor) → Actors ProgramThread → Inside
 stepped i actor actors = record i { actors = actors; endings = endings_behind actor i.actors.threads.items i.endings }
 
@@ -63,7 +63,7 @@ abbrev pub IsStepOf : Inside → (before : List run.Actor) → Actor → Option 
 IsStepOf i before actor made actors =
     stepping.IsOneStep (heap_of i.program.now i.setup.now) program_machine (FitsThread (heap_of i.program.now i.setup.now)) (starts_of i.program.now i.setup.now) before (actor_in actor) made actors
 
--- the world behind a step
+-- the world after a step
 pub is_behind : (i : Inside) (actor : Actor) (before : List run.Actor) (made : Option Step) (actors : Actors ProgramThread) → IsKept i → IsBehind (world_seen i) before
     → IsActorOf (length i.setup.now.starts) actor → IsStepOf i before actor made actors → IsBehind (world_seen (stepped i actor actors)) (actor_in actor ∷ before)
 is_behind i actor before made actors kept b is step =
@@ -85,7 +85,7 @@ pub is_safe : CertifiedIsSafe → (i : Inside) (certs : List Section) (before : 
     → ¬ IsBrokenWorld (world_seen i) before
 is_safe law i certs before kept certified b = certified_setup law i.program.now i.setup.now certs kept.setup kept.no_fault certified (run_of i.program.now i.setup.now before) b.ends.is_run
 
--- a step of an actor, as the code made it: which actor it was, the actors behind it and the endings that are kept
+-- a step of an actor, as the code made it: which actor it was, the actors after it and the endings that are kept
 pub record IsMadeBy (i : Inside) (actor : Actor) (made : Option Step) (actors : Actors ProgramThread) (endings : List ThreadEnd) : Type 0 where
   pub is_actor : IsActorOf (length i.setup.now.starts) actor
   pub endings_are : endings ≡ endings_behind actor i.actors.threads.items i.endings
@@ -99,14 +99,14 @@ is_thread i w actor t seen is of =
     let q : t < length w.setup.starts = subst (IsActorOf (length w.setup.starts)) is of in
     subst (λ (v : World). t < length v.setup.starts) (sym seen) q
 
--- the world behind it keeps what a world keeps
+-- the world after it keeps what a world keeps
 pub keeps : (i : Inside) (actor : Actor) (made : Option Step) (actors : Actors ProgramThread) (endings : List ThreadEnd) → IsKept i → IsMadeBy i actor made actors endings
     → IsKept (record i { actors = actors; endings = endings })
 keeps i actor made actors endings kept by =
     subst (λ (e : List ThreadEnd). IsKept (record i { actors = actors; endings = e })) (sym by.endings_are)
     (is_kept i actor made actors kept by.is_actor (by.makes kept.made.0 (are_behind i (world_seen i) kept.made.0 refl kept kept.made.1)))
 
--- the step is told, and the world is behind it
+-- the step is told, and the world is the one after it
 pub tells : (i : Inside) (w : World) (given actor : Actor) (made : Option Step) (actors : Actors ProgramThread) (endings : List ThreadEnd) → world_seen i ≡ w → given ≡ actor → IsKept i
     → IsMadeBy i actor made actors endings → (before : List run.Actor) → IsBehind w before
     → IsStepBehind w before given made × IsBehind (world_seen (record i { actors = actors; endings = endings })) (actor_in given ∷ before)
@@ -134,7 +134,7 @@ abbrev pub BegunFits : Type 0
 BegunFits = (p : LaidOut) (setup : Setup) (function : ℕ) (arguments : List ℕ) → (StartsByReference p function → ⊥) → (StartsWrongly p function arguments → ⊥)
     → FitsThread (heap_of p setup) (record { heap = heap_of p setup; program = p; state = start p.of_module (slice_get p.of_module.functions function) function (argument_values arguments) })
 
--- the threads of a setup stand as they begin, and fit its heap
+-- the threads of a setup are as they begin, and fit its heap
 pub each_begun : BegunFits → (p : LaidOut) (setup : Setup) (threads : List ProgramThread) → HasNoFault p setup → AreBegun p setup threads → (t : ℕ) (thread : ProgramThread) → slice_get threads t ≡ Some thread
     → (starts_of p setup t ≡ thread) × FitsThread (heap_of p setup) thread
 each_begun law p setup threads none are t thread at =

@@ -10,7 +10,7 @@ use Rattle.rand_pcg.specs.Pcg.{pcg32, pcg32_of_seed}
 unfoldable pub one_draw : (last : ℕ) → Stream → ℕ × Stream
 one_draw last s = canon (2 ^ 32) next_u32 (last + 1) s
 
--- the next numbers of a stream, so many
+-- the next n numbers of a stream
 unfoldable pub draws_from : (last count : ℕ) → Stream → List ℕ
 draws_from last zero s = []
 draws_from last (suc count) s = (one_draw last s).0 ∷ draws_from last count (one_draw last s).1
@@ -19,6 +19,6 @@ draws_from last (suc count) s = (one_draw last s).0 ∷ draws_from last count (o
 unfoldable pub seeded : (seed : ℕ) → Stream
 seeded seed = stream_of (steps_u32 pcg32) (pcg32_of_seed (pcg32_seed 16 seed))
 
--- the first numbers of a seed, so many
+-- the first n numbers of a seed
 unfoldable pub drawn : (last seed count : ℕ) → List ℕ
 drawn last seed count = draws_from last count (seeded seed)

@@ -1,3 +1,3 @@
--- Where a thread stands at the end of a run: what stands on a replay names it here.
+-- Where a thread is at the end of a run: crates that build on this one name it here.
 pub use Rattle.replay.specs.declared.thread_end.ThreadEnd.{ThreadEnd}
 pub use Rattle.replay.specs.declared.thread_end.ThreadEnd.TheVariants.{Ended, Returned, Running}

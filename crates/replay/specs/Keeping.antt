@@ -10,7 +10,7 @@ use Rattle.replay.specs.declared.thread_end.ThreadEnd.{ThreadEnd}
 use Rattle.replay.specs.declared.thread_end.ThreadEnd.TheVariants as thread
 use Rattle.replay.specs.Worlds.{ending_at}
 
--- how a thread that stands so has ended, if its next step is its last one: so it says, unless it has ended so already
+-- how a thread in this stance has ended, if its next step is its last one: what is kept where it has ended already, else what it says
 abbrev pub ending_in : Stance → ProgramThread → (kept : Option ThreadEnd) → ThreadEnd
 ending_in Ended t kept = unwrap_or kept thread.Ended
 ending_in stance t kept = ending_at t
@@ -20,12 +20,12 @@ abbrev pub ending_behind : Option (Stand ProgramThread) → (kept : Option Threa
 ending_behind None kept = unwrap_or kept thread.Ended
 ending_behind (Some stand) kept = ending_in stand.stance stand.state kept
 
--- the endings behind a step of an actor; the collector ends no thread
+-- the endings after a step of an actor; the collector ends no thread
 abbrev pub endings_behind : Actor → List (Stand ProgramThread) → List ThreadEnd → List ThreadEnd
 endings_behind (Thread t) threads endings = slice_set endings t (ending_behind (slice_get threads t) (slice_get endings t))
 endings_behind Collector threads endings = endings
 
--- where a thread in this stance stands, at this stage; it ended so if it has
+-- where a thread in this stance is, at this stage, and how it ended if it has
 abbrev pub end_at : Stance → (stage : ℕ) → (ending : ThreadEnd) → ThreadEnd
 end_at Ended stage ending = ending
 end_at stance stage ending = thread.Running stage

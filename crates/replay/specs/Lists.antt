@@ -1,4 +1,4 @@
--- Lists of actors, the first one first, and the first step behind which the run that they make is broken.
+-- Lists of actors, the first one first, and the first step after which the run that they make is broken.
 use Rattle.std.specs.Prelude.{ℕ, suc, ◌≡◌, ◌≤◌, List, [], ◌∷◌, ◌++◌, length, Some, replicate, reverse, take, slice_get}
 use Rattle.layout.specs.Layouts.{LaidOut}
 use Rattle.runs.specs.ModuleRuns.{Happening, IsModuleRun}
@@ -24,7 +24,7 @@ actors_of (steps ∷ more) = replicate steps.count (actor_in steps.actor) ++ act
 
 -- ---- broken
 
--- the run behind the first steps of a list, so many of them. A step that changes nothing, as of an ended thread, is counted
+-- the run after the first n steps of a list. A step that changes nothing, as of an ended thread, is counted
 abbrev pub run_at : LaidOut → Setup → List Actor → (steps : ℕ) → List Happening
 run_at p setup actors steps = run_of p setup (reverse (take steps actors))
 
@@ -46,7 +46,7 @@ abbrev pub cause_in : Cause → broken.Cause
 cause_in (OfStep cause) = step.cause_in cause
 cause_in (OfReach gone) = cause_of_gone gone
 
--- this step of a list is the first behind which the run is broken, with its actor and the first cause. Steps are counted from 1
+-- this step of a list is the first after which the run is broken, with its actor and the first cause. Steps are counted from 1
 pub record IsFirstBreak (p : LaidOut) (setup : Setup) (actors : List Actor) (b : Break) : Type 0 where
   pub place : ℕ
   pub step : b.step ≡ suc place

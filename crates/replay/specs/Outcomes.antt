@@ -1,4 +1,4 @@
--- What comes of a trace: the first step behind which its run is broken, or where the actors stand at its end.
+-- The outcome of a trace: the first step after which its run is broken, or where the actors are at its end.
 use Rattle.std.specs.Prelude.{ℕ, ◌≡◌, ◌<◌, Bool, true, false, Some, List, length, reverse, slice_get, count_by}
 use Rattle.colours.specs.declared.place.Place.TheVariants.{Posted}
 use Rattle.colours.specs.declared.turn.Turn.TheVariants.{Free}
@@ -29,7 +29,7 @@ abbrev pub frees : Happening → Bool
 frees (OfCollector (Free cell)) = true
 frees happening = false
 
--- where the actors stand behind these, the newest first
+-- where the actors are after these, the newest first
 pub record Reports (p : LaidOut) (setup : Setup) (before : List Actor) (r : Report) : Type 0 where
   pub one_each : length r.threads ≡ length setup.starts
   pub threads : (t : ℕ) → t < length setup.starts → slice_get r.threads t ≡ Some (end_of p setup (run_of p setup before) t)
@@ -40,7 +40,7 @@ pub record Reports (p : LaidOut) (setup : Setup) (before : List Actor) (r : Repo
 
 -- ---- the outcome
 
--- of a list of actors: its first step behind which the run is broken, or that there is none, and where the actors stand at the end
+-- of a list of actors: its first step after which the run is broken, or that there is none, and where the actors are at the end
 abbrev pub IsOutcomeOf : LaidOut → Setup → List Actor → Outcome → Type 0
 IsOutcomeOf p setup actors (Broken b) = IsFirstBreak p setup actors b
 IsOutcomeOf p setup actors (Sound r) = IsSoundList p setup actors × Reports p setup (reverse actors) r

@@ -1,4 +1,4 @@
--- What comes of many seeded schedules of a setup.
+-- The outcome of many seeded schedules of a setup.
 use Rattle.std.specs.Prelude.{ℕ, ◌≢◌, ◌<◌, ◌≤◌, ◌==◌, Bool, true, false, Option, Some, None, Result, Ok, Err, List, length, map, if◌then◌else◌}
 use Rattle.replay.specs.Draws.{drawn}
 use Rattle.layout.specs.Layouts.{LaidOut}
@@ -18,7 +18,7 @@ use Rattle.replay.specs.Lists.{IsSoundList, IsFirstBreak}
 abbrev pub actor_drawn : (threads draw : ℕ) → Actor
 actor_drawn threads draw = if draw == threads then Collector else Thread draw
 
--- the actors of the first steps of a seed, so many
+-- the actors of the first n steps of a seed
 abbrev pub actors_drawn : (threads seed steps : ℕ) → List Actor
 actors_drawn threads seed steps = map (actor_drawn threads) (drawn threads seed steps)
 
@@ -36,7 +36,7 @@ pub record IsLeastBreak (p : LaidOut) (setup : Setup) (seeds steps : ℕ) (b : S
   pub before : AreSoundBelow p setup steps b.seed
   pub breaks : IsFirstBreak p setup (actors_drawn (length setup.starts) b.seed steps) b.broken
 
--- of the seeds from 0, so many: the least one whose list breaks its run, or that there is none
+-- of the first n seeds, from 0: the least one whose list breaks its run, or that there is none
 abbrev pub IsSoakOutcome : LaidOut → Setup → (seeds steps : ℕ) → SoakOutcome → Type 0
 IsSoakOutcome p setup seeds steps (Broken b) = IsLeastBreak p setup seeds steps b
 IsSoakOutcome p setup seeds steps Sound = AreSoundBelow p setup steps seeds
@@ -46,12 +46,12 @@ abbrev pub IsSoundSoak : SoakOutcome → Type 0
 IsSoundSoak Sound = Unit {0}
 IsSoundSoak (Broken b) = ⊥
 
--- what comes of one seed: where its list first breaks its run, or that it is sound
+-- the outcome of one seed: where its list first breaks its run, or that it is sound
 abbrev pub IsEndOfSeed : LaidOut → Setup → (steps seed : ℕ) → Option Break → Type 0
 IsEndOfSeed p setup steps seed None = IsSoundSeed p setup steps seed
 IsEndOfSeed p setup steps seed (Some b) = IsFirstBreak p setup (actors_drawn (length setup.starts) seed steps) b
 
--- what was told of a seed comes of it, or is a fault
+-- what was told of a seed is its outcome, or a fault
 abbrev pub IsTold : LaidOut → Setup → (steps seed : ℕ) → Result (Option Break) SetupFault → Type 0
 IsTold p setup steps seed (Ok end) = IsEndOfSeed p setup steps seed end
 IsTold p setup steps seed (Err fault) = fault ≢ Memory → IsSetupFault p setup fault

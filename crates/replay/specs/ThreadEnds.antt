@@ -1,4 +1,4 @@
--- Where the threads of a run stand.
+-- Where the threads of a run are.
 use Rattle.std.specs.Prelude.{ℕ, ◌≡◌, ◌<◌, Some, List, length, slice_get}
 use Rattle.colours.specs.Mutator.{Phase, Ended, stage_of, phase_of}
 use Rattle.runs.specs.Moves.{steps_of}
@@ -12,23 +12,23 @@ use Rattle.replay.specs.declared.thread_end.ThreadEnd.TheVariants as thread
 use Rattle.replay.specs.Setups.{starts_of}
 use Rattle.replay.specs.Worlds.{World, run_of, ending_of}
 
--- where a thread stands in this phase, at this stage; it ended so if it has
+-- where a thread in this phase is, at this stage, and how it ended if it has
 abbrev pub end_in : Phase → (stage : ℕ) → (ending : ThreadEnd) → ThreadEnd
 end_in Ended stage ending = ending
 end_in phase stage ending = thread.Running stage
 
--- where a thread stands behind a run
+-- where a thread is after a run
 abbrev pub end_of : LaidOut → Setup → List Happening → (thread : ℕ) → ThreadEnd
 end_of p setup run t =
     let s = heap_of p setup in
     let share = share_of t run in
     end_in (phase_of s t (steps_of share)) (stage_of (steps_of share)) (ending_of s t (starts_of p setup t) share)
 
--- where the threads of a run stand
+-- where the threads of a run are
 pub record AreEndsBehind (p : LaidOut) (setup : Setup) (run : List Happening) (ends : List ThreadEnd) : Type 0 where
   pub one_each : length ends ≡ length setup.starts
   pub each : (t : ℕ) → t < length setup.starts → slice_get ends t ≡ Some (end_of p setup run t)
 
--- and of a world behind these actors
+-- and of a world after these actors
 abbrev pub AreEndsOf : World → (before : List Actor) → List ThreadEnd → Type 0
 AreEndsOf w before ends = AreEndsBehind w.program w.setup (run_of w.program w.setup before) ends

@@ -1,4 +1,4 @@
--- A world behind some actors, whose run was never broken so far, with what was counted on the way.
+-- A world after some actors, whose run was never broken so far, with what was counted on the way.
 use Rattle.std.specs.Prelude.{ℕ, ◌≡◌, ◌<◌, ◌+◌, ◌^◌, Bool, true, false, Option, Some, None, List, [], ◌∷◌, ◌++◌, length, reverse, count_by}
 use Rattle.layout.specs.Layouts.{LaidOut}
 use Rattle.runs.specs.Broken.{IsBroken, IsCause}
@@ -19,12 +19,12 @@ use Rattle.replay.specs.declared.watch.Watch.{Watch}
 use Rattle.replay.specs.Lists.{IsFirstBreak, cause_in}
 use Rattle.replay.specs.Outcomes.{claims, frees}
 
--- the run that these actors make, the newest first, is not broken, nor was it behind any of them
+-- the run that these actors make, the newest first, is not broken, nor was it after any of them
 abbrev pub IsUnbroken : LaidOut → Setup → List Actor → Type 0
 IsUnbroken p setup [] = ¬ IsBroken (heap_of p setup) program_machine (starts_of p setup) (run_of p setup [])
 IsUnbroken p setup (actor ∷ before) = ¬ IsBroken (heap_of p setup) program_machine (starts_of p setup) (run_of p setup (actor ∷ before)) × IsUnbroken p setup before
 
--- the world stands behind these actors, the newest first
+-- the world is the one after these actors, the newest first
 pub record IsWatched (p : LaidOut) (setup : Setup) (before : List Actor) (w : Watch) : Type 0 where
   pub program : w.world.program ≡ p
   pub setup_is : w.world.setup ≡ setup
@@ -34,12 +34,12 @@ pub record IsWatched (p : LaidOut) (setup : Setup) (before : List Actor) (w : Wa
   pub claims_are : w.claims ≡ count_by claims (run_of p setup before)
   pub frees_are : w.frees ≡ count_by frees (run_of p setup before)
 
--- these actors made their steps behind others: the first of them behind whose step the run is broken, or where there is none, the world behind all of them
+-- these actors made their steps after others: the first of them whose step breaks the run, or where there is none, the world after all of them
 abbrev pub IsWatchedOn : LaidOut → Setup → (before actors : List Actor) → Watch → Option Break → Type 0
 IsWatchedOn p setup before actors w None = IsWatched p setup (reverse actors ++ before) w
 IsWatchedOn p setup before actors w (Some b) = (rest : List Actor) → IsFirstBreak p setup (reverse before ++ (actors ++ rest)) b
 
--- it stands behind some actors, and so many more steps can be counted
+-- it is the world after some actors, and n more steps can be counted
 abbrev pub HasRoomFor : (steps : ℕ) → Watch → Type 0
 HasRoomFor steps w = (p : LaidOut) × (setup : Setup) × (before : List Actor) × IsWatched p setup before w × (length before + steps < 2 ^ 63)
 
@@ -70,12 +70,12 @@ abbrev pub IsCauseBehind : LaidOut → Setup → List Actor → Option Cause →
 IsCauseBehind p setup actors None = ¬ IsBroken (heap_of p setup) program_machine (starts_of p setup) (run_of p setup actors)
 IsCauseBehind p setup actors (Some c) = IsCause (heap_of p setup) program_machine (starts_of p setup) (run_of p setup actors) (cause_in c)
 
--- the step, or none, is that of this actor behind those of the world, and says how it breaks the run
+-- the step, or none, is that of this actor after those of the world, and says how it breaks the run
 abbrev pub IsMadeBehind : World → (before : List Actor) → Actor → Option Step → Type 0
 IsMadeBehind w before actor made =
     IsStepOrNone (heap_of w.program w.setup) program_machine (starts_of w.program w.setup) (run_of w.program w.setup before) actor made
 
--- the world stands behind one more actor, whose step is not counted so far
+-- the world is the one after one more actor, whose step is not counted so far
 pub record IsStepped (p : LaidOut) (setup : Setup) (before : List Actor) (actor : Actor) (made : Option Step) (w : Watch) : Type 0 where
   pub program : w.world.program ≡ p
   pub setup_is : w.world.setup ≡ setup

@@ -33,7 +33,7 @@ use Rattle.replay.specs.declared.thread_end.ThreadEnd.{ThreadEnd}
 use Rattle.replay.specs.declared.thread_end.ThreadEnd.TheVariants as thread
 use Rattle.replay.specs.Setups.{starts_of}
 
--- a world: the program, the setup from which it began, where its actors and words stand, and how the threads that have ended did so
+-- a world: the program, the setup from which it began, the state of its actors and words, and how the threads that have ended did so
 pub record World : Type 0 where
   pub program : LaidOut
   pub setup : Setup
@@ -46,7 +46,7 @@ pub record World : Type 0 where
 abbrev pub run_of : LaidOut → Setup → List Actor → List Happening
 run_of p setup actors = run_by (heap_of p setup) program_machine (starts_of p setup) actors
 
--- the actors and the words, where the collector stands at this place
+-- the actors and the words, with the collector at this place
 abbrev pub state_of : World → (place : Collection) → WorldState ProgramThread
 state_of w place = record {
   threads = map (standing names) w.threads;
@@ -58,12 +58,12 @@ state_of w place = record {
   collector = place;
 }
 
--- where a thread stands that ended so
+-- the end of a thread that ended so
 abbrev pub ended_by : Ending → ThreadEnd
 ended_by (Returned result) = thread.Returned result
 ended_by Over = thread.Ended
 
--- how a thread says that it ends, at the instruction at which it stands
+-- how a thread says that it ends, at the instruction at which it is
 abbrev pub ending_at : ProgramThread → ThreadEnd
 ending_at t = ended_by (ending t.program t.state)
 
@@ -97,22 +97,22 @@ pub record IsBehind (w : World) (actors : List Actor) : Type 0 where
 abbrev pub IsMade : World → Type 0
 IsMade w = (actors : List Actor) × IsBehind w actors
 
--- ---- what is said of its steps
+-- ---- its steps
 
 -- an actor of a trace as one of a run
 abbrev pub actor_in : traced.Actor → Actor
 actor_in (traced_actor.Thread t) = Thread t
 actor_in traced_actor.Collector = Collector
 
--- the step, or none, is that of the actor behind these, and says how it breaks the run
+-- the step, or none, is that of the actor after these, and says how it breaks the run
 abbrev pub IsStepBehind : World → (before : List Actor) → traced.Actor → Option Step → Type 0
 IsStepBehind w before actor made =
     IsStepOrNone (heap_of w.program w.setup) program_machine (starts_of w.program w.setup) (run_of w.program w.setup before) (actor_in actor) made
 
--- the first thing that is gone in the world behind these and can be reached, if there is one
+-- the first thing that is gone in the world after these and can be reached, if there is one
 abbrev pub IsFirstGoneOf : World → (before : List Actor) → Option Gone → Type 0
 IsFirstGoneOf w before gone = IsFirstGone (heap_of w.program w.setup) program_machine (starts_of w.program w.setup) (run_of w.program w.setup before) gone
 
--- the world behind these is broken
+-- the world after these is broken
 abbrev pub IsBrokenWorld : World → (before : List Actor) → Type 0
 IsBrokenWorld w before = IsBroken (heap_of w.program w.setup) program_machine (starts_of w.program w.setup) (run_of w.program w.setup before)

@@ -24,7 +24,7 @@ pub fn actor_drawn(threads: u32, draw: u32) -> Actor
     Actor::Thread(draw)
 }
 
-/// The steps that a seed draws for so many threads and the collector.
+/// The steps that a seed draws for this number of threads and the collector.
 fn drawn_steps(
     alloc: Global,
     threads: u32,

@@ -29,7 +29,7 @@ fn value_of_global(of_module: &Module, global: GlobalItem) -> u64
     }
 }
 
-/// The lowest bits of a number, so many.
+/// The lowest `bits` bits of a number.
 fn wrapped(bits: u32, number: u64) -> u64
     ensures { result ≡ wrapped bits number }
 {

@@ -7,7 +7,7 @@ use std::fmt::{Display, Error, Formatter, Write};
 use stepping::Gone;
 use trace_text::Actor;
 
-/// Why a run is broken behind a step.
+/// Why a run is broken after a step.
 #[derive(Clone, Copy, PartialEq, Eq)]
 pub enum Cause {
     /// The step itself went wrong or used a cell that was gone.
@@ -30,7 +30,7 @@ impl Display for Cause {
     }
 }
 
-/// The first step behind which a run is broken.
+/// The first step after which a run is broken.
 #[derive(Clone, Copy, PartialEq, Eq)]
 pub struct Break {
     /// The step's number, from 1.
@@ -39,7 +39,7 @@ pub struct Break {
     pub cause: Cause,
 }
 
-/// Where the actors stand behind a run that no step breaks.
+/// Where the actors are after a run that no step breaks.
 #[derive(Drop)]
 pub struct Report {
     pub threads: Items<ThreadEnd>,
@@ -52,7 +52,7 @@ pub struct Report {
     pub posted: u64,
 }
 
-/// What comes of a trace.
+/// The outcome of a trace.
 #[derive(Drop)]
 pub enum Outcome {
     Broken(Break),
@@ -66,7 +66,7 @@ pub struct SeedBreak {
     pub broken: Break,
 }
 
-/// What comes of many seeds: the least one whose schedule breaks its run, or that there is none.
+/// The outcome of many seeds: the least one whose schedule breaks its run, or that there is none.
 #[derive(Clone, Copy, PartialEq, Eq)]
 pub enum SoakOutcome {
     Sound,

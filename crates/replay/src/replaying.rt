@@ -13,7 +13,7 @@ use layout::Program;
 use std::alloc::Global;
 use trace_text::Trace;
 
-/// Makes the steps of a trace: the first step behind which the run is broken, with its cause, or where the actors stand at the
+/// Makes the steps of a trace: the first step after which the run is broken, with its cause, or where the actors are at the
 /// end.
 pub fn replay(alloc: Global, program: &Program, trace: &Trace) -> Result<Outcome, SetupFault>
     requires { IsTraceOf program.now trace.now }

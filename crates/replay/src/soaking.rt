@@ -16,10 +16,10 @@ use std::alloc::Global;
 use std::thread::Threads;
 use trace_text::Setup;
 
-/// So many seeds are tried before it is asked whether one of them was broken.
+/// The number of seeds that are tried before it is asked whether one of them was broken.
 const CHUNK: u32 = 256;
 
-/// What comes of one seed: where its schedule first breaks its run, if it does.
+/// The outcome of one seed: where its schedule first breaks its run, if it does.
 #[derive(Clone, Copy)]
 struct SeedEnd {
     seed: u32,
@@ -42,7 +42,7 @@ impl SeedEnd {
     }
 }
 
-/// Runs a schedule of each seed from 0, so many: the least seed whose schedule breaks its run, whichever ended first.
+/// Runs a schedule of each seed from 0 to below `seeds`: the least seed whose schedule breaks its run, whichever ended first.
 pub fn soak(
     rt: &(impl Threads + Sync),
     alloc: Global,

@@ -1,6 +1,6 @@
 use machine::Value;
 
-/// Where a thread stands behind a run.
+/// Where a thread is after a run.
 #[derive(Clone, Copy, PartialEq, Eq)]
 pub enum ThreadEnd {
     /// Its first function returned, with this result if it has one.

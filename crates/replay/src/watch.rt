@@ -58,7 +58,7 @@ impl<'a> Watch<'a> {
         }
     }
 
-    /// So many steps of one actor, or those up to the first that breaks the run.
+    /// Makes `count` steps of one actor, or those up to the first that breaks the run.
     pub fn steps(&mut self, actor: Actor, count: u32) -> Result<Option<Break>, AllocError>
         requires actor { IsActorOf (length self.old.world.setup.starts) actor }
         requires room { HasRoomFor count self.old }
@@ -73,7 +73,7 @@ impl<'a> Watch<'a> {
         Ok(None)
     }
 
-    /// Where the actors stand.
+    /// Where the actors are.
     pub fn report(&self) -> Result<Report, AllocError>
         ensures { (p : LaidOut) (setup : ASetup) (before : List AnActor) → IsWatched p setup before self.now
             → IfOk result (Reports p setup before) }
@@ -150,7 +150,7 @@ fn frees_cell(made: &Option<Step>) -> bool
     )
 }
 
-/// The first cause by which the run is broken behind a step, if it is, where it was not broken before it.
+/// The first cause by which the run is broken after a step, if it is, where it was not broken before it.
 fn cause_behind(world: &World<'_>, made: &Option<Step>) -> Result<Option<Cause>, AllocError>
     ensures { (before : List AnActor) (actor : AnActor) → IsBehind world.now (actor ∷ before)
         → IsMadeBehind world.now before actor made.now → ¬ IsBrokenWorld world.now before

@@ -23,7 +23,7 @@ use std::marker::Model;
 use stepping::{Actors, Gone, Plan, Step};
 use trace_text::{Actor, Setup};
 
-/// The threads of a program and the collector, behind some steps from their setup.
+/// The threads of a program and the collector, after some steps from their setup.
 #[derive(Drop)]
 pub struct World<'a> {
     alloc: Global,
@@ -80,11 +80,11 @@ impl<'a> World<'a> {
     /// The actor makes its one next step, if it has one. Without memory nothing changes.
     pub fn step(&mut self, actor: Actor) -> Result<Option<Step>, AllocError>
         requires { IsActorOf (length self.old.setup.starts) actor }
-        // The step is the actor's one next step behind the run that led here, and the world is the end of the longer run.
+        // The step is the actor's one next step after the run that led here, and the world is the end of the longer run.
         ensures ok { (before : List AnActor) → IsBehind self.old before → IfOk result (λ made. IsStepBehind self.old before actor made × IsBehind self.new (actor_in actor ∷ before)) }
         ensures plan { (self.new.program ≡ self.old.program) × (self.new.setup ≡ self.old.setup) }
         ensures err { OnErr result (self.new ≡ self.old) }
-        // Where the program is certified with some certificates, and the threads began with what these promise, the world behind the step is not broken.
+        // Where the program is certified with some certificates, and the threads began with what these promise, the world after the step is not broken.
         ensures safe { (certs : List Section) (before : List AnActor) → IsCertifiedSetup self.old.program self.old.setup certs → IsBehind self.old before
             → IfOk result (λ _. ¬ IsBrokenWorld self.new (actor_in actor ∷ before)) }
     {
@@ -117,7 +117,7 @@ impl<'a> World<'a> {
         self.actors.posted()
     }
 
-    /// Where each thread stands.
+    /// Where each thread is.
     pub fn ends(&self) -> Result<Items<ThreadEnd>, AllocError>
         ensures { (before : List AnActor) → IsBehind self.now before → IfOk result (AreEndsOf self.now before) }
     {
@@ -129,7 +129,7 @@ impl<'a> World<'a> {
     }
 }
 
-/// What is kept of so many threads before their first steps: that none has returned.
+/// What is kept of this number of threads before their first steps: that none has returned.
 fn no_endings(alloc: Global, threads: usize) -> Result<Items<ThreadEnd>, AllocError>
     ensures { IfOk result (λ endings. length endings ≡ threads) }
 {
@@ -148,7 +148,7 @@ fn kept_end(endings: &[ThreadEnd], thread: usize) -> ThreadEnd
     endings.get(thread).copied().unwrap_or(ThreadEnd::Ended)
 }
 
-/// Where a thread stands that ended so.
+/// The end of a thread that ended so.
 fn ended_by(ending: &Ending) -> ThreadEnd
     ensures { result ≡ ended_by ending.now }
 {
@@ -178,7 +178,7 @@ fn ending_behind(
     }
 }
 
-/// Where a thread stands; so it ended if it has.
+/// Where a thread is, and how it ended if it has.
 fn end_told(
     actors: &Actors<'_, ProgramThread<'_>>,
     endings: &[ThreadEnd],

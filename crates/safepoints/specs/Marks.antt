@@ -1,4 +1,4 @@
--- What a call may do by the mark of its callee: which functions may make it, and what is known behind it.
+-- What a call may do by the mark of its callee: which functions may make it, and what is known after it.
 use Rattle.std.specs.Prelude.{◌≤◌, ◌↔◌, Bool, true, false, not, ◌||◌, length}
 use Rattle.certs.specs.declared.section.Mark.{Mark}
 use Rattle.certs.specs.declared.section.Mark.TheVariants.{May, None}
@@ -14,7 +14,7 @@ is_may None = false
 abbrev pub marks_agree : (own called : Mark) → Bool
 marks_agree own called = is_may own || not (is_may called)
 
--- what is known behind a function that is marked so
+-- what is known after a function that is marked so
 abbrev pub after_mark : Mark → FactSet → FactSet
 after_mark May facts = make_stale facts
 after_mark None facts = facts

@@ -1,4 +1,4 @@
-//! Calls by the marks of their callees: which may be made, and what is known behind one that may reach a safepoint.
+//! Calls by the marks of their callees: which may be made, and what is known after one that may reach a safepoint.
 #![tactic(auto)]
 
 mod marks;

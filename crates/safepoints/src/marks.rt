@@ -18,7 +18,7 @@ pub fn marks_agree(own: Mark, called: Mark) -> bool
     is_may(own) || !is_may(called)
 }
 
-/// Goes on behind a call of a function that is marked so.
+/// Goes on to the facts after a call of a function that is marked so.
 pub fn after_call(facts: &mut Facts, mark: Mark)
     ensures facts { facts.new ≡ after_mark mark facts.old }
     ensures statements { EndsOthers mark facts.old facts.new }

@@ -86,7 +86,7 @@ module _ (heap : Setup) (p : LaidOut) (certs : List Section) (reaches : Bool) (f
   abbrev asked : List Argument → Runtime → Action
   asked arguments called = a.call_action p f table frame.registers returned arguments (Some d) defined (Some called)
 
-  -- the frame behind it
+  -- the frame after it
   abbrev behind : List Argument → Runtime → Answer → Frame
   behind arguments called given = mc.after_call p f table result arguments (Some called) given frame
 

@@ -38,7 +38,7 @@ module _ (heap : Setup) (p : LaidOut) (certs : List Section) (reaches : Bool) (f
   abbrev asked : List Argument → (callee : ℕ) → Option Declare → Option Runtime → Action
   asked arguments callee declared called = a.call_action p f table frame.registers returned arguments declared (a.function_numbered p.of_module (a.number_called p.of_module callee)) called
 
-  -- the frame behind it
+  -- the frame after it
   abbrev behind : List Argument → Option Runtime → Answer → Frame
   behind arguments called given = mc.after_call p f table result arguments called given frame
 

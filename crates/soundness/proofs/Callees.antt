@@ -47,7 +47,7 @@ module _ (m : Module) (callee count : ℕ) (called : Runtime) where
   of_declare None e = absurd cc
   of_declare (Some declared) e = of_runtime declared declared.runtime refl e
 
-  -- by what the name stands for
+  -- by what the name is
   of_sort : (q : Option SymbolSort) → callable_sort m callee count q ≡ OfRuntime called → IsCallee m callee count called (a.declare_of_sort m q) × (runtime_of_sort m q ≡ Some called)
   of_sort None e = absurd cc
   of_sort (Some symbol.Unknown) e = absurd cc
@@ -65,7 +65,7 @@ module _ (m : Module) (callee count : ℕ) (called : Runtime) where
   pub callee_is : callee_of m callee count ≡ OfRuntime called → IsCallee m callee count called (a.declare_of m callee) × (runtime_called m callee ≡ Some called)
   callee_is e = of_sort (slice_get m.sorts callee) e
 
--- what the rules take for a defined function is one, and takes so many arguments
+-- what the rules take for a defined function is one, and takes this number of arguments
 pub record IsDefined (m : Module) (callee count number : ℕ) : Type 0 where
   pub function : Function
   pub there : slice_get m.functions number ≡ Some function

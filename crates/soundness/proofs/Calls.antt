@@ -95,7 +95,7 @@ module _ (heap : Setup) (p : LaidOut) (certs : List Section) (f : Function) (tab
   arguments_keep (argument ∷ arguments) before b =
       arguments_keep arguments (drop_fresh_of (o.known_of before argument.operand) before) (drop_of_keeps heap p table guarded log frame.slots cells (o.known_of before argument.operand) before frame.registers b)
 
-  -- its facts hold, of no argument is known that it is fresh, each fresh class that has a cell has a value, and under a function that may reach a safepoint all is stale
+  -- its facts hold, no argument is known to be fresh, each fresh class that has a cell has a value, and under a function that may reach a safepoint all is stale
   pub record Waits (called : Mark) (arguments : List Argument) : Type 0 where
     pub more : Cells
     pub holds : Holds heap p table guarded log more (after_mark called (drop_arguments arguments facts)) frame.registers frame.slots

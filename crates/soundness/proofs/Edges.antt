@@ -1,4 +1,4 @@
--- A way from block to block: what is known behind it holds of the frame that entered.
+-- An edge from block to block: what is known after it holds of the frame that entered.
 use Rattle.std.proofs.Common.{◌≡◌, ℕ, suc, ◌+◌, ◌<◌, ◌≤◌, ◌^◌, List, [], ◌∷◌, length, refl, sym, ap, ◌∙◌, subst, arith, true, false, Bool, Option, Some, None, slice_get, slice_set, take, inl, inr}
 use Rattle.std.proofs.lemmas.List.{length-set}
 use Rattle.std.proofs.lemmas.Nat.{mod_below, pow_pos}
@@ -46,7 +46,7 @@ use Rattle.soundness.specs.Meaning.{Cells, Guarded, IsBelow, IsInteger, Means, H
 use Rattle.soundness.proofs.PhiFacts.{entries_of, copied, ComesIn, AllComeIn, phis_keep}
 use Rattle.soundness.proofs.Listed.{AllShown, names, shown_holds}
 
--- an integer of so many bits as the type says them
+-- an integer type has the bits that its kind says
 pub bits_same : (m : Module) (written bits : ℕ) → kind_of m written ≡ kind.Bits bits → bits_at m written ≡ bits
 bits_same m written bits e = by (slice_get m.types written) refl e where
   pointed : (part : Option IrType) → pointer_kind m part ≡ kind.Bits bits → ⊥
@@ -75,7 +75,7 @@ bits_same m written bits e = by (slice_get m.types written) refl e where
   by (Some (type.Struct a b)) is e = absurd cc
   by (Some (type.Named n)) is e = absurd cc
 
--- a remainder, and a number as an integer of so many bits, are no more than the number was
+-- a remainder, and a number wrapped to some bits, are no more than the number was
 mod_le : (n k : ℕ) → 0 < k → n % k ≤ n
 mod_le n k pos = pick (cases_lt n k) where
   pick : (n < k) ⊎ (k ≤ n) → n % k ≤ n
@@ -91,7 +91,7 @@ modulus_pos bits = pick (nat_lt bits 64) where
 pub wrapped_le : (bits n : ℕ) → wrapped bits n ≤ n
 wrapped_le bits n = mod_le n (modulus bits) (modulus_pos bits)
 
--- a constant of so many bits is below the next number
+-- a constant wrapped to some bits is below the next number
 pub constant_below : (bits n : ℕ) → IsBelow (wrapped bits n) (below_next n)
 constant_below bits n = pick (nat_lt n 18446744073709551615) where
   pick : (b : Bool) → IsBelow (wrapped bits n) (if b then Some (suc n) else None)
@@ -178,7 +178,7 @@ module _ (heap : Setup) (p : LaidOut) (table : SlotTable) (guarded : Guarded) (l
   all_copies [] = record { copies = []; entries = refl; puts = λ before. refl; come = tt }
   all_copies (instr ∷ instrs) = by_op instr.result instr.op instrs (all_copies instrs)
 
-  -- behind the phis of a block that is entered
+  -- after the phis of a block that is entered
   pub entered_holds : (instrs : List Instr) → (more : Cells) × Holds heap p table guarded log more (after_phis (comes_in p.of_module f from facts instrs) facts) (put_phis p.of_module f registers from (take_while is_phi instrs) registers) slots
   entered_holds instrs =
       let c = all_copies instrs in
@@ -225,7 +225,7 @@ put_length m f before from (phi ∷ phis) registers = put_length m f before from
   one None = refl
   one (Some v) = length-set registers v _
 
--- behind the phis of a target whose lines are shown, they hold
+-- after the phis of a target whose lines are shown, they hold
 module _ (heap : Setup) (s : Scene) (guarded : Guarded) (log : Log) where
   pub edge_holds : (cells : Cells) (facts : FactSet) (registers slots : List Value) (from to : ℕ) → Holds heap s.program s.slots guarded log cells facts registers slots → length registers ≡ length s.function.locals
       → w.unshown_line s to (w.entered s from to facts) ≡ None

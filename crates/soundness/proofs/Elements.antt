@@ -80,7 +80,7 @@ half bits m low e = pick (cases_lt bits 64) where
   pick (inl lt) = rw (lt_yes bits 64 lt) (narrow bits lt e)
   pick (inr le) = rw (lt_no bits 64 le) (let q = pow_below 7 64 (omega arith) in omega (arith, low, q))
 
--- a number that an integer of so many bits may say is the same as one
+-- a number that fits the bits is the same when it is wrapped to them
 wrapped_same : (bits m : ℕ) → m < modulus bits → wrapped bits m ≡ m
 wrapped_same bits m lt = mod-eq_of_lt lt
 
@@ -94,7 +94,7 @@ read_same bits m low e = ap (wrapped 64) small ∙ wrapped_word m low where
   small : sign_extended bits 64 m ≡ m
   small = rw (lt-leb (modulus bits) (2 * m) (half bits m low e)) refl
 
--- as many words, where so many are passed that it matters
+-- the same number of words, where the one that is passed is below 64
 passes_same : (index number size : ℕ) → (number < 64 → index ≡ number) → number * size < 64 → index * size ≡ number * size
 passes_same index number zero same lt = omega arith
 passes_same index number (suc size) same lt = ap (λ n. n * suc size) (same (let x = mul-le number 1 number (suc size) (omega arith) (omega arith) in omega (arith, x, lt)))
@@ -194,7 +194,7 @@ module _ (p : LaidOut) where
   integer_too (Some (Struct first rest)) e = absurd cc
   integer_too (Some (Named name)) e = absurd cc
 
-  -- a step that there is leads to the part of which it says so
+  -- a step that exists leads to the part that it names
   field_part : (words part : Option ℕ) (step : Step) → to_field words part ≡ Some step → part ≡ r.step_part (Some step)
   field_part None part step e = absurd cc
   field_part (Some words) None step e = absurd cc
@@ -293,7 +293,7 @@ fits_below bits m n lt e = pick (nat_lt 64 bits) e where
   pick true e = refl
   pick false e = let x = leb-true n (2 ^ (bits - 1)) e in lt_yes m (2 ^ (bits - 1)) (omega (arith, lt, x))
 
--- an index that the rules let stand
+-- an index that the rules allow
 record Fit (p : LaidOut) (f : Function) (table : SlotTable) (facts : FactSet) (index : Argument) : Type 0 where
   available : o.is_available table facts index.operand ≡ true
   value : o.is_value p.of_module f facts index.written index.operand ≡ true
@@ -367,7 +367,7 @@ module _ (heap : Setup) (p : LaidOut) (certs : List Section) (reaches : Bool) (f
   array_leads size count part written bits (operand.Global g) stride is k1 k2 none e = absurd (no_value _ k2)
   array_leads size count part written bits (operand.CastGlobal x y z) stride is k1 k2 none e = absurd (no_value _ k2)
 
-  -- an index that the rules let stand leads by one of the numbers of its stride
+  -- an index that the rules allow leads by one of the numbers of its stride
   index_leads : (index : Argument) → Fit p f table facts index → (step : Step) (stride : Stride) → r.step_stride facts (kind_of p.of_module index.written) index (Some step) ≡ Some stride → Leads stride step (index_value p.of_module frame.registers index)
   index_leads index fit (Field words part) stride e =
       let same : record { size = words; first = 1; count = 1 } ≡ stride = cc in
@@ -563,7 +563,7 @@ module _ (heap : Setup) (p : LaidOut) (certs : List Section) (reaches : Bool) (f
     fit : AllFit p f table facts indices
     fit = all_fit p f table facts indices k1s k2s nones
 
-    -- a global that stands there
+    -- a global as the base
     of_global : (x : Operand) (symbol : ℕ) → k.is_typed p.of_module f table base_type x ≡ true → IsGlobal p.of_module symbol (value_of p.of_module frame.registers base_type x) → r.may_lead p facts source indices (GlobalAddress symbol) ≡ true
         → ((v : ℕ) → r.after_element p v source x indices facts ≡ define v (GlobalAddress symbol) facts)
         → Goes heap p table frame.slots reaches guarded log (after_op p certs table result (Element source base_type x indices) facts) (a.op_action p f table frame.block frame.registers (Element source base_type x indices))
@@ -588,7 +588,7 @@ module _ (heap : Setup) (p : LaidOut) (certs : List Section) (reaches : Bool) (f
       typed : k.is_typed p.of_module f table base_type (operand.Local u) ≡ true
       typed = rw (k2, none) refl
 
-      -- with what is known behind it, by what is known of the base
+      -- with what is known after it, by what is known of the base
       goes : (known : Known) → known_at facts.values u ≡ known → is_some (t.element_type p.of_module source indices) ≡ true
           → (at : Place) → element_place p (element_offset p frame.registers source indices) (register_at frame.registers u) ≡ Some at
           → ((v : ℕ) → Holds heap p table guarded log cells (r.define_words v u known (r.element_words p facts source indices (r.start_of known)) facts) (slice_set frame.registers v (value.Address at)) frame.slots)

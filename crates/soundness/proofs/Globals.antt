@@ -26,7 +26,7 @@ module _ (m : Module) where
     by None is (Some part) e = absurd cc
     by (Some g) is part e = (g, is)
 
-  -- its address stands for it
+  -- its address is that of the global
   pub has_address : (written symbol : ℕ) → points_to_global m written symbol ≡ true → IsGlobal m symbol (k.global_address (global_named m symbol))
   has_address written symbol e = let t = is_there written symbol e in (t.0, t.1, ap k.global_address t.1)
 
@@ -40,6 +40,6 @@ module _ (m : Module) where
   word_casts_to to (Some (word.Integer bits)) e = absurd cc
   word_casts_to to (Some (word.Reference layout)) e = place_refers m layout to e
 
-  -- a global may stand under another type where the rules say so
+  -- a global may be used at another type where the rules say so
   pub global_casts : (from symbol to : ℕ) → ((from == to) || c.casts_global m to symbol) ≡ true → k.may_cast_global m from symbol to ≡ true
   global_casts from symbol to e = chosen (from == to) (c.casts_global m to symbol) _ e (word_casts_to to (global_word m symbol))

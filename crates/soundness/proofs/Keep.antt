@@ -102,7 +102,7 @@ module _ (log : Log) (cells : Cells) (count : ℕ) (classes : List Class) (class
   without_means (Address x w) values slots s v m = m
   without_means (GlobalAddress g) values slots s v m = m
 
--- a slot that a class does not hold behind the end of a value did not hold it before
+-- a slot that does not hold a class after the end of a value did not hold it before
 pub without_same : (k : Known) (values : List Known) (classes : List Class) (slots : List SlotFact) (s j c l : ℕ) (st : Bool) → known_at values j ≡ Cell c l st → holds_class c (slot_at (slots_without k values classes slots) s).holds ≡ false → holds_class c (slot_at slots s).holds ≡ false
 without_same (Cell d k t) values classes slots s j c l st is e = pick (list_any (is_of d) values) refl e where
   go : (b : Bool) → holds_class d (slot_at slots s).holds ≡ b → list_any (is_of d) values ≡ false → holds_class c (if b then record (slot_at slots s) { nonnull = (slot_at slots s).nonnull || (class_at classes d).nonnull; holds = None } else slot_at slots s).holds ≡ false → holds_class c (slot_at slots s).holds ≡ false
@@ -173,7 +173,7 @@ pub record Beside (cells : Cells) (facts : FactSet) (slots : List Value) (k : Kn
   pub fresh_there : (d m : ℕ) → k ≡ Cell d m false → (w c l : ℕ) (s : Bool) → known_at facts.values w ≡ Cell c l s → (class_at facts.classes c).fresh ≡ true → c ≢ d → AreApart (cells c) (cells d)
   pub fresh_slots : (c l : ℕ) (s : Bool) → k ≡ Cell c l s → (class_at facts.classes c).fresh ≡ true → (t : ℕ) → holds_class c (slot_at facts.slots t).holds ≡ false → AreApart (cells c) (slot_value slots t)
 
--- what is no reference stands beside all
+-- what is no reference meets this beside all others
 pub plain_beside : (cells : Cells) (facts : FactSet) (slots : List Value) (k : Known) → ((c l : ℕ) (s : Bool) → k ≡ Cell c l s → ⊥) → Beside cells facts slots k
 plain_beside cells facts slots k none = record {
   fresh_here = λ c l s e. absurd (none c l s e);

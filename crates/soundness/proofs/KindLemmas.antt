@@ -219,7 +219,7 @@ module _ (m : Module) where
   integer_bits n Address e = absurd cc
   integer_bits n Other e = absurd cc
 
-  -- a constant that the rules let stand at a type fits it
+  -- a constant that the rules allow at a type fits it
   pub constant_passes : (w : ℕ) (c : Constant) → constant_fits c (kind_of m w) ≡ true → k.constant_fits m w c ≡ true
   constant_passes w (constant.Number n) e = sym (integer_same w) ∙ integer_bits n (kind_of m w) e
   constant_passes w (constant.Truth b) e = absurd cc

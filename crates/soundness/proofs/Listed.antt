@@ -418,7 +418,7 @@ module _ (heap : Setup) (p : LaidOut) (table : SlotTable) (guarded : Guarded) (l
     moved_at : (v : ℕ) → known_at (map (move from to) f.values) v ≡ move from to (known_at f.values v)
     moved_at v = at_map (move from to) f.values v Nothing refl
 
-    -- a reference that is of a class behind the move was of one that is moved there
+    -- a reference that is of a class after the move was of one that is moved there
     record Was (v c layout : ℕ) (stale : Bool) : Type 0 where
       class : ℕ
       is : known_at f.values v ≡ Cell class layout stale
@@ -435,7 +435,7 @@ module _ (heap : Setup) (p : LaidOut) (table : SlotTable) (guarded : Guarded) (l
     carried : (c d : ℕ) → Origin f d → moved from to d ≡ c → Origin next c
     carried c d o e = record { of = o.of; layout = o.layout; stale = o.stale; is = moved_at o.of ∙ ap (move from to) o.is ∙ ap (λ x. Cell x o.layout o.stale) e; fresh = o.fresh }
 
-    -- a class behind the join that is fresh has a fresh value
+    -- a class that is fresh after the join has a fresh value
     fresh_joined : (v c layout : ℕ) (stale : Bool) → Was v c layout stale → (class_at (slice_set f.classes to merged) c).fresh ≡ true → Origin next c
     fresh_joined v c layout stale w fr = by_equal to c at_to elsewhere where
       size : to < length f.classes
@@ -556,7 +556,7 @@ module _ (heap : Setup) (p : LaidOut) (table : SlotTable) (guarded : Guarded) (l
   all_held (line.Value v of ∷ lines) f shown g = all_held lines f shown.1 g
   all_held (line.Slot slot nonnull holds ∷ lines) f shown g = all_held lines (hold_value (slot_of table slot) holds f) shown.1 (value_held (slot_of table slot) holds nonnull f shown.0 g)
 
-  -- ---- behind the edge
+  -- ---- after the edge
 
   module _ (lines : List Line) (is : there ≡ facts_of_lines table (length registers) (length slots) lines) (shown : AllShown lines) where
     given : Given there
@@ -624,7 +624,7 @@ module _ (heap : Setup) (p : LaidOut) (table : SlotTable) (guarded : Guarded) (l
               let at = all_zip (covers_slot q.class c) here.slots there.slots s open_slot open_slot lh (omega (arith, lh, given.slots_size, h.slots_size)) b.1 in
               absurd (not_both (holds_class c (slot_at there.slots s).holds) (as_implied (holds_class q.class (slot_at here.slots s).holds) _ at e) out)
 
-    -- what is shown on an edge holds behind it
+    -- what is shown on an edge holds after it
     pub shown_holds : Holds heap p table guarded log names there registers slots
     shown_holds = record {
       registers_size = sym given.values_size;

@@ -220,7 +220,7 @@ load_members v s layout facts members = by (slot_at rest.slots s).nonnull (slot_
 
 -- ---- what an instruction leaves
 
--- as it is either way, it is the way that is taken
+-- what holds of both arms holds of the one that is taken
 either_way : (b : Bool) (f g : FactSet) → HaveMembers f → HaveMembers g → HaveMembers (if b then f else g)
 either_way true f g m n = m
 either_way false f g m n = n
@@ -262,7 +262,7 @@ module _ (facts : FactSet) (members : HaveMembers facts) where
   cast_local_members v u known None = either_way (u == v) facts (define v (off_base v known) facts) members (define_members v (off_base v known) facts members)
   cast_local_members v u known (Some s) = members
 
-  -- behind a bitcast
+  -- after a bitcast
   cast_members : (m : Module) (table : SlotTable) (v from to : ℕ) (x : Operand) → HaveMembers (after_cast m table v from to x facts)
   cast_members m table v from to (operand.Constant c) = cast_constant_members m v from to c
   cast_members m table v from to (operand.Local u) = cast_local_members v u (known_at facts.values u) (slot_of table u)
@@ -321,12 +321,12 @@ module _ (facts : FactSet) (members : HaveMembers facts) where
   load_known_members p v kind (Cell c l s) = define_members v Nothing facts members
   load_known_members p v kind (GlobalAddress g) = load_word_members v kind (global_word p.of_module g)
 
-  -- behind a load
+  -- after a load
   load_place_members : (p : LaidOut) (table : SlotTable) (v loaded : ℕ) (place : Operand) (slot : Option ℕ) → HaveMembers (load_place p table v loaded place slot facts)
   load_place_members p table v loaded place None = load_known_members p v (kind_of p.of_module loaded) (known_of facts place)
   load_place_members p table v loaded place (Some s) = load_held_members p.of_module v s (held_type table s)
 
-  -- behind a store
+  -- after a store
   stored_members : (x : Operand) (slot : Option ℕ) → HaveMembers (after_store (known_of facts x) slot facts)
   stored_members x None = drop_of_members (known_of facts x) facts members
   stored_members (operand.Local u) (Some s) = store_members u s facts members
@@ -350,7 +350,7 @@ module _ (facts : FactSet) (members : HaveMembers facts) where
   words_members v u base None = define_members v Nothing facts members
   words_members v u base (Some words) = element_members v u base words
 
-  -- behind a getelementptr
+  -- after a getelementptr
   after_element_members : (p : LaidOut) (v source : ℕ) (base : Operand) (indices : List Argument) → HaveMembers (after_element p v source base indices facts)
   after_element_members p v source (operand.Local u) indices = words_members v u (known_at facts.values u) (element_words p facts source indices (start_of (known_at facts.values u)))
   after_element_members p v source (operand.Constant c) indices = define_members v Nothing facts members
@@ -359,7 +359,7 @@ module _ (facts : FactSet) (members : HaveMembers facts) where
 
   -- ---- comparisons and choices
 
-  -- behind a comparison
+  -- after a comparison
   compare_members : (v : ℕ) (kind : Comparison) (first second : Operand) → HaveMembers (after_compare v kind first second facts)
   compare_members v kind (operand.Local u) (operand.Constant c) = define_members v (Number 1 None) facts members
   compare_members v kind (operand.Local u) (operand.Local w) = define_members v (Number 1 None) facts members
@@ -374,7 +374,7 @@ choose_members : (v : ℕ) (kind : TypeKind) (chosen other : Known) (facts : Fac
 choose_members v kind chosen other facts members =
     held_members (drop_fresh_of other (drop_fresh_of chosen facts)) (drop_of_members other (drop_fresh_of chosen facts) (drop_of_members chosen facts members)) v (chosen_layout kind chosen other) (is_nonnull facts chosen && is_nonnull facts other)
 
--- behind a choice
+-- after a choice
 select_members : (v : ℕ) (kind : TypeKind) (chosen other : Operand) (facts : FactSet) → HaveMembers facts → HaveMembers (after_select v kind chosen other facts)
 select_members v (Bits bits) chosen other facts members = define_members v (Number bits (larger (below_of facts chosen) (below_of facts other))) facts members
 select_members v NoValue chosen other facts members = choose_members v NoValue (known_of facts chosen) (known_of facts other) facts members
@@ -391,7 +391,7 @@ stale_classes all own [] le = omega arith
 stale_classes all [] (k ∷ values) le = absurd (omega (arith, le))
 stale_classes all (class ∷ own) (k ∷ values) le = let r = stale_classes all own values (omega (arith, le)) in omega (arith, r)
 
--- behind a safepoint no slot holds a class
+-- after a safepoint no slot holds a class
 pub stale_members : (facts : FactSet) → HaveMembers facts → HaveMembers (make_stale facts)
 stale_members facts members = (
   λ s c e. absurd (let y : None ≡ Some c = ap (λ x. x.holds) (sym (at_map (end_hold facts.classes) facts.slots s open_slot refl)) ∙ e in cc),
@@ -423,7 +423,7 @@ pub result_members : (m : Module) (result : Option ℕ) (returned : ℕ) (promis
 result_members m None returned promise facts members = members
 result_members m (Some v) returned promise facts members = receive_members v (given_by (kind_of m returned)) promise facts members
 
--- behind a call of a defined function
+-- after a call of a defined function
 defined_members : (m : Module) (result : Option ℕ) (returned : ℕ) (arguments : List Argument) (section : Option Section) (facts : FactSet) → HaveMembers facts → HaveMembers (after_defined m result returned arguments section facts)
 defined_members m result returned arguments section facts members =
     result_members m result returned (promised_in section) (after_mark (callee_mark section) (drop_arguments arguments facts))
@@ -446,13 +446,13 @@ module _ (facts : FactSet) (members : HaveMembers facts) where
   alloc_layout_members v (operand.Global g) = define_members v Nothing facts members
   alloc_layout_members v (operand.CastGlobal a b c) = define_members v Nothing facts members
 
-  -- behind a call of dg_alloc
+  -- after a call of dg_alloc
   alloc_members : (result : Option ℕ) (arguments : List Argument) → HaveMembers (after_alloc_call result arguments facts)
   alloc_members None arguments = members
   alloc_members (Some v) [] = define_members v Nothing facts members
   alloc_members (Some v) (size ∷ rest) = alloc_layout_members v size.operand
 
-  -- behind a call of gcroot
+  -- after a call of gcroot
   root_call_members : (table : SlotTable) (arguments : List Argument) → HaveMembers (after_root_call table arguments facts)
   root_call_members table [] = members
   root_call_members table (place ∷ rest) = by (slot_named table place.operand) where
@@ -460,7 +460,7 @@ module _ (facts : FactSet) (members : HaveMembers facts) where
     by None = members
     by (Some s) = root_members s facts members
 
-  -- behind a call of gcread
+  -- after a call of gcread
   read_members : (p : LaidOut) (v : ℕ) (arguments : List Argument) → HaveMembers (after_read p v arguments facts)
   read_members p v [] = define_members v Nothing facts members
   read_members p v (object ∷ []) = define_members v Nothing facts members
@@ -472,12 +472,12 @@ module _ (facts : FactSet) (members : HaveMembers facts) where
   read_call_members p None arguments = members
   read_call_members p (Some v) arguments = read_members p v arguments
 
-  -- behind a call of gcwrite
+  -- after a call of gcwrite
   write_members : (arguments : List Argument) → HaveMembers (after_write arguments facts)
   write_members [] = members
   write_members (value ∷ rest) = drop_of_members (known_of facts value.operand) facts members
 
-  -- behind any call
+  -- after any call
   call_members : (p : LaidOut) (certs : List Section) (table : SlotTable) (result : Option ℕ) (returned : ℕ) (arguments : List Argument) (callee : Callee) → HaveMembers (after_call p certs table result returned arguments callee facts)
   call_members p certs table result returned arguments NoFunction = members
   call_members p certs table result returned arguments (OfModule called) = defined_members p.of_module result returned arguments (slice_get certs called) facts members
@@ -487,7 +487,7 @@ module _ (facts : FactSet) (members : HaveMembers facts) where
   call_members p certs table result returned arguments (OfRuntime runtime.GcRead) = read_call_members p result arguments
   call_members p certs table result returned arguments (OfRuntime runtime.GcWrite) = write_members arguments
 
-  -- behind an alloca
+  -- after an alloca
   alloca_members : (slot : Option ℕ) → HaveMembers (after_alloca slot facts)
   alloca_members None = members
   alloca_members (Some s) = end_members s facts members
@@ -495,7 +495,7 @@ module _ (facts : FactSet) (members : HaveMembers facts) where
 -- ---- any instruction
 
 module _ (p : LaidOut) (certs : List Section) (table : SlotTable) (facts : FactSet) (members : HaveMembers facts) where
-  -- behind an instruction that defines a name
+  -- after an instruction that defines a name
   named_members : (v : ℕ) (op : Op) → HaveMembers (after_named p table v op facts)
   named_members v (Alloca held) = alloca_members facts members (slot_of table v)
   named_members v (Bitcast from x to) = cast_members facts members p.of_module table v from to x
@@ -610,7 +610,7 @@ tied_held (line.Value v (fact.Address base words)) facts none = none
 tied_held (line.Value v (fact.GlobalAddress g)) facts none = none
 tied_held (line.Slot slot nonnull holds) facts none = none
 
--- nor behind what all say
+-- nor after what all say
 all_tied_held : (lines : List Line) (facts : FactSet) → NoneHeld facts → NoneHeld (tie_lines lines facts)
 all_tied_held [] facts none = none
 all_tied_held (line ∷ lines) facts none = all_tied_held lines (tie_line line facts) (tied_held line facts none)

@@ -1,4 +1,4 @@
--- Fresh classes that have a value: of the others what stands for their cells may be given up.
+-- Fresh classes that have a value: the cells of the others may be forgotten.
 use Rattle.std.proofs.Common.{◌≡◌, ℕ, zero, suc, List, [], ◌∷◌, length, refl, sym, ap, ◌∙◌, subst, true, false, Bool, Some, inl, inr}
 use Rattle.std.specs.Prelude.{◌&&◌, not, if◌then◌else◌}
 use Rattle.std.specs.List.{list_any}

@@ -1,4 +1,4 @@
--- The phis of a certified block: each may take its entry, and behind them the block goes on with what it begins with.
+-- The phis of a certified block: each may take its entry, and after them the block goes on with what it begins with.
 use Rattle.std.proofs.Common.{◌≡◌, ℕ, suc, ◌+◌, List, [], ◌∷◌, length, drop, refl, sym, ◌∙◌, subst, arith, true, false, Bool, Option, Some, None, is_some, slice_get}
 use Rattle.std.proofs.lemmas.List.Sums.{take_while-cons}
 use Rattle.std.specs.Prelude.{◌||◌, ◌++◌, not, if◌then◌else◌, cond}
@@ -35,7 +35,7 @@ use Rattle.machine.specs.Kinds as k
 use Rattle.soundness.proofs.KindLemmas.{constant_passes, integer_same, refers_same}
 use Rattle.soundness.proofs.Steps.{all_hold, none_of}
 
--- ---- what an instruction that keeps the rules shows
+-- ---- what an instruction that obeys the rules shows
 
 -- where no condition of a list fails, none of its front does
 first_passes : (first rest : List (Rule × Bool)) → first_failing (first ++ rest) ≡ None → first_failing first ≡ None
@@ -45,7 +45,7 @@ first_passes (condition ∷ first) rest e = pick condition.1 (first_passes first
   pick true others e = others e
   pick false others e = absurd cc
 
--- no condition of an instruction fails, and each of its ways shows the lines of its target
+-- no condition of an instruction fails, and each of its edges shows the lines of its target
 pub record Kept (s : Scene) (block : ℕ) (here : Standing) (facts : FactSet) (instr : Instr) : Type 0 where
   pub allowed : first_failing (conditions s.program s.certs s.function s.slots here facts instr) ≡ None
   pub shown : unshown_on s block facts (ways instr.op) ≡ None
@@ -115,7 +115,7 @@ module _ (p : LaidOut) (certs : List Section) (f : Function) (table : SlotTable)
   phi_after facts (Some v) (Phi written incoming) is = refl
   phi_after facts result _ is = absurd cc
 
--- some phis in front of these instructions may take their entries from a block, and behind them the rules lead on from the same facts
+-- some phis before these instructions may take their entries from a block, and after them the rules lead on from the same facts
 pub record PhisStand (s : Scene) (block place from : ℕ) (facts : FactSet) (instrs : List Instr) (last : FactSet) (phis : List Instr) : Type 0 where
   pub fit : j.phis_fit s.program.of_module s.function s.slots from phis ≡ true
   pub rest : Follows s block (length phis + place) facts (drop (length phis) instrs) last

@@ -1,4 +1,4 @@
--- The words to which addresses lead, and the loads and stores of them that keep the discipline.
+-- The words to which addresses point, and the loads and stores of them that obey the discipline.
 use Rattle.std.proofs.Common.{◌≡◌, ◌≢◌, ℕ, zero, suc, ◌<◌, List, length, refl, sym, ap, ◌∙◌, subst, arith, true, false, Bool, Option, Some, None, slice_get, inr}
 use Rattle.std.specs.Prelude.{◌||◌, not}
 use Rattle.lemmas.specs.Numbers.{test_true}
@@ -74,7 +74,7 @@ module _ (heap : Setup) (p : LaidOut) (table : SlotTable) (guarded : Guarded) (l
       }
   located layout words (value.Address x) v ne r o a = absurd r
 
-  -- an address with a base that is a reference, not stale and not null, leads to a word of a held cell
+  -- an address with a base that is a reference, not stale and not null, points to a word of a held cell
   pub address_located : (v base c layout : ℕ) (words : WordSet) → known_at facts.values v ≡ Address base words → known_at facts.values base ≡ Cell c layout false → (class_at facts.classes c).nonnull ≡ true
       → Located heap p log layout words (register_at registers v)
   address_located v base c layout words is known nonnull =
@@ -90,7 +90,7 @@ module _ (heap : Setup) (p : LaidOut) (table : SlotTable) (guarded : Guarded) (l
         pick true z y = z
         pick false z y = absurd cc
 
-  -- a read of that word keeps the discipline
+  -- a read of that word obeys the discipline
   pub read_keeps : (layout : ℕ) (words : WordSet) (v : Value) → (l : Located heap p log layout words v) → Keeps heap log (Read l.at l.word)
   read_keeps layout words v l = (inr l.held, λ z. l.there (sym l.kind ∙ z))
 

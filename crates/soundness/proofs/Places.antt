@@ -1,4 +1,4 @@
--- Where a frame stands behind an instruction, and which of its slots are roots.
+-- Where a frame is after an instruction, and which of its slots are roots.
 use Rattle.std.proofs.Common.{◌≡◌, ℕ, zero, suc, ◌<◌, List, [], ◌∷◌, length, drop, refl, ap, ◌∙◌, subst, arith, true, false, Bool, Option, Some, None, slice_get}
 use Rattle.std.proofs.lemmas.List.{length-set}
 use Rattle.std.specs.Prelude.{if◌then◌else◌}
@@ -36,7 +36,7 @@ use Rattle.soundness.proofs.Slots.{AllocaIs, AllNamed, BlocksNamed, NamesRoots, 
 
 -- ---- the instruction at a place
 
--- the rest of a list from a place on begins with what stands there
+-- the rest of a list from a place on begins with what is there
 drop_some : {X : Type 0} (xs : List X) (i : ℕ) (x : X) → slice_get xs i ≡ Some x → drop i xs ≡ x ∷ drop (suc i) xs
 drop_some [] i x e = absurd cc
 drop_some (y ∷ xs) zero x e = let same : y ≡ x = cc in ap (λ z. z ∷ xs) same
@@ -58,7 +58,7 @@ module _ (p : LaidOut) (certs : List Section) (f : Function) (table : SlotTable)
   alloca_allowed here facts result (Alloca held) e = λ w is. subst (λ name. may_hold p.of_module table name held ≡ true) is (all_hold (op_conditions p certs f table here facts result (Alloca held)) e).0
   alloca_allowed here facts result _ e = tt
 
--- each alloca of instructions that keep the rules is allowed
+-- each alloca of instructions that obey the rules is allowed
 pub follows_named : (s : Scene) (block place : ℕ) (facts : FactSet) (instrs : List Instr) (last : FactSet) → Follows s block place facts instrs last → AllNamed (λ w held. may_hold s.program.of_module s.slots (Some w) held ≡ true) instrs
 follows_named s block place facts [] last follows = tt
 follows_named s block place facts (instr ∷ instrs) last follows = (
@@ -73,7 +73,7 @@ blocks_named P (block ∷ blocks) each = (each 0 (omega arith), blocks_named P b
 
 -- ---- what an instruction leaves
 
--- behind an instruction a frame stands where it stood, with as many registers, and has written no slots but roots
+-- after an instruction a frame is where it was, with as many registers, and has written no slots but roots
 pub record SamePlace (m : Module) (table : SlotTable) (before behind : Frame) : Type 0 where
   pub function : behind.function ≡ before.function
   pub into : behind.into ≡ before.into

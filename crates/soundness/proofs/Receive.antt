@@ -38,7 +38,7 @@ use Rattle.soundness.proofs.Steps.{available, integer_is, no_number}
 
 -- ---- what is taken
 
--- a reference to a layout, if one is said
+-- a reference to a layout, if one is given
 abbrev pub IsGivenReference : Setup → Guarded → Log → Option ℕ → (nonnull : Bool) → Value → Type 0
 IsGivenReference heap guarded log None nonnull v = Unit {0}
 IsGivenReference heap guarded log (Some layout) nonnull v = IsReferenceTo heap layout v × IsOwn log guarded v × (nonnull ≡ true → v ≢ value.Null)

@@ -55,7 +55,7 @@ module _ (m : Module) (names : List (Option ℕ)) (held : List ℕ) where
 
 -- ---- and holds null or a held cell
 
--- a type that leads to a layout is no integer
+-- a type that points to a layout is no integer
 pub no_integer : (m : Module) (held : ℕ) (layout : ℕ) → referenced_layout m held ≡ Some layout → is_integer (slice_get m.types held) ≡ false
 no_integer m held layout e = by (slice_get m.types held) e where
   by : (t : Option IrType) → layout_behind m (part_of_pointer t) ≡ Some layout → is_integer t ≡ false

@@ -1,4 +1,4 @@
--- The step of any instruction that the rules allow, and behind which a thread goes on in its block.
+-- The step of any instruction that the rules allow, and after which a thread goes on in its block.
 use Rattle.std.proofs.Common.{◌≡◌, ℕ, List, refl, true, Option, Some, None, Bool}
 use Rattle.std.specs.Prelude.{◌&&◌, not}
 use Rattle.std.specs.List.{list_all}
@@ -81,7 +81,7 @@ module _ (heap : Setup) (p : LaidOut) (certs : List Section) (reaches : Bool) (f
             global_goes heap p certs reaches f table guarded log cells facts frame h fits from to result (operand.CastGlobal own symbol other) symbol (λ name. after_op p certs table name (Bitcast from (operand.CastGlobal own symbol other) to) facts) refl (λ v. refl)
             (typed_so p f table from (operand.CastGlobal own symbol other) k2 casts refl) (operand_means heap p certs reaches f table guarded log fits cells facts frame h from (operand.CastGlobal own symbol other) k2) k19
 
-  -- a load: from a slot, or from what stands as a place
+  -- a load: from a slot, or from an operand that is a place
   load_by : (result : Option ℕ) (loaded place_type : ℕ) (place : Operand) → GoesOn result (Load loaded place_type place)
   load_by result loaded place_type place e =
       let all = all_hold (op_conditions p certs f table here facts result (Load loaded place_type place)) e in
@@ -103,7 +103,7 @@ module _ (heap : Setup) (p : LaidOut) (certs : List Section) (reaches : Bool) (f
         by (operand.CastGlobal own symbol other) k1 k2 may k3 some k4 k19 =
             load_goes heap p certs reaches f table guarded log guards fits cells facts frame h result loaded place_type (operand.CastGlobal own symbol other) (record { there = k1; typed = k2; current = k3; based = k4; casts = k19; varies = refl; no_slot = refl }) may
 
-  -- a store: to a slot, or to what stands as a place
+  -- a store: to a slot, or to an operand that is a place
   store_by : (result : Option ℕ) (stored : ℕ) (x : Operand) (place_type : ℕ) (place : Operand) → GoesOn result (Store stored x place_type place)
   store_by result stored x place_type place e =
       let all = all_hold (op_conditions p certs f table here facts result (Store stored x place_type place)) e in

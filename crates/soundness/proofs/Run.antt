@@ -178,7 +178,7 @@ module _ (heap : Setup) (program : LaidOut) (heap_is : IsHeapFor heap program) (
 
   -- ---- steps
 
-  -- what a step leaves behind each possible answer
+  -- what a step leaves after each possible answer
   abbrev Onward : Log → List Value → Action → (Answer → List Frame) → Type 0
   Onward log roots asked behind = Keeps heap log asked × ((given : Answer) → Possible heap log asked given → IsSound heap program certs (behind given) (record { asked = asked; given = given; roots = roots } ∷ log))
 
@@ -468,7 +468,7 @@ module _ (heap : Setup) (program : LaidOut) (heap_is : IsHeapFor heap program) (
           (λ cell g. elim g [ inl y ↦ inl (wait.fresh cell y) | inr y ↦ inr y ]) q.parameters (promises_in section) (mc.values_of program.of_module frame.registers arguments)
           (arguments_given heap program certs f table (GuardedBy x.saves) log x.now.cells facts frame x.standing.holds x.standing.members arguments q.parameters (promises_in section) pass count types.1 all.1.1.1.1.1.0)
 
-      -- behind the call its facts are those with the result
+      -- after the call its facts are those with the result
       behind_is : after program certs table facts instr ≡ receive_result program.of_module instr.result q.returned (promised_in section) w.facts
       behind_is = behind ∙ ap (λ c. after_call program certs table instr.result returned arguments c facts) e
           ∙ ap (λ t. receive_result program.of_module instr.result t (promised_in section) w.facts) (test_true returned q.returned types.0)
@@ -507,7 +507,7 @@ module _ (heap : Setup) (program : LaidOut) (heap_is : IsHeapFor heap program) (
       room true = local_onward log roots Local (entry ∷ mc.go_on frame ∷ below) refl live
       room false = end_onward log roots End [] refl tt
 
-      -- the frames behind the call
+      -- the frames after the call
       calls : Onward log roots (mc.above (mc.Into n) (length below) (a.op_action program f table frame.block frame.registers (Call returned callee arguments)))
           (λ given. mc.frames_called program.of_module instr.result (mc.values_of program.of_module frame.registers arguments) n (slice_get program.of_module.functions n) frame below)
       calls =

@@ -17,7 +17,7 @@ use Rattle.lemmas.specs.Numbers.{test_true}
 use Rattle.soundness.proofs.Lists.{at_set, at_set2, at_set_got, got}
 use Rattle.soundness.proofs.Change.{apart_turned, drop_keeps}
 
--- what stands at a place, written there again
+-- what is at a place, written there again
 pub same_written : {X : Type 0} (xs : List X) (i : ℕ) (d : X) → slice_set xs i (got d xs i) ≡ xs
 same_written [] i d = refl
 same_written (x ∷ xs) zero d = refl
@@ -27,7 +27,7 @@ same_written (x ∷ xs) (suc i) d = ap (λ ys. x ∷ ys) (same_written xs i d)
 pub apart_unset : (v : Value) → AreApart v value.Unset
 apart_unset v = apart_turned value.Unset v tt
 
--- what is known of a slot in which this stands: it is so, and no fresh class that the slot does not hold has the value
+-- what is known of a slot that holds this value: it is true, and no fresh class that the slot does not hold has the value
 pub record Fits (cells : Cells) (facts : FactSet) (slot : SlotFact) (new : Value) : Type 0 where
   pub means : SlotMeans cells (length facts.classes) slot new
   pub apart : (v c l : ℕ) (stale : Bool) → known_at facts.values v ≡ Cell c l stale → (class_at facts.classes c).fresh ≡ true → holds_class c slot.holds ≡ false → AreApart (cells c) new
@@ -52,7 +52,7 @@ module _ (heap : Setup) (p : LaidOut) (table : SlotTable) (guarded : Guarded) (l
         (λ e out. k.apart v c l st is fr out) (λ ne out. h.alone_in_slots v t c l st is fr out) (λ out. apart_unset (cells c));
   }
 
-  -- this is known of a slot as it stands
+  -- this is known of a slot as it is
   pub fact_keeps : (s : ℕ) (slot : SlotFact) → Fits cells facts slot (slot_value slots s) → Holds heap p table guarded log cells (set_slot s slot facts) registers slots
   fact_keeps s slot k = subst (λ xs. Holds heap p table guarded log cells (set_slot s slot facts) registers xs) (same_written slots s value.Unset) (slot_keeps s slot (slot_value slots s) (h.slot_types s) k)
 

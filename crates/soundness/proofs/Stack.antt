@@ -95,7 +95,7 @@ pub record Live (heap : Setup) (program : LaidOut) (certs : List Section) (frame
   pub under : Below heap program certs log frame.into frame.function function below saves
   pub guards : (cell : ℕ) → GuardedBy saves cell → IsFresh log cell
 
--- a thread that has ended, or whose frames stand so
+-- a thread that has ended, or that has such frames
 abbrev pub IsSound : Setup → LaidOut → List Section → List Frame → Log → Type 0
 IsSound heap program certs [] log = Unit {0}
 IsSound heap program certs (frame ∷ below) log = Live heap program certs frame below log
@@ -151,7 +151,7 @@ module _ (heap : Setup) (program : LaidOut) (certs : List Section) where
       → Holds heap program (slots_of program.of_module f) guarded later w.cells w.facts frame.registers frame.slots → IsAt heap program certs guarded later frame f w next
   with_holds guarded log later frame f w next s h = record { there = s.there; size = s.size; holds = h; members = s.members; rooted = s.rooted; last = s.last; rest = s.rest }
 
-  -- a frame stands where it stood while its log grows
+  -- a frame stays where it is while its log grows
   pub stands_on : (guarded : Guarded) (log later : Log) (frame : Frame) (f : Function) (w : Saved) (next : FactSet) → Grows log later → IsAt heap program certs guarded log frame f w next → IsAt heap program certs guarded later frame f w next
   stands_on guarded log later frame f w next grows s =
       with_holds guarded log later frame f w next s (log_keeps heap program (slots_of program.of_module f) guarded log w.cells w.facts frame.registers frame.slots s.holds later grows.held grows.fresh)
@@ -236,7 +236,7 @@ module _ (heap : Setup) (program : LaidOut) (certs : List Section) where
 
   -- ---- a step that touches no frame below
 
-  -- each frame stands on while the log grows
+  -- the frames stay so while the log grows
   pub live_keeps : (frame : Frame) (below : List Frame) (log later : Log) → Grows log later → Live heap program certs frame below log → Live heap program certs frame below later
   live_keeps frame below log later grows x = record {
     function = x.function;

@@ -67,7 +67,7 @@ class_unfresh all own Null d l t e = absurd cc
 class_unfresh all own (Address base words) d l t e = absurd cc
 class_unfresh all own (GlobalAddress g) d l t e = absurd cc
 
--- behind a safepoint no value is of a fresh class
+-- after a safepoint no value is of a fresh class
 pub stale_unfresh : (facts : FactSet) (v c l : ℕ) (s : Bool) → known_at (make_stale facts).values v ≡ Cell c l s → (class_at (make_stale facts).classes c).fresh ≡ false
 stale_unfresh facts v c l s e =
     let w = stale_was v (known_at facts.values v) c l s (sym (stale_at facts.values v) ∙ e) in
@@ -95,7 +95,7 @@ root_own log later guarded roots (value.Cell own at) held (inl e) o = absurd cc
 root_own log later guarded roots (value.Cell own at) held (inr c) o = (held at (value.Cell own at, c, refl), o.1)
 root_own log later guarded roots (value.Address at) held has o = absurd o
 
--- ---- what holds behind a safepoint
+-- ---- what holds after a safepoint
 
 -- the value of the class that a value has for itself; no reference, where the value is none
 abbrev pub own_of : Known → Value → Value
@@ -112,7 +112,7 @@ module _ (heap : Setup) (p : LaidOut) (table : SlotTable) (guarded : Guarded) (l
     by (Some l) e r = (r.0, stays (ap is_some e) r.1)
 
   module _ (cells : Cells) (facts : FactSet) (registers slots : List Value) (h : Holds heap p table guarded log cells facts registers slots) where
-    -- the values of the classes behind a safepoint
+    -- the values of the classes after a safepoint
     abbrev pub stale_cells : Cells
     stale_cells c = own_of (known_at facts.values c) (register_at registers c)
 
@@ -158,7 +158,7 @@ module _ (heap : Setup) (p : LaidOut) (table : SlotTable) (guarded : Guarded) (l
       by None is x = absurd cc
       by (Some c) is x = λ w. (h.classes c).nonnull x (sym (m.holds c is).0 ∙ w)
 
-    -- behind a safepoint the facts hold in each log in which what the reference slots hold stays own
+    -- after a safepoint the facts hold in each log in which what the reference slots hold stays own
     pub stale_keeps : (later : Log) → length facts.values ≤ length facts.classes → ((s : ℕ) → is_reference_held p.of_module (held_type table s) ≡ true → IsOwn log guarded (slot_value slots s) → IsOwn later guarded (slot_value slots s))
         → Holds heap p table guarded later stale_cells (make_stale facts) registers slots
     stale_keeps later room stays = record {
@@ -186,7 +186,7 @@ pub record IsStill (cells : Cells) (facts : FactSet) : Type 0 where
   pub none_fresh : (v c l : ℕ) (s : Bool) → known_at facts.values v ≡ Cell c l s → (class_at facts.classes c).fresh ≡ false
 
 module _ (heap : Setup) (p : LaidOut) (table : SlotTable) (guarded : Guarded) (log : Log) (cells : Cells) (facts : FactSet) (registers slots : List Value) (h : Holds heap p table guarded log cells facts registers slots) where
-  -- the facts behind a safepoint are such ones
+  -- the facts after a safepoint are such ones
   pub stale_still : IsStill (stale_cells heap p table guarded log cells facts registers slots h) (make_stale facts)
   stale_still = record {
     stale = all_stale facts;

@@ -133,7 +133,7 @@ module _ (heap : Setup) (p : LaidOut) (table : SlotTable) (guarded : Guarded) (l
 
   -- ---- the arguments
 
-  -- what is known behind the parameters holds of registers that took the arguments
+  -- what is known after the parameters holds of registers that took the arguments
   pub parameters_hold : (cells : Cells) (facts : FactSet) (registers slots : List Value) (parameters : List Parameter) (promises : List (Option Promise)) (arguments : List Value) → Holds heap p table guarded log cells facts registers slots
       → IsUnfresh facts → AllGiven heap p guarded log parameters promises arguments
       → (more : Cells) × Holds heap p table guarded log more (receive_all (parameters_given p.of_module parameters promises) facts) (with_arguments parameters arguments registers) slots

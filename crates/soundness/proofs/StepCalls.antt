@@ -96,7 +96,7 @@ own_apart log guarded layout at value.Null free o = tt
 own_apart log guarded layout at (value.Cell own there) free o = λ e. free (there, sym e, o.0)
 own_apart log guarded layout at (value.Address x) free o = tt
 
--- past the end of a list of the same length nothing stands
+-- past the end of a list of the same length there is nothing
 past_end : (held : List ℕ) (values : List Value) (s : ℕ) → length values ≡ length held → slice_get held s ≡ None → got value.Unset values s ≡ value.Unset
 past_end [] [] s e none = refl
 past_end [] (v ∷ values) s e none = absurd (omega (arith, e))
@@ -109,7 +109,7 @@ module _ (heap : Setup) (p : LaidOut) (certs : List Section) (reaches : Bool) (f
   abbrev pub call_action : List Argument → Option Declare → Option Function → Option Runtime → Action
   call_action arguments declared defined called = a.call_action p f table frame.registers returned arguments declared defined called
 
-  -- the frame behind it
+  -- the frame after it
   abbrev pub behind_call : List Argument → Option Runtime → Answer → Frame
   behind_call arguments called given = mc.after_call p f table result arguments called given frame
 
@@ -119,7 +119,7 @@ module _ (heap : Setup) (p : LaidOut) (certs : List Section) (reaches : Bool) (f
 
   -- ---- dg_alloc
 
-  -- a cell that is not held stands in no slot
+  -- a cell that is not held is in no slot
   slot_apart : (n : ℕ) (at : Ref) → (HoldsCell log at.cell → ⊥) → (t : ℕ) → AreApart (value.Cell n at) (slot_value frame.slots t)
   slot_apart n at free t = by (held_type table t) refl (h.slot_types t) where
     of_layout : (layout : Option ℕ) (v : Value) → FitsReference heap guarded log layout v → AreApart (value.Cell n at) v
@@ -134,11 +134,11 @@ module _ (heap : Setup) (p : LaidOut) (certs : List Section) (reaches : Bool) (f
     by None e fits = subst (AreApart (value.Cell n at)) (sym (past_end table.held frame.slots t h.held_size e)) tt
     by (Some held) e fits = of_type held (k.is_integer (slice_get p.of_module.types held)) refl fits
 
-  -- behind an alloc nothing is lost
+  -- after an alloc nothing is lost
   grown : (n : ℕ) (given : Answer) (roots : List Value) → Holds heap p table guarded (record { asked = Alloc n; given = given; roots = roots } ∷ log) cells facts frame.registers frame.slots
   grown n given roots = log_keeps heap p table guarded log cells facts frame.registers frame.slots h (record { asked = Alloc n; given = given; roots = roots } ∷ log) (λ cell x. inr x) (λ cell x. inr x)
 
-  -- behind an alloc v is null, or a fresh cell
+  -- after an alloc v is null, or a fresh cell
   claimed : (n v : ℕ) (given : Answer) (roots : List Value) → Possible heap log (Alloc n) given
       → (more : Cells) × Holds heap p table guarded (record { asked = Alloc n; given = given; roots = roots } ∷ log) more (define_new v n (record { nonnull = false; fresh = true }) facts) (slice_set frame.registers v (mc.alloc_value (Some n) given)) frame.slots
   claimed n v answer.Done roots q = absurd q
@@ -159,7 +159,7 @@ module _ (heap : Setup) (p : LaidOut) (certs : List Section) (reaches : Bool) (f
         (λ z t. slot_apart n at q.1 t),
   )
 
-  -- an alloc keeps the discipline
+  -- an alloc obeys the discipline
   alloc_leads : (n : ℕ) (next : FactSet) → ((given : Answer) (roots : List Value) → Possible heap log (Alloc n) given
       → (more : Cells) × Holds heap p table guarded (record { asked = Alloc n; given = given; roots = roots } ∷ log) more next (mc.set_register result (mc.alloc_value (Some n) given) frame).registers (mc.set_register result (mc.alloc_value (Some n) given) frame).slots)
       → Goes heap p table frame.slots reaches guarded log next (Alloc n) (λ given. mc.set_register result (mc.alloc_value (Some n) given) frame)

@@ -116,7 +116,7 @@ pub none_of : (slot : Option ℕ) → not (is_some slot) ≡ true → slot ≡ N
 none_of None e = refl
 none_of (Some s) e = absurd cc
 
--- a number that is no more than another is below the bound behind that
+-- a number that is no more than another is below the bound next after that
 pub below_itself : (n m : ℕ) → m < suc n → IsBelow m (below_next n)
 below_itself n m lt = pick (nat_lt n 18446744073709551615) where
   pick : (b : Bool) → IsBelow m (if b then Some (suc n) else None)
@@ -193,7 +193,7 @@ module _ (heap : Setup) (p : LaidOut) (certs : List Section) (reaches : Bool) (f
   constant_plain written (constant.Truth b) e = absurd cc
   constant_plain written constant.Null e = refl
 
-  -- an operand that the rules let stand as a value may be used
+  -- an operand that the rules allow as a value may be used
   pub usable : (written : ℕ) (x : Operand) → o.is_available table facts x ≡ true → o.is_value p.of_module f facts written x ≡ true → o.slot_named table x ≡ None → k.is_usable p.of_module f table frame.registers written x ≡ true
   usable written (operand.Constant c) k1 k2 none =
       let b = and_parts (o.constant_fits c (kind_of p.of_module written)) true k2 in
@@ -216,7 +216,7 @@ module _ (heap : Setup) (p : LaidOut) (certs : List Section) (reaches : Bool) (f
   number_known n (Address base words) v means is fits = absurd cc
   number_known n (GlobalAddress g) v means is fits = absurd cc
 
-  -- an operand that the rules let stand at an integer type is an integer of it
+  -- an operand that the rules allow at an integer type is an integer of it
   pub integer_is : (written bits : ℕ) (x : Operand) → kind_of p.of_module written ≡ Bits bits → o.is_available table facts x ≡ true → o.is_value p.of_module f facts written x ≡ true → o.slot_named table x ≡ None
       → IsInteger bits (below_of facts x) (value_of p.of_module frame.registers written x)
   integer_is written bits (operand.Constant (constant.Number n)) is k1 k2 none =

@@ -204,7 +204,7 @@ module _ (heap : Setup) (p : LaidOut) (certs : List Section) (reaches : Bool) (f
   reference_known kind (Address base words) v means is fits e = absurd cc
   reference_known kind (GlobalAddress g) v means is fits e = absurd cc
 
-  -- an operand that the rules let stand at a reference type is a reference
+  -- an operand that the rules allow at a reference type is a reference
   pub reference_usable : (written : ℕ) (x : Operand) → may_be_reference (kind_of p.of_module written) ≡ true → o.is_available table facts x ≡ true → o.is_value p.of_module f facts written x ≡ true → o.slot_named table x ≡ None
       → (k.is_typed p.of_module f table written x && k.is_reference (value_of p.of_module frame.registers written x)) ≡ true
   reference_usable written x refers k1 k2 none = rw ((and_parts (k.is_typed p.of_module f table written x) (k.is_plain (value_of p.of_module frame.registers written x)) (usable heap p certs reaches f table guarded log cells facts frame h written x k1 k2 none)).0, by x k1 k2 none) refl where

@@ -1,4 +1,4 @@
--- What a way shows by the comparison that decides it.
+-- What an edge shows by the comparison that decides it.
 use Rattle.std.proofs.Common.{◌≡◌, ◌≢◌, ℕ, zero, suc, ◌<◌, ◌≤◌, List, [], ◌∷◌, length, get_or, refl, sym, ap, ◌∙◌, subst, arith, true, false, Bool, Option, Some, None, slice_set, inl, inr}
 use Rattle.std.proofs.lemmas.Bool.{cases_lt}
 use Rattle.std.specs.Prelude.{◌==◌, ◌⊎◌, not, if◌then◌else◌, nat_lt, nat_le}
@@ -25,7 +25,7 @@ use Rattle.soundness.proofs.Keep.{put_keeps, plain_beside}
 use Rattle.soundness.proofs.Change.{learn_keeps}
 use Rattle.soundness.proofs.Edges.{wrapped_le}
 
--- the way that a condition decides: whether its number is not 0
+-- the edge that a condition decides: whether its number is not 0
 abbrev pub Decides : Value → (taken : Bool) → Type 0
 Decides v true = number_in v ≢ 0
 Decides v false = number_in v ≡ 0
@@ -48,7 +48,7 @@ not_is true false e = refl
 not_is false true e = refl
 not_is false false e = absurd cc
 
--- a list is as it was where an element is put that stands there
+-- a list is as it was where an element is put that is there
 set_same : {X : Type 0} (xs : List X) (i : ℕ) (d : X) → slice_set xs i (get_or xs i d) ≡ xs
 set_same [] i d = refl
 set_same (x ∷ xs) zero d = refl
@@ -87,7 +87,7 @@ module _ (heap : Setup) (p : LaidOut) (table : SlotTable) (guarded : Guarded) (l
     pick true = below_learned v (suc n) (λ a e. let x = le a e in omega (arith, x))
     pick false = h
 
-  -- a comparison of a number with a constant, on the way that it decides
+  -- a comparison of a number with a constant, on the edge that it decides
   number_learned : (v n bits : ℕ) (kind : Comparison) (taken : Bool) → ((a : ℕ) → register_at registers v ≡ value.Number a → compares kind bits a (wrapped bits n) ≡ taken) → After (learn_number_test v n kind taken facts)
   number_learned v n bits UnsignedLess true d = below_learned v n (λ a e. let x = lt_yes a (wrapped bits n) (d a e) in let y = wrapped_le bits n in omega (arith, x, y))
   number_learned v n bits UnsignedLess false d = h
@@ -116,7 +116,7 @@ module _ (heap : Setup) (p : LaidOut) (table : SlotTable) (guarded : Guarded) (l
   nonnull_learned v (Address b w) is ne = h
   nonnull_learned v (GlobalAddress g) is ne = h
 
-  -- the comparison that gave a condition, on the way that the condition decides
+  -- the comparison that gave a condition, on the edge that the condition decides
   pub test_learned : (v : ℕ) (t : Option Test) (taken : Bool) → WasTested p.of_module registers t (register_at registers v) → Decides (register_at registers v) taken → After (learn_test t taken facts)
   test_learned v None taken w d = h
   test_learned v (Some t) taken w d = by t.constant refl where

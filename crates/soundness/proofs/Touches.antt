@@ -1,4 +1,4 @@
--- Operands that stand as places: the words to which they lead.
+-- Operands that are places: the words to which they point.
 use Rattle.std.proofs.Common.{◌≡◌, ◌≢◌, ℕ, List, length, refl, sym, ap, ◌∙◌, subst, true, false, Bool, Option, Some, None, inl, inr}
 use Rattle.std.specs.Prelude.{◌==◌, if◌then◌else◌}
 use Rattle.lemmas.specs.Bools.{and_parts}
@@ -115,7 +115,7 @@ module _ (heap : Setup) (p : LaidOut) (log : Log) where
       subst (λ x. IsFresh log x.cell) same fresh
   fresh_word words (value.Address x) v layout w at means is fresh = absurd means
 
--- an operand that stands as a place: available, of its written type, with a base that is there, and neither a constant nor a slot
+-- an operand that is a place: available, of its written type, with a base that is there, and neither a constant nor a slot
 pub record IsPlace (p : LaidOut) (f : Function) (table : SlotTable) (facts : FactSet) (written : ℕ) (x : Operand) : Type 0 where
   pub there : o.is_available table facts x ≡ true
   pub typed : o.is_typed p.of_module f written x ≡ true
@@ -134,7 +134,7 @@ module _ (p : LaidOut) (f : Function) (table : SlotTable) where
   typed_so written (operand.CastGlobal from symbol to) typed casts none =
       let b = and_parts (written == to) (points_to_global p.of_module from symbol) typed in rw (b.0, b.1, global_casts p.of_module from symbol to casts) refl
 
-  -- what names no slot stands for none
+  -- an operand that names no slot is the place of none
   pub no_slot_at : (written : ℕ) (x : Operand) → o.slot_named table x ≡ None → k.slot_at_place p.of_module f table written x ≡ None
   no_slot_at written (operand.Constant d) none = refl
   no_slot_at written (operand.Local u) none = pick (has_type p.of_module f written u) where
@@ -168,7 +168,7 @@ module _ (heap : Setup) (p : LaidOut) (certs : List Section) (reaches : Bool) (f
   place_known (operand.Global symbol) there none varies = refl
   place_known (operand.CastGlobal from symbol to) there none varies = refl
 
-  -- an address stands for its place
+  -- an operand whose value is an address is its place
   pub place_at : (written : ℕ) (x : Operand) → IsPlace p f table facts written x → (at : Place) → value_of p.of_module frame.registers written x ≡ value.Address at → k.address_at_place p.of_module f table frame.registers written x ≡ Some at
   place_at written x s at is = rw (typed_so p f table written x s.typed s.casts s.no_slot) (ap k.address_in is)
 
@@ -186,7 +186,7 @@ module _ (heap : Setup) (p : LaidOut) (certs : List Section) (reaches : Bool) (f
     by (Address other more) at e s n = absurd cc
     by (GlobalAddress symbol) at e s n = absurd cc
 
-  -- an operand that is an address leads to a word of its base's cell
+  -- an operand that is an address points to a word of its base's cell
   word_at : (written : ℕ) (x : Operand) (base class layout : ℕ) (words : WordSet) → o.known_of facts x ≡ Address base words → known_at facts.values base ≡ Cell class layout false → (class_at facts.classes class).nonnull ≡ true
       → Located heap p log layout words (value_of p.of_module frame.registers written x)
   word_at written (operand.Constant d) base class layout words is at nonnull = absurd cc
@@ -218,6 +218,6 @@ module _ (heap : Setup) (p : LaidOut) (certs : List Section) (reaches : Bool) (f
       global_touches heap p log fits symbol (value_of p.of_module frame.registers written x)
       (subst (λ y. Means heap p guarded log cells (length facts.classes) frame.registers y (value_of p.of_module frame.registers written x)) is (operand_means written x s.typed)) w.0 w.1
 
-  -- nothing else may stand there
+  -- nothing else may be there
   pub known_place : (x : Operand) → o.is_available table facts x ≡ true → o.slot_named table x ≡ None → o.is_constant x ≡ false → o.known_of facts x ≢ Nothing
   known_place x there none varies is = let z : o.is_known facts Nothing ≡ true = subst (λ y. o.is_known facts y ≡ true) is (place_known x there none varies) in absurd cc

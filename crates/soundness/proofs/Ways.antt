@@ -1,4 +1,4 @@
--- The ways out of a block: a thread takes one that the rules looked at, and what its target begins with holds there.
+-- The edges out of a block: a thread takes one that the rules looked at, and what its target begins with holds there.
 use Rattle.std.proofs.Common.{◌≡◌, ℕ, ◌<◌, List, [], ◌∷◌, length, map, refl, sym, ap, ◌∙◌, arith, true, false, Bool, Option, Some, None}
 use Rattle.std.specs.Prelude.{◌==◌, ◌&&◌, not, if◌then◌else◌, nat_lt}
 use Rattle.std.specs.List.{take_while}
@@ -40,7 +40,7 @@ use Rattle.soundness.proofs.KindLemmas.{bits_same, constant_passes}
 use Rattle.soundness.proofs.Tests.{Decides, test_learned}
 use Rattle.soundness.proofs.Steps.{all_hold, none_of, kind_bits, number_usable}
 
--- what is an integer of so many bits is an integer
+-- an integer of n bits is an integer
 bits_integer : (n : ℕ) (x : TypeKind) → is_bits n x ≡ true → is_integer x ≡ true
 bits_integer n NoValue e = absurd cc
 bits_integer n (Bits bits) e = refl
@@ -54,7 +54,7 @@ no_way : (called : Option ℕ) → mc.onward_of_call called ≡ mc.Way → ⊥
 no_way None e = absurd cc
 no_way (Some n) e = absurd cc
 
--- ---- a way of a thread
+-- ---- an edge that a thread takes
 
 module _ (heap : Setup) (program : LaidOut) (certs : List Section) (f : Function) (section : Option Section) (guarded : Guarded) (log : Log) (cells : Cells) (facts : FactSet) (frame : Frame) (h : Holds heap program (slots_of program.of_module f) guarded log cells facts frame.registers frame.slots) where
   -- the slots of the function
@@ -69,12 +69,12 @@ module _ (heap : Setup) (program : LaidOut) (certs : List Section) (f : Function
   abbrev Known : FactSet → Type 0
   Known known = Holds heap program table guarded log cells known frame.registers frame.slots
 
-  -- the way to a label is open: it names a block that may be entered, each line of which is shown
+  -- the edge to a label is open: it names a block that may be entered, each line of which is shown
   pub record IsOpen (known : FactSet) (label : ℕ) : Type 0 where
     pub named : names_target f label ≡ true
     pub shown : w.unshown_at scene frame.block known (target_of f label) ≡ None
 
-  -- the way that a thread takes: where it leads, and what is known on it
+  -- the edge that a thread takes: where it leads, and what is known on it
   pub record Taken (op : Op) : Type 0 where
     pub label : ℕ
     pub leads : a.way_of program.of_module frame.registers op ≡ Some label
@@ -83,7 +83,7 @@ module _ (heap : Setup) (program : LaidOut) (certs : List Section) (f : Function
     pub holds : Known known
     pub opened : IsOpen known label
 
-  -- where each of some ways shows its target's lines, the first does, and so do the rest
+  -- where each of some edges shows its target's lines, the first does, and so do the rest
   shown_first : (way : w.Way) (rest : List w.Way) → w.unshown_on scene frame.block facts (way ∷ rest) ≡ None
       → (w.unshown_at scene frame.block (w.decided_facts way.decided facts) (target_of f way.target) ≡ None) × (w.unshown_on scene frame.block facts rest ≡ None)
   shown_first way rest e = by (w.unshown_at scene frame.block (w.decided_facts way.decided facts) (target_of f way.target)) e where
@@ -94,7 +94,7 @@ module _ (heap : Setup) (program : LaidOut) (certs : List Section) (f : Function
 
   -- ---- br
 
-  -- a br without a condition has one way
+  -- a br without a condition has one edge
   jump_taken : (here : Standing) (result : Option ℕ) (label : ℕ) → first_failing (op_conditions program certs f table here facts result (Jump label)) ≡ None
       → w.unshown_on scene frame.block facts (w.ways (Jump label)) ≡ None → Taken (Jump label)
   jump_taken here result label allowed shown =
@@ -102,7 +102,7 @@ module _ (heap : Setup) (program : LaidOut) (certs : List Section) (f : Function
       let s = shown_first (w.open_way label) [] shown in
       record { label = label; leads = refl; acts = refl; known = facts; holds = h; opened = record { named = all.0; shown = s.0 } }
 
-  -- a condition that the rules let stand is one of the machine
+  -- a condition that the rules allow is one of the machine
   condition_is : (written : ℕ) (x : Operand) → o.is_available table facts x ≡ true → r.is_condition program.of_module f facts written x ≡ true → o.is_no_slot table x ≡ true
       → a.is_condition program.of_module f table frame.registers written x ≡ true
   condition_is written x available is no_slot =
@@ -113,7 +113,7 @@ module _ (heap : Setup) (program : LaidOut) (certs : List Section) (f : Function
         number_usable heap program certs false f table guarded log cells facts frame h written bits.0 x bits.1 available b.1 (none_of (o.slot_named table x) no_slot),
       ) refl
 
-  -- of the two ways of a br the one that the condition's value decides
+  -- of the two edges of a br the one that the condition's value decides
   branch_by : (written : ℕ) (x : Operand) (taken other : ℕ) (known_taken known_other : FactSet) → a.is_condition program.of_module f table frame.registers written x ≡ true
       → (Decides (value_of program.of_module frame.registers written x) true → Known known_taken) → (Decides (value_of program.of_module frame.registers written x) false → Known known_other) → IsOpen known_taken taken → IsOpen known_other other → Taken (Branch written x taken other)
   branch_by written x taken other known_taken known_other is on_taken on_other open_taken open_other = pick (number_in (value_of program.of_module frame.registers written x) == 0) refl where
@@ -166,7 +166,7 @@ module _ (heap : Setup) (program : LaidOut) (certs : List Section) (f : Function
 
   -- ---- switch
 
-  -- the way of a switch is open, as each of its ways is
+  -- the edge that a switch takes is open, as each of its edges is
   switch_open : (written n otherwise : ℕ) (cases : List Case) → are_cases program.of_module f written cases ≡ true
       → w.unshown_on scene frame.block facts (map (λ case. w.open_way case.target) cases) ≡ None → IsOpen facts otherwise → IsOpen facts (j.switch_way program.of_module written n otherwise cases)
   switch_open written n otherwise [] e shown last = last
@@ -206,7 +206,7 @@ module _ (heap : Setup) (program : LaidOut) (certs : List Section) (f : Function
         opened = switch_open written (number_in (value_of program.of_module frame.registers written x)) otherwise cases b2.1 s.1 (record { named = b3.1; shown = s.0 });
       }
 
-  -- the way that an instruction takes which leads to a block
+  -- the edge that an instruction takes which leads to a block
   pub taken : (here : Standing) (result : Option ℕ) (op : Op) → mc.onward_of program.of_module op ≡ mc.Way → first_failing (op_conditions program certs f table here facts result op) ≡ None
       → w.unshown_on scene frame.block facts (w.ways op) ≡ None → Taken op
   taken here result (Jump label) is allowed shown = jump_taken here result label allowed shown
@@ -217,7 +217,7 @@ module _ (heap : Setup) (program : LaidOut) (certs : List Section) (f : Function
 
   -- ---- the target
 
-  -- the block to which an open way leads, and what holds behind its phis
+  -- the block to which an open edge leads, and what holds after its phis
   pub record Target (label : ℕ) : Type 0 where
     pub to : ℕ
     pub is : target_of f label ≡ Some to

@@ -104,7 +104,7 @@ module _ (heap : Setup) (p : LaidOut) (certs : List Section) (reaches : Bool) (f
     grown : (given : Answer) (roots : List Value) → Holds heap p table guarded (record { asked = Read t.cell t.word; given = given; roots = roots } ∷ log) cells facts frame.registers frame.slots
     grown given roots = log_keeps heap p table guarded log cells facts frame.registers frame.slots h (record { asked = Read t.cell t.word; given = given; roots = roots } ∷ log) (λ cell x. inr x) (λ cell x. x)
 
-    -- the facts hold behind a read that gave this
+    -- the facts hold after a read that gave this
     abbrev IsRead : ℕ → FactSet → Option WordKind → Answer → List Value → Type 0
     IsRead n next q given roots = (more : Cells) × Holds heap p table guarded (record { asked = Read t.cell t.word; given = given; roots = roots } ∷ log) more next (slice_set frame.registers n (read_value q given)) frame.slots
 
@@ -151,7 +151,7 @@ module _ (heap : Setup) (p : LaidOut) (certs : List Section) (reaches : Bool) (f
     read_so n AddressKind first q e given roots may = absurd cc
     read_so n Other first q e given roots may = absurd cc
 
-    -- a read under this type, of which this is known behind it
+    -- a read under this type, of which this is known after it
     pub touch_goes : (result : Option ℕ) (loaded : ℕ) (first : Option ℕ) (next : Option ℕ → FactSet) → r.holds_wanted (r.wanted_by_load (kind_of p.of_module loaded) first) q ≡ true → next None ≡ facts → ((n : ℕ) → next (Some n) ≡ read_facts n (kind_of p.of_module loaded) first facts)
         → Goes heap p table frame.slots reaches guarded log (next result) (a.read_action p loaded (Some t.at)) (λ given. mc.set_register result (mc.read_at p (Some t.at) given) frame)
     touch_goes result loaded first next wanted none some =
@@ -173,7 +173,7 @@ module _ (heap : Setup) (p : LaidOut) (certs : List Section) (reaches : Bool) (f
 
   -- ---- at a place
 
-  -- a read at what stands as a place
+  -- a read at an operand that is a place
   pub read_goes : (result : Option ℕ) (loaded written : ℕ) (x : Operand) (next : Option ℕ → FactSet) → (s : IsPlace p f table facts written x) → r.loads_known p facts (kind_of p.of_module loaded) (o.known_of facts x) ≡ true
       → next None ≡ facts → ((n : ℕ) → next (Some n) ≡ r.load_known p n (kind_of p.of_module loaded) (o.known_of facts x) facts)
       → Goes heap p table frame.slots reaches guarded log (next result) (a.read_action p loaded (k.address_at_place p.of_module f table frame.registers written x))
@@ -208,7 +208,7 @@ module _ (heap : Setup) (p : LaidOut) (certs : List Section) (reaches : Bool) (f
         at_word (global_word p.of_module symbol) first (on_global heap p certs reaches f table guarded log fits cells facts frame h written x s symbol is (r.wanted_by_load (kind_of p.of_module loaded) first) loads) loads
         (λ n. some n ∙ word_facts n (kind_of p.of_module loaded) (global_word p.of_module symbol) facts)
 
-  -- a load from what stands as a place
+  -- a load from an operand that is a place
   pub load_goes : (result : Option ℕ) (loaded place_type : ℕ) (place : Operand) → IsPlace p f table facts place_type place → r.loads_known p facts (kind_of p.of_module loaded) (o.known_of facts place) ≡ true
       → Goes heap p table frame.slots reaches guarded log (after_op p certs table result (Load loaded place_type place) facts)
       (a.load_action p table loaded (k.slot_at_place p.of_module f table place_type place) (k.address_at_place p.of_module f table frame.registers place_type place))

@@ -1,4 +1,4 @@
--- Stores of values in words, plain and behind the barrier.
+-- Stores of values in words, plain and with the barrier.
 use Rattle.std.proofs.Common.{◌≡◌, ℕ, ◌<◌, ◌∷◌, length, refl, sym, ap, ◌∙◌, subst, true, false, Bool, Option, Some, None, inr, List}
 use Rattle.std.specs.Prelude.{◌||◌, not, if◌then◌else◌}
 use Rattle.lemmas.specs.Numbers.{test_true, test_yes}
@@ -185,7 +185,7 @@ module _ (heap : Setup) (p : LaidOut) (certs : List Section) (reaches : Bool) (f
     may_be_stored (AsNumber bits is there below n) fresh = subst (λ y. MayBeStored heap log t.cell.cell y new) (sym there) (subst (λ y. MayBeStored heap log t.cell.cell (Some (word.Integer bits)) y) (sym n.is) n.fits)
     may_be_stored (AsReference layout refers fit there is own) fresh = subst (λ y. MayBeStored heap log t.cell.cell y new) (sym there) (fresh refers, own_held heap guarded log layout new is own)
 
-    -- behind the barrier a reference may be put into any
+    -- with the barrier a reference may be put into any
     may_be_written : IsTaken heap p guarded log stored new q → may_be_reference (kind_of p.of_module stored) ≡ true → MayBeWritten heap log q new
     may_be_written (AsNumber bits is there below n) refers = absurd (let z = sym refers ∙ ap may_be_reference is in cc)
     may_be_written (AsReference layout refers fit there is own) r = subst (λ y. MayBeWritten heap log y new) (sym there) (own_held heap guarded log layout new is own)
@@ -206,7 +206,7 @@ module _ (heap : Setup) (p : LaidOut) (certs : List Section) (reaches : Bool) (f
           leads = λ given roots has q. stored_behind stored x i (record { asked = StorePlain t.cell t.word new; given = given; roots = roots } ∷ log) (λ r y. inr y) (λ cell y z. (z, y));
         })
 
-    -- a write behind the barrier
+    -- a write with the barrier
     barrier_goes : IsTaken heap p guarded log stored new q → may_be_reference (kind_of p.of_module stored) ≡ true
         → Goes heap p table frame.slots reaches guarded log (drop_fresh_of (o.known_of facts x) facts) (a.barrier_action p stored new (Some t.at)) (λ given. frame)
     barrier_goes taken refers =
@@ -274,7 +274,7 @@ module _ (heap : Setup) (p : LaidOut) (certs : List Section) (reaches : Bool) (f
     pick true e z = e
     pick false e z = absurd cc
 
-  -- a store to what stands as a place
+  -- a store to an operand that is a place
   pub store_goes : (result : Option ℕ) (stored : ℕ) (x : Operand) (place_type : ℕ) (place : Operand) → IsStored p f table facts stored x → IsPlace p f table facts place_type place
       → r.stores_known p facts (kind_of p.of_module stored) (o.known_of facts x) (o.known_of facts place) ≡ true → needs_no_barrier p.of_module table facts stored place ≡ true
       → Goes heap p table frame.slots reaches guarded log (after_op p certs table result (Store stored x place_type place) facts)
@@ -296,7 +296,7 @@ module _ (heap : Setup) (p : LaidOut) (certs : List Section) (reaches : Bool) (f
         new : Value
         new = value_of p.of_module frame.registers stored x
 
-  -- a write behind the barrier to what stands as a place
+  -- a write with the barrier to an operand that is a place
   pub write_goes : (stored : ℕ) (x : Operand) (written : ℕ) (place : Operand) → IsStored p f table facts stored x → IsPlace p f table facts written place → may_be_reference (kind_of p.of_module stored) ≡ true
       → r.stores_known p facts (kind_of p.of_module stored) (o.known_of facts x) (o.known_of facts place) ≡ true
       → Goes heap p table frame.slots reaches guarded log (drop_fresh_of (o.known_of facts x) facts)

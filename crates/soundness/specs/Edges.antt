@@ -1,4 +1,4 @@
--- What is shown on a way from block to block holds behind it.
+-- What is shown on an edge from block to block holds after it.
 use Rattle.std.specs.Prelude.{◌≡◌, ℕ, List, length, None}
 use Rattle.std.specs.List.{take_while}
 use Rattle.pools.specs.Heap.{Setup}
@@ -10,7 +10,7 @@ use Rattle.machine.specs.Jumps.{is_phi, put_phis}
 use Rattle.machine.specs.Log.{Log}
 use Rattle.soundness.specs.Meaning.{Cells, Holds}
 
--- where the facts of a block hold of a thread, and each line of a target is shown behind its phis, what the target begins with holds once its phis have taken their entries
+-- the facts of a block hold of a thread, and each line of a target is shown after its phis: then what the target begins with holds once its phis have taken their entries
 abbrev pub ShownHolds : Type 0
 ShownHolds =
     (heap : Setup) (s : Scene) (log : Log) (cells : Cells) (facts : FactSet) (registers slots : List Value) (from to : ℕ) → Holds heap s.program s.slots (λ cell. ⊥) log cells facts registers slots

@@ -1,4 +1,4 @@
--- The step of an instruction: it keeps the discipline, and what is known behind the instruction holds of what the step leaves.
+-- The step of an instruction: it obeys the discipline, and what is known after the instruction holds of what the step leaves.
 use Rattle.std.specs.Prelude.{◌≡◌, ◌<◌, ◌≤◌, ◌⊎◌, ℕ, Bool, true, false, List, ◌∷◌, length, Some, None}
 use Rattle.std.specs.List.{Contains}
 use Rattle.ir_ast.specs.declared.function.Function.{Function}
@@ -43,7 +43,7 @@ abbrev pub HasRoots : Module → Action → SlotTable → (slots roots : List Va
 HasRoots m Safepoint table slots roots = (s : ℕ) → is_reference_held m (held_type table s) ≡ true → (slot_value slots s ≡ value.Null) ⊎ Contains roots (slot_value slots s)
 HasRoots m _ table slots roots = Unit {0}
 
--- a step from these slots keeps the discipline, and behind each possible answer the facts hold, whatever the thread's other roots are
+-- a step from these slots obeys the discipline, and after each possible answer the facts hold, whatever the thread's other roots are
 pub record Goes (heap : Setup) (p : LaidOut) (table : SlotTable) (slots : List Value) (may : Bool) (guarded : Guarded) (log : Log) (next : FactSet) (action : Action) (after : Answer → Frame) : Type 0 where
   pub keeps : Keeps heap log action
   pub spares : Spares may guarded action
@@ -65,13 +65,13 @@ HaveClasses facts = length facts.values ≤ length facts.classes
 abbrev pub HaveMembers : FactSet → Type 0
 HaveMembers facts = ((s c : ℕ) → (slot_at facts.slots s).holds ≡ Some c → HasMember facts c) × HaveClasses facts
 
--- each instruction that the rules allow, and behind which a thread goes on in its block, goes
+-- the step of each instruction that the rules allow, and after which a thread goes on in its block, is such a step
 abbrev pub InstructionsGo : Guarded → Type 0
 InstructionsGo guarded =
     (heap : Setup) (p : LaidOut) (certs : List Section) (f : Function) (log : Log) (cells : Cells) (facts : FactSet) (frame : Frame) (here : Standing) (instr : Instr) → ((cell : ℕ) → guarded cell → IsFresh log cell) → IsHeapFor heap p → length frame.registers ≡ length f.locals
     → Holds heap p (slots_of p.of_module f) guarded log cells facts frame.registers frame.slots → HaveMembers facts → first_failing (conditions p certs f (slots_of p.of_module f) here facts instr) ≡ None → onward_of p.of_module instr.op ≡ Next
     → Goes heap p (slots_of p.of_module f) frame.slots (is_may here.mark) guarded log (after p certs (slots_of p.of_module f) facts instr) (instr_action p f frame (Some instr)) (λ given. after_op p f (slots_of p.of_module f) instr.result instr.op given frame)
 
--- behind each instruction a slot still holds a fresh class only while some value is of it, and each value has a class for itself
+-- after each instruction a slot still holds a fresh class only while some value is of it, and each value has a class for itself
 abbrev pub MembersStay : Type 0
 MembersStay = (p : LaidOut) (certs : List Section) (table : SlotTable) (facts : FactSet) (instr : Instr) → HaveMembers facts → HaveMembers (after p certs table facts instr)

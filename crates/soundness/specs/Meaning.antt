@@ -1,4 +1,4 @@
--- When what the rules know at a place holds of a thread that stands there.
+-- When what the rules know at a place holds of a thread that is there.
 use Rattle.std.specs.Prelude.{Bool, slice_get, ◌≡◌, ◌≢◌, ◌<◌, ◌^◌, ℕ, true, false, List, length, Option, Some, None}
 use Rattle.ir_ast.specs.declared.module.Module.{Module}
 use Rattle.pools.specs.Heap.{Setup, IsOfLayout}
@@ -57,7 +57,7 @@ abbrev pub IsBelow : ℕ → Option ℕ → Type 0
 IsBelow n None = Unit {0}
 IsBelow n (Some m) = n < m
 
--- an integer of so many bits
+-- an integer of this number of bits, below the bound if one is named
 pub record IsInteger (bits : ℕ) (below : Option ℕ) (v : Value) : Type 0 where
   pub number : ℕ
   pub is : v ≡ value.Number number
@@ -71,7 +71,7 @@ IsAddressOf p words (value.Cell layout at) v =
     (w : ℕ) × (v ≡ value.Address (place.Word layout at w)) × (has_word words w ≡ true) × (w < 64) × (kind_of_word p.layouts layout w ≢ None)
 IsAddressOf p words _ v = ⊥
 
--- a value is the one that a class has, and the class is one of so many
+-- a value is the one that a class has, and the class is one of the first `count`
 abbrev pub IsOfClass : Cells → (count c : ℕ) → Value → Type 0
 IsOfClass cells count c v = (v ≡ cells c) × (c < count)
 

@@ -3,12 +3,12 @@ ghost use Rattle.std.specs.Prelude.{ℕ, List};
 ghost use Rattle.std.specs.List.{Contains};
 ghost use Rattle.soundness.specs.Goes.{InstructionsGo, MembersStay};
 
-/// Each instruction that the rules allow, and behind which a thread goes on in its block, keeps the discipline, and leaves what the rules know behind it true, whatever cells frames below it know to be fresh.
+/// Each instruction that the rules allow, and after which a thread goes on in its block, obeys the discipline. What the rules know after it is then true, whatever cells frames below it know to be fresh.
 pub fn step_law()
     ensures { (known : List ℕ) → InstructionsGo (Contains known) }
 {}
 
-/// Behind each instruction a slot still holds a fresh class only while some value is of it, and each value has a class for itself.
+/// After each instruction a slot still holds a fresh class only while some value is of it, and each value has a class for itself.
 pub fn members_law()
     ensures { MembersStay }
 {}

@@ -157,7 +157,7 @@ thread_keeps : (i o : Input) (k : Option ℕ) (b : ℕ) → (thread_numbered k).
 thread_keeps i o None b h = absurd h
 thread_keeps i o (Some n) b h = thread_by_keeps i o n b (nat_lt n (length i.starts)) refl h
 
--- so many more steps of the actor, within the limit
+-- n more steps of the actor, within the limit
 abbrev Makes : Actor → (i o : Input) → Type 0
 Makes a i o = (count : ℕ) × (i.made + count ≤ 10000000) × (kept (with_steps a count i) ≡ kept o)
 
@@ -178,7 +178,7 @@ steps_of_kept a i o u h =
     let r = count_kept a i h.1 h.0 (count_of_word (word i)) h.2 in
     (r.0, r.1, r.2 ∙ line_end_keeps h.1 o u h.3)
 
--- behind a part that keeps all, the steps are made from what is kept
+-- after a part that keeps all, the steps are made from what is kept
 makes_behind : (a : Actor) (i m o : Input) → kept i ≡ kept m → Makes a m o → Makes a i o
 unfolding with_steps
 makes_behind a i m o same r =

@@ -29,7 +29,7 @@ Arguments = AllByRecursion (λ argument. argument < 2 ^ 64)
 
 -- ---- arguments
 
--- what stands at the first argument, or at the line's end
+-- what is at the first argument, or at the line's end
 abbrev pub at_argument : List ℕ → Text → Text
 at_argument [] more = 10 ∷ more
 at_argument (a ∷ others) more = decimal a ++ (arguments_text others ++ 10 ∷ more)

@@ -48,7 +48,7 @@ with_counts text counts i = record i { rest = text; counts = counts }
 abbrev line_of : Module → (layout count : ℕ) → Text
 line_of m layout count = codes "pool " ++ layout_text m layout ++ 32 ∷ (decimal count ++ 10 ∷ [])
 
--- two words of a line, and what stands behind it
+-- two words of a line, and what follows it
 seam : (one two more : Text) → (one ++ 32 ∷ (two ++ 10 ∷ [])) ++ more ≡ one ++ 32 ∷ (two ++ 10 ∷ more)
 seam one two more = append_assoc one (32 ∷ (two ++ 10 ∷ [])) more ∙ ap (λ (text : Text). one ++ 32 ∷ text) (append_assoc two (10 ∷ []) more)
 
@@ -171,7 +171,7 @@ module _ (p : LaidOut) (named : AreRead p) (tail : Text) (past : (i : Input) →
 
 -- ---- steps
 
--- what is left, and the steps so far, of which there are so many
+-- what is left, and the steps so far, with their number
 abbrev pub with_all : Text → List Steps → (made : ℕ) → Input → Input
 with_all text steps made i = record i { rest = text; steps = steps; made = made }
 

@@ -1,4 +1,4 @@
--- Printed names of functions and layouts stand for them.
+-- Printed names of functions and layouts name them.
 use Rattle.std.proofs.Common.{◌≡◌, ℕ, zero, suc, ◌<◌, List, [], ◌∷◌, length, Option, Some, None, refl, ap, ◌∙◌, arith}
 use Rattle.std.specs.Prelude.{slice_get}
 use Rattle.ir_ast.specs.declared.function.Function.{Function}
@@ -10,7 +10,7 @@ use Rattle.trace_text.specs.Names.{function_of_word, function_named, layout_of_w
 use Rattle.trace_text.specs.Print.{function_text, layout_text, name_of_function, name_at, struct_name}
 use Rattle.trace_text.specs.Traces.{AreNamed, symbol_name}
 
--- each function and each layout is the one that its printed name stands for
+-- each function and each layout is the one that its printed name names
 pub record AreRead (p : LaidOut) : Type 0 where
   pub functions : (function : ℕ) → function < length p.of_module.functions → function_of_word p.of_module (function_text p.of_module function) ≡ Some function
   pub layouts : (layout : ℕ) → layout < length p.layouts → layout_of_word p.of_module (layout_text p.of_module layout) ≡ Some layout

@@ -1,4 +1,4 @@
--- Texts of the numbers below a bound, one behind the other.
+-- Texts of the numbers below a bound, one after the other.
 use Rattle.std.proofs.Common.{◌≡◌, ℕ, List, [], ◌++◌, ◌+◌, ap, sym, ◌∙◌, arith, append_assoc}
 use Rattle.std.specs.List.{flat_map, range_with_len}
 use Rattle.std.proofs.lemmas.List.{flat_map_more}
@@ -10,7 +10,7 @@ use Rattle.std.proofs.lemmas.List.FromFn.{map-range_with_len_more}
 abbrev joined : List (List ℕ) → List ℕ
 joined = flat_map (λ text. text)
 
--- the text of the next number stands behind those of the others
+-- the text of the next number comes after those of the others
 pub one_more_text : (f : ℕ → List ℕ) (out : List ℕ) (n : ℕ) → out ++ flat_map f (range_with_len 0 (n + 1)) ≡ (out ++ flat_map f (range_with_len 0 n)) ++ f n
 one_more_text f out n =
     let texts : flat_map f (range_with_len 0 (n + 1)) ≡ flat_map f (range_with_len 0 n) ++ f n =

@@ -25,7 +25,7 @@ at text i = record i { rest = text }
 pub looked : {K A : Type 0} (kind : Input → K) (f : K → Form A) (i : Input) (k : K) (a : A) (o : Input) → kind i ≡ k → (f k).says i a o → (look kind f).says i a o
 looked kind f i k a o e h = subst (λ x. (f x).says i a o) (sym e) h
 
--- no line and no blank stands before the text
+-- no line and no blank comes before the text
 abbrev pub IsFresh : Text → Type 0
 IsFresh text = past_lines false text ≡ text
 

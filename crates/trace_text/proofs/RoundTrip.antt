@@ -51,7 +51,7 @@ no_counts_are (count ∷ counts) = ap (λ (others : List (Option ℕ)). None ∷
 abbrev state : Text → List (Option ℕ) → List Start → List Steps → (made : ℕ) → Input
 state text counts starts steps made = record { rest = text; counts = counts; starts = starts; steps = steps; made = made }
 
--- no pool comes where threads begin, or behind them
+-- no pool comes where threads begin, or after them
 past_all_pools : (p : LaidOut) → AreRead p → (all : List Start) → AllByRecursion (IsStartOf p) all → (behind : Text) → IsFresh (codes "steps" ++ 10 ∷ behind) → (i : Input)
     → past_pools (at (flat_map (start_text p.of_module) all ++ (codes "steps" ++ 10 ∷ behind)) i) ≡ true
 past_all_pools p named [] own behind fresh i = ap not (begins_so (codes "steps") (10 ∷ behind) (10 ∷ behind) (inner_word (codes "steps") refl) refl refl i (codes "pool"))

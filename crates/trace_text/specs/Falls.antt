@@ -1,4 +1,4 @@
--- What is left of the text never grows, and behind a word that has bytes it is shorter.
+-- What is left of the text never grows, and after a word that has bytes it is shorter.
 use Rattle.std.specs.Prelude.{◌≡◌, ℕ, ◌<◌, ◌≤◌, true, length, false, List}
 use Rattle.std.proofs.Common.{arith}
 use Rattle.ir_tokens.specs.Bytes.{Text}
@@ -7,12 +7,12 @@ use Rattle.name_text.specs.Falls.{past_lines_len, behind_word_falls, wanted_take
 use Rattle.trace_text.specs.Input.{Input, left, word, begins, after, next_line, with_pool, with_start, with_steps, emptied}
 use Rattle.trace_text.specs.declared.trace.Actor.{Actor}
 
--- no more is left behind a word and the blanks after it
+-- no more is left after a word and the blanks that follow it
 pub after_falls : (i : Input) → left (after i) ≤ left i
 unfolding after
 after_falls i = behind_word_falls i.rest
 
--- no more is left behind a line's end
+-- no more is left after a line's end
 pub next_line_falls : (i : Input) → left (next_line i) ≤ left i
 unfolding next_line
 next_line_falls i = past_lines_len false i.rest
@@ -37,12 +37,12 @@ pub emptied_falls : (i : Input) → left (emptied i) ≤ left i
 unfolding emptied
 emptied_falls i = omega arith
 
--- less is left behind this word, which has bytes
+-- less is left after this word, which has bytes
 pub after_takes : (wanted : Text) → 0 < length wanted → (i : Input) → begins wanted i ≡ true → left (after i) < left i
 unfolding after
 after_takes wanted some i e = wanted_takes wanted some i.rest e
 
--- behind a word that has bytes less is left
+-- after a word that has bytes less is left
 pub word_takes : (i : Input) → 0 < length (word i) → left (after i) < left i
 unfolding after
 word_takes i some = words.word_takes i.rest some

@@ -13,7 +13,7 @@ use Rattle.trace_text.specs.declared.fault.Found.TheVariants.{Syntax, NoThread, 
 
 -- ---- words and lines
 
--- no form goes on with the next word
+-- no form continues with the next word
 abbrev pub syntax : {A : Type 0} → Form A
 syntax = refuse (λ i. Syntax (left i))
 
@@ -21,11 +21,11 @@ syntax = refuse (λ i. Syntax (left i))
 unfoldable pub skip : Form (Unit {0})
 skip = step (λ _. tt) after after_falls
 
--- the next word, which stands for this value
+-- the next word, which means this value
 abbrev pub taken : {A : Type 0} → A → Form A
 taken a = skip >> pure a
 
--- the next word, if it stands for some value
+-- the next word, if it means some value
 abbrev pub taken_as : {A : Type 0} → Option A → Form A
 taken_as None = syntax
 taken_as (Some a) = taken a
@@ -83,7 +83,7 @@ thread = look (λ i. count_of_word (word i)) thread_numbered
 
 -- ---- what is read
 
--- the pool of this layout has so many cells
+-- the pool of this layout has `count` cells
 unfoldable pub put_pool : (layout count : ℕ) → Form (Unit {0})
 put_pool layout count = step (λ _. tt) (with_pool layout count) (with_pool_falls layout count)
 
@@ -91,16 +91,16 @@ put_pool layout count = step (λ _. tt) (with_pool layout count) (with_pool_fall
 unfoldable pub put_start : (function : ℕ) → (arguments : List ℕ) → Form (Unit {0})
 put_start function arguments = step (λ _. tt) (with_start function arguments) (with_start_falls function arguments)
 
--- so many more steps of this actor
+-- `count` more steps of this actor
 unfoldable pub put_steps : Actor → (count : ℕ) → Form (Unit {0})
 put_steps actor count = step (λ _. tt) (with_steps actor count) (with_steps_falls actor count)
 
--- so many steps more are within the limit
+-- `count` more steps are within the limit
 abbrev pub steps_by : Actor → (count : ℕ) → Bool → Form (Unit {0})
 steps_by actor count true = put_steps actor count >> skip
 steps_by actor count false = refuse (λ i. TooManySteps (left i))
 
--- with so many steps more there are at most 10000000
+-- with this number of steps more there are at most 10000000
 abbrev pub steps_counted : Actor → Option ℕ → Form (Unit {0})
 steps_counted actor None = syntax
 steps_counted actor (Some count) = look (λ i. nat_le (i.made + count) 10000000) (steps_by actor count)

@@ -34,7 +34,7 @@ Form A = Grammar Input Found left A
 abbrev pub Reads : {A : Type 0} → Outcome Input Found A → Result A Found → Input → Type 0
 Reads = outcome.Reads Memory
 
--- the state before a text, for so many layouts: no pool is listed, no thread begins and no step is made
+-- the state before a text, for this number of layouts: no pool is listed, no thread begins and no step is made
 abbrev pub start_with : (layouts : ℕ) → Text → Input
 start_with layouts bytes = record { rest = past_lines false bytes; counts = replicate layouts None; starts = []; steps = []; made = 0 }
 
@@ -54,7 +54,7 @@ word i = word_at i.rest
 abbrev pub begins : (wanted : Text) → Input → Bool
 begins wanted i = bytes_eq (word i) wanted
 
--- behind the next word and the blanks that follow it
+-- after the next word and the blanks that follow it
 unfoldable pub after : Input → Input
 after i = record i { rest = past_blanks (past_word false i.rest) }
 
@@ -62,11 +62,11 @@ after i = record i { rest = past_blanks (past_word false i.rest) }
 abbrev pub line_ends : Input → Bool
 line_ends i = is_nil i.rest || ends_line i.rest
 
--- behind the line's end, at the next word
+-- after the line's end, at the next word
 unfoldable pub next_line : Input → Input
 next_line i = record i { rest = past_lines false i.rest }
 
--- the pool of this layout has so many cells
+-- the pool of this layout has `count` cells
 unfoldable pub with_pool : (layout count : ℕ) → Input → Input
 with_pool layout count i = record i { counts = slice_set i.counts layout (Some count) }
 
@@ -74,7 +74,7 @@ with_pool layout count i = record i { counts = slice_set i.counts layout (Some c
 unfoldable pub with_start : (function : ℕ) → (arguments : List ℕ) → Input → Input
 with_start function arguments i = record i { starts = i.starts ++ record { function = function; arguments = arguments } ∷ [] }
 
--- so many more steps of this actor
+-- `count` more steps of this actor
 unfoldable pub with_steps : Actor → (count : ℕ) → Input → Input
 with_steps actor count i = record i { steps = i.steps ++ record { actor = actor; count = count } ∷ []; made = i.made + count }
 

@@ -45,11 +45,11 @@ pool_line m layout count = if count == 0 then [] else codes "pool " ++ layout_te
 abbrev pub pool_text : Module → (pools : List ℕ) → (layout : ℕ) → Text
 pool_text m pools layout = pool_line m layout (unwrap_or (slice_get pools layout) 0)
 
--- the lines of the pools of so many layouts
+-- the lines of the pools of this number of layouts
 abbrev pub pools_text : Module → (layouts : ℕ) → (pools : List ℕ) → Text
 pools_text m layouts pools = flat_map (pool_text m pools) (range_with_len 0 layouts)
 
--- arguments, each behind a blank
+-- arguments, each after a blank
 abbrev pub arguments_text : List ℕ → Text
 arguments_text = flat_map (λ argument. 32 ∷ decimal argument)
 
@@ -66,7 +66,7 @@ actor_text actor.Collector = codes "c "
 abbrev pub steps_line : Steps → Text
 steps_line steps = actor_text steps.actor ++ decimal steps.count ++ 10 ∷ []
 
--- the lines of a trace, for so many layouts
+-- the lines of a trace, for this number of layouts
 abbrev pub trace_lines : Module → (layouts : ℕ) → Trace → Text
 trace_lines m layouts trace =
     codes "trace 1" ++ 10 ∷ pools_text m layouts trace.setup.pools

@@ -25,7 +25,7 @@ use Rattle.trace_text.specs.declared.fault.TraceFault.TheVariants as fault
 
 -- ---- pools
 
--- a pool behind its first word
+-- a pool after its first word
 abbrev pub pool_behind : Module → Form (Unit {0})
 pool_behind m = do
   layout ← new_layout m
@@ -60,7 +60,7 @@ arguments = many line_ends argument argument_takes
 abbrev pub has_room : Input → Bool
 has_room i = nat_lt (length i.starts) 64
 
--- a start behind its first word
+-- a start after its first word
 abbrev pub start_behind : Module → Form (Unit {0})
 start_behind m = do
   function ← function_name m
@@ -89,11 +89,11 @@ starts m = many past_starts (start m) (start_takes m) >> pure tt
 
 -- ---- steps
 
--- steps of an actor behind their first words
+-- steps of an actor after their first words
 abbrev pub steps_of : Actor → Form (Unit {0})
 steps_of actor = step_count actor >> line_end
 
--- steps of a thread behind their first word
+-- steps of a thread after their first word
 abbrev pub thread_steps : Form (Unit {0})
 thread_steps = thread >>= λ thread. steps_of (actor.Thread thread)
 
@@ -130,7 +130,7 @@ abbrev pub count_or_none : Option (Option ℕ) → ℕ
 count_or_none (Some (Some count)) = count
 count_or_none _ = 0
 
--- how many cells each of so many layouts has; a pool that is not listed has none
+-- how many cells each of the layouts has; a pool that is not listed has none
 abbrev pub counts_of : (layouts : ℕ) → List (Option ℕ) → List ℕ
 counts_of layouts counts = map (λ layout. count_or_none (slice_get counts layout)) (range_with_len 0 layouts)
 

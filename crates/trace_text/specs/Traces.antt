@@ -33,7 +33,7 @@ pub record AreNamed (p : LaidOut) : Type 0 where
 abbrev pub IsStartOf : LaidOut → Start → Type 0
 IsStartOf p start = (start.function < length p.of_module.functions) × AllByRecursion (λ argument. argument < 2 ^ 64) start.arguments
 
--- the collector, or one of so many threads
+-- the collector, or one of this number of threads
 abbrev pub IsActorOf : (threads : ℕ) → Actor → Type 0
 IsActorOf threads (actor.Thread thread) = thread < threads
 IsActorOf threads actor.Collector = Unit {0}

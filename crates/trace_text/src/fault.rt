@@ -5,7 +5,7 @@ use thiserror::Error;
 /// The first fault of a trace's text, with its place.
 #[derive(Clone, Copy, Debug, PartialEq, Eq, Error)]
 pub enum TraceFault {
-    /// The fault P1: no form goes on with this word or line end. The program has nothing of this name, it is listed twice, or
+    /// The fault P1: no form continues with this word or line end. The program has nothing of this name, it is listed twice, or
     /// a thread too many begins here.
     #[error("trace syntax at {}:{}", .0.line, .0.column)]
     Syntax(Position),

@@ -37,7 +37,7 @@ impl<'a> Model for Input<'a> {
 }
 
 impl<'a> Input<'a> {
-    /// Nothing is read so far, for a program with so many layouts.
+    /// Nothing is read so far, for a program with this number of layouts.
     pub fn new(alloc: Global, bytes: &'a [u8], layouts: usize) -> Result<Input<'a>, AllocError>
         ensures { IfOk result (λ input. input ≡ start_with layouts bytes.now) }
     {
@@ -94,14 +94,14 @@ impl<'a> Input<'a> {
         self.starts.len()
     }
 
-    /// How many steps are listed with so many more.
+    /// How many steps are listed with `count` more.
     pub fn made_with(&self, count: u32) -> u64
         ensures { result ≡ self.now.made + count }
     {
         self.made as u64 + count as u64
     }
 
-    /// Goes on behind the next word.
+    /// Goes on after the next word.
     #[tactic(auto, unfolding(crate::specs::Input::after))]
     pub fn skip(&mut self)
         ensures { self.new ≡ spec.after self.old }
@@ -147,7 +147,7 @@ impl<'a> Input<'a> {
         Ok(())
     }
 
-    /// The pool of this layout has so many cells; where there is no such layout it is left aside.
+    /// The pool of this layout has `count` cells; where there is no such layout it is ignored.
     #[tactic(auto, unfolding(crate::specs::Input::with_pool))]
     pub fn put_pool(&mut self, layout: LayoutId, count: u32)
         ensures { self.new ≡ spec.with_pool layout count self.old }
@@ -170,7 +170,7 @@ impl<'a> Input<'a> {
         Ok(())
     }
 
-    /// So many more steps of this actor.
+    /// `count` more steps of this actor.
     #[tactic(auto, unfolding(crate::specs::Forms::put_steps, crate::specs::Input::with_steps))]
     pub fn put_steps(&mut self, actor: Actor, count: u32) -> Result<(), Found>
         requires { self.old.made + count < 2 ^ 32 }

@@ -42,7 +42,7 @@ fn put_pool(
     out.extend_from_slice(b"\n")
 }
 
-/// The lines of the pools of so many layouts.
+/// The lines of the pools of this number of layouts.
 fn put_pools(
     alloc: Global,
     out: &mut Vec<u8>,
@@ -59,7 +59,7 @@ fn put_pools(
     Ok(())
 }
 
-/// Arguments, each behind a blank.
+/// Arguments, each after a blank.
 fn put_arguments(alloc: Global, out: &mut Vec<u8>, arguments: &[u64]) -> Result<(), AllocError>
     ensures { OnOk result (out.new.items ≡ out.old.items ++ spec.arguments_text arguments.now) }
 {
@@ -149,7 +149,7 @@ fn put_trace(
     out.extend_from_slice(b"end\n")
 }
 
-/// The text of a trace of this program. A program with so many layouts that their numbers end takes more memory than there is.
+/// The text of a trace of this program. A program with more layouts than there are numbers takes more memory than there is.
 pub fn print_trace(alloc: Global, trace: &Trace, program: &Program) -> Result<Vec<u8>, AllocError>
     ensures text { IfOk result (λ text. text.items ≡ spec.trace_shown program.now trace.now) }
     // What is printed of a trace of the program is a text of that trace.

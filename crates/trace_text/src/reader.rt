@@ -145,7 +145,7 @@ fn count_at(counts: &[Option<u32>], layout: usize) -> u32
     }
 }
 
-/// How many cells each of so many layouts has.
+/// How many cells each of the layouts has.
 fn counts_of(
     alloc: Global,
     layouts: usize,
@@ -160,7 +160,7 @@ fn counts_of(
     Ok(counts)
 }
 
-/// The pools of a program with these counts, where their cells are within the limit. So many layouts that their numbers end
+/// The pools of a program with these counts, where their cells are within the limit. More layouts than there are numbers
 /// take more memory than there is.
 fn pools_of(
     alloc: Global,

@@ -16,7 +16,7 @@ pub enum Actor {
     Collector,
 }
 
-/// Steps of one actor, one behind the other.
+/// Steps of one actor, one after the other.
 #[derive(Clone, Copy, PartialEq, Eq)]
 pub struct Steps {
     pub actor: Actor,

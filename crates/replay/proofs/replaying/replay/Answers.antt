@@ -1,4 +1,4 @@
--- The steps of a trace, those of one line behind those of the others.
+-- The steps of a trace, those of one line after those of the others.
 use Rattle.std.proofs.Common.{◌≡◌, ◌<◌, length, reverse, take, get_or, ap, subst, ◌∙◌, arith}
 use Rattle.std.proofs.Math.Seq.{take-length}
 use Rattle.trace_text.specs.declared.trace.Actor.TheVariants as actor
@@ -11,7 +11,7 @@ use Rattle.replay.proofs.Lists.{sound_list}
 use Rattle.replay.proofs.TraceSteps.{same_item, steps-room, steps-made, steps-break, setup_of_trace, safe_breaks_none}
 use Rattle.replay.proofs.replaying.replay.Goals as goal
 
--- no steps, which stand for those past the end of a list
+-- no steps, for the places past the end of a list
 abbrev none : Steps
 none = record { actor = actor.Thread 0; count = 0 }
 

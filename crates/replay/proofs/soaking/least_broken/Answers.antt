@@ -1,4 +1,4 @@
--- What the search over a range of seeds answers.
+-- What the search over a range of seeds returns.
 use Rattle.std.proofs.Common.{◌≡◌, ◌∙◌, ℕ, sym, ap, subst}
 use Rattle.std.specs.Prelude.{IfOk, IfErr, ◌≢◌}
 use Rattle.std.specs.List.{AllZip}

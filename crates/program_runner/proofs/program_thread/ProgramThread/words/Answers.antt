@@ -1,4 +1,4 @@
--- The words of a cell behind that of the globals.
+-- The words of a cell after that of the globals.
 use Rattle.std.proofs.Common.{ap, ◌∙◌}
 use Rattle.pools.specs.Layouts.{words_of}
 use Rattle.program_runner.specs.Heaps.{heap_of}

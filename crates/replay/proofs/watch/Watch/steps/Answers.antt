@@ -1,4 +1,4 @@
--- So many steps of one actor, one behind the other.
+-- Some steps of one actor, one after the other.
 use Rattle.std.proofs.Common.{◌≡◌, ◌+◌, ◌-◌, suc, [], ◌∷◌, ◌++◌, replicate, sym, subst, arith, add-one}
 use Rattle.replay.specs.Worlds.{actor_in}
 use Rattle.replay.specs.Lists.{IsFirstBreak}

@@ -1,4 +1,4 @@
--- The world stands behind one actor more, which broke the run or did not.
+-- The world is the one after one actor more, which broke the run or did not.
 use Rattle.std.proofs.Common.{◌≡◌, suc, ◌∷◌, length, sym, ap, subst, ◌∙◌, arith}
 use Rattle.replay.specs.Worlds.{World, IsBehind, actor_in}
 use Rattle.replay.specs.Watched.{IsCauseBehind}
