@@ -24,7 +24,7 @@ pub(crate) struct Walk {
 }
 
 impl Walk {
-    /// Before any reference is met, over so many cells.
+    /// Before any reference is met, over this number of cells.
     fn new(alloc: Global, cells: u32) -> Result<Self, AllocError>
         ensures { IfOk result (λ walk. walk ≡ walks.begun cells) }
     {
