@@ -38,7 +38,7 @@ base_in s run S inv h t c lt (inr x) = inr (held_in s run S inv h t c lt x).1
 
 -- ---- phases
 
--- the phases behind a step, where the thread's changes
+-- the phases after a step, where the thread's changes
 pub phase_put : (s : Setup) (run : List Event) (S : law.State) → Shows s run S → (t : ℕ) (step : Step) (q : law.Phase)
     → q ≡ flat (phase_after s (stage_of (log_of t run)) (phase_of s t (log_of t run)) step)
     → (u : ℕ) → put S.phase t q u ≡ flat (phase_of s u (log_of u (ByThread t step ∷ run)))
