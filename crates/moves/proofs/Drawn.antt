@@ -1,4 +1,4 @@
--- The run that a list of actors makes is a run, and the collector stands behind its share of it.
+-- The run that a list of actors makes is a run, and the collector is where its share of it leads.
 use Rattle.std.proofs.Common.{◌≡◌, ◌<◌, ◌⊎◌, inl, inr, ℕ, ◌==◌, Bool, true, false, Option, Some, None, List, [], ◌∷◌, refl, sym, ap, subst, if◌then◌else◌, MatchOption, nat_lt, length, is_some}
 use Rattle.pools.specs.Heap.{Setup, words_of_cell}
 use Rattle.colours.specs.declared.place.Place.{Place}
@@ -23,7 +23,7 @@ use Rattle.moves.specs.declared.actor.Actor.{Actor}
 use Rattle.moves.specs.declared.actor.Actor.TheVariants.{Thread, Collector}
 use Rattle.moves.specs.Runs.{found_in, collector_behind, turn_for, by_thread, by_collector, next_by, with_next, run_by, AreActors}
 
--- a test answers true or false
+-- a test returns true or false
 yes_or_no : (b : Bool) → (b ≡ true) ⊎ (b ≡ false)
 yes_or_no true = inl refl
 yes_or_no false = inr refl
