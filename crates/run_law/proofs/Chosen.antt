@@ -1,4 +1,4 @@
--- What the next move of a thread is, by what its action asks for and where it stands in the call.
+-- What the next move of a thread is, by what its action asks for and where it is in the call.
 use Rattle.std.proofs.Common.{◌≡◌, ◌<◌, ◌⊎◌, ◌+◌, inl, inr, ℕ, zero, suc, ◌==◌, ◌||◌, not, Bool, true, false, Option, Some, None, List, [], ◌∷◌, length, filter, slice_index, if◌then◌else◌, refl, sym, ap, ◌∙◌, subst, IsTrue, MatchOption, arith}
 use Rattle.pools.specs.Heap.{Setup, cells, kind_of, IsOfLayout}
 use Rattle.pools.specs.declared.word_kind.WordKind.{WordKind}
@@ -61,7 +61,7 @@ first-is : (first other count : ℕ) → 0 < count → falling first count ≡ f
 first-is first other zero some e = absurd (omega (arith, some))
 first-is first other (suc count) some e = let same : first + count ≡ other + count = cc in omega (arith, same)
 
--- the try behind those so far
+-- the try after those so far
 try-next : (s : Setup) (layout first tried : ℕ) → TriedFrom s layout (falling first tried) → IsNextTry s layout first tried (lowest s layout (falling first tried))
 try-next s layout first tried f =
     let count = falling-length first tried in

@@ -1,4 +1,4 @@
--- The words and births behind a thread's move are those of the longer run.
+-- The words and births after a thread's move are those of the longer run.
 use Rattle.std.proofs.Common.{◌≡◌, ℕ, suc, ◌==◌, ◌&&◌, Bool, true, false, Option, Some, None, List, ◌∷◌, slice_index, slice_set, if◌then◌else◌, refl, sym, ap, ◌∙◌}
 use Rattle.pools.specs.Heap.{Setup}
 use Rattle.colours.specs.declared.place.Place.{Place}
@@ -102,7 +102,7 @@ born-left h t stage roots (made.Claims r true) d can sees = born-won h.births r.
 
 -- ---- all of them
 
--- behind a thread's move
+-- after a thread's move
 pub words-grow : (s : Setup) (run : List Happening) (t stage : ℕ) (roots : List Reference) (h : Shared) (move : Move) → stage ≡ stage_of (steps_of (share_of t run))
     → StandBehind s run h → CanTake h t stage move → SeesCell h move → PutsByKind s move
     → StandBehind s (OfThread t (move_in roots move) ∷ run) (with_move h t stage move)
