@@ -6,7 +6,7 @@ ghost use Rattle.colours.specs.Mutator.{IsPossible};
 ghost use Rattle.colours.specs.Runs.{Event, ByThread, log_of, TouchesAlive};
 ghost use Rattle.colours.specs.Safety.{KeptIsAlive, IsMutatorRun};
 
-/// The law of a safepoint: its lists of operations and answers are exactly those that the order of a thread's steps allows.
+/// The law of a safepoint: its lists of operations and their results are exactly those that the order of a thread's steps allows.
 pub fn safepoint_law()
     ensures { (s : Setup) (thread stage : ℕ) (roots : List ℕ) → MakesExactly thread stage (Polling roots) (IsSafepoint s stage roots) }
 {}
