@@ -17,7 +17,7 @@ IsSync stage = is_async stage ≡ false
 abbrev pub IsInvariant : law.State → Type 0
 IsInvariant S = law.IsInvariant done cycle_of claim_at IsSync S
 
--- the phases of the invariant don't tell a try or an end from rest
+-- the phases of the invariant do not distinguish a try or an end from rest
 abbrev pub flat : Phase → law.Phase
 flat Ready = law.Ready
 flat (MarkingOld cell word old) = law.MarkingOld cell word old

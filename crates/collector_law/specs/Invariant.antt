@@ -123,7 +123,7 @@ Differs _ x i now = ⊥
 abbrev pub IsLoose : State → ℕ → ℕ → Type 0
 IsLoose s x i = (t : ℕ) × (t < s.threads) × Differs (s.phase t) x i (s.word x i)
 
--- what the trace's law speaks of
+-- what the trace's law is about
 abbrev pub picture : State → Picture
 picture s = record {
   word = s.word;

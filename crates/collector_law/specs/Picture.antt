@@ -1,4 +1,4 @@
--- What the trace's law speaks of: a state of the heap between the marking of the globals and the end of the trace.
+-- What the trace's law is about: a state of the heap between the marking of the globals and the end of the trace.
 use Rattle.std.specs.Prelude.{ℕ, Bool, true, false, ◌≡◌, ◌⊎◌}
 
 -- the words, the hand, and which cells and words are white, read, loose and held

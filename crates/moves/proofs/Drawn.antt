@@ -28,7 +28,7 @@ yes_or_no : (b : Bool) → (b ≡ true) ⊎ (b ≡ false)
 yes_or_no true = inl refl
 yes_or_no false = inr refl
 
--- what a step found, by its entry, leads to the same place
+-- the number that a step's entry records leads to the same place
 pub moved-found : (c : Collecting) (found : ℕ) → moved c (found_in (turn_of c found)) ≡ moved c found
 moved-found c found = go c.heap c.posted c.at
   where

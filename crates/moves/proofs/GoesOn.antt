@@ -28,7 +28,7 @@ call_of machine.Safepoint = call.Safepoint
 call_of machine.End = call.End
 call_of machine.Wrong = call.Wrong
 
--- it leads back
+-- back from a call's action to the call
 call_of-action_of : (c : Call) → call_of (action_of c) ≡ c
 unfolding call_of
 call_of-action_of call.Local = refl

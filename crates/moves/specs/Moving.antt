@@ -50,7 +50,7 @@ HasRoom stance (Marks r) = CountsMark stance
 HasRoom stance (Claims r won) = CountsTry stance
 HasRoom stance made = Unit {0}
 
--- so of a next move, if there is one
+-- the same for a next move, if there is one
 abbrev pub HasRoomForNext : Stance → Option Move → Type 0
 HasRoomForNext stance None = Unit {0}
 HasRoomForNext stance (Some made) = HasRoom stance made

@@ -78,7 +78,7 @@ abbrev pub IsActor : (threads : ℕ) → Actor → Type 0
 IsActor threads (Thread t) = t < threads
 IsActor threads Collector = Unit {0}
 
--- so of each of these
+-- the same for each of these
 abbrev pub AreActors : (threads : ℕ) → List Actor → Type 0
 AreActors threads [] = Unit {0}
 AreActors threads (actor ∷ actors) = IsActor threads actor × AreActors threads actors

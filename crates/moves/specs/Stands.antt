@@ -38,7 +38,7 @@ abbrev pub MayTryMore : (pools : List ℕ) → Action → (tried : ℕ) → Type
 MayTryMore pools (Alloc layout) tried = (layout < length pools) × (tried < 2 ^ 32)
 MayTryMore pools action tried = Unit {0}
 
--- so of a thread that tries cells
+-- the same for a thread that tries cells
 abbrev pub HasTryLeft : (pools : List ℕ) → Action → Stance → Type 0
 HasTryLeft pools action (Trying first tried) = MayTryMore pools action tried
 HasTryLeft pools action stance = Unit {0}

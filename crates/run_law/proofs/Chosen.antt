@@ -113,7 +113,7 @@ chosen s h stage roots old Safepoint (stance.Answering next marked) a r o f = go
             (r q (in-filter p roots q (get_in (filter p roots) (length (marked_of roots marked)) q e)), (q, sym (next_root-marked roots marked) ∙ e, refl))
 chosen s h stage roots old action at a r o f = tt
 
--- so of the move that is made
+-- the same for the move that is made
 pub is-chosen : (s : Setup) (h : Shared) (stage : ℕ) (roots : List Reference) (old : Reference) (action : Action) (at : Stance) (move : Move) → AsksByKind s action → ((r : Reference) → IsIn r roots → r.cell < cells s)
     → old.cell < cells s → TriesFrom s action (phase_at roots at) → next_move s (sight_in s h) stage roots old action (phase_at roots at) ≡ Some move → IsChosen s h roots action at move
 is-chosen s h stage roots old action at move a r o f e =

@@ -60,7 +60,7 @@ pub record TriedFrom (s : Setup) (layout : ℕ) (tried : List ℕ) : Type 0 wher
   pub some : 0 < length tried
   pub are : tried ≡ falling (first_cell s.pools layout) (length tried)
 
--- so where a thread is
+-- the same, by the phase of a thread
 abbrev pub TriesFrom : Setup → Action → Phase → Type 0
 TriesFrom s action Ready = Unit {0}
 TriesFrom s action (MarkingOld c i o) = Unit {0}

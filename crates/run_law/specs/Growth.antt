@@ -50,7 +50,7 @@ pub record ThreadGrows (s : Setup) (m : Machine) (Fits : m.State → Type 0) (ru
   pub try_left : HasTryLeft s.pools (m.action stand.state) stand.stance
   pub move : (made : Move) → next_move_of s m (sight_in s h) (standing m.roots stand) ≡ Some (move_in (m.roots stand.state) made) → MoveGrows s m Fits run t stand h made
 
--- so of each thread of a machine that obeys the kinds of words
+-- the same for each thread of a machine that obeys the kinds of words
 abbrev pub ThreadsGrow : (s : Setup) {State : Type 0} (action : State → Action) (after_answer : State → Answer → State) (roots : State → List Reference) (Fits : State → Type 0) → Type 0
 ThreadsGrow s {State} action after_answer roots Fits = (starts : ℕ → State) (run : List Happening) (t : ℕ) (stand : Stand State) (h : Shared)
     → ThreadIsBehind s (machine_of action after_answer roots) Fits starts run t stand h → ThreadGrows s (machine_of action after_answer roots) Fits run t stand h
@@ -87,7 +87,7 @@ pub record MotionGrows (s : Setup) (run : List Happening) (h : Shared) (motion :
   pub in_heap : IsInHeap s behind.at
   pub words : StandBehind s (OfCollector motion.turn ∷ run) (with_stored h motion motion.stored)
 
--- so after each run
+-- the same after each run
 abbrev pub CollectorGrows : Setup → Type 0
 CollectorGrows s = (run : List Happening) (c : Collecting) (h : Shared) → CollectorIsBehind s run c h
     → NamesCells c.heap (held_at h) × ((motion : Motion) (behind : Collecting) → IsStepOn (held_at h) c motion behind → MotionGrows s run h motion behind)

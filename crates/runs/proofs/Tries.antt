@@ -61,7 +61,7 @@ record TriedSo (s : Setup) (layout : ℕ) (tried : List ℕ) : Type 0 where
   below : (c : ℕ) → IsAmong c tried → c < lowest s layout tried
   last : IsLast s layout tried
 
--- so where a thread is
+-- the same, by the phase of a thread
 abbrev StandsSo : Setup → Action → Phase → Type 0
 StandsSo s action Ready = Unit {0}
 StandsSo s action (MarkingOld c i o) = Unit {0}

@@ -79,7 +79,7 @@ TriesInPool s h (Alloc layout) Ready = slice_index s.pools layout ≢ 0 → MayT
 TriesInPool s h (Alloc layout) (Trying tried) = MayTry s tried (h.claim layout tried).cell × IsOfLayout s layout (h.claim layout tried).cell
 TriesInPool s h action phase = Unit {0}
 
--- so of a thread after a run
+-- the same for a thread after a run
 abbrev pub TriesInPoolBehind : (s : Setup) (m : Machine) (starts : ℕ → m.State) → List Happening → Sight → (thread : ℕ) → Type 0
 TriesInPoolBehind s m starts run h t =
     TriesInPool s h (m.action (state_after s m t (starts t) (share_of t run))) (phase_of s t (steps_of (share_of t run)))

@@ -15,7 +15,7 @@ BringsNoBirth (ReadsOldValue base word value) = value.birth ≡ 0
 BringsNoBirth (Claims r won) = r.birth ≡ 0
 BringsNoBirth move = Unit {0}
 
--- so of each move of a share
+-- the same for each move of a share
 abbrev pub HasNoBirths : List Move → Type 0
 HasNoBirths [] = Unit {0}
 HasNoBirths (move ∷ share) = HasNoBirths share × BringsNoBirth move
@@ -50,6 +50,6 @@ abbrev pub MeetsConditions : (s : Setup) (m : Machine) (thread : ℕ) (start : m
 MeetsConditions s m t start = (share : List Move) (move : Move) → IsShare s m t start share → IsPossibleLog s (steps_of share) → IsAsked s m t start share move
     → MatchOption (step_of move) (Unit {0}) (λ step. IsDisciplined s (steps_of share) step)
 
--- so of a careful thread
+-- the same for a careful thread
 abbrev pub CarefulMeetsConditions : (s : Setup) (m : Machine) → Type 0
 CarefulMeetsConditions s m = (t : ℕ) (start : m.State) → IsCareful s m t start → MeetsConditions s m t start

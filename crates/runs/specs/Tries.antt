@@ -22,7 +22,7 @@ abbrev pub IsLowest : Setup → Action → Phase → Move → Type 0
 IsLowest s (Alloc layout) phase (Claims r won) = r.cell ≡ lowest s layout (tried_at phase)
 IsLowest s action phase move = Unit {0}
 
--- so of each move of a share
+-- the same for each move of a share
 abbrev pub TriesLowest : (s : Setup) (m : Machine) (thread : ℕ) → m.State → List Move → Type 0
 TriesLowest s m t start [] = Unit {0}
 TriesLowest s m t start (move ∷ share) = TriesLowest s m t start share × IsLowest s (m.action (state_after s m t start share)) (phase_of s t (steps_of share)) move

@@ -106,7 +106,7 @@ module _ (s : Setup) (m : Machine) (starts : ℕ → m.State) (run : List Happen
         | inr reborn ↦ reborns r (found-all r reached) (λ z. reborn (sym (stand.behind.births r.cell) ∙ z))
       ]
 
-  -- a walk that looked at all that it met tells it
+  -- a walk that looked at all that it met finds it
   pub first-gone : (w : Walk) → length w.met ≡ cells s → IsWhole s h roots w → IsFirstGone s m starts run (gone_of w.blue w.reborn)
   first-gone w wide whole =
       let seen = seen-all s h roots stand.shape are.are_cells w wide whole in

@@ -1,4 +1,4 @@
--- A list with another element in one place, and what is said of an error.
+-- A list with another element in one place, and a fact as one about an error.
 use mathlib.Core.HLevel.{is_prop→PathP}
 use native.Mathlib.Nat.{ℕ_set}
 use native.Mathlib.Bridge.{le_prop}

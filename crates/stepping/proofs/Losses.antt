@@ -1,4 +1,4 @@
--- A step that frees nothing, stores no reference, begins no thread and leaves the roots of its thread loses nothing.
+-- A step that frees nothing, stores no reference, begins no thread and leaves the roots of its thread unchanged loses nothing.
 use Rattle.std.proofs.Common.{◌≡◌, ◌≢◌, ◌==◌, ◌&&◌, inl, inr, ℕ, Bool, true, false, Option, Some, None, List, ◌∷◌, if◌then◌else◌, refl, sym, ap, subst, ◌∙◌, MatchOption, arith}
 use Rattle.pools.specs.Heap.{Setup}
 use Rattle.colours.specs.declared.place.Place.TheVariants.{Colour, Word}
@@ -111,7 +111,7 @@ under_way-before s stage Leaving made no_begin follows way = absurd follows
 under_way-before s stage Ended made no_begin follows way = absurd follows
 under_way-before s stage phase made no_begin follows way = tt
 
--- so of its move
+-- the same for its move
 was-under_way : (s : Setup) (t : ℕ) (log : List Step) (o : Option Step) → MatchOption o (Unit {0}) IsNoBegin → Follows s t log o → IsUnderWay (phase_of s t (logged o log)) → IsUnderWay (phase_of s t log)
 was-under_way s t log None no_begin follows way = way
 was-under_way s t log (Some made) no_begin follows way = under_way-before s (stage_of log) (phase_of s t log) made no_begin follows way

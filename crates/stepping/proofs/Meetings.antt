@@ -59,7 +59,7 @@ abbrev pub unmet : Bool → ℕ
 unmet true = 0
 unmet false = 1
 
--- what a reference leaves of the row and the order
+-- how a reference changes the row and the order
 pub record Widens (before after : Walk) : Type 0 where
   pub wide : length after.met ≡ length before.met
   pub left : length after.order + sum_by unmet after.met ≡ length before.order + sum_by unmet before.met

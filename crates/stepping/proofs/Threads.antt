@@ -118,7 +118,7 @@ moved-none s m Fits starts before a b t lt stand is ended =
 share-with : (t : ℕ) (move : moves.Move) (run : List Happening) → share_of t (OfThread t move ∷ run) ≡ move ∷ share_of t run
 share-with t move run = ap (λ (b : Bool). if b then move ∷ share_of t run else share_of t run) (test_yes t t refl)
 
--- a step that stores nothing and leaves the roots loses nothing
+-- a step that stores nothing and leaves the roots unchanged loses nothing
 loses-none : (s : Setup) (m : Machine) (starts : ℕ → m.State) (run : List Happening) (t : ℕ) (stand : Stand m.State) (move : moves.Move) (behind : Stand m.State)
     → StandsBehind s m starts run t (standing m.roots stand) → standing m.roots behind ≡ moved s m (standing m.roots stand) move
     → AddsNothing move × (m.roots behind.state ≡ m.roots stand.state) → LosesNothing s m starts run (OfThread t move)

@@ -41,7 +41,7 @@ pub record IsBehind (s : Setup) (m : Machine) (Fits : m.State → Type 0) (start
   pub are_actors : AreActors s.threads actors
   pub is_end : IsEnd s m Fits starts (run_by s m starts actors) threads shared collector
 
--- so of the actors of the code
+-- the same for the actors of the code
 pub record AreBehindSteps (s : Setup) (m : Machine) (Fits : m.State → Type 0) (starts : ℕ → m.State) (before : List Actor) (actors : Actors m.State) : Type 0 where
   pub plan : IsPlanOf s actors.plan
   pub setup : IsSetup s
@@ -63,7 +63,7 @@ pub record IsStep (s : Setup) (m : Machine) (starts : ℕ → m.State) (run : Li
   -- where nothing that is gone could be reached before, nothing can be after a step that loses nothing
   pub loses : step.may_lose ≡ false → IsFirstGone s m starts run None → IsFirstGone s m starts (happening ∷ run) None
 
--- and no step that there is none
+-- where no step was made, the actor has no next step
 abbrev pub IsStepOrNone : (s : Setup) (m : Machine) (starts : ℕ → m.State) → List runs.Happening → Actor → Option Step → Type 0
 IsStepOrNone s m starts run actor None = next_by s m starts run actor ≡ None
 IsStepOrNone s m starts run actor (Some step) = IsStep s m starts run actor step

@@ -78,7 +78,7 @@ abbrev pub IsAtMost : Option ℕ → ℕ → Type 0
 IsAtMost None cell = ⊥
 IsAtMost (Some other) cell = other ≤ cell
 
--- the reference was met, and if it is gone, so it was taken down
+-- the reference was met, and if it is gone, it was recorded
 pub record IsSeen (h : Shared) (w : Walk) (r : Reference) : Type 0 where
   pub met : slice_index_or w.met r.cell true ≡ true
   pub blue : slice_index h.colours r.cell ≡ 0 → IsAtMost w.blue r.cell
