@@ -188,7 +188,7 @@ IsUnderWay s _ = Unit {0}
 
 -- ---- live cells
 
--- what is held is live and of its birth; a live cell's words point to live cells of their births; a blue cell's words are null
+-- what is held is live and of its birth. A live cell's words point to live cells of their births. A blue cell's words are null
 pub record AreLive (s : State) : Type 0 where
   pub held : (t c b : ℕ) → t < s.threads → s.IsHeld t c b → (c ≢ 0) × IsLive s c × (b ≡ s.birth c)
   pub words : (c i : ℕ) → IsLive s c → IsGood s (s.word c i) (s.tag c i)
@@ -209,7 +209,7 @@ HasMarked (Writing cell word old new) c = new ≡ c
 HasMarked (Answering stage marked) c = Unit {0}
 HasMarked _ c = ⊥
 
--- a fresh cell is held by its thread alone, no live word, no hand and no store under way names it, and it has the colour of its claim
+-- a fresh cell is held by its thread alone and has the colour of its claim. No live word, no hand and no store under way names it
 pub record AreFresh (claim_at : ℕ → ℕ) (IsSync : ℕ → Type 0) (s : State) : Type 0 where
   pub held : (t c : ℕ) → t < s.threads → s.IsFresh t c → s.IsHeld t c (s.birth c)
   pub unnamed : (t c x i : ℕ) → t < s.threads → s.IsFresh t c → IsLive s x → s.word x i ≢ c

@@ -88,7 +88,7 @@ impl Op {
         }
     }
 
-    /// The search for a free cell, by a thread at this stage: this cell first, then this number of cells after it.
+    /// The search for a free cell, by a thread at this stage: this cell first, then `more` cells after it.
     pub fn alloc(stage: u64, first: u32, more: u32) -> Self
         requires stage { stage < 2 ^ 62 }
         requires cells { first + more < 2 ^ 32 }

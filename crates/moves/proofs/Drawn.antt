@@ -1,4 +1,4 @@
--- The run that a list of actors makes is a run, and the collector is where its share of it leads.
+-- A list of actors makes a run, and the collector is where its own steps in it lead.
 use Rattle.std.proofs.Common.{◌≡◌, ◌<◌, ◌⊎◌, inl, inr, ℕ, ◌==◌, Bool, true, false, Option, Some, None, List, [], ◌∷◌, refl, sym, ap, subst, if◌then◌else◌, MatchOption, nat_lt, length, is_some}
 use Rattle.pools.specs.Heap.{Setup, words_of_cell}
 use Rattle.colours.specs.declared.place.Place.{Place}

@@ -1,8 +1,7 @@
 use crate::reference::Reference;
 use pools::LayoutId;
 
-/// What the instruction at which a thread is asks for. A base is the cell of the globals, as cell 0, or a reference that
-/// is not null.
+/// What a thread's current instruction asks for. A base is the cell of the globals, as cell 0, or a reference that is not null.
 #[derive(Clone, Copy, PartialEq, Eq)]
 pub enum Call {
     /// One step that touches no shared word.

@@ -27,8 +27,8 @@ pub fn drawn_law<M: Machine>()
         → TriesLowest s (machine_of M.action M.after_answer M.roots) t (starts t) (share_of t (run_by s (machine_of M.action M.after_answer M.roots) starts actors)) }
 {}
 
-/// The law of sights: where the words and births are those after a run, and a thread is as after its share of it, the next
-/// move from these is the thread's next step in the run.
+/// The law of sights: where the words and births are those after a run, and a thread is in its state after its share of the
+/// run, the next move from these is the thread's next step in the run.
 pub fn sight_law<M: Machine>()
     ensures { (s : Setup) (starts : ℕ → M) (run : List Happening) (t : ℕ) (stand : Stand M) (shared : Shared) → AreBehind s run shared
         → StandsBehind s (machine_of M.action M.after_answer M.roots) starts run t (standing M.roots stand)

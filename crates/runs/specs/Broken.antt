@@ -120,7 +120,7 @@ pub record IsCause (s : Setup) (m : Machine) (starts : ℕ → m.State) (run : L
   pub shows : Shows s m starts run cause
   pub first : (other : Cause) → GoesBefore other cause → ¬ Shows s m starts run other
 
--- the cause of a run's end says that it is broken, there is at most one, and an end that isn't broken alone has none
+-- the cause of a run's end says that it is broken, there is at most one, and only an end that isn't broken has none
 pub record CausesName (s : Setup) (m : Machine) (starts : ℕ → m.State) (run : List Happening) : Type 0 where
   pub broken : (cause : Cause) → IsCause s m starts run cause → IsBroken s m starts run
   pub one : (c d : Cause) → IsCause s m starts run c → IsCause s m starts run d → c ≡ d

@@ -6,7 +6,7 @@ pub record Reference : Type 0 where
   pub cell : ℕ
   pub birth : ℕ
 
--- what the instruction at which a thread is asks for. A base is the cell of the globals, as cell 0, or a reference that isn't null
+-- what a thread's current instruction asks for. A base is the cell of the globals, as cell 0, or a reference that isn't null
 pub data Action : Type 0 where
   Local : Action  -- one step that touches no shared word
   Read : (base : Reference) (word : ℕ) → Action

@@ -37,8 +37,8 @@ pub record IsWholeShare (s : Setup) (m : Machine) (thread : ℕ) (start : m.Stat
   pub leads_to : state_after s m thread start share ≡ state
   pub ended : HasEnded s thread share
 
--- what a thread of a real run leaves: a whole share where it returned or ended; where it stopped or found no memory, a beginning
--- of one, with at most the step that finishes it at the end; and where a late thread never began, whole tries
+-- what a thread of a real run leaves. Where it returned or ended: a whole share. Where it stopped or found no memory: a
+-- beginning of one, with at most the finishing step at its end. Where a late thread never began: whole tries
 pub data Left (s : Setup) (m : Machine) (thread : ℕ) (start : m.State) : List Step → Type 0 where
   whole : (log : List Step) (state : m.State) → IsWholeShare s m thread start log state → Left s m thread start log
   cut : (log : List Step) (state : m.State) → IsRealShare s m thread start log state → Left s m thread start log

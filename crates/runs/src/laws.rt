@@ -36,8 +36,8 @@ pub fn soundness_law<M: Judged>()
     safety_law::<M>();
 }
 
-/// The law of causes: the first cause of a run's end, by the kinds in their order and then by the cell, says that the end is
-/// broken; there is at most one; and an end without one isn't broken.
+/// The law of causes. The first cause of a run's end, by the kinds in their order and then by the cell, shows that the end is
+/// broken. There is at most one, and an end without one isn't broken.
 pub fn cause_law<M: Machine>()
     ensures { (s : Setup) (starts : ℕ → M) (run : List Happening) → CausesName s (machine_of M.action M.after_answer M.roots) starts run }
 {}
@@ -51,7 +51,7 @@ pub fn next_move_law<M: Machine>()
     ensures sight { (s : Setup) (run : List Happening) (order : ℕ → List ℕ → ℕ) → IsSightOf s run (sight_behind s run order) }
 {}
 
-/// The law of standings: where a thread is before its first move, and from where it is after a run, its next move and
+/// The law of standings: where a thread is before its first move; and, from where it is after a run, its next move and
 /// where it is after one more happening.
 pub fn standing_law<M: Machine>()
     ensures begun { (s : Setup) (starts : ℕ → M) (t : ℕ) → StandsBehind s (machine_of M.action M.after_answer M.roots) starts [] t (begun s (machine_of M.action M.after_answer M.roots) starts t) }

@@ -5,7 +5,7 @@ ghost use Rattle.runs.specs.Moves.{Move};
 
 /// A thread's machine. Its values are the thread's states.
 pub trait Machine {
-    /// What the instruction at which the thread is asks for.
+    /// What the thread's current instruction asks for.
     ghost action: { Self → Action };
 
     /// The state after the answer.

@@ -1,4 +1,4 @@
--- Threads, shared words and a collector as the end of the run that a list of actors makes; and one step more.
+-- The threads, the shared words and the collector at the end of the run that a list of actors makes, and one step more.
 use Rattle.std.specs.Prelude.{ℕ, ◌≡◌, ◌<◌, ◌≤◌, ◌^◌, false, Option, Some, None, List, [], ◌∷◌, length, slice_get}
 use Rattle.pools.specs.Heap.{Setup, IsSetup, cells}
 use Rattle.colours.specs.Runs.{turns_of}
