@@ -1,4 +1,4 @@
--- An answer to a safepoint, and the end of a thread, keep the invariant.
+-- An answer to a safepoint, and the end of a thread, preserve the invariant.
 use Rattle.std.proofs.Common.{◌≡◌, ◌≢◌, ◌⊎◌, inl, inr, ℕ, suc, ◌*◌, ◌<◌, List, refl, sym, ap, ◌∙◌, subst, arith}
 use Rattle.std.proofs.lemmas.Bool.{cases_eq}
 use Rattle.collector_law.specs.Invariant.{State, Phase, Ready, MarkingOld, MarkingNew, Writing, Answering, Time, Early, Late, Clean, time_of, IsMarked, picture, OldIsNot, HasMarked, IsBase, Stands, AtTime, IsInvariant}
@@ -15,7 +15,7 @@ after_answer s t p IsRoot = record s {
   IsFresh = λ u c. s.IsFresh u c × (u ≡ t → ⊥);
 }
 
--- the other threads stand as they stood
+-- the other threads are as they were
 stands-other : (cycle_of : ℕ → ℕ) (IsSync : ℕ → Type 0) (s : State) (t p : ℕ) (IsRoot : ℕ → Type 0) (u : ℕ) → (u ≡ t → ⊥) → (q : Phase) → Stands cycle_of IsSync s u q → Stands cycle_of IsSync (after_answer s t p IsRoot) u q
 stands-other cycle_of IsSync s t p IsRoot u n q = go q
   where
@@ -32,7 +32,7 @@ stands-other cycle_of IsSync s t p IsRoot u n q = go q
     go (Writing cell word old new) w = (base cell w.0, base old w.1, λ now. w.2 (ap cycle_of (sym same) ∙ now), subst IsSync (sym same) w.3, w.4, base new w.5, w.6)
     go (Answering stage marked) w = λ c among. let r = w c among in (r.0, base c r.1, r.2, r.3)
 
--- an answer to the posted stage, or the end of a thread that holds nothing then, keeps the invariant
+-- an answer to the posted stage, or the end of a thread that holds nothing then, preserves the invariant
 pub answered : (done : ℕ) (cycle_of claim_at : ℕ → ℕ) (IsSync : ℕ → Type 0) (s : State) (t p : ℕ) (IsRoot : ℕ → Type 0) → t < s.threads
     → ((p ≡ s.posted) × (p ≢ done) × (p ≡ 3 * s.cycle → (c : ℕ) → IsRoot c → IsMarked s c)) ⊎ ((p ≡ done) × (p ≢ 3 * s.cycle) × ((c : ℕ) → IsRoot c → ⊥))
     → IsInvariant done cycle_of claim_at IsSync s → IsInvariant done cycle_of claim_at IsSync (after_answer s t p IsRoot)

@@ -1,4 +1,4 @@
--- A claim that is won keeps the invariant.
+-- A claim that is won preserves the invariant.
 use Rattle.std.proofs.Common.{◌≡◌, ◌≢◌, ◌⊎◌, inl, inr, ℕ, suc, ◌*◌, ◌<◌, ◌≤◌, true, false, refl, sym, ap, ◌∙◌, subst, arith}
 use Rattle.std.proofs.lemmas.Bool.{cases_eq}
 use Rattle.collector_law.specs.Invariant.{State, Phase, Ready, MarkingOld, MarkingNew, Writing, Answering, Part, Resting, Waiting, Rooted, Passing, Scanning, Sweeping, Clearing, Time, Early, Late, Clean, time_of, IsWhite, IsGrey, IsMarked, IsLive, IsLiveAt, hand_of, picture, IsUnderWay, IsColour, OldIsNot, RootAt, IsBase, Stands, AtTime, IsInvariant}
@@ -10,7 +10,7 @@ use Rattle.collector_law.proofs.Write.{live-not_blue}
 abbrev pub changed : State → (ℕ → ℕ) → (ℕ → ℕ) → (ℕ → ℕ → ℕ → Type 0) → State
 changed s colour birth held = record s { colour = colour; birth = birth; IsHeld = held }
 
--- where marked cells stay marked and held ones held, a thread stands as it stood
+-- where marked cells stay marked and held ones held, a thread is as it was
 pub stands-grow : (cycle_of : ℕ → ℕ) (IsSync : ℕ → Type 0) (s : State) (f g : ℕ → ℕ) (h : ℕ → ℕ → ℕ → Type 0) (u : ℕ) → ((c : ℕ) → IsBase s u c → IsBase (changed s f g h) u c) → ((c : ℕ) → IsMarked s c → IsMarked (changed s f g h) c) → (p : Phase) → Stands cycle_of IsSync s u p → Stands cycle_of IsSync (changed s f g h) u p
 stands-grow cycle_of IsSync s f g h u base marked Ready w = tt
 stands-grow cycle_of IsSync s f g h u base marked (MarkingOld cell word old) w = (base cell w.0, w.1, base old w.2)
@@ -27,7 +27,7 @@ after_claim s t c q = record s {
   IsFresh = λ u d. s.IsFresh u d ⊎ ((u ≡ t) × (d ≡ c));
 }
 
--- the thread stands between two calls, the cell is blue, and the colour is that of a claim
+-- the thread is between two calls, the cell is blue, and the colour is that of a claim
 pub record IsClaiming (done : ℕ) (s : State) (t c q : ℕ) : Type 0 where
   pub blue : s.colour c ≡ 0
   pub cell : (c ≢ 0) × (c < s.cells)
@@ -50,7 +50,7 @@ hand_not s c blue n (Passing next met_grey) is way = λ e. n (sym e)
 hand_not s c blue n (Sweeping next) is way = λ e. n (sym e)
 hand_not s c blue n (Clearing cell words) is way = λ e. n (sym e)
 
--- a claim that is won keeps the invariant
+-- a claim that is won preserves the invariant
 pub claimed : (done : ℕ) (cycle_of claim_at : ℕ → ℕ) (IsSync : ℕ → Type 0) (s : State) (t c q : ℕ) → t < s.threads → q ≡ claim_at (s.stage t) → IsClaiming done s t c q → IsInvariant done cycle_of claim_at IsSync s → IsInvariant done cycle_of claim_at IsSync (after_claim s t c q)
 claimed done cycle_of claim_at IsSync s t c q lt chosen w inv = record {
   stages = record {

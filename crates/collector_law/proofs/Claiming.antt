@@ -32,7 +32,7 @@ claim_cell s stage (Trying []) cell won m = m
 claim_cell s stage (Trying (last ∷ tried)) cell won m = (m.0.0, m.0.1)
 claim_cell s stage _ cell won m = absurd m
 
--- behind a lost try too
+-- after a lost try too
 lost_ready : (s : Setup) (stage : ℕ) (phase : Phase) (cell : ℕ) → MayFollow s stage phase (Claim cell false) → flat (phase_after s stage phase (Claim cell false)) ≡ law.Ready
 lost_ready s stage Ready cell m = flat_loss _ _
   where
@@ -67,7 +67,7 @@ lost_idle s run t cell m = record {
         go false e = refl
         go true e = let off : (word_after s run (Colour c) == 0) ≡ false = subst (λ z. (word_after s run (Colour z) == 0) ≡ false) (test_true cell c e) (sym m.2) in rw off refl
 
--- the state behind a claim that is won shows the run
+-- the state after a claim that is won shows the run
 won_shows : (s : Setup) (run : List Event) (S : law.State) → Shows s run S → (t cell : ℕ) → MayHappen s run (ByThread t (Claim cell true))
     → Shows s (ByThread t (Claim cell true) ∷ run) (after_claim S t cell (claim_at (S.stage t)))
 unfolding word_after births_after
@@ -98,7 +98,7 @@ won_shows s run S h t cell m = record {
   ];
 }
 
--- a claim leads to a state of the invariant
+-- a claim leads to a state that satisfies the invariant
 pub claim_safe : (s : Setup) (run : List Event) (c : Collection) (t cell : ℕ) (won : Bool) → IsRun s run → MayHappen s run (ByThread t (Claim cell won)) → Safe s run c → Safe s (ByThread t (Claim cell won) ∷ run) c
 claim_safe s run c t cell false r m f = record { state = f.state; inv = f.inv; shows = idle s run f.state t (Claim cell false) (lost_idle s run t cell m) f.shows; at = f.at }
 claim_safe s run c t cell true r m f = record {

@@ -1,4 +1,4 @@
--- The end of the trace keeps the invariant: from here on the live cells are the black ones.
+-- The end of the trace preserves the invariant: from here on the live cells are the black ones.
 use Rattle.std.proofs.Common.{◌≡◌, ◌≢◌, inl, inr, ℕ, suc, ◌*◌, ◌<◌, ◌≤◌, Bool, false, sym, ap, ◌∙◌, subst, ◌==◌, arith}
 use Rattle.std.proofs.lemmas.Bool.{cases_eq, eqb-true, eq-eqb, ne_eqb, both_ways}
 use Rattle.collector_law.specs.Picture.{IsSpared}
@@ -12,7 +12,7 @@ white_set s c = suc (s.colour c) == 2 * s.cycle
 abbrev pub ended_trace : State → State
 ended_trace s = record s { part = Sweeping 1 }
 
--- the last look of a pass that met no grey cell keeps the invariant
+-- the last look of a pass that met no grey cell preserves the invariant
 pub ends_trace : (done : ℕ) (cycle_of claim_at : ℕ → ℕ) (IsSync : ℕ → Type 0) (s : State) (next : ℕ) → s.part ≡ Passing next false → s.cells ≤ suc next → (IsGrey s next → ⊥) → IsInvariant done cycle_of claim_at IsSync s → IsInvariant done cycle_of claim_at IsSync (ended_trace s)
 ends_trace done cycle_of claim_at IsSync s next is last not_grey inv = record {
   stages = record {

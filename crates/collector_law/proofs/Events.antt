@@ -61,7 +61,7 @@ plain_begun s stage Leaving (StoreStage q roots) e f = absurd cc
 plain_begun s stage Leaving _ e f = absurd f
 plain_begun s stage _ step e f = tt
 
--- and behind it the thread has begun
+-- and after it the thread has begun
 plain_after : (s : Setup) (stage : ℕ) (phase : Phase) (step : Step) → is_plain step ≡ true → HasBegun (phase_after s stage phase step)
 plain_after s stage phase (ReadWord cell word value) e = tt
 plain_after s stage phase (ReadOldValue cell word value) e = go (value == 0)

@@ -33,7 +33,7 @@ post_behind s run S h to e = record {
   null = λ c i n. n;
 }
 
--- a post leads to a state of the invariant
+-- a post leads to a state that satisfies the invariant
 pub post_safe : (s : Setup) (run : List Event) (to : ℕ) → IsRun s run → to ≡ suc (posted_of (turns_of run)) → Safe s run Posting → Safe s (ByCollector (PostStage to) ∷ run) (wait_from s to 0)
 post_safe s run to r e f = go f.at
   where
@@ -65,7 +65,7 @@ check_look : (s : Setup) (run : List Event) (t found : ℕ) → IsLook s run (Re
 unfolding word_after
 check_look s run t found = record { posted = refl; colour = λ c. refl; word = λ c i. refl }
 
--- a look at a thread's stage leads to a state of the invariant
+-- a look at a thread's stage leads to a state that satisfies the invariant
 pub check_safe : (s : Setup) (run : List Event) (t found : ℕ) → IsRun s run → word_after s run (Stage t) ≡ found → Safe s run (Waiting t)
     → Safe s (ByCollector (ReadStage t found) ∷ run) (if has_answered (posted_of (turns_of run)) found then wait_from s (posted_of (turns_of run)) (suc t) else Waiting t)
 check_safe s run t found r is f = elim (yes_or_no (has_answered (posted_of (turns_of run)) found)) [
@@ -103,7 +103,7 @@ check_safe s run t found r is f = elim (yes_or_no (has_answered (posted_of (turn
 
 -- ---- the mark of the globals' cell
 
--- the mark of the globals' cell leads to a state of the invariant
+-- the mark of the globals' cell leads to a state that satisfies the invariant
 pub root_safe : (s : Setup) (run : List Event) (colour : ℕ) → IsRun s run → Safe s run ShadingGlobals → Safe s (ByCollector (MarkFound 0 colour) ∷ run) Posting
 unfolding word_after
 root_safe s run colour r f = record {

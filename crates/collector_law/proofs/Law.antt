@@ -1,4 +1,4 @@
--- The invariant holds at the start, and it keeps what is kept.
+-- The invariant holds at the start, and under it what is kept is live.
 use Rattle.std.proofs.Common.{◌≡◌, ◌≢◌, ◌⊎◌, inl, inr, ℕ, ◌<◌, List, refl, subst, arith}
 use Rattle.std.proofs.lemmas.Bool.{cases_eq}
 use Rattle.collector_law.specs.Invariant.{State, Ready, Answering, Resting, Clean, time_of, IsBlack, IsLive, IsLiveAt, IsInvariant}

@@ -21,7 +21,7 @@ use Rattle.collector_law.proofs.Numbers.{AtPosted, Rises, rises, sync_one, sync_
 
 -- ---- a mark, over states
 
--- the thread may mark this cell, and stands in the phase behind its mark
+-- the thread may mark this cell, and is in the phase after its mark
 pub record IsMarking (S : law.State) (t c now : ℕ) (q : law.Phase) : Type 0 where
   pub rise : Rises S.part S.cycle (S.colour c) now
   pub held : S.IsHeld t c (S.birth c)
@@ -43,7 +43,7 @@ mark_grows S c now rise d l = elim (cases_eq d c) [
   | inr n ↦ omega (arith, put-other S.colour c now d n, l)
 ]
 
--- the mark keeps the invariant
+-- the mark preserves the invariant
 pub marks : (S : law.State) (t c now : ℕ) (q : law.Phase) → t < S.threads → IsMarking S t c now q → IsInvariant S → IsInvariant (shaded S (put S.colour c now) (put S.phase t q))
 marks S t c now q lt w inv = shades done cycle_of claim_at IsSync S (put S.colour c now) (put S.phase t q) (record {
   up = λ d. elim (cases_eq d c) [
@@ -92,7 +92,7 @@ marks S t c now q lt w inv = shades done cycle_of claim_at IsSync S (put S.colou
 
 -- ---- a mark, in a run
 
--- the state's colours are those behind the mark
+-- the state's colours are those after the mark
 colour_marked : (s : Setup) (run : List Event) (S : law.State) → Shows s run S → (t c y : ℕ) → S.stage t ≡ stage_of (log_of t run)
     → put S.colour c (max (S.colour c) (mark_at (S.stage t))) y ≡ word_after s (ByThread t (Mark c) ∷ run) (Colour y)
 unfolding word_after
@@ -101,7 +101,7 @@ colour_marked s run S h t c y own = elim (cases_eq y c) [
   | inr n ↦ put-other S.colour c (max (S.colour c) (mark_at (S.stage t))) y n ∙ rw (test_no c y (λ e. n (sym e))) (h.colour y)
 ]
 
--- the state behind a mark shows the run
+-- the state after a mark shows the run
 mark_shows : (s : Setup) (run : List Event) (S : law.State) → Shows s run S → (t c : ℕ) (q : law.Phase) → MayFollow s (stage_of (log_of t run)) (phase_of s t (log_of t run)) (Mark c)
     → q ≡ flat (phase_after s (stage_of (log_of t run)) (phase_of s t (log_of t run)) (Mark c))
     → Shows s (ByThread t (Mark c) ∷ run) (shaded S (put S.colour c (max (S.colour c) (mark_at (S.stage t)))) (put S.phase t q))
@@ -128,7 +128,7 @@ at_posted s run S inv h r t step plain m = elim (inv.stages.stages t (in_range s
   | inr x ↦ elim x [ inl e ↦ absurd (not_done s run S h r t step plain m e) | inr l ↦ inr l ]
 ]
 
--- a mark leads to a state of the invariant
+-- a mark leads to a state that satisfies the invariant
 pub mark_safe : (s : Setup) (run : List Event) (c : Collection) (t cell : ℕ) → IsRun s run → MayHappen s run (ByThread t (Mark cell))
     → IsDisciplined s (log_of t run) (Mark cell) → Safe s run c → Safe s (ByThread t (Mark cell) ∷ run) c
 mark_safe s run c t cell r m d f = go (phase_of s t (log_of t run)) refl m.1

@@ -10,7 +10,7 @@ use Rattle.collector_law.proofs.Shade.{shaded, shades}
 pub record IsMark (s : State) (cell now : ℕ) : Type 0 where
   pub rise : (now ≡ s.colour cell) ⊎ (IsWhite s cell × (now ≡ 2 * s.cycle) × (time_of s.part ≢ Clean))
 
--- the mark of the old value keeps the invariant
+-- the mark of the old value preserves the invariant
 pub marks_old : (done : ℕ) (cycle_of claim_at : ℕ → ℕ) (IsSync : ℕ → Type 0) (s : State) (t x i old now : ℕ) → t < s.threads → s.phase t ≡ MarkingOld x i old → s.stage t ≢ done → IsMark s old now → (IsInCycle cycle_of s t → 2 * s.cycle ≤ now) → IsInvariant done cycle_of claim_at IsSync s → IsInvariant done cycle_of claim_at IsSync (shaded s (put s.colour old now) (put s.phase t (MarkingNew x i old)))
 marks_old done cycle_of claim_at IsSync s t x i old now lt at busy m marked inv = shades done cycle_of claim_at IsSync s (put s.colour old now) (put s.phase t (MarkingNew x i old)) (record {
   up = λ d. elim (cases_eq d old) [

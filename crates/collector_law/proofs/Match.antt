@@ -1,4 +1,4 @@
--- A state of the invariant that shows what a run has led to.
+-- A state of the invariant that shows where a run is.
 use Rattle.std.proofs.Common.{◌≡◌, ◌≢◌, ◌⊎◌, inl, inr, ℕ, ◌<◌, true, false, List, refl, ◌∙◌}
 use Rattle.colours.specs.declared.place.Place.TheVariants.{Colour, Word}
 use Rattle.pools.specs.Heap.{Setup, cells, kind_of}
@@ -17,7 +17,7 @@ IsSync stage = is_async stage ≡ false
 abbrev pub IsInvariant : law.State → Type 0
 IsInvariant S = law.IsInvariant done cycle_of claim_at IsSync S
 
--- the phases of the invariant don't tell a try or an end from rest
+-- the phases of the invariant do not distinguish a try or an end from rest
 abbrev pub flat : Phase → law.Phase
 flat Ready = law.Ready
 flat (MarkingOld cell word old) = law.MarkingOld cell word old
@@ -55,7 +55,7 @@ begun_or_done Entering stage = inr refl
 begun_or_done Leaving stage = inr refl
 begun_or_done _ stage = inl tt
 
--- the part of the invariant at which the collector stands
+-- the part of the invariant at which the collector is
 abbrev pub IsAt : Setup → Collection → law.Part → Type 0
 IsAt s Posting p = (p ≡ law.Resting) ⊎ ((p ≡ law.Waiting 1 s.threads) ⊎ (p ≡ law.Rooted))
 IsAt s (Waiting thread) p = (thread < s.threads) × ((p ≡ law.Waiting 1 thread) ⊎ ((p ≡ law.Waiting 2 thread) ⊎ (p ≡ law.Waiting 3 thread)))
@@ -66,7 +66,7 @@ IsAt s (Shading value cell word pass) p = (p ≡ law.Scanning cell word value) �
 IsAt s (Sweeping cell) p = (p ≡ law.Sweeping cell) × (0 < cell)
 IsAt s (Clearing cell word) p = p ≡ law.Clearing cell word
 
--- the state's threads and words are those behind the run
+-- the state's threads and words are those after the run
 pub record Shows (s : Setup) (run : List Event) (S : law.State) : Type 0 where
   pub threads : S.threads ≡ s.threads
   pub cells : S.cells ≡ cells s

@@ -22,7 +22,7 @@ use Rattle.collector_law.proofs.Numbers.{cycle_is}
 abbrev pub behind : law.State → law.Part → (cycle posted : ℕ) → (ℕ → ℕ) → (ℕ → ℕ → ℕ) → law.State
 behind S p k posted colour word = record S { part = p; cycle = k; posted = posted; colour = colour; word = word }
 
--- the posted stage, the colours and the words are those behind the step
+-- the posted stage, the colours and the words are those after the step
 pub record IsBehind (s : Setup) (run : List Event) (S : law.State) (turn : Turn) (q : ℕ) (f : ℕ → ℕ) (g : ℕ → ℕ → ℕ) : Type 0 where
   pub posted : q ≡ posted_of (turns_of (ByCollector turn ∷ run))
   pub colour : (c : ℕ) → f c ≡ word_after s (ByCollector turn ∷ run) (Colour c)
@@ -88,11 +88,11 @@ cycle_in s run S inv h = ap cycle_of (sym h.posted) ∙ cycle_is S.part S.cycle 
 
 -- ---- moves
 
--- the collector waits, and has come to this thread
+-- the collector waits, and has reached this thread
 abbrev pub IsWait : law.State → ℕ → Type 0
 IsWait S thread = (S.part ≡ law.Waiting 1 thread) ⊎ ((S.part ≡ law.Waiting 2 thread) ⊎ (S.part ≡ law.Waiting 3 thread))
 
--- the wait goes on, or what comes behind it begins
+-- the wait goes on, or what comes after it begins
 pub waits : (s : Setup) (run : List Event) (S : law.State) (stage thread : ℕ) → IsInvariant S → Shows s run S → thread ≤ s.threads → IsWait S thread → stage ≡ S.posted → Safe s run (wait_from s stage thread)
 waits s run S stage thread inv h le at is = elim (yes_or_no (nat_lt thread s.threads)) [
   | inl e ↦ rw e (record { state = S; inv = inv; shows = h; at = (lt_true thread s.threads e, at) })

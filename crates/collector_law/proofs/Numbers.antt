@@ -44,7 +44,7 @@ are_stages k big = record {
   beyond = big;
 }
 
--- ---- by the part at which the collector stands
+-- ---- by the part at which the collector is
 
 -- the thread is at the posted stage, or lags by one and may
 abbrev pub AtPosted : law.Part → (posted stage t : ℕ) → Type 0
@@ -93,7 +93,7 @@ rise_late p k colour stage n above below c live = elim c [
   ]
 ]
 
--- marks in the sweep and behind it
+-- marks in the sweep and after it
 rise_clean : (p : law.Part) (k colour stage : ℕ) → stage ≡ 3 * k → colour ≡ suc (2 * k) → Rises p k colour (max colour (mark_at stage))
 rise_clean p k colour stage e black = inl (omega (arith, e, black))
 

@@ -49,7 +49,7 @@ not_grey_found s run S inv h cell colour found e is_grey =
     let k : cycle_of (posted_of (turns_of run)) ≡ S.cycle = cycle_in s run S inv h in
     test_false colour (grey (cycle_of (posted_of (turns_of run)))) e (sym (h.colour cell ∙ found) ∙ is_grey ∙ ap (λ n. 2 * n) (sym k))
 
--- a look out of turn leads to a state of the invariant
+-- a look out of turn leads to a state that satisfies the invariant
 pub out_safe : (s : Setup) (run : List Event) (p : Pass) (cell colour : ℕ) → word_after s run (Colour cell) ≡ colour → Safe s run (Passing p)
     → Safe s (ByCollector (ReadColour cell colour) ∷ run) (looked s (posted_of (turns_of run)) (out_of_turn p cell) cell colour)
 out_safe s run p cell colour found f = elim (yes_or_no (colour == grey (cycle_of (posted_of (turns_of run))))) [
@@ -177,7 +177,7 @@ hand_rises k colour live c = elim c [
   ]
 ]
 
--- the mark of the value in hand leads to a state of the invariant
+-- the mark of the value in hand leads to a state that satisfies the invariant
 pub shade_safe : (s : Setup) (run : List Event) (p : Pass) (value cell word colour : ℕ) → Safe s run (Shading value cell word p)
     → Safe s (ByCollector (MarkFound value colour) ∷ run) (Scanning cell word (shaded_too (posted_of (turns_of run)) p value colour))
 unfolding word_after

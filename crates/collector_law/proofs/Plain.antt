@@ -1,4 +1,4 @@
--- A plain store into a fresh cell keeps the invariant.
+-- A plain store into a fresh cell preserves the invariant.
 use Rattle.std.proofs.Common.{◌≡◌, ◌≢◌, ◌⊎◌, inl, inr, ℕ, suc, ◌+◌, ◌*◌, ◌<◌, refl, sym, ap, ◌∙◌, subst, arith}
 use Rattle.std.proofs.lemmas.Bool.{cases_eq}
 use Rattle.collector_law.specs.Invariant.{State, Phase, Ready, MarkingOld, MarkingNew, Writing, Answering, Part, Time, Early, Late, Clean, time_of, IsWhite, IsGrey, IsLive, IsLiveAt, IsGood, IsLoose, Differs, picture, IsUnderWay, HasMarked, IsBase, IsNullOrMarked, IsScanned, Stands, AtTime, IsInvariant}
@@ -15,7 +15,7 @@ after_plain s t x i v = record s {
   IsFresh = λ u c. s.IsFresh u c × (u ≡ t → v ≢ c);
 }
 
--- a thread that stands before its store holds the cell
+-- a thread that is before its store holds the cell
 base_of : (cycle_of : ℕ → ℕ) (IsSync : ℕ → Type 0) (s : State) (u x j now : ℕ) (p : Phase) → Differs p x j now → Stands cycle_of IsSync s u p → IsBase s u x
 base_of cycle_of IsSync s u x j now Ready d w = absurd d
 base_of cycle_of IsSync s u x j now (MarkingOld cell word old) d w = subst (λ z. IsBase s u z) d.0 w.0
@@ -33,7 +33,7 @@ scanned_grey s x i (Passing next met) way r = absurd r
 scanned_grey s x i (Sweeping next) way r = absurd r
 scanned_grey s x i (Clearing cell words) way r = absurd r
 
--- a store without a barrier into a fresh cell keeps the invariant
+-- a store without a barrier into a fresh cell preserves the invariant
 pub stored_plainly : (done : ℕ) (cycle_of claim_at : ℕ → ℕ) (IsSync : ℕ → Type 0) (s : State) (t x i v : ℕ) → ((st : ℕ) → st ≡ 3 * s.cycle → claim_at st ≡ suc (2 * s.cycle)) → ((st : ℕ) → st + 1 ≡ 3 * s.cycle → suc (claim_at st) ≡ 2 * s.cycle) → t < s.threads → s.phase t ≡ Ready → s.IsFresh t x → IsBase s t v → IsInvariant done cycle_of claim_at IsSync s → IsInvariant done cycle_of claim_at IsSync (after_plain s t x i v)
 stored_plainly done cycle_of claim_at IsSync s t x i v async sync lt ready fresh value inv = record {
   stages = record {
@@ -77,7 +77,7 @@ stored_plainly done cycle_of claim_at IsSync s t x i v async sync lt ready fresh
       | inr h ↦ f.1 (sym (inv.fresh.alone u t c (s.birth v) lu lt f.0 (subst (λ z. s.IsHeld t z (s.birth v)) is h))) is
     ]
 
-    -- nobody stands before a store to the cell
+    -- nobody is before a store to the cell
     nobody : (u j now : ℕ) → u < s.threads → Differs (s.phase u) x j now → ⊥
     nobody u j now lu d = elim (base_of cycle_of IsSync s u x j now (s.phase u) d (inv.stands u lu)) [
       | inl null ↦ (inv.live.held t x (s.birth x) lt held).0 null

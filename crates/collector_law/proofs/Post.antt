@@ -1,4 +1,4 @@
--- The posts of stages, the waits, and the end of a scan and of a pass keep the invariant.
+-- The posts of stages, the waits, and the end of a scan and of a pass preserve the invariant.
 use Rattle.std.proofs.Common.{◌≡◌, ◌≢◌, ◌⊎◌, inl, inr, ℕ, zero, suc, ◌+◌, ◌*◌, ◌<◌, ◌≤◌, true, false, List, refl, sym, ap, ◌∙◌, subst, arith}
 use Rattle.std.proofs.lemmas.Bool.{cases_eq, cases_lt}
 use Rattle.collector_law.specs.Invariant.{State, Phase, Ready, MarkingOld, MarkingNew, Writing, Answering, Resting, Waiting, Rooted, Passing, Scanning, Time, Early, Late, Clean, time_of, IsGrey, IsMarked, IsLive, IsLiveAt, hand_of, picture, MayLag, posted_at, IsUnderWay, IsColour, RootAt, IsScanned, Stands, AtTime, IsInvariant}
@@ -79,7 +79,7 @@ same_wait (suc zero) a b = (refl, λ k p x. x, λ k c x. x)
 same_wait (suc (suc zero)) a b = (refl, λ k p x. x, λ k c x. x)
 same_wait (suc (suc (suc n))) a b = (refl, λ k p x. x, λ k c x. x)
 
--- a look at a thread that has answered keeps the invariant
+-- a look at a thread that has answered preserves the invariant
 pub sees : (done : ℕ) (cycle_of claim_at : ℕ → ℕ) (IsSync : ℕ → Type 0) (s : State) (w t : ℕ) → s.part ≡ Waiting w t → (s.stage t ≡ s.posted) ⊎ (s.stage t ≡ done) → s.posted < done → IsInvariant done cycle_of claim_at IsSync s → IsInvariant done cycle_of claim_at IsSync (turned s (Waiting w (suc t)))
 sees done cycle_of claim_at IsSync s w t is seen big inv = turns done cycle_of claim_at IsSync s (Waiting w (suc t)) (record {
   posted = (same_wait w t (suc t)).1 s.cycle s.posted (subst (λ p. posted_at p s.cycle s.posted) is inv.stages.posted);
@@ -221,7 +221,7 @@ blackens done cycle_of claim_at IsSync s c i next async is all inv = record {
       | inr n ↦ omega (arith, off d n, m)
     ]
 
--- ---- posts: each thread was seen, so none lags, and none stands before an answer
+-- ---- posts: each thread was seen, so none lags, and none is before an answer
 pub none_answers : (done : ℕ) (cycle_of claim_at : ℕ → ℕ) (IsSync : ℕ → Type 0) (s : State) → ((t : ℕ) → t < s.threads → MayLag s.part t → ⊥) → IsInvariant done cycle_of claim_at IsSync s → (t p : ℕ) (marked : List ℕ) → t < s.threads → s.phase t ≡ Answering p marked → ⊥
 none_answers done cycle_of claim_at IsSync s seen inv t p marked lt e = elim (inv.stages.stages t lt) [
   | inl at ↦ omega (arith, (inv.stages.answers t p marked lt e).1, at)
@@ -238,7 +238,7 @@ none_answers done cycle_of claim_at IsSync s seen inv t p marked lt e = elim (in
 abbrev pub posted_sync2 : State → State
 posted_sync2 s = record s { part = Waiting 2 0; posted = suc s.posted }
 
--- the post of the second sync stage keeps the invariant
+-- the post of the second sync stage preserves the invariant
 pub posts_sync2 : (done : ℕ) (cycle_of claim_at : ℕ → ℕ) (IsSync : ℕ → Type 0) (s : State) → 3 * s.cycle < done → s.part ≡ Waiting 1 s.threads → IsInvariant done cycle_of claim_at IsSync s → IsInvariant done cycle_of claim_at IsSync (posted_sync2 s)
 posts_sync2 done cycle_of claim_at IsSync s big is inv = record {
   stages = record {
@@ -290,7 +290,7 @@ posts_sync2 done cycle_of claim_at IsSync s big is inv = record {
 abbrev pub posted_async : State → State
 posted_async s = record s { part = Waiting 3 0; posted = suc s.posted }
 
--- the post of the Async stage keeps the invariant
+-- the post of the Async stage preserves the invariant
 pub posts_async : (done : ℕ) (cycle_of claim_at : ℕ → ℕ) (IsSync : ℕ → Type 0) (s : State) → s.part ≡ Rooted → IsInvariant done cycle_of claim_at IsSync s → IsInvariant done cycle_of claim_at IsSync (posted_async s)
 posts_async done cycle_of claim_at IsSync s is inv = record {
   stages = record {
@@ -349,7 +349,7 @@ posts_async done cycle_of claim_at IsSync s is inv = record {
 abbrev pub posted_sync1 : State → State
 posted_sync1 s = record s { part = Waiting 1 0; posted = suc s.posted; cycle = suc s.cycle }
 
--- the post of the first sync stage, which begins a cycle, keeps the invariant
+-- the post of the first sync stage, which begins a cycle, preserves the invariant
 pub posts_sync1 : (done : ℕ) (cycle_of claim_at : ℕ → ℕ) (IsSync : ℕ → Type 0) (s : State) → 3 * s.cycle + 3 < done → ((st : ℕ) → st ≡ 3 * s.cycle → (cycle_of st ≡ s.cycle) × (IsSync st → ⊥)) → s.part ≡ Resting → IsInvariant done cycle_of claim_at IsSync s → IsInvariant done cycle_of claim_at IsSync (posted_sync1 s)
 posts_sync1 done cycle_of claim_at IsSync s big async is inv = record {
   stages = record {

@@ -1,4 +1,4 @@
--- A read of a reference word keeps the invariant.
+-- A read of a reference word preserves the invariant.
 use Rattle.std.proofs.Common.{◌≡◌, ◌≢◌, ◌⊎◌, inl, inr, ℕ, suc, ◌<◌, List, refl, sym, ap, ◌∙◌, subst}
 use Rattle.collector_law.specs.Invariant.{State, Phase, Ready, Answering, Time, Early, Late, Clean, time_of, IsLive, Differs, picture, OldIsNot, HasMarked, IsBase, Stands, AtTime, IsInvariant}
 use Rattle.collector_law.proofs.Trace.{quiet}
@@ -22,7 +22,7 @@ pub record IsReading (done : ℕ) (cycle_of : ℕ → ℕ) (IsSync : ℕ → Typ
   pub ready : (u : ℕ) → u < s.threads → s.stage u ≡ done → g u ≡ Ready
   pub stands : (u : ℕ) → u < s.threads → Stands cycle_of IsSync (after_read s t x i g) u (g u)
 
--- a read keeps the invariant
+-- a read preserves the invariant
 pub reads : (done : ℕ) (cycle_of claim_at : ℕ → ℕ) (IsSync : ℕ → Type 0) (s : State) (t x i : ℕ) (g : ℕ → Phase) → t < s.threads → IsReading done cycle_of IsSync s t x i g → IsInvariant done cycle_of claim_at IsSync s → IsInvariant done cycle_of claim_at IsSync (after_read s t x i g)
 reads done cycle_of claim_at IsSync s t x i g lt w inv = record {
   stages = record {

@@ -86,7 +86,7 @@ record IsRead (s : Setup) (run : List Event) (t : ℕ) (step : Step) (x i : ℕ)
   pub gives : Gives s run t step x i
   pub fresh : (u c : ℕ) → Fresh s (log_of u (ByThread t step ∷ run)) c → Fresh s (log_of u run) c
 
--- the state behind a read shows the run
+-- the state after a read shows the run
 read_shows : (s : Setup) (run : List Event) (S : law.State) (t : ℕ) (step : Step) (x i : ℕ) (g : ℕ → law.Phase) → IsRead s run t step x i
     → ((u : ℕ) → g u ≡ flat (phase_of s u (log_of u (ByThread t step ∷ run)))) → Shows s run S → Shows s (ByThread t step ∷ run) (after_read S t x i g)
 read_shows s run S t step x i g w phase h = record {
@@ -137,7 +137,7 @@ is_read_old s run t cell word value m e = record {
 
 -- ---- the invariant
 
--- a read leads to a state of the invariant
+-- a read leads to a state that satisfies the invariant
 pub read_safe : (s : Setup) (run : List Event) (c : Collection) (t cell word value : ℕ) → IsRun s run → MayHappen s run (ByThread t (ReadWord cell word value))
     → IsDisciplined s (log_of t run) (ReadWord cell word value) → Safe s run c → Safe s (ByThread t (ReadWord cell word value) ∷ run) c
 read_safe s run c t cell word value r m d f = go (is_reference_kind (kind_of s cell word)) refl

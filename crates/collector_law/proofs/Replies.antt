@@ -42,7 +42,7 @@ poll_idle s run t p m e = record {
   phase = ap flat (poll_ready s (stage_of (log_of t run)) (phase_of s t (log_of t run)) p m.1) ∙ rw e refl;
 }
 
--- the state in which the thread stands before its answer shows the run
+-- the state in which the thread is before its answer shows the run
 poll_shows : (s : Setup) (run : List Event) (S : law.State) → Shows s run S → (t p : ℕ) → MayFollow s (stage_of (log_of t run)) (phase_of s t (log_of t run)) (ReadPosted p) → (p == stage_of (log_of t run)) ≡ false
     → Shows s (ByThread t (ReadPosted p) ∷ run) (shaded S S.colour (put S.phase t (law.Answering p [])))
 unfolding word_after births_after
@@ -61,7 +61,7 @@ poll_shows s run S h t p f e = record {
   fresh = fresh_kept s run S t (ReadPosted p) (λ c. refl) h;
 }
 
--- a read of the posted stage leads to a state of the invariant
+-- a read of the posted stage leads to a state that satisfies the invariant
 pub poll_safe : (s : Setup) (run : List Event) (c : Collection) (t p : ℕ) → IsRun s run → MayHappen s run (ByThread t (ReadPosted p)) → Safe s run c → Safe s (ByThread t (ReadPosted p) ∷ run) c
 poll_safe s run c t p r m f = go (p == stage_of (log_of t run)) refl
   where
@@ -151,7 +151,7 @@ among_reversed c (y ∷ marked) a = elim (among_end c y (reverse marked) (subst 
 abbrev IsRoot : List ℕ → ℕ → Type 0
 IsRoot roots c = (c ≢ 0) × IsAmong c roots
 
--- behind an answer the thread is between two calls
+-- after an answer the thread is between two calls
 answer_ready : (s : Setup) (stage : ℕ) (phase : Phase) (p : ℕ) (roots : List ℕ) → flat (phase_after s stage phase (StoreStage p roots)) ≡ law.Ready
 answer_ready s stage Leaving p roots = refl
 answer_ready s stage _ p roots = go (p == done)
@@ -160,7 +160,7 @@ answer_ready s stage _ p roots = go (p == done)
     go true = refl
     go false = refl
 
--- the state behind an answer shows the run
+-- the state after an answer shows the run
 answer_shows : (s : Setup) (run : List Event) (S : law.State) → IsInvariant S → Shows s run S → (t p : ℕ) (roots : List ℕ) → t < S.threads → p ≡ seen (phase_after s (stage_of (log_of t run)) (phase_of s t (log_of t run)) (StoreStage p roots)) p
     → Shows s (ByThread t (StoreStage p roots) ∷ run) (after_answer S t p (IsRoot roots))
 unfolding word_after births_after
@@ -190,7 +190,7 @@ answer_shows s run S inv h t p roots lt own = record {
   ];
 }
 
--- an answer leads to a state of the invariant
+-- an answer leads to a state that satisfies the invariant
 pub answer_safe : (s : Setup) (run : List Event) (c : Collection) (t p : ℕ) (roots : List ℕ) → IsRun s run → MayHappen s run (ByThread t (StoreStage p roots)) → Safe s run c → Safe s (ByThread t (StoreStage p roots) ∷ run) c
 answer_safe s run c t p roots r m f = go (phase_of s t (log_of t run)) refl m.1
   where
@@ -273,7 +273,7 @@ late_idle s run t step l f e = go step l f e
     go (ReadPostedAgain p) l f e = record { gains = λ c. refl; wins = λ c. refl; stage = seen_kept s t (ReadPostedAgain p) run e; colour = λ c. refl; word = λ c i r. refl; tag = λ c i r. refl; birth = λ c. refl; phase = let q = late_ready s (stage_of (log_of t run)) (phase_of s t (log_of t run)) (ReadPostedAgain p) l f in q.0 ∙ sym q.1 }
     go _ l f e = absurd l
 
--- the first look of a late thread leads to a state of the invariant
+-- the first look of a late thread leads to a state that satisfies the invariant
 pub arrive_safe : (s : Setup) (run : List Event) (c : Collection) (t p : ℕ) → MayHappen s run (ByThread t (ReadPostedFirst p)) → Safe s run c → Safe s (ByThread t (ReadPostedFirst p) ∷ run) c
 arrive_safe s run c t p m f = record { state = f.state; inv = f.inv; shows = idle s run f.state t (ReadPostedFirst p) (late_idle s run t (ReadPostedFirst p) tt m.1 (over (phase_of s t (log_of t run)) m.1)) f.shows; at = f.at }
   where
@@ -289,7 +289,7 @@ enter_safe s run c t p m f = record { state = f.state; inv = f.inv; shows = idle
     over (Arriving r) n = refl
     over _ n = absurd n
 
--- it looks again behind that store
+-- it looks again after that store
 entering : (s : Setup) (stage : ℕ) (q : Phase) (p : ℕ) → MayFollow s stage q (ReadPostedAgain p) → q ≡ Entering
 entering s stage Entering p n = refl
 entering s stage _ p n = absurd n
@@ -322,7 +322,7 @@ begin_shows s run S inv h t p lt ended at same = record {
     own : p ≡ seen (phase_of s t (ReadPostedAgain p ∷ log_of t run)) (stage_of (ReadPostedAgain p ∷ log_of t run))
     own = rw same (test_true p (stage_of (log_of t run)) same)
 
--- the second look of a late thread leads to a state of the invariant
+-- the second look of a late thread leads to a state that satisfies the invariant
 pub confirm_safe : (s : Setup) (run : List Event) (c : Collection) (t p : ℕ) → IsRun s run → MayHappen s run (ByThread t (ReadPostedAgain p)) → Safe s run c → Safe s (ByThread t (ReadPostedAgain p) ∷ run) c
 confirm_safe s run c t p r m f = go (p == stage_of (log_of t run)) refl
   where

@@ -1,4 +1,4 @@
--- The marking of the globals' cell keeps the invariant: here the trace's law begins to hold.
+-- The marking of the globals' cell preserves the invariant: here the trace's law begins to hold.
 use Rattle.std.proofs.Common.{◌≡◌, ◌≢◌, ◌⊎◌, inl, inr, ℕ, ◌+◌, ◌*◌, ◌<◌, ◌≤◌, refl, sym, ap, ◌∙◌, subst, arith}
 use Rattle.std.proofs.lemmas.Bool.{cases_eq}
 use Rattle.collector_law.specs.Invariant.{State, Waiting, Rooted, Early, time_of, IsBlack, IsMarked, IsLive, IsLiveAt, Differs, picture, MayLag, posted_at, IsColour, RootAt, LooseIsMarked, AtTime, IsInvariant}
@@ -10,7 +10,7 @@ use Rattle.collector_law.proofs.Claim.{stands-grow}
 abbrev pub rooted : State → State
 rooted s = record s { part = Rooted; colour = put s.colour 0 (2 * s.cycle) }
 
--- the mark of the globals' cell begins the law of the trace, and keeps the invariant
+-- the mark of the globals' cell begins the law of the trace, and preserves the invariant
 pub marks_root : (done : ℕ) (cycle_of claim_at : ℕ → ℕ) (IsSync : ℕ → Type 0) (s : State) → 3 * s.cycle < done → s.part ≡ Waiting 2 s.threads → IsInvariant done cycle_of claim_at IsSync s → IsInvariant done cycle_of claim_at IsSync (rooted s)
 marks_root done cycle_of claim_at IsSync s big is inv = record {
   stages = record {

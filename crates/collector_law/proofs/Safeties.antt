@@ -1,4 +1,4 @@
--- What follows of kept cells, of touches and of answers.
+-- What follows for kept cells, for touches and for answers to handshakes.
 use Rattle.std.proofs.Common.{◌≡◌, ◌≢◌, inl, inr, ℕ, zero, suc, ◌+◌, ◌*◌, ◌<◌, ◌==◌, ◌&&◌, Bool, true, false, Option, Some, None, List, [], ◌∷◌, refl, sym, ap, ◌∙◌, subst, if◌then◌else◌, arith}
 use Rattle.lemmas.specs.Numbers.{test_true, test_yes}
 use Rattle.lemmas.specs.Bools.{and_parts}
@@ -44,7 +44,7 @@ root_birth s (ByThread t step ∷ run) r = step_birth step r.1 (root_birth s run
     step_birth _ m e = e
 root_birth s (ByCollector turn ∷ run) r = root_birth s run r.0
 
--- what is kept behind the run is kept in the state
+-- what is kept after the run is kept in the state
 kept_in : (s : Setup) (run : List Event) (S : law.State) → IsRun s run → Shows s run S → {c b : ℕ} → Kept s run c b → heap.IsKept S c b
 kept_in s run S r h globals = subst (λ b. heap.IsKept S 0 b) (h.birth 0 ∙ root_birth s run r) heap.Global
 kept_in s run S r h (held t c x) = heap.Held t c ((births_after s run).with_thread t c) (subst (λ (n : ℕ). t < n) (sym h.threads) (holder s run r t c x)) (h.held t c x)
@@ -126,7 +126,7 @@ answers_possible s run t step h = go step h.run_of.1 h.discipline.1
 
 -- ---- the trace
 
--- where the collector stands behind the trace, the state's time is that of the sweep or behind it
+-- where the collector is past the trace, the state's time is that of the sweep or after it
 clean : (s : Setup) (c : Collection) (p : law.Part) (k posted : ℕ) → law.posted_at p k posted → IsAt s c p → IsClean posted c → law.time_of p ≡ law.Clean
 clean s Posting p k posted at (inl e) n = ap law.time_of e
 clean s Posting p k posted at (inr (inl e)) n =
@@ -139,7 +139,7 @@ clean s (Sweeping cell) p k posted at e n = ap law.time_of e.0
 clean s (Clearing cell word) p k posted at e n = ap law.time_of e
 clean s _ p k posted at e n = absurd n
 
--- behind the trace what is kept is black
+-- after the trace what is kept is black
 pub kept_black : (s : Setup) (run : List Event) → IsHeapRun s run → IsPastTrace s run → (c b : ℕ) → Kept s run c b → word_after s run (Colour c) ≡ black (cycle_of (posted_of (turns_of run)))
 kept_black s run h past c b k =
     let f = safe s run h.setup h.run_of h.discipline past.0 past.1 in
@@ -151,6 +151,6 @@ kept_black s run h past c b k =
 
 -- ---- words
 
--- behind each run of the heap each word fits its kind
+-- after each run of the heap each word fits its kind
 pub words_fit : (s : Setup) (run : List Event) → IsHeapRun s run → EachWordFits s run
 words_fit s run h cell word = fits s run h.setup h.run_of h.discipline cell word

@@ -1,4 +1,4 @@
--- A thread's mark keeps the invariant.
+-- A thread's mark preserves the invariant.
 use Rattle.std.proofs.Common.{◌≡◌, ◌≢◌, ◌⊎◌, inl, inr, ℕ, zero, suc, ◌*◌, ◌<◌, ◌≤◌, Bool, true, false, List, refl, sym, ap, ◌∙◌, subst, ◌==◌, arith}
 use Rattle.std.proofs.lemmas.Bool.{cases_eq, eqb-true, eq-eqb, ne_eqb, both_ways}
 use Rattle.collector_law.specs.Picture.{IsSpared}
@@ -77,7 +77,7 @@ grey_fits (Scanning cell words hand) k n = inr (inr (inl refl))
 grey_fits (Sweeping next) k n = absurd (n refl)
 grey_fits (Clearing cell words) k n = absurd (n refl)
 
--- marks keep the invariant
+-- marks preserve the invariant
 pub shades : (done : ℕ) (cycle_of claim_at : ℕ → ℕ) (IsSync : ℕ → Type 0) (s : State) (f : ℕ → ℕ) (g : ℕ → Phase) → IsShading done cycle_of IsSync s f g → IsInvariant done cycle_of claim_at IsSync s → IsInvariant done cycle_of claim_at IsSync (shaded s f g)
 shades done cycle_of claim_at IsSync s f g w inv = record {
   stages = record {

@@ -50,7 +50,7 @@ pair_off x i c j n = go (x == c) (i == j) refl refl
     go true false e f = refl
     go false b e f = refl
 
--- a word behind the store, and its birth
+-- a word after the store, and its birth
 pub word_put : (s : Setup) (run : List Event) (S : law.State) → Shows s run S → (x i v c j : ℕ) → is_reference_kind (kind_of s c j) ≡ true
     → put_word S.word x i v c j ≡ (if (x == c) && (i == j) then v else word_after s run (Word c j))
 word_put s run S h x i v c j r = elim (here_or_not x i c j) [
@@ -68,7 +68,7 @@ no_word_put s run S h x i v c j r n = elim (here_or_not x i c j) [
     differ : (b : Bool) → b ≡ false → b ≡ true → ⊥
     differ b e f = cc
 
--- the state's births in words are those behind the store
+-- the state's births in words are those after the store
 tag_put : (s : Setup) (run : List Event) (S : law.State) → IsInvariant S → Shows s run S → (t : ℕ) → t < S.threads → (x i v c j : ℕ) → ((v ≡ 0) ⊎ Held s (log_of t run) v) → is_reference_kind (kind_of s c j) ≡ true
     → put_word S.word x i v c j ≢ 0 → put_word S.tag x i (S.birth v) c j ≡ (if (x == c) && (i == j) then (births_after s run).with_thread t v else (births_after s run).in_word c j)
 tag_put s run S inv h t lt x i v c j held r n = elim (here_or_not x i c j) [
@@ -88,7 +88,7 @@ null_or_held s log (Some (Reference layout)) v e (inr x) = inr x.0
 
 -- ---- after the barrier
 
--- the state behind a barriered store shows the run
+-- the state after a barriered store shows the run
 write_shows : (s : Setup) (run : List Event) (S : law.State) → IsInvariant S → Shows s run S → (t x i v : ℕ) → t < S.threads → is_reference_kind (kind_of s x i) ≡ true → ((v ≡ 0) ⊎ Held s (log_of t run) v)
     → MayFollow s (stage_of (log_of t run)) (phase_of s t (log_of t run)) (StoreBehindBarrier x i v) → Shows s (ByThread t (StoreBehindBarrier x i v) ∷ run) (after_store S t x i v)
 unfolding word_after births_after
@@ -115,7 +115,7 @@ write_shows s run S inv h t x i v lt ref held f = record {
     off true false e f g = cc
     off false r e f g = cc
 
--- a store behind the barrier leads to a state of the invariant
+-- a barriered store leads to a state that satisfies the invariant
 pub write_safe : (s : Setup) (run : List Event) (c : Collection) (t x i v : ℕ) → IsRun s run → MayHappen s run (ByThread t (StoreBehindBarrier x i v))
     → IsDisciplined s (log_of t run) (StoreBehindBarrier x i v) → Safe s run c → Safe s (ByThread t (StoreBehindBarrier x i v) ∷ run) c
 write_safe s run c t x i v r m d f = go (phase_of s t (log_of t run)) refl m.1
@@ -189,7 +189,7 @@ plain_ready : (s : Setup) (stage : ℕ) (phase : Phase) (x i v : ℕ) → MayFol
 plain_ready s stage Ready x i v m = refl
 plain_ready s stage _ x i v m = absurd m
 
--- the state behind a plain store of a reference shows the run
+-- the state after a plain store of a reference shows the run
 plain_shows : (s : Setup) (run : List Event) (S : law.State) → IsInvariant S → Shows s run S → (t x i v : ℕ) → t < S.threads → is_reference_kind (kind_of s x i) ≡ true → ((v ≡ 0) ⊎ Held s (log_of t run) v)
     → phase_of s t (log_of t run) ≡ Ready → Shows s (ByThread t (StorePlain x i v) ∷ run) (after_plain S t x i v)
 unfolding word_after births_after
@@ -236,7 +236,7 @@ plain_integer s run t x i v m e = record {
     off : (c j : ℕ) → is_reference_kind (kind_of s c j) ≡ true → ((x == c) && (i == j)) ≡ false
     off c j r = pair_off x i c j (λ z. differ (is_reference_kind (kind_of s x i)) e (subst (λ y. is_reference_kind (kind_of s y i) ≡ true) z.0 (subst (λ y. is_reference_kind (kind_of s c y) ≡ true) z.1 r)))
 
--- a plain store leads to a state of the invariant
+-- a plain store leads to a state that satisfies the invariant
 pub plain_safe : (s : Setup) (run : List Event) (c : Collection) (t x i v : ℕ) → IsRun s run → MayHappen s run (ByThread t (StorePlain x i v))
     → IsDisciplined s (log_of t run) (StorePlain x i v) → Safe s run c → Safe s (ByThread t (StorePlain x i v) ∷ run) c
 plain_safe s run c t x i v r m d f = go (is_reference_kind (kind_of s x i)) refl

@@ -1,4 +1,4 @@
--- The steps of the sweep keep the invariant.
+-- The steps of the sweep preserve the invariant.
 use Rattle.std.proofs.Common.{◌≡◌, inl, inr, ℕ, suc, ◌*◌, ◌<◌, ◌≤◌, refl, sym, ap, ◌∙◌, subst, arith}
 use Rattle.std.proofs.lemmas.Bool.{cases_eq, cases_lt}
 use Rattle.collector_law.specs.Invariant.{State, Resting, Sweeping, Clearing, Clean, time_of, IsWhite, IsBlack, IsMarked, IsLive, IsLiveAt, IsGood, MayLag, posted_at, IsUnderWay, IsColour, RootAt, IsInvariant}
@@ -64,7 +64,7 @@ rests done cycle_of claim_at IsSync s c is last inv = turns done cycle_of claim_
 abbrev pub cleared : State → (c i : ℕ) → State
 cleared s c i = record s { part = Clearing c (suc i); word = put_word s.word c i 0 }
 
--- the clearing of a word keeps the invariant
+-- the clearing of a word preserves the invariant
 pub clears : (done : ℕ) (cycle_of claim_at : ℕ → ℕ) (IsSync : ℕ → Type 0) (s : State) (c i : ℕ) → s.part ≡ Clearing c i → IsInvariant done cycle_of claim_at IsSync s → IsInvariant done cycle_of claim_at IsSync (cleared s c i)
 clears done cycle_of claim_at IsSync s c i is inv = record {
   stages = record {
@@ -130,7 +130,7 @@ clears done cycle_of claim_at IsSync s c i is inv = record {
 abbrev pub freed : State → (c : ℕ) → State
 freed s c = record s { part = Sweeping (suc c); colour = put s.colour c 0 }
 
--- the freeing of a cell keeps the invariant
+-- the freeing of a cell preserves the invariant
 pub frees : (done : ℕ) (cycle_of claim_at : ℕ → ℕ) (IsSync : ℕ → Type 0) (s : State) (c i : ℕ) → s.part ≡ Clearing c i → ((j : ℕ) → i ≤ j → s.word c j ≡ 0) → IsInvariant done cycle_of claim_at IsSync s → IsInvariant done cycle_of claim_at IsSync (freed s c)
 frees done cycle_of claim_at IsSync s c i is all inv = record {
   stages = record {

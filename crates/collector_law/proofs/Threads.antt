@@ -38,7 +38,7 @@ base_in s run S inv h t c lt (inr x) = inr (held_in s run S inv h t c lt x).1
 
 -- ---- phases
 
--- the phases behind a step, where the thread's changes
+-- the phases after a step, where the thread's changes
 pub phase_put : (s : Setup) (run : List Event) (S : law.State) → Shows s run S → (t : ℕ) (step : Step) (q : law.Phase)
     → q ≡ flat (phase_after s (stage_of (log_of t run)) (phase_of s t (log_of t run)) step)
     → (u : ℕ) → put S.phase t q u ≡ flat (phase_of s u (log_of u (ByThread t step ∷ run)))
@@ -58,7 +58,7 @@ phase_kept s run S h t step e u = elim (cases_eq u t) [
 
 -- ---- what is held and fresh, where the step gives nothing
 
--- a step that gives nothing leaves what is held
+-- where a step gives nothing, what is held after it was held before
 pub held_kept : (s : Setup) (run : List Event) (S : law.State) (t : ℕ) (step : Step) → ((c : ℕ) → gains s step c ≡ false) → Shows s run S
     → (u c : ℕ) → Held s (log_of u (ByThread t step ∷ run)) c → S.IsHeld u c ((births_after s (ByThread t step ∷ run)).with_thread u c)
 held_kept s run S t step none h u c x = elim (held_by s t step run u c x) [
@@ -69,7 +69,7 @@ held_kept s run S t step none h u c x = elim (held_by s t step run u c x) [
     differ : (b : Bool) → b ≡ false → b ≡ true → ⊥
     differ b e f = cc
 
--- a step that wins nothing leaves what is fresh
+-- where a step wins nothing, what is fresh after it was fresh before
 pub fresh_kept : (s : Setup) (run : List Event) (S : law.State) (t : ℕ) (step : Step) → ((c : ℕ) → wins step c ≡ false) → Shows s run S
     → (u c : ℕ) → Fresh s (log_of u (ByThread t step ∷ run)) c → S.IsFresh u c
 fresh_kept s run S t step none h u c x = elim (fresh_by s t step run u c x) [
@@ -80,7 +80,7 @@ fresh_kept s run S t step none h u c x = elim (fresh_by s t step run u c x) [
     differ : (b : Bool) → b ≡ false → b ≡ true → ⊥
     differ b e f = cc
 
--- ---- steps that change nothing that the invariant speaks of
+-- ---- steps that change nothing that the invariant is about
 
 -- the step changes neither a stage nor a word nor what is held
 pub record IsIdle (s : Setup) (run : List Event) (t : ℕ) (step : Step) : Type 0 where

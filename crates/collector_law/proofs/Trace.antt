@@ -1,4 +1,4 @@
--- Each step of the threads and of the collector keeps the trace's law.
+-- Each step of the threads and of the collector preserves the trace's law.
 use Rattle.std.proofs.Common.{◌≡◌, ◌≢◌, ◌⊎◌, inl, inr, ℕ, Bool, true, false, refl, sym, ap, ◌∙◌, subst, ◌&&◌, ◌||◌, ◌==◌, not}
 use Rattle.std.proofs.lemmas.Bool.{cases_eq, false_from_ne_true, both_ways, or_parts, or_cases, or_from, and_parts, and_cases, and_left, and_right, eqb-true, eq-eqb, ne_eqb}
 use Rattle.collector_law.proofs.Puts.{here_or_not}
@@ -19,11 +19,11 @@ begins p unread unheld loose W u = record {
   loose = λ x i l. outside p W u (p.word x i) (loose x i l);
 }
 
--- ---- the trace ends: the white cells are unsupported. So no held cell is white, and no word of a cell that is not white leads to one
+-- ---- the trace ends: the white cells are unsupported. So no held cell is white, and no word of a cell that is not white points to one
 pub ends : (p : Picture) (W : ℕ → Bool) → ((c : ℕ) → W c ≡ true → p.IsWhite c) → W p.hand ≡ false → ((x i : ℕ) → W x ≡ false → p.IsRead x i ⊎ (W (p.word x i) ≡ false)) → IsSafe p → IsSpared p W
 ends p W white hand edge safe = safe W (record { white = white; hand = hand; edge = λ x i o. elim (edge x i o) [ inl r ↦ inl r | inr e ↦ inr (inl e) ] })
 
--- ---- steps that change no word: reads, marks, answers, and the collector's
+-- ---- steps that change no word: reads, marks, handshake answers, and the collector's
 pub record IsQuiet (p q : Picture) : Type 0 where
   pub white : (c : ℕ) → q.IsWhite c → p.IsWhite c
   pub hand : (W : ℕ → Bool) → IsUnsupported q W → W p.hand ≡ false
@@ -33,7 +33,7 @@ pub record IsQuiet (p q : Picture) : Type 0 where
   -- what is newly held is marked, or was read from a cell that is held or marked
   pub held : (c : ℕ) → q.IsHeld c → p.IsHeld c ⊎ ((q.IsWhite c → ⊥) ⊎ ((x : ℕ) × (i : ℕ) × (p.IsHeld x ⊎ (q.IsWhite x → ⊥)) × (c ≡ p.word x i)))
 
--- a step that changes no word keeps the law
+-- a step that changes no word preserves the law
 pub quiet : (p q : Picture) → IsQuiet p q → IsSafe p → IsSafe q
 quiet p q s safe W u = record {
   held = λ c h. elim (s.held c h) [
@@ -60,7 +60,7 @@ quiet p q s safe W u = record {
     spared : IsSpared p W
     spared = safe W before
 
--- ---- a store behind the barrier
+-- ---- a barriered store
 pub record IsStore (p q : Picture) (x i new : ℕ) : Type 0 where
   pub white : (c : ℕ) → q.IsWhite c → p.IsWhite c
   pub hand : q.hand ≡ p.hand
@@ -174,7 +174,7 @@ with_one-on : (W : ℕ → Bool) (c d : ℕ) → with_one W c d ≡ true → (W 
 unfolding with_one
 with_one-on W c d e = elim (or_cases (W d) (d == c) e) [ inl w ↦ inl w | inr m ↦ inr (eqb-true d c m) ]
 
--- a claim keeps the law
+-- a claim preserves the law
 pub claim : (p q : Picture) (c : ℕ) → IsClaim p q c → IsSafe p → IsSafe q
 claim p q c s safe W u = record {
   held = λ d h. elim (s.held d h) [
@@ -214,7 +214,7 @@ pub record IsPlainStore (p q : Picture) (c : ℕ) : Type 0 where
   pub unnamed : (x i : ℕ) → p.word x i ≢ c
   pub held : (d : ℕ) → q.IsHeld d → p.IsHeld d
 
--- a store into a fresh white cell keeps the law
+-- a store into a fresh white cell preserves the law
 pub plain_store : (p q : Picture) (c : ℕ) → IsPlainStore p q c → IsSafe p → IsSafe q
 plain_store p q c s safe W u = record {
   held = λ d h. (with_one-parts W c d (spared.held d (s.held d h))).0;

@@ -1,4 +1,4 @@
--- The collector's steps that change no word and no colour keep the invariant.
+-- The collector's steps that change no word and no colour preserve the invariant.
 use Rattle.std.proofs.Common.{◌≡◌, ◌≢◌, ◌⊎◌, inl, inr, ℕ, suc, ◌<◌, ◌≤◌, Bool, true, false, refl, sym, ap, subst, arith}
 use Rattle.std.proofs.lemmas.Bool.{cases_eq, cases_lt}
 use Rattle.collector_law.specs.Picture.{Picture}
@@ -6,11 +6,11 @@ use Rattle.collector_law.specs.Invariant.{State, Part, Passing, Scanning, Late, 
 use Rattle.collector_law.proofs.Trace.{quiet, outside}
 use Rattle.collector_law.proofs.Write.{not_white}
 
--- the collector stands elsewhere
+-- the collector is elsewhere
 abbrev pub turned : State → Part → State
 turned s p = record s { part = p }
 
--- the collector may stand there
+-- the collector may be there
 pub record IsTurn (done : ℕ) (s : State) (p : Part) : Type 0 where
   pub posted : posted_at p s.cycle s.posted
   pub lag : (t : ℕ) → t < s.threads → suc (s.stage t) ≡ s.posted → MayLag s.part t → MayLag p t
@@ -20,7 +20,7 @@ pub record IsTurn (done : ℕ) (s : State) (p : Part) : Type 0 where
   pub hand : (t c : ℕ) → t < s.threads → s.IsFresh t c → hand_of p ≢ c
   pub law : AtTime s (time_of s.part) → AtTime (turned s p) (time_of p)
 
--- a move of the collector alone keeps the invariant
+-- a move of the collector alone preserves the invariant
 pub turns : (done : ℕ) (cycle_of claim_at : ℕ → ℕ) (IsSync : ℕ → Type 0) (s : State) (p : Part) → IsTurn done s p → IsInvariant done cycle_of claim_at IsSync s → IsInvariant done cycle_of claim_at IsSync (turned s p)
 turns done cycle_of claim_at IsSync s p w inv = record {
   stages = record {
@@ -104,7 +104,7 @@ scans done cycle_of claim_at IsSync s c i is inv = turns done cycle_of claim_at 
     last : (j : ℕ) → i ≤ j → j < suc i → i ≡ j
     last j above below = omega (arith, above, below)
 
--- ---- the hand is empty again, behind the mark of what was in it
+-- ---- the hand is empty again, after the mark of what was in it
 pub drops : (done : ℕ) (cycle_of claim_at : ℕ → ℕ) (IsSync : ℕ → Type 0) (s : State) (c i h : ℕ) → s.part ≡ Scanning c i h → IsMarked s h → IsInvariant done cycle_of claim_at IsSync s → IsInvariant done cycle_of claim_at IsSync (turned s (Scanning c i 0))
 drops done cycle_of claim_at IsSync s c i h is marked inv = turns done cycle_of claim_at IsSync s (Scanning c i 0) (record {
   posted = subst (λ p. posted_at p s.cycle s.posted) is inv.stages.posted;

@@ -61,7 +61,7 @@ turn_fits s run (ClearWord cell word) c i h = go ((cell == c) && (word == i))
     go false = h
 turn_fits s run _ c i h = h
 
--- behind each run each word fits its kind
+-- after each run each word fits its kind
 pub fits : (s : Setup) (run : List Event) → IsSetup s → IsRun s run → KeepsDiscipline s run → (c i : ℕ) → FitsKind s (kind_of s c i) (word_after s run (Word c i))
 unfolding word_after
 fits s [] h r d zero i = at_start s (kind_of s 0 i) (slice_index s.values i) (h i)

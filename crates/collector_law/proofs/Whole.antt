@@ -1,4 +1,4 @@
--- Each run leads to a state of the invariant.
+-- Each run leads to a state that satisfies the invariant.
 use Rattle.std.proofs.Common.{◌≡◌, ◌⊎◌, inl, inr, ℕ, zero, suc, slice_index, Bool, true, false, Option, Some, None, List, [], ◌∷◌, refl, sym, ap, ◌∙◌, subst, if◌then◌else◌, arith}
 use Rattle.colours.specs.declared.place.Place.TheVariants.{Colour, Word}
 use Rattle.pools.specs.Heap.{Setup, is_late, IsSetup, IsStartOf, cells, kind_of}
@@ -25,7 +25,7 @@ use Rattle.collector_law.proofs.Replies.{poll_safe, answer_safe, arrive_safe, en
 use Rattle.collector_law.proofs.Handshakes.{post_safe, check_safe, root_safe}
 use Rattle.collector_law.proofs.Passes.{out_safe, in_safe, scan_safe, blacken_safe, shade_safe, sweep_safe, clear_safe, free_safe}
 
--- each step of a thread leads to a state of the invariant
+-- each step of a thread leads to a state that satisfies the invariant
 thread_safe : (s : Setup) (run : List Event) (c : Collection) (t : ℕ) (step : Step) → IsRun s run → MayHappen s run (ByThread t step) → IsDisciplined s (log_of t run) step → Safe s run c → Safe s (ByThread t step ∷ run) c
 thread_safe s run c t (ReadWord cell word value) r m d f = read_safe s run c t cell word value r m d f
 thread_safe s run c t (ReadOldValue cell word value) r m d f = read_old_safe s run c t cell word value r m d f
@@ -123,7 +123,7 @@ start_shows s h = record {
     word zero i e = null (kind_of s 0 i) (slice_index s.values i) e (h i)
     word (suc c) i e = refl
 
--- each run leads to a state of the invariant, wherever the collector may stand
+-- each run leads to a state that satisfies the invariant, wherever the collector may be
 pub safe : (s : Setup) (run : List Event) → IsSetup s → IsRun s run → KeepsDiscipline s run → (c : Collection) → Collects s (turns_of run) c → Safe s run c
 safe s [] h r d c col = record {
   state = start s.threads (cells s) (start_stage s);
@@ -134,7 +134,7 @@ safe s [] h r d c col = record {
 safe s (ByThread t step ∷ run) h r d c col = thread_safe s run c t step r.0 r.1 d.1 (safe s run h r.0 d.0 c col)
 safe s (ByCollector turn ∷ run) h r d c col = turn_safe s run col.0 turn c r.0 r.1.1 col.2 (safe s run h r.0 d col.0 col.1)
 
--- behind each run the collector stands somewhere
+-- after each run the collector is somewhere
 pub collected : (s : Setup) (run : List Event) → IsRun s run → (c : Collection) × Collects s (turns_of run) c
 collected s [] r = (Posting, refl)
 collected s (ByThread t step ∷ run) r = collected s run r.0

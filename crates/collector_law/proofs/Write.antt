@@ -1,4 +1,4 @@
--- A store behind the barrier keeps the invariant.
+-- A barriered store preserves the invariant.
 use Rattle.std.proofs.Common.{◌≡◌, ◌≢◌, ◌⊎◌, inl, inr, ℕ, zero, suc, ◌+◌, ◌*◌, ◌<◌, ◌≤◌, true, false, List, refl, sym, ap, ◌∙◌, subst, arith}
 use Rattle.std.proofs.lemmas.Bool.{cases_eq}
 use Rattle.collector_law.specs.Invariant.{State, Phase, Ready, Answering, Part, Resting, Waiting, Rooted, Passing, Scanning, Sweeping, Clearing, Time, Early, Late, Clean, time_of, IsWhite, IsLive, IsLiveAt, IsGood, IsLoose, Differs, picture, MayLag, posted_at, AreInStep, IsUnderWay, AreLive, AreFresh, OldIsNot, HasMarked, RootAt, IsBase, IsNullOrMarked, IsInCycle, Stands, AtTime, IsInvariant}
@@ -56,7 +56,7 @@ late_by (Scanning cell words hand) k posted stage t late is at = elim at [ inl e
 late_by (Sweeping next) k posted stage t late is at = cc
 late_by (Clearing cell words) k posted stage t late is at = cc
 
--- where another thread stands at Sync2 before the trace, a busy one is at Sync1 or Sync2
+-- where another thread is at Sync2 before the trace, a busy one is at Sync1 or Sync2
 pub early_by : (p : Part) (k done posted one other t u : ℕ) → time_of p ≡ Early → posted_at p k posted → 3 * k < done → suc other ≡ 3 * k → (other ≡ posted) ⊎ ((other ≡ done) ⊎ ((suc other ≡ posted) × MayLag p u)) → (one ≡ posted) ⊎ ((suc one ≡ posted) × MayLag p t) → (one + 2 ≡ 3 * k) ⊎ (one + 1 ≡ 3 * k)
 early_by Resting k done posted one other t u early is big two at on = cc
 early_by (Waiting zero w) k done posted one other t u early is big two at on = absurd is
@@ -87,7 +87,7 @@ root-live Early k c r = r
 root-live Late k c r = λ e. omega (arith, r.0, r.1, e)
 root-live Clean k c r = r
 
--- behind the trace a live cell is not white
+-- after the trace a live cell is not white
 pub clean-not_white : (k c : ℕ) → IsLiveAt Clean k c → suc c ≡ 2 * k → ⊥
 clean-not_white k c l e = omega (arith, l, e)
 
@@ -95,7 +95,7 @@ clean-not_white k c l e = omega (arith, l, e)
 pub not_white : (k c colour : ℕ) → (c ≡ 0) ⊎ (2 * k ≤ colour) → (c ≢ 0) × (suc colour ≡ 2 * k) → ⊥
 not_white k c colour m w = elim m [ inl e ↦ w.0 e | inr l ↦ omega (arith, l, w.1) ]
 
--- a thread that is ready stands before no store
+-- a thread that is ready is before no store
 pub moved : (s : State) (t : ℕ) (u y j now : ℕ) → Differs (put s.phase t Ready u) y j now → (u ≢ t) × Differs (s.phase u) y j now
 moved s t u y j now d = elim (cases_eq u t) [
   | inl e ↦ absurd (subst (λ z. Differs z y j now) (put-here s.phase t Ready u e) d)
@@ -115,7 +115,7 @@ loose-other s t x i v y j n l =
     let m = moved s t l.0 y j (put_word s.word x i v y j) l.2 in
     (l.0, l.1, subst (λ z. Differs (s.phase l.0) y j z) (put_word-other s.word x i v y j n) m.1)
 
--- the law of each time behind the store
+-- the law of each time after the store
 law_after : (done : ℕ) (cycle_of claim_at : ℕ → ℕ) (IsSync : ℕ → Type 0) (s : State) (t x i old v : ℕ) → AreStages done cycle_of IsSync s.cycle → t < s.threads → IsStoring cycle_of IsSync s t x i old v → IsInvariant done cycle_of claim_at IsSync s → (T : Time) → time_of s.part ≡ T → AtTime s T → AtTime (after_store s t x i v) T
 law_after done cycle_of claim_at IsSync s t x i old v g lt w inv Early is law = λ u y j lu two d.
     let m = moved s t u y j (put_word s.word x i v y j) d in
@@ -159,7 +159,7 @@ base-live done cycle_of claim_at IsSync s t c lt inv b = elim b [
   | inr h ↦ (inv.live.held t c (s.birth c) lt h).1
 ]
 
--- the live cells behind the store
+-- the live cells after the store
 pub live_after : (s : State) (t x i v : ℕ) → IsLive s x → IsGood s v (s.birth v) → AreLive s → AreLive (after_store s t x i v)
 live_after s t x i v live good a = record {
   held = a.held;
@@ -192,7 +192,7 @@ under_way_after s t x i v live (Clearing cell words) is way = (
   ],
 )
 
--- the stages behind the store
+-- the stages after the store
 stages_after : (done : ℕ) (s : State) (t x i v : ℕ) → AreInStep done s → AreInStep done (after_store s t x i v)
 stages_after done s t x i v a = record {
   posted = a.posted;
@@ -207,7 +207,7 @@ stages_after done s t x i v a = record {
     ready_not_answering : (p : ℕ) (marked : List ℕ) → Ready ≡ Answering p marked → ⊥
     ready_not_answering p marked e = cc
 
--- the fresh cells behind the store
+-- the fresh cells after the store
 fresh_after : (done : ℕ) (cycle_of claim_at : ℕ → ℕ) (IsSync : ℕ → Type 0) (s : State) (t x i old v : ℕ) → t < s.threads → IsStoring cycle_of IsSync s t x i old v → IsInvariant done cycle_of claim_at IsSync s → AreFresh claim_at IsSync (after_store s t x i v)
 fresh_after done cycle_of claim_at IsSync s t x i old v lt w inv =
     let a = inv.fresh in
@@ -235,7 +235,7 @@ fresh_after done cycle_of claim_at IsSync s t x i old v lt w inv =
       | inr held ↦ f.1 (sym (inv.fresh.alone u t c (s.birth v) lu lt f.0 (subst (λ z. s.IsHeld t z (s.birth v)) is held))) is
     ]
 
--- a store behind the barrier keeps the invariant
+-- a barriered store preserves the invariant
 pub written : (done : ℕ) (cycle_of claim_at : ℕ → ℕ) (IsSync : ℕ → Type 0) (s : State) (t x i old v : ℕ) → AreStages done cycle_of IsSync s.cycle → t < s.threads → IsStoring cycle_of IsSync s t x i old v → IsInvariant done cycle_of claim_at IsSync s → IsInvariant done cycle_of claim_at IsSync (after_store s t x i v)
 written done cycle_of claim_at IsSync s t x i old v g lt w inv =
     let live = base-live done cycle_of claim_at IsSync s t x lt inv w.base in

@@ -1,8 +1,8 @@
--- The invariant of heap runs, over one state: where the threads and the collector stand, and what the words hold.
+-- The invariant of heap runs, over one state: where the threads and the collector are, and what the words hold.
 use Rattle.std.specs.Prelude.{ℕ, zero, suc, ◌+◌, ◌*◌, ◌<◌, ◌≤◌, ◌≡◌, ◌≢◌, ◌⊎◌, Bool, true, false, List, [], ◌∷◌}
 use Rattle.collector_law.specs.Picture.{Picture, IsSafe}
 
--- where a thread stands. A reference is a cell's number, 0 for null
+-- where a thread is. A reference is a cell's number, 0 for null
 pub data Phase : Type 0 where
   -- between two calls, or trying to claim, or ended
   Ready : Phase
@@ -15,24 +15,24 @@ pub data Phase : Type 0 where
   -- another stage was read; the roots marked so far
   Answering : (stage : ℕ) (marked : List ℕ) → Phase
 
--- where the collector stands
+-- where the collector is
 pub data Part : Type 0 where
   -- before the next cycle's first stage is posted
   Resting : Part
-  -- behind the first, second or third stage of a cycle; the threads below this one were seen at it, or done
+  -- after the first, second or third stage of a cycle; the threads below this one were seen at it, or done
   Waiting : (sync thread : ℕ) → Part
   -- the globals' cell is marked, and Async is not posted yet
   Rooted : Part
   -- in a pass over all cells: the next one, and whether a grey one was met
   Passing : (next : ℕ) (met_grey : Bool) → Part
-  -- so many words were read; the value in hand, or 0
+  -- this number of words was read; the value in hand, or 0
   Scanning : (cell words hand : ℕ) → Part
   -- in the sweep: the next cell
   Sweeping : (next : ℕ) → Part
-  -- a white cell is cleared: so many of its words are
+  -- a white cell is cleared: this number of its words is cleared so far
   Clearing : (cell words : ℕ) → Part
 
--- the threads, the collector and the shared words at one moment; births, tags, held and fresh stand in the model alone
+-- the threads, the collector and the shared words at one moment. Births, tags, held and fresh exist in the model alone
 pub record State : Type 1 where
   pub threads : ℕ
   -- how many there are, the globals' cell among them
@@ -75,7 +75,7 @@ pub data Time : Type 0 where
   Late : Time
   Clean : Time
 
--- the time in which the collector stands
+-- the time of a cycle at which the collector is in this part
 abbrev pub time_of : Part → Time
 time_of Resting = Clean
 time_of (Waiting zero t) = Early
@@ -112,18 +112,18 @@ abbrev pub IsScanned : Part → ℕ → ℕ → Type 0
 IsScanned (Scanning cell words hand) x i = (x ≡ cell) × (i < words)
 IsScanned _ x i = ⊥
 
--- the thread stands before its store to this word, and its old value is another than this
+-- the thread is before its store to this word, and its old value is another than this
 abbrev pub Differs : Phase → (x i now : ℕ) → Type 0
 Differs (MarkingOld cell word old) x i now = (cell ≡ x) × (word ≡ i) × (now ≢ old)
 Differs (MarkingNew cell word old) x i now = (cell ≡ x) × (word ≡ i) × (now ≢ old)
 Differs (Writing cell word old new) x i now = (cell ≡ x) × (word ≡ i) × (now ≢ old)
 Differs _ x i now = ⊥
 
--- some thread stands before its store to this word with another old value
+-- some thread is before its store to this word with another old value
 abbrev pub IsLoose : State → ℕ → ℕ → Type 0
 IsLoose s x i = (t : ℕ) × (t < s.threads) × Differs (s.phase t) x i (s.word x i)
 
--- what the trace's law speaks of
+-- what the trace's law is about
 abbrev pub picture : State → Picture
 picture s = record {
   word = s.word;
@@ -136,7 +136,7 @@ picture s = record {
 
 -- ---- stages: cycle k posts 3k-2, 3k-1 and 3k; done is a number past all stages
 
--- the stage that is posted while the collector stands here
+-- the stage that is posted while the collector is here
 abbrev pub posted_at : Part → (cycle : ℕ) → ℕ → Type 0
 posted_at (Waiting zero t) k p = ⊥
 posted_at (Waiting (suc zero) t) k p = p + 2 ≡ 3 * k
@@ -160,7 +160,7 @@ pub record AreInStep (done : ℕ) (s : State) : Type 0 where
 
 -- ---- colours
 
--- the colours that a cell may have while the collector stands here
+-- the colours that a cell may have while the collector is here
 abbrev pub IsColour : Part → (cycle colour : ℕ) → Type 0
 IsColour Resting k c = (c ≡ 0) ⊎ (c ≡ suc (2 * k))
 IsColour (Sweeping next) k c = (c ≡ 0) ⊎ ((suc c ≡ 2 * k) ⊎ (c ≡ suc (2 * k)))
@@ -188,7 +188,7 @@ IsUnderWay s _ = Unit {0}
 
 -- ---- live cells
 
--- what is held is live and of its birth; a live cell's words lead to live cells of their births; a blue cell's words are null
+-- what is held is live and of its birth. A live cell's words point to live cells of their births. A blue cell's words are null
 pub record AreLive (s : State) : Type 0 where
   pub held : (t c b : ℕ) → t < s.threads → s.IsHeld t c b → (c ≢ 0) × IsLive s c × (b ≡ s.birth c)
   pub words : (c i : ℕ) → IsLive s c → IsGood s (s.word c i) (s.tag c i)
@@ -209,7 +209,7 @@ HasMarked (Writing cell word old new) c = new ≡ c
 HasMarked (Answering stage marked) c = Unit {0}
 HasMarked _ c = ⊥
 
--- a fresh cell is held by its thread alone, no live word, no hand and no store under way names it, and it has the colour of its claim
+-- a fresh cell is held by its thread alone and has the colour of its claim. No live word, no hand and no store under way names it
 pub record AreFresh (claim_at : ℕ → ℕ) (IsSync : ℕ → Type 0) (s : State) : Type 0 where
   pub held : (t c : ℕ) → t < s.threads → s.IsFresh t c → s.IsHeld t c (s.birth c)
   pub unnamed : (t c x i : ℕ) → t < s.threads → s.IsFresh t c → IsLive s x → s.word x i ≢ c
@@ -218,7 +218,7 @@ pub record AreFresh (claim_at : ℕ → ℕ) (IsSync : ℕ → Type 0) (s : Stat
   pub not_old : (t c : ℕ) → t < s.threads → s.IsFresh t c → OldIsNot (s.phase t) c
   pub colour : (t c : ℕ) → t < s.threads → s.IsFresh t c → (s.colour c ≡ claim_at (s.stage t)) ⊎ (IsSync (s.stage t) × HasMarked (s.phase t) c)
 
--- ---- barriered stores and answers under way
+-- ---- barriered stores and handshake answers under way
 
 -- the globals' cell, or one that the thread holds
 abbrev pub IsBase : State → (thread cell : ℕ) → Type 0
@@ -232,12 +232,12 @@ IsInCycle cycle_of s t = cycle_of (s.stage t) ≡ s.cycle
 abbrev pub IsNullOrMarked : State → ℕ → Type 0
 IsNullOrMarked s c = (c ≡ 0) ⊎ IsMarked s c
 
--- the number stands in the list
+-- the number is in the list
 abbrev pub IsAmong : ℕ → List ℕ → Type 0
 IsAmong x [] = ⊥
 IsAmong x (y ∷ ys) = (x ≡ y) ⊎ IsAmong x ys
 
--- what a thread that stands in this phase uses is held, and what it has marked is marked
+-- what a thread in this phase uses is held, and what it has marked is marked
 abbrev pub Stands : (cycle_of : ℕ → ℕ) (IsSync : ℕ → Type 0) → State → (thread : ℕ) → Phase → Type 0
 Stands cycle_of IsSync s t Ready = Unit {0}
 Stands cycle_of IsSync s t (MarkingOld cell word old) = IsBase s t cell × (old ≢ 0) × IsBase s t old
@@ -247,7 +247,7 @@ Stands cycle_of IsSync s t (Answering stage marked) = (c : ℕ) → IsAmong c ma
 
 -- ---- the law of each time
 
--- what a loose word of a thread at the second stage leads to is null or marked
+-- what a loose word of a thread at the second stage points to is null or marked
 abbrev pub LooseIsMarked : State → Type 0
 LooseIsMarked s = (t x i : ℕ) → t < s.threads → suc (s.stage t) ≡ 3 * s.cycle → Differs (s.phase t) x i (s.word x i) → IsNullOrMarked s (s.word x i)
 

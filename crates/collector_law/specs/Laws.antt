@@ -9,14 +9,14 @@ use Rattle.colours.specs.Collector.{Collection, Posting, Sweeping, Clearing, pos
 use Rattle.colours.specs.Mutator.{gains, Keeps}
 use Rattle.colours.specs.Runs.{Event, ByThread, ByCollector, turns_of, word_after, births_after, given, IsAlive, Kept}
 
--- the collector stands between the end of a trace and the next cycle's first post
+-- the collector is between the end of a trace and the next cycle's first post
 abbrev pub IsClean : (stage : ℕ) → Collection → Type 0
 IsClean stage Posting = IsTrue (is_async stage)
 IsClean stage (Sweeping cell) = Unit {0}
 IsClean stage (Clearing cell word) = Unit {0}
 IsClean stage _ = ⊥
 
--- the run has come to such a place
+-- the run has reached such a point
 abbrev pub IsPastTrace : Setup → List Event → Type 0
 IsPastTrace s run = (c : Collection) × Collects s (turns_of run) c × IsClean (posted_of (turns_of run)) c
 

@@ -1,2 +1,2 @@
-//! Law of the collector: its invariant over one state, that each kind of step keeps it, and what that says of runs.
+//! Law of the collector: its invariant over one state, that each kind of step preserves it, and what follows for runs.
 #![tactic(auto)]

@@ -14,7 +14,7 @@ module _ (s : Setup) (stage layout : ℕ) (is_layout : layout < length s.pools) 
   LastIs [] = Unit {0}
   LastIs (last ∷ tried) = layout_of s last ≡ layout
 
-  -- these cells were tried, this one comes next, and so many are left behind it
+  -- these cells were tried, this one comes next, and `more` cells are left after it
   record Under (tried : List ℕ) (cell more : ℕ) : Type 0 where
     at : cell ≡ first_cell s.pools layout + length tried
     many : suc (length tried + more) ≡ slice_index s.pools layout
@@ -83,7 +83,7 @@ module _ (s : Setup) (stage layout : ℕ) (is_layout : layout < length s.pools) 
   Good tried cell (step ∷ steps) =
       ((won : Bool) × (step ≡ Claim cell won)) × MayFollow s stage (phase_for tried) step × Ends s stage (phase_after s stage (phase_for tried) step) steps × TriesFrom cell (step ∷ steps)
 
-  -- what is good behind a lost try
+  -- what is good after a lost try
   goes_on : (tried : List ℕ) (cell : ℕ) (steps : List Step) → Good (cell ∷ tried) (suc cell) steps → Ends s stage (Trying (cell ∷ tried)) steps × TriesFrom (suc cell) steps
   unfolding Good phase_for
   goes_on tried cell [] g = absurd g
@@ -103,7 +103,7 @@ module _ (s : Setup) (stage layout : ℕ) (is_layout : layout < length s.pools) 
     one tried cell more word won found step steps u w is ends tries entries =
         rw is (((won, refl), may tried cell more u won, ends, (refl, tries)), (refl, sym w, rw w entries))
 
-    -- what is to be shown of the list behind a lost try
+    -- what is to be shown of the list after a lost try
     Further : (tried : List ℕ) (cell more : ℕ) (found : List ℕ) (steps : List Step) → Type 0
     Further tried cell zero found steps = Unit {0}
     Further tried cell (suc more) found steps =

@@ -1,4 +1,4 @@
--- The steps of one call of a thread: what it has still to do, what the answer to its next operation makes of that,
+-- The steps of one call of a thread: what it has still to do, what the result of its next operation makes of that,
 -- and which lists of steps are such a call by the order of a thread's steps.
 use Rattle.std.specs.Prelude.{ℕ, zero, suc, ◌<◌, ◌^◌, ◌≡◌, ◌≢◌, ◌==◌, IsTrue, IsFalse, Bool, Option, Some, None, List, [], ◌∷◌, ◌++◌, if◌then◌else◌}
 use Rattle.colours.specs.declared.place.Place.TheVariants.{Posted, Colour, Word}
@@ -25,7 +25,7 @@ marks_of_all (root ∷ roots) = marks root ++ marks_of_all roots
 abbrev pub marks_of_new : (stage : ℕ) → ℕ → List Step
 marks_of_new stage new = if is_async stage then [] else marks new
 
--- what comes behind the read of the old value
+-- what comes after the read of the old value
 abbrev pub barrier : (stage cell word old new : ℕ) → List Step
 barrier stage cell word old new = marks old ++ (marks_of_new stage new ++ StoreBehindBarrier cell word new ∷ [])
 
@@ -33,7 +33,7 @@ barrier stage cell word old new = marks old ++ (marks_of_new stage new ++ StoreB
 abbrev pub marks_of_roots : (posted : ℕ) → List ℕ → List Step
 marks_of_roots posted roots = if is_async posted then marks_of_all roots else []
 
--- what comes behind the read of the posted stage
+-- what comes after the read of the posted stage
 abbrev pub answer_to : (stage posted : ℕ) → List ℕ → List Step
 answer_to stage posted roots = if posted == stage then [] else (marks_of_roots posted roots ++ StoreStage posted roots ∷ [])
 
@@ -41,11 +41,11 @@ answer_to stage posted roots = if posted == stage then [] else (marks_of_roots p
 pub data Todo : Type 0 where
   Reading : (cell word : ℕ) → Todo
   Replacing : (cell word new : ℕ) → Todo  -- read the old value, and then what it asks for
-  Trying : (cell more : ℕ) → Todo  -- try this cell, and while the try is lost the one behind it, and so on for so many more
+  Trying : (cell more : ℕ) → Todo  -- try this cell; while a try is lost, try the next one, `more` further cells at most
   Polling : (roots : List ℕ) → Todo  -- read the posted stage, and answer it if it is another
   Steps : List Step → Todo  -- these steps
 
--- ---- the operations and their answers
+-- ---- the operations and what they return
 
 -- what a thread at this stage asks for next
 abbrev pub asked : (thread stage : ℕ) → Todo → Option Ask
@@ -65,7 +65,7 @@ made (Polling roots) found = ReadPosted found
 made (Steps []) found = ReadPosted found
 made (Steps (step ∷ steps)) found = step
 
--- behind a lost try: the next cell, if one is left
+-- after a lost try: the next cell, if one is left
 abbrev pub tries_behind : (cell more : ℕ) → Todo
 tries_behind cell zero = Steps []
 tries_behind cell (suc more) = Trying (suc cell) more
@@ -85,7 +85,7 @@ pub record Call : Type 0 where
   pub stage : ℕ
   pub todo : Todo
 
--- the call behind an operation that found this word
+-- the call after an operation that found this word
 abbrev pub after : Call → (found : ℕ) → Call
 after call found = record { thread = call.thread; stage = call.stage; todo = left call.stage call.todo found }
 

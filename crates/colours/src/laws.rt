@@ -5,8 +5,8 @@ ghost use Rattle.colours.specs.Colours.{done};
 ghost use Rattle.colours.specs.Steps.{StorePlain, StoreStage};
 ghost use Rattle.colours.specs.Calls.{Reading, Replacing, Trying, Steps, MakesExactly, IsRead, IsPlainStore, IsReplacement, IsAllocation, IsFinish};
 
-/// The law of the calls: the lists of operations and answers of each are exactly those that the order of a thread's steps
-/// allows for it; those of `alloc` are the ones that try a pool's cells from the first one on.
+/// The law of the calls: for each call the lists of operations and results are exactly those that the order of a thread's
+/// steps allows. Those of `alloc` are the ones that try a pool's cells from the first one on.
 pub fn op_law()
     ensures read { (s : Setup) (thread stage cell word : ℕ) → MakesExactly thread stage (Reading cell word) (IsRead s stage cell word) }
     ensures store_plain { (s : Setup) (thread stage cell word value : ℕ) → MakesExactly thread stage (Steps (StorePlain cell word value ∷ [])) (IsPlainStore s stage cell word value) }

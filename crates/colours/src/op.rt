@@ -17,7 +17,7 @@ pub struct Op {
     next: Next,
 }
 
-/// A word, and the reference that will stand there.
+/// A word, and the reference that will be there.
 #[derive(Clone, Copy)]
 struct Replacement {
     cell: u32,
@@ -34,7 +34,7 @@ enum Next {
     MarkOld(u32, Replacement),
     MarkNew(Replacement),
     StoreNew(Replacement),
-    /// The cell, and how many may be tried behind it.
+    /// The cell, and how many may be tried after it.
     Try(u32, u32),
     StoreDone,
     Nothing,
@@ -76,7 +76,7 @@ impl Op {
         }
     }
 
-    /// The store of a reference behind the barrier, by a thread at this stage.
+    /// The store of a reference with the barrier, by a thread at this stage.
     pub fn write(stage: u64, cell: u32, word: u32, new: u32) -> Self
         requires { stage < 2 ^ 62 }
         ensures { result ≡ record { thread = 0; stage = stage; todo = Replacing cell word new } }
@@ -88,7 +88,7 @@ impl Op {
         }
     }
 
-    /// The search for a free cell, by a thread at this stage: this cell first, then so many behind it.
+    /// The search for a free cell, by a thread at this stage: this cell first, then `more` cells after it.
     pub fn alloc(stage: u64, first: u32, more: u32) -> Self
         requires stage { stage < 2 ^ 62 }
         requires cells { first + more < 2 ^ 32 }
@@ -145,7 +145,7 @@ impl Op {
     }
 }
 
-/// What comes behind an operation that found this word.
+/// What comes after an operation that found this word.
 fn next_of(next: Next, stage: u64, found: u64) -> Next
     requires answer { IsAnswer (todo_at next stage) found }
     requires room { HasRoom next }

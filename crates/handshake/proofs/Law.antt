@@ -120,7 +120,7 @@ gained s run t (Claim cell won) m inv c g =
     (λ z. absurd (omega arith), record { not_blue = claimed s run t (Claim cell won) c m g; same_birth = rw g })
 gained s run t _ m inv c g = absurd cc
 
--- what the thread of the step holds behind it
+-- what the thread of the step holds after it
 held_own : (s : Setup) (run : List Event) (t : ℕ) (step : Step) → MayHappen s run (ByThread t step) → Invariant s run → (c : ℕ)
     → Held s (step ∷ log_of t run) c
     → (c ≢ 0) × IsAlive s (ByThread t step ∷ run) c (if gains s step c then given (births_after s run) step c else (births_after s run).with_thread t c)
@@ -215,7 +215,7 @@ storable_held s log (Some (Integer bits)) v r h n = absurd cc
 storable_held s log (Some (Reference layout)) v r (inl z) n = absurd (n z)
 storable_held s log (Some (Reference layout)) v r (inr h) n = h.0
 
--- behind a step of t, no word names a cell that is fresh with u
+-- after a step of t, no word names a cell that is fresh with u
 unstored_own : (s : Setup) (run : List Event) (t : ℕ) (step : Step) → MayHappen s run (ByThread t step) → Invariant s run → (c d i : ℕ) → c ≢ 0
     → Fresh s (step ∷ log_of t run) c → is_reference_kind (kind_of s d i) ≡ true → (if puts step d i then value_put step else word_after s run (Word d i)) ≢ c
 unstored_own s run t step m inv c d i n (inl w) r e =

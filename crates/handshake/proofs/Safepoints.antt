@@ -34,7 +34,7 @@ between true = refl
 between false = refl
 
 module _ (s : Setup) (stage : ℕ) (roots : List ℕ) where
-  -- behind the read of another stage
+  -- after the read of another stage
   module _ (posted : ℕ) where
     marks_end : is_async posted ≡ true → (more marked : List ℕ) → reverse marked ++ non_null more ≡ non_null roots
         → Ends s stage (Answering posted marked) (marks_of_all more ++ StoreStage posted roots ∷ [])

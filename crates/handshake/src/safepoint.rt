@@ -19,7 +19,7 @@ pub struct Safepoint<'a> {
 #[derive(Clone, Copy)]
 enum Next<'a> {
     ReadPosted,
-    /// The posted stage, a root that isn't null, and the roots behind it.
+    /// The posted stage, a root that isn't null, and the roots after it.
     Mark(u64, u32, &'a [u32]),
     StoreStage(u64),
     Nothing,
@@ -72,7 +72,7 @@ impl<'a> Safepoint<'a> {
     }
 }
 
-/// What comes behind an operation that found this word.
+/// What comes after an operation that found this word.
 fn next_of<'a>(next: Next<'a>, stage: u64, roots: &'a [u32], found: u64) -> Next<'a>
     ensures { todo_at result roots.now ≡ left stage (todo_at next.entry roots.now) found }
 {
@@ -95,7 +95,7 @@ fn marking(posted: u64, roots: &[u32]) -> Next<'_>
     }
 }
 
-/// The first root that isn't null, and those behind it.
+/// The first root that isn't null, and those after it.
 fn first_root(roots: &[u32]) -> Option<(u32, &[u32])>
     ensures some { IfSome result (λ found. marks_of_all roots.now ≡ Mark found.0 ∷ marks_of_all found.1.now) }
     ensures none { IfNone result (marks_of_all roots.now ≡ []) }

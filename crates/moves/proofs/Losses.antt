@@ -1,4 +1,4 @@
--- Behind a lost try, the next cell of the pool is left or none is.
+-- After a lost try, the next cell of the pool is left or none is.
 use Rattle.std.proofs.Common.{◌≡◌, ◌≢◌, ◌<◌, ◌≤◌, ◌+◌, ℕ, suc, ◌==◌, Bool, true, false, List, [], slice_index, nat_lt, refl, ◌∙◌, subst, if◌then◌else◌, arith, add-one, unwrap_or, slice_get}
 use Rattle.std.proofs.lemmas.Bool.Decides.{nat_tests}
 use Rattle.pools.specs.Heap.{Setup}
@@ -16,7 +16,7 @@ use Rattle.moves.specs.declared.stand.Stance.TheVariants as stance
 use Rattle.moves.specs.Calls.{action_of}
 use Rattle.std.proofs.lemmas.Option.{unwrap_or-slice_get}
 
--- whether a cell is left behind one more try
+-- whether a cell is left after one more try
 left-behind : (count tried : ℕ) (trying : order.Phase) → tried < count → (if nat_lt (suc tried) count then trying else order.Ready) ≡ (if suc tried == count then order.Ready else trying)
 left-behind count tried trying lt = go (nat_lt (suc tried) count) (suc tried == count) refl refl
   where
@@ -32,14 +32,14 @@ left-behind count tried trying lt = go (nat_lt (suc tried) count) (suc tried == 
         none : count < suc (suc tried) → suc tried ≢ count → ⊥
         none few other = omega arith
 
--- behind the loss of the next cell of a pool
+-- after the loss of the next cell of a pool
 pub loses-next : (s : Setup) (layout first tried cell : ℕ) → IsNextTry s layout first tried cell
     → phase_left s.pools (Alloc layout) first (suc tried) ≡ after_loss s (falling first tried) cell
 loses-next s layout first tried cell h =
     left-behind (slice_index s.pools layout) tried (order.Trying (falling first (suc tried))) h.left
     ∙ rw (← h.is_next, ← h.of_layout, falling-length first tried) refl
 
--- behind a loss within an alloc
+-- after a loss within an alloc
 pub lost-later : (s : Setup) (pools : List ℕ) (c : Call) (roots : List Reference) (stage : ℕ) (at : Stance) (first tried cell : ℕ) → s.pools ≡ pools → at ≡ stance.Trying first tried → LosesNext s c at cell
     → phase_left pools (action_of c) first (tried + 1) ≡ phase_after s stage (phase_at roots at) (Claim cell false)
 lost-later s pools c roots stage at first tried cell e is lost =

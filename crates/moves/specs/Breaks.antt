@@ -1,4 +1,4 @@
--- The cause that shared words tell of a move is the first by which the run breaks with it.
+-- The cause that shared words give for a move is the first by which the run breaks with it.
 use Rattle.std.proofs.Common.{◌≡◌, ◌<◌, inl, inr, ℕ, Option, Some, None, List, [], ◌∷◌, MatchOption, refl, sym, ◌∙◌, subst, arith}
 use Rattle.pools.specs.Heap.{Setup}
 use Rattle.colours.specs.declared.place.Place.TheVariants.{Colour}

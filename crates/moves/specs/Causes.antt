@@ -1,4 +1,4 @@
--- How a move itself breaks a run, by what stands in the shared words before it.
+-- How a move itself breaks a run, by the shared words before it.
 use Rattle.std.specs.Prelude.{List, ℕ, ◌≡◌, ◌≢◌, Option, Some, None, slice_index}
 use Rattle.pools.specs.Heap.{Setup}
 use Rattle.runs.specs.Machine.{Reference, Machine}
@@ -11,7 +11,7 @@ use Rattle.moves.specs.declared.moves.Move.{Move}
 use Rattle.moves.specs.declared.moves.Move.TheVariants.{GoesWrong, ReadsWord, ReadsOldValue, Marks, StoresBehindBarrier, StoresPlain}
 use Rattle.moves.specs.declared.shared.Shared.{Shared}
 
--- the first cause by which the reference is gone that a step uses, if it is gone
+-- the first cause by which the reference that a step uses is gone, if it is gone
 abbrev pub IsTouch : Shared → Reference → Option Cause → Type 0
 IsTouch h used None = (slice_index h.colours used.cell ≢ 0) × (slice_index h.births used.cell ≡ used.birth)
 IsTouch h used (Some (TouchBlue cell)) = (cell ≡ used.cell) × (slice_index h.colours used.cell ≡ 0)

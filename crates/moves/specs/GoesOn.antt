@@ -1,4 +1,4 @@
--- A thread of the code behind a move is the thread of the run behind it.
+-- A thread of the code after a move is the thread of the run after it.
 use Rattle.std.proofs.Common.{◌≡◌, ℕ, true, false, List, refl, sym, ap, ◌∙◌}
 use Rattle.pools.specs.Heap.{Setup}
 use Rattle.colours.specs.Mutator as order
@@ -28,7 +28,7 @@ call_of machine.Safepoint = call.Safepoint
 call_of machine.End = call.End
 call_of machine.Wrong = call.Wrong
 
--- it leads back
+-- back from a call's action to the call
 call_of-action_of : (c : Call) → call_of (action_of c) ≡ c
 unfolding call_of
 call_of-action_of call.Local = refl
@@ -68,7 +68,7 @@ between-phase roots others (stance.Writing c w o n) e = absurd cc
 between-phase roots others (stance.Trying f n) e = absurd cc
 between-phase roots others (stance.Answering p n) e = absurd cc
 
--- the thread behind a move, where its call ends ..
+-- the thread after a move, where its call ends ..
 pub moved-between : (s : Setup) (m : Machine) (stand : Stand m.State) (move : Move) (state : m.State) (stage : ℕ) (at : Stance) (replaced : Reference) (answer : Answer)
     → phase_at (m.roots stand.state) at ≡ phase_behind s stand.stage (phase_at (m.roots stand.state) stand.stance) (step_of (move_in (m.roots stand.state) move))
     → order.is_between (phase_at (m.roots stand.state) at) ≡ true

@@ -1,4 +1,4 @@
--- What the words of a heap may hold by their kinds, and machines that keep to them, whatever the program and whether or not it is safe.
+-- What the words of a heap may hold by their kinds, and machines that obey them, whatever the program and whether or not it is safe.
 use Rattle.std.specs.Prelude.{◌≡◌, ◌≢◌, ◌<◌, ◌≤◌, ◌^◌, ◌⊎◌, Option, Some, None, List, IsTrue}
 use Rattle.pools.specs.Heap.{Setup, cells, kind_of, IsOfLayout}
 use Rattle.pools.specs.declared.word_kind.WordKind.{WordKind}
@@ -20,7 +20,7 @@ AsksByKind s (StorePlain base word value) = (base.cell < cells s) × MayHold s (
 AsksByKind s (Write base word value) = (base.cell < cells s) × IsTrue (is_reference_kind (kind_of s base.cell word)) × MayHold s (kind_of s base.cell word) value
 AsksByKind s action = Unit {0}
 
--- what is answered fits the kind of the word that was read, or the layout that was asked for
+-- the answer fits the kind of the word that was read, or the layout that was asked for
 abbrev pub AnswersByKind : Setup → Action → Answer → Type 0
 AnswersByKind s (Read base word) (Got r) = MayHold s (kind_of s base.cell word) r
 AnswersByKind s (Alloc layout) (Got r) = (r.cell ≡ 0) ⊎ IsOfLayout s layout r.cell
@@ -32,7 +32,7 @@ pub record KeepsKinds {State : Type 0} (s : Setup) (action : State → Action) (
   pub roots_fit : (r : Reference) → IsIn r (roots state) → r.cell < cells s
   pub goes_on : (answer : Answer) → AnswersByKind s (action state) answer → Fits (after_answer state answer)
 
--- a thread in this state may be answered so: the state fits a heap whose cells are numbered by 32 bits, and the answer fits what the thread asked for
+-- a thread in this state may get this answer: the state fits a heap whose cells are numbered by 32 bits, and the answer fits what the thread asked for
 pub record MayAnswer {State : Type 0} (s : Setup) (Fits : State → Type 0) (action : State → Action) (state : State) (answer : Answer) : Type 0 where
   pub few_cells : cells s ≤ 2 ^ 32
   pub fits : Fits state

@@ -1,4 +1,4 @@
--- Roots that are marked one behind the other.
+-- Roots that are marked one after the other.
 use Rattle.std.proofs.Common.{◌≡◌, ℕ, zero, suc, ◌+◌, ◌<◌, ◌==◌, not, Bool, true, false, Some, List, [], ◌∷◌, length, take, reverse, length-take, slice_get, ◌≤◌, arith, nat_le, min, refl, sym, ap, ◌∙◌, subst, if◌then◌else◌, add-one}
 use Rattle.std.proofs.lemmas.List.{reverse-append, length-reverse}
 use Rattle.std.proofs.lemmas.Option.{slice_get_within, slice_get_past, get_or_from_slice_get}
@@ -32,7 +32,7 @@ taken-more cells count cell e =
     let within = slice_get_within cells count cell e in
     rw add-one (ap reverse (take-suc cells count 0 within) ∙ reverse-append (take count cells) _ ∙ ap (λ v. v ∷ reverse (take count cells)) (get_or_from_slice_get cells count cell 0 e))
 
--- a thread that answers a stage, behind the mark of its next root
+-- a thread that answers a stage, after the mark of its next root
 pub answering-mark : (s : Setup) (stage : ℕ) (roots : List Reference) (stance : Stance) (answered marked cell : ℕ) → stance ≡ Answering answered marked → MarksNext roots stance cell
     → order.Answering answered (marked_of roots (marked + 1)) ≡ phase_after s stage (phase_at roots stance) (Mark cell)
 answering-mark s stage roots stance answered marked cell e next =
@@ -50,7 +50,7 @@ non_null-length (root ∷ roots) = go (non_null-length roots) (not (root.cell ==
     go rest true = ap suc rest
     go rest false = rest
 
--- the root behind those that are marked
+-- the root after those that are marked
 pub next_root-marked : (roots : List Reference) (marked : ℕ) → next_root roots (marked_of roots marked) ≡ slice_get (not_null roots) marked
 next_root-marked roots marked = go (nat_le marked (length (not_null roots))) refl
   where

@@ -50,17 +50,17 @@ HasRoom stance (Marks r) = CountsMark stance
 HasRoom stance (Claims r won) = CountsTry stance
 HasRoom stance made = Unit {0}
 
--- so of a next move, if there is one
+-- the same for a next move, if there is one
 abbrev pub HasRoomForNext : Stance → Option Move → Type 0
 HasRoomForNext stance None = Unit {0}
 HasRoomForNext stance (Some made) = HasRoom stance made
 
--- where a thread stands that tried so many cells of the pool that is asked for, each in vain
+-- where a thread is that tried this number of cells of the pool that is asked for, each in vain
 abbrev pub phase_left : (pools : List ℕ) → Action → (first tried : ℕ) → Phase
 phase_left pools (machine.Alloc layout) first tried = if nat_lt tried (slice_index pools layout) then order.Trying (falling first tried) else order.Ready
 phase_left pools action first tried = order.Ready
 
--- the move is one that the thread may make where it stands: a mark in an answer is that of the next root, and a lost try that of the next cell
+-- the move is one that the thread may make where it is: a mark in an answer is that of the next root, and a lost try that of the next cell
 abbrev pub MayMake : Setup → (roots : List Reference) → Call → Stance → Move → Type 0
 MayMake s roots call stance (Marks r) = MarksNext roots stance r.cell
 MayMake s roots call stance (Claims r false) = LosesNext s call stance r.cell

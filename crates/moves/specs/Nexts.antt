@@ -1,4 +1,4 @@
--- The next move of a thread of the code, by where it stands and what it asks for.
+-- The next move of a thread of the code, by where it is and what it asks for.
 use Rattle.std.proofs.Common.{◌≡◌, ℕ, zero, suc, Option, Some, None, length, refl, sym, ap, ◌∙◌, subst}
 use Rattle.pools.specs.Heap.{Setup}
 use Rattle.runs.specs.Machine.{Action, Machine}
@@ -11,14 +11,14 @@ use Rattle.moves.specs.declared.stand.Stand.{Stand}
 use Rattle.moves.specs.Moving.{CountsTry, CountsMark, HasRoom, HasRoomForNext}
 use Rattle.moves.specs.Stands.{falling, phase_at, standing}
 
--- of a thread that stands so and asks for this
+-- of a thread that is there and asks for this
 pub stands-next : (s : Setup) (m : Machine) (h : Sight) (stand : Stand m.State) (stance : Stance) (asked : Action) → stand.stance ≡ stance → asked ≡ m.action stand.state
     → next_move_of s m h (standing m.roots stand) ≡ next_move s h stand.stage (m.roots stand.state) stand.replaced asked (phase_at (m.roots stand.state) stance)
 stands-next s m h stand stance asked e f =
     ap (λ (v : Stance). next_move s h stand.stage (m.roots stand.state) stand.replaced (m.action stand.state) (phase_at (m.roots stand.state) v)) e
     ∙ ap (λ (a : Action). next_move s h stand.stage (m.roots stand.state) stand.replaced a (phase_at (m.roots stand.state) stance)) (sym f)
 
--- so many were tried
+-- this number of cells were tried
 pub falling-length : (first count : ℕ) → length (falling first count) ≡ count
 falling-length first zero = refl
 falling-length first (suc count) = ap suc (falling-length first count)
@@ -37,7 +37,7 @@ counted stance try mark (made.ReadsPosted stage) = tt
 counted stance try mark (made.Answers stage) = tt
 counted stance try mark made.Ends = tt
 
--- so may each next move of a thread that stands so
+-- so may each next move of a thread that is there
 pub counts-none : (at stance : Stance) → at ≡ stance → CountsTry stance → CountsMark stance → (next : Option Move) → HasRoomForNext at next
 counts-none at stance e try mark None = tt
 counts-none at stance e try mark (Some move) = subst (λ (v : Stance). HasRoom v move) (sym e) (counted stance try mark move)

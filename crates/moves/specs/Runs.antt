@@ -30,7 +30,7 @@ found_in (Blacken cell) = 0
 found_in (ClearWord cell word) = 0
 found_in (Free cell) = 0
 
--- the collector behind its steps
+-- the collector after its steps
 unfoldable pub collector_behind : Setup → List Turn → Collecting
 collector_behind s [] = begun (plan_of s)
 collector_behind s (turn ∷ log) = moved (collector_behind s log) (found_in turn)
@@ -56,7 +56,7 @@ abbrev pub by_collector : Option Turn → Option Happening
 by_collector None = None
 by_collector (Some turn) = Some (OfCollector turn)
 
--- the one next step of an actor behind a run; none where its thread has ended, or at the limit of the cycles
+-- the one next step of an actor after a run; none where its thread has ended, or at the limit of the cycles
 abbrev pub next_by : (s : Setup) (m : Machine) (starts : ℕ → m.State) → List Happening → Actor → Option Happening
 next_by s m starts run (Thread t) = by_thread t (next_move_in s m starts run (sight_behind s run (lowest s)) t)
 next_by s m starts run Collector = by_collector (next_turn (collector_behind s (turns_of (heap_of run))) (word_after s (heap_of run)))
@@ -73,12 +73,12 @@ unfoldable pub run_by : (s : Setup) (m : Machine) (starts : ℕ → m.State) →
 run_by s m starts [] = []
 run_by s m starts (actor ∷ actors) = with_next (next_by s m starts (run_by s m starts actors) actor) (run_by s m starts actors)
 
--- the actor is the collector or one of so many threads
+-- the actor is the collector or one of this number of threads
 abbrev pub IsActor : (threads : ℕ) → Actor → Type 0
 IsActor threads (Thread t) = t < threads
 IsActor threads Collector = Unit {0}
 
--- so of each of these
+-- the same for each of these
 abbrev pub AreActors : (threads : ℕ) → List Actor → Type 0
 AreActors threads [] = Unit {0}
 AreActors threads (actor ∷ actors) = IsActor threads actor × AreActors threads actors

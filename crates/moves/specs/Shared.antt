@@ -1,4 +1,4 @@
--- The shared words and births, as they stand.
+-- The shared words and births, as they are now.
 use Rattle.std.specs.Prelude.{ℕ, ◌≡◌, ◌<◌, ◌^◌, max, true, Some, List, [], length, slice_set, slice_index, slice_index_or}
 use Rattle.pools.specs.declared.word_kind.WordKind.{WordKind}
 use Rattle.pools.specs.Heap.{Setup, cells, kind_of, words_of_cell}
@@ -43,7 +43,7 @@ pub record HasShape (s : Setup) (h : Shared) : Type 0 where
   pub row : (cell : ℕ) → cell < cells s → length (slice_index_or h.words cell []) ≡ length (words_of_cell s cell)
   pub kinds : (cell word : ℕ) (kind : WordKind) → cell < cells s → kind_of s cell word ≡ Some kind → MayHold s (Some kind) (word_at h.words cell word)
 
--- they are what stands behind a run
+-- they are the words and births after a run
 pub record AreBehind (s : Setup) (run : List Happening) (h : Shared) : Type 0 where
   pub words : (p : Place) → held_at h p ≡ word_after s (heap_of run) p
   pub word_births : (cell word : ℕ) → (word_at h.words cell word).birth ≡ birth_in run cell word
@@ -66,7 +66,7 @@ CanTake h thread stage (Answers next) = CanHold h (Stage thread)
 CanTake h thread stage Ends = CanHold h (Stage thread)
 CanTake h thread stage made = Unit {0}
 
--- the words and births behind it
+-- the words and births after it
 abbrev pub with_move : Shared → (thread stage : ℕ) → Move → Shared
 with_move h thread stage (StoresBehindBarrier base word value) = record h { words = with_word h.words base.cell word value }
 with_move h thread stage (StoresPlain base word value) = record h { words = with_word h.words base.cell word value }

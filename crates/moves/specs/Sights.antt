@@ -46,7 +46,7 @@ alike_next s h k a stage roots old (Alloc layout) (Trying tried) = ap (λ (m : M
 alike_next s h k a stage roots old Safepoint Ready = ap (λ n. Some (ReadsPosted n)) a.posted
 alike_next s h k a stage roots old action phase = refl
 
--- what stands behind a run, seen in the run and in the words
+-- the state after a run, seen in the run and in the words
 alike_behind : (s : Setup) (run : List Happening) (shared : Shared) → AreBehind s run shared → AreAlike (sight_behind s run (lowest s)) (sight_in s shared)
 alike_behind s run shared b = record {
   word = λ c i. sym (one_reference (word_at shared.words c i) ((sight_behind s run (lowest s)).word c i) (b.words (Word c i)) (b.word_births c i));
@@ -55,7 +55,7 @@ alike_behind s run shared b = record {
   is_blue = λ c. ap (λ n. n == 0) (sym (b.words (Colour c)));
 }
 
--- the next step of a thread that stands behind a run, from the words as they stand
+-- the next step of a thread that is after a run, from the words as they are
 pub next_in_words : (s : Setup) (m : Machine) (starts : ℕ → m.State) (run : List Happening) (t : ℕ) (stand : Standing m.State) (shared : Shared) → AreBehind s run shared → StandsBehind s m starts run t stand
     → next_by s m starts run (Thread t) ≡ by_thread t (next_move_of s m (sight_in s shared) stand)
 next_in_words s m starts run t stand shared behind stands =

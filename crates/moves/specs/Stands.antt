@@ -14,16 +14,16 @@ use Rattle.moves.specs.declared.stand.Stance.TheVariants.{Ready, MarkingOld, Mar
 use Rattle.moves.specs.declared.stand.Stand.{Stand}
 use Rattle.moves.specs.Rows.{word_at}
 
--- so many cells from the first one up, the last one first
+-- this number of cells from the first one up, the last one first
 abbrev pub falling : (first count : ℕ) → List ℕ
 falling first zero = []
 falling first (suc count) = (first + count) ∷ falling first count
 
--- the first roots that are not null, so many of them, the last one first
+-- the first roots that are not null, this number of them, the last one first
 abbrev pub marked_of : List Reference → (count : ℕ) → List ℕ
 marked_of roots count = reverse (take count (non_null (cells_of roots)))
 
--- where a thread with these roots stands
+-- where a thread with these roots is
 abbrev pub phase_at : (roots : List Reference) → Stance → Phase
 phase_at roots Ready = order.Ready
 phase_at roots (MarkingOld cell word old) = order.MarkingOld cell word old
@@ -33,12 +33,12 @@ phase_at roots (Trying first tried) = order.Trying (falling first tried)
 phase_at roots (Answering stage marked) = order.Answering stage (marked_of roots marked)
 phase_at roots Ended = order.Ended
 
--- there is a pool of the layout that is asked for, and so few were tried
+-- there is a pool of the layout that is asked for, and fewer than 2^32 cells were tried
 abbrev pub MayTryMore : (pools : List ℕ) → Action → (tried : ℕ) → Type 0
 MayTryMore pools (Alloc layout) tried = (layout < length pools) × (tried < 2 ^ 32)
 MayTryMore pools action tried = Unit {0}
 
--- so of a thread that tries cells
+-- the same for a thread that tries cells
 abbrev pub HasTryLeft : (pools : List ℕ) → Action → Stance → Type 0
 HasTryLeft pools action (Trying first tried) = MayTryMore pools action tried
 HasTryLeft pools action stance = Unit {0}

@@ -1,8 +1,7 @@
 use crate::reference::Reference;
 use pools::LayoutId;
 
-/// What the instruction asks for at which a thread stands. A base is the cell of the globals, as cell 0, or a reference that
-/// is not null.
+/// What a thread's current instruction asks for. A base is the cell of the globals, as cell 0, or a reference that is not null.
 #[derive(Clone, Copy, PartialEq, Eq)]
 pub enum Call {
     /// One step that touches no shared word.
@@ -17,7 +16,7 @@ pub enum Call {
         word: u32,
         value: Reference,
     },
-    /// Behind the barrier.
+    /// After the barrier.
     Write {
         base: Reference,
         word: u32,
@@ -30,7 +29,7 @@ pub enum Call {
     Wrong,
 }
 
-/// What a call is answered with.
+/// What a call gets back.
 #[derive(Clone, Copy, PartialEq, Eq)]
 pub enum Answer {
     Done,

@@ -15,7 +15,7 @@ pub enum Cause {
     TouchBirth(u64),
 }
 
-/// The cause by which a move itself breaks a run, by the words and births as they stand before it.
+/// The cause by which a move itself breaks a run, by the words and births as they are before it.
 pub fn broken_by(shared: &Shared, made: &Move) -> Option<Cause>
     ensures { Breaks shared.now made.now result }
 {
@@ -30,7 +30,7 @@ pub fn broken_by(shared: &Shared, made: &Move) -> Option<Cause>
     }
 }
 
-/// The cause by which a reference is gone that a step uses.
+/// The cause by which the reference that a step uses is gone.
 fn touched(shared: &Shared, used: Reference) -> Option<Cause>
     ensures { IsTouch shared.now used result }
 {

@@ -19,7 +19,7 @@ use colours::DONE;
 use pools::Pools;
 use std::alloc::AllocError;
 
-/// The thread behind its move. Whether its roots change is told. Without memory it stays as it was.
+/// The thread after its move. Returns whether its roots change. Without memory it stays as it was.
 pub fn go_on<M: Runner>(
     pools: &Pools,
     stand: &mut Stand<M>,
@@ -45,7 +45,7 @@ pub fn go_on<M: Runner>(
     Ok(roots_change)
 }
 
-/// A call ends with this answer. Whether the roots change is told: where no memory is left to look, they may.
+/// A call ends with this answer. Returns whether the roots change: where no memory is left to look, they may.
 fn end_call<M: Runner>(state: &mut M, answer: Answer) -> Result<bool, AllocError>
     requires { (s : Setup) × MayAnswer s (M.fits s) M.action state.old (answer_in answer) }
     ensures ok { OnOk result (state.new ≡ M.after_answer state.old (answer_in answer)) }
@@ -60,7 +60,7 @@ fn end_call<M: Runner>(state: &mut M, answer: Answer) -> Result<bool, AllocError
     }
 }
 
-/// The stage behind a move.
+/// The stage after a move.
 fn stage_behind(stage: u64, made: &Move) -> u64
     ensures { (roots : List AReference) → result ≡ stage_behind stage (move_in roots made.now) }
 {

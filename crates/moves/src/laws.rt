@@ -18,8 +18,8 @@ ghost use Rattle.moves.specs.Stands.{standing, sight_in};
 
 use runs::Machine;
 
-/// The law of drawn runs: whatever the machine, the run that a list of actors makes is a run of its threads and of the
-/// collector, in which each thread tries the cells of a pool from the lowest number up.
+/// The law of drawn runs, for every machine: the run that a list of actors makes is a run of its threads and of the collector.
+/// In it each thread tries the cells of a pool from the lowest number up.
 pub fn drawn_law<M: Machine>()
     ensures is_run { (s : Setup) (starts : ℕ → M) (actors : List Actor) → AreActors s.threads actors
         → IsModuleRun s (machine_of M.action M.after_answer M.roots) starts (run_by s (machine_of M.action M.after_answer M.roots) starts actors) }
@@ -27,16 +27,16 @@ pub fn drawn_law<M: Machine>()
         → TriesLowest s (machine_of M.action M.after_answer M.roots) t (starts t) (share_of t (run_by s (machine_of M.action M.after_answer M.roots) starts actors)) }
 {}
 
-/// The law of sights: where the words and births stand as behind a run, and a thread stands as behind its share of it, the next
-/// move from these is the thread's next step in the run.
+/// The law of sights: where the words and births are those after a run, and a thread is in its state after its share of the
+/// run, the next move from these is the thread's next step in the run.
 pub fn sight_law<M: Machine>()
     ensures { (s : Setup) (starts : ℕ → M) (run : List Happening) (t : ℕ) (stand : Stand M) (shared : Shared) → AreBehind s run shared
         → StandsBehind s (machine_of M.action M.after_answer M.roots) starts run t (standing M.roots stand)
         → next_by s (machine_of M.action M.after_answer M.roots) starts run (Thread t) ≡ by_thread t (next_move_of s (machine_of M.action M.after_answer M.roots) (sight_in s shared) (standing M.roots stand)) }
 {}
 
-/// The law of touches: where the words and births stand as behind a run, the cause that they tell of a move is the first by which
-/// the run is broken behind it; and where they tell none, the move is not wrong and touches no cell that is gone.
+/// The law of touches: where the words and births are those after a run, the cause that they give for a move is the first by
+/// which the run is broken after it. Where they give none, the move is not wrong and touches no cell that is gone.
 pub fn touch_law<M: Machine>()
     ensures { (s : Setup) (starts : ℕ → M) (run : List Happening) (t : ℕ) (roots : List Reference) (shared : Shared) (made : Move) (cause : Option Cause) → AreBehind s run shared → Breaks shared made cause
         → IsStepCause s (machine_of M.action M.after_answer M.roots) starts (OfThread t (move_in roots made) ∷ run) cause }

@@ -1,5 +1,5 @@
 //! The run that a list of actors makes, threads of one machine and the collector over one heap; and, in code, the next move of
-//! a thread, what it leaves in the shared words, and where the thread stands behind it.
+//! a thread, what it leaves in the shared words, and where the thread is after it.
 #![tactic(auto)]
 
 mod actor;

@@ -16,7 +16,7 @@ use crate::stand::Stance;
 use colours::DONE;
 use pools::Pools;
 
-/// Where a thread stands behind a move of its call.
+/// Where a thread is after a move of its call.
 pub(crate) fn stance_behind(
     pools: &Pools,
     call: &Call,
@@ -53,7 +53,7 @@ pub(crate) fn stance_behind(
     }
 }
 
-/// Behind a mark.
+/// After a mark.
 fn behind_mark(stance: Stance, cell: u64) -> Stance
     requires { CountsMark stance }
     ensures { (s : Setup) (stage : ℕ) (roots : List AReference) → MarksNext roots stance cell
@@ -79,7 +79,7 @@ fn behind_mark(stance: Stance, cell: u64) -> Stance
     }
 }
 
-/// Behind the try of a cell that was not free: the next one, if one is left.
+/// After the try of a cell that was not free: the next one, if one is left.
 fn behind_loss(pools: &Pools, call: &Call, stance: Stance, cell: u64) -> Stance
     requires { CountsTry stance }
     ensures { (s : Setup) (stage : ℕ) (roots : List AReference) → s.pools ≡ pools.now → LosesNext s call.now stance cell
@@ -91,7 +91,7 @@ fn behind_loss(pools: &Pools, call: &Call, stance: Stance, cell: u64) -> Stance
     }
 }
 
-/// The next try behind so many, if a cell is left.
+/// The next try after this number of tries, if a cell is left.
 fn tries_left(pools: &Pools, call: &Call, first: u64, tried: u64) -> Stance
     ensures { (roots : List AReference) → phase_at roots result ≡ phase_left pools.now (action_of call.now) first tried }
 {
@@ -111,7 +111,7 @@ pub(crate) fn is_between(stance: Stance) -> bool
     matches!(stance, Stance::Ready | Stance::Ended)
 }
 
-/// What the last move of a call answers.
+/// What the last move of a call returns.
 pub(crate) fn answer_of(call: &Call, made: &Move) -> Answer
     ensures { (roots : List AReference) → answer_in result ≡ moves.answer_of (action_of call.now) (move_in roots made.now) }
 {

@@ -32,7 +32,7 @@ pub fn next_move<M: Runner>(
     requires room { HasTryLeft pools.now (M.action stand.now.state) stand.now.stance }
     ensures next { (s : Setup) → s.pools ≡ pools.now → IfOk result (λ made.
         next_move_of s (machine_of M.action M.after_answer M.roots) (sight_in s shared.now) (standing M.roots stand.now) ≡ made_by (M.roots stand.now.state) made) }
-    // What the move adds may be counted: so many roots are in a list, and so many cells in a pool.
+    // The count that the move raises stays in range: it is at most the roots of a list, or the cells of a pool.
     ensures room { IfOk result (HasRoomForNext stand.now.stance) }
 {
     let call = stand.state.call();
@@ -50,7 +50,7 @@ pub fn next_move<M: Runner>(
     }
 }
 
-/// The move of a thread that answers a stage, behind so many marks of roots.
+/// The move of a thread that answers a stage, after this number of marks of roots.
 fn answering_move<M: Runner>(state: &M, stage: u64, marked: usize) -> Result<Move, AllocError>
     ensures next { (s : Setup) (h : Sight) (own : ℕ) (old : AReference) → let roots = M.roots state.now in IfOk result (λ made.
         next_move s h own roots old Safepoint (order.Answering stage (marked_of roots marked)) ≡ Some (move_in roots made)) }
@@ -134,7 +134,7 @@ fn mark_or_store(call: &Call, stage: u64) -> Option<Move>
     }
 }
 
-/// The store behind the barrier.
+/// The store after the barrier.
 fn store_of_new(call: &Call) -> Option<Move>
     ensures { (s : Setup) (h : Sight) (stage : ℕ) (roots : List AReference) (old : AReference) (cell word replaced new : ℕ)
         → next_move s h stage roots old (action_of call.now) (order.Writing cell word replaced new) ≡ made_by roots result }
@@ -149,7 +149,7 @@ fn store_of_new(call: &Call) -> Option<Move>
     }
 }
 
-/// The next try of an alloc, behind so many.
+/// The next try of an alloc, after this number of tries.
 fn next_try(shared: &Shared, pools: &Pools, call: &Call, tried: u64) -> Option<Move>
     requires births { (cell : ℕ) → slice_index shared.now.births cell < 2 ^ 62 }
     requires room { MayTryMore pools.now (action_of call.now) tried }
@@ -163,7 +163,7 @@ fn next_try(shared: &Shared, pools: &Pools, call: &Call, tried: u64) -> Option<M
     }
 }
 
-/// The try of a layout's next cell, behind so many of its pool.
+/// The try of a layout's next cell, after this number of its pool's cells.
 fn claim_of(shared: &Shared, pools: &Pools, layout: LayoutId, tried: u64) -> Move
     requires births { (cell : ℕ) → slice_index shared.now.births cell < 2 ^ 62 }
     requires is_layout { layout < length pools.now }
@@ -192,7 +192,7 @@ fn mark_or_answer(stage: u64, root: Option<Reference>) -> Move
     }
 }
 
-/// The root behind so many that are not null, of those that are not null.
+/// The root at this place among those that are not null.
 fn root_behind(roots: &[Reference], marked: usize) -> Option<Reference>
     ensures root { result ≡ slice_get (filter (λ r. not (r.cell == 0)) roots.now) marked }
     ensures few { OnSome result (marked < 2 ^ 63) }

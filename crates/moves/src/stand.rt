@@ -1,6 +1,6 @@
 use crate::reference::Reference;
 
-/// Where a thread stands in the call that it asks for.
+/// Where a thread is in the call that it asks for.
 #[derive(Clone, Copy, PartialEq, Eq)]
 pub enum Stance {
     /// Between two calls.
@@ -24,12 +24,12 @@ pub enum Stance {
         old: u64,
         new: u64,
     },
-    /// So many cells of a pool, from its first one on, were tried, each in vain.
+    /// This number of cells of a pool, from its first one on, were tried, each in vain.
     Trying {
         first: u64,
         tried: u64,
     },
-    /// This stage is posted, and so many roots that are not null are marked.
+    /// This stage is posted, and this number of roots that are not null are marked.
     Answering {
         stage: u64,
         marked: usize,
@@ -37,7 +37,7 @@ pub enum Stance {
     Ended,
 }
 
-/// A thread: the state of its machine, the stage that it stored last, where it stands, and what a write under way has read.
+/// A thread: the state of its machine, the stage that it stored last, where it is, and what a write under way has read.
 #[derive(Drop)]
 pub struct Stand<M> {
     pub state: M,

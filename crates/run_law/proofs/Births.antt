@@ -1,4 +1,4 @@
--- A cell is claimed once at the start, and once behind each free of it.
+-- A cell is claimed once at the start, and once after each free of it.
 use Rattle.std.proofs.Common.{◌≡◌, ◌≢◌, ℕ, suc, ◌*◌, ◌-◌, ◌%◌, ◌^◌, ◌<◌, ◌≤◌, ◌==◌, Bool, true, false, List, [], ◌∷◌, if◌then◌else◌, refl, arith, sym}
 use Rattle.lemmas.specs.Numbers.{test_true, test_yes}
 use Rattle.lemmas.specs.Bools.{and_parts}
@@ -65,7 +65,7 @@ thread_claims s h t step c n r before = go (wins step c) refl
       blue = λ z. let grows : word_after s h (Colour c) ≤ word_after s (ByThread t step ∷ h) (Colour c) = colour_grows s h (ByThread t step) r (λ x. x) c in before.blue (omega arith);
     }
 
--- a step of the collector that is no free leaves a blue cell so
+-- a step of the collector that frees nothing leaves a blue cell blue
 same_claims : (s : Setup) (h : List Event) (turn : Turn) (c n : ℕ) → IsRun s (ByCollector turn ∷ h) → ¬ IsFree (ByCollector turn)
     → HasFrees ((births_after s h).of_cell c) (word_after s h (Colour c)) n
     → HasFrees ((births_after s h).of_cell c) (word_after s (ByCollector turn ∷ h) (Colour c)) n
@@ -97,14 +97,14 @@ turn_claims s h (ScanWord cell word value) c r before = same_claims s h (ScanWor
 turn_claims s h (Blacken cell) c r before = same_claims s h (Blacken cell) c (frees c (turns_of h)) r (λ x. x) before
 turn_claims s h (ClearWord cell word) c r before = same_claims s h (ClearWord cell word) c (frees c (turns_of h)) r (λ x. x) before
 
--- so behind each run
+-- the same after each run
 claims : (s : Setup) (h : List Event) (c : ℕ) → IsRun s h → HasFrees ((births_after s h).of_cell c) (word_after s h (Colour c)) (frees c (turns_of h))
 unfolding births_after
 claims s [] c r = record { any = omega arith; blue = λ z. omega arith }
 claims s (ByThread t step ∷ h) c r = thread_claims s h t step c (frees c (turns_of h)) r (claims s h c r.0)
 claims s (ByCollector turn ∷ h) c r = turn_claims s h turn c r (claims s h c r.0)
 
--- the collector of a run stands somewhere
+-- the collector of a run is somewhere
 stands_at : (s : Setup) (h : List Event) → IsRun s h → (at : Collection) × Collects s (turns_of h) at
 stands_at s [] r = (Posting, refl)
 stands_at s (ByThread t step ∷ h) r = stands_at s h r.0

@@ -1,4 +1,4 @@
--- What the next move of a thread is, by what its action asks for and where it stands in the call.
+-- What the next move of a thread is, by what its action asks for and where it is in the call.
 use Rattle.std.proofs.Common.{◌≡◌, ◌<◌, ◌⊎◌, ◌+◌, inl, inr, ℕ, zero, suc, ◌==◌, ◌||◌, not, Bool, true, false, Option, Some, None, List, [], ◌∷◌, length, filter, slice_index, if◌then◌else◌, refl, sym, ap, ◌∙◌, subst, IsTrue, MatchOption, arith}
 use Rattle.lemmas.specs.Numbers.{test_false}
 use Rattle.pools.specs.Heap.{Setup, cells, kind_of, IsOfLayout}
@@ -61,7 +61,7 @@ first-is : (first other count : ℕ) → 0 < count → falling first count ≡ f
 first-is first other zero some e = absurd (omega (arith, some))
 first-is first other (suc count) some e = let same : first + count ≡ other + count = cc in omega (arith, same)
 
--- the try behind those so far
+-- the try after those so far
 try-next : (s : Setup) (layout first tried : ℕ) → TriedFrom s layout (falling first tried) → IsNextTry s layout first tried (lowest s layout (falling first tried))
 try-next s layout first tried f =
     let count = falling-length first tried in
@@ -113,7 +113,7 @@ chosen s h stage roots old Safepoint (stance.Answering next marked) a r o f = go
             (r q (in-filter p roots q (get_in (filter p roots) (length (marked_of roots marked)) q e)), (q, sym (next_root-marked roots marked) ∙ e, refl))
 chosen s h stage roots old action at a r o f = tt
 
--- so of the move that is made
+-- the same for the move that is made
 pub is-chosen : (s : Setup) (h : Shared) (stage : ℕ) (roots : List Reference) (old : Reference) (action : Action) (at : Stance) (move : Move) → AsksByKind s action → ((r : Reference) → IsIn r roots → r.cell < cells s)
     → old.cell < cells s → TriesFrom s action (phase_at roots at) → next_move s (sight_in s h) stage roots old action (phase_at roots at) ≡ Some move → IsChosen s h roots action at move
 is-chosen s h stage roots old action at move a r o f e =

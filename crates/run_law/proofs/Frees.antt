@@ -17,11 +17,11 @@ frees c (_ ∷ log) = frees c log
 abbrev IsTraced : (posted freed : ℕ) → Type 0
 IsTraced posted n = (posted % 3 ≡ 0) × (3 * n < posted)
 
--- and in its sweep, which stands at this cell
+-- and in its sweep, which is at this cell
 abbrev IsSwept : (posted place cell freed : ℕ) → Type 0
 IsSwept posted d c n = (posted % 3 ≡ 0) × (3 * n ≤ posted) × (d ≤ c → 3 * n < posted)
 
--- so often a cell may have been freed at this posted stage, where the collector stands
+-- how often a cell may have been freed at this posted stage, by where the collector is
 abbrev MayHaveFreed : (posted : ℕ) → Collection → (cell freed : ℕ) → Type 0
 MayHaveFreed posted Posting c n = 3 * n ≤ posted
 MayHaveFreed posted (Waiting t) c n = 3 * n < posted
@@ -42,7 +42,7 @@ at_sweep s posted d c n h = go (nat_lt d (cells s))
     go true = h
     go false = h.1
 
--- at a pass, or behind the last one
+-- at a pass, or after the last one
 at_pass : (s : Setup) (posted : ℕ) (p : Pass) (c n : ℕ) → IsTraced posted n → MayHaveFreed posted (pass_from s p) c n
 at_pass s posted p c n h = go (nat_lt p.next (cells s)) p.met_grey
   where
@@ -54,7 +54,7 @@ at_pass s posted p c n h = go (nat_lt p.next (cells s)) p.met_grey
     go false true = h
     go false false = at_sweep s posted 1 c n swept
 
--- behind a look
+-- after a look
 at_look : (s : Setup) (posted : ℕ) (p : Pass) (cell colour c n : ℕ) → IsTraced posted n → MayHaveFreed posted (looked s posted p cell colour) c n
 at_look s posted p cell colour c n h = go (colour == grey (cycle_of posted))
   where
@@ -62,7 +62,7 @@ at_look s posted p cell colour c n h = go (colour == grey (cycle_of posted))
     go true = h
     go false = at_pass s posted p c n h
 
--- behind a wait
+-- after a wait
 behind_wait : (posted c n : ℕ) → 3 * n < posted → MayHaveFreed posted (after_wait posted) c n
 behind_wait posted c n h = go (posted % 3 == 1) (posted % 3 == 2) refl refl
   where
@@ -75,7 +75,7 @@ behind_wait posted c n h = go (posted % 3 == 1) (posted % 3 == 2) refl refl
     go false true e f = h
     go false false e f = (third (test_false (posted % 3) 1 e) (test_false (posted % 3) 2 f), h)
 
--- at a wait, or behind it
+-- at a wait, or after it
 at_wait : (s : Setup) (posted thread c n : ℕ) → 3 * n < posted → MayHaveFreed posted (wait_from s posted thread) c n
 at_wait s posted thread c n h = go (nat_lt thread s.threads)
   where
@@ -83,7 +83,7 @@ at_wait s posted thread c n h = go (nat_lt thread s.threads)
     go true = h
     go false = behind_wait posted c n h
 
--- a freed cell is behind the sweep
+-- the sweep has passed a freed cell
 one_more : (s : Setup) (posted d c n : ℕ) → IsSwept posted d c n → MayHaveFreed posted (sweep_from s (suc d)) c (if d == c then suc n else n)
 one_more s posted d c n h = go (d == c) refl
   where
@@ -97,7 +97,7 @@ one_more s posted d c n h = go (d == c) refl
 
 -- ---- each step
 
--- a step keeps to the bound
+-- a step obeys the bound
 freed_next : (s : Setup) (log : List Turn) (b : Collection) (turn : Turn) (to : Collection) (c : ℕ) → Turns s (posted_of log) b turn to
     → MayHaveFreed (posted_of log) b c (frees c log) → MayHaveFreed (posted_of (turn ∷ log)) to c (frees c (turn ∷ log))
 freed_next s log Posting (PostStage stage) to c x h =

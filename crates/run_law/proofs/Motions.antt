@@ -1,4 +1,4 @@
--- A next step of the collector leaves what stands behind the longer run.
+-- A next step of the collector leaves the words and births after the longer run.
 use Rattle.std.proofs.Common.{◌≡◌, ◌<◌, ℕ, inl, Bool, true, false, Option, Some, None, List, ◌∷◌, length, slice_get, slice_index, unwrap_or, if◌then◌else◌, refl, sym, ap, ◌∙◌, subst, arith}
 use Rattle.std.proofs.lemmas.Option.{slice_get-get_or}
 use Rattle.pools.specs.Heap.{Setup, cells, kind_of, words_of_cell}
@@ -37,7 +37,7 @@ abbrev with_at : Shared → Place → Option ℕ → Shared
 with_at h p None = h
 with_at h p (Some n) = with_number h p n
 
--- so behind a motion
+-- the same after a motion
 stored-at : (h : Shared) (motion : Motion) (o : Option ℕ) → with_at h motion.place o ≡ with_stored h motion o
 stored-at h motion None = refl
 stored-at h motion (Some n) = refl
@@ -163,7 +163,7 @@ motion-grows s run c h b motion next step = record {
     extends : ExtendsRun s (heap_of run) (held_at h) motion
     extends = next-extends c (held_at h) motion next step goes s (heap_of run) b.stands b.words.behind.words
 
--- so behind each run
+-- the same after each run
 pub collector-grows : (s : Setup) (run : List Happening) (c : Collecting) (h : Shared) → CollectorIsBehind s run c h
     → NamesCells c.heap (held_at h) × ((motion : Motion) (next : Collecting) → IsStepOn (held_at h) c motion next → MotionGrows s run h motion next)
 collector-grows s run c h b =

@@ -1,4 +1,4 @@
--- The next move of a thread may be made on the words as they stand, and leaves a state that fits.
+-- The next move of a thread may be made on the words as they are, and leaves a state that fits.
 use Rattle.std.proofs.Common.{◌≡◌, ◌≢◌, ◌<◌, ◌^◌, inl, inr, ℕ, Bool, true, false, Option, Some, None, List, length, if◌then◌else◌, refl, sym, ◌∙◌, subst, IsTrue, arith}
 use Rattle.std.proofs.lemmas.Option.{slice_get_within}
 use Rattle.pools.specs.Heap.{Setup, cells, kind_of, words_of_cell}
@@ -77,7 +77,7 @@ puts s h roots action at (made.ReadsPosted stage) a c = tt
 puts s h roots action at (made.Answers stage) a c = tt
 puts s h roots action at made.Ends a c = tt
 
--- a claim is as its cell stands
+-- a claim agrees with the state of its cell
 pub sees : (s : Setup) (h : Shared) (roots : List Reference) (action : Action) (at : Stance) (move : Move) → IsChosen s h roots action at (move_in roots move) → SeesCell h move
 sees s h roots action at (made.Claims r won) c = (c.3, c.4)
 sees s h roots action at made.Works c = tt
@@ -131,7 +131,7 @@ may-make s h roots action at (made.ReadsPosted stage) asked e c = tt
 may-make s h roots action at (made.Answers stage) asked e c = tt
 may-make s h roots action at made.Ends asked e c = tt
 
--- ---- the thread behind it
+-- ---- the thread after it
 
 -- the move brings no reference
 abbrev BringsNothing : Move → Type 0
@@ -139,7 +139,7 @@ BringsNothing (made.ReadsWord base word value) = ⊥
 BringsNothing (made.Claims r won) = ⊥
 BringsNothing move = Unit {0}
 
--- such a move answers with none but null
+-- such a move returns nothing but null
 nothing-fits : (s : Setup) (roots : List Reference) (action : Action) (move : Move) → BringsNothing move → AnswersByKind s action (answer_of action (move_in roots move))
 nothing-fits s roots Local move q = tt
 nothing-fits s roots (StorePlain base word value) move q = tt
@@ -168,7 +168,7 @@ nothing-fits s roots (Alloc layout) (made.ReadsPosted stage) q = tt
 nothing-fits s roots (Alloc layout) (made.Answers stage) q = tt
 nothing-fits s roots (Alloc layout) made.Ends q = tt
 
--- what is answered fits what was asked for
+-- the answer fits what was asked for
 pub answers : (s : Setup) (h : Shared) (roots : List Reference) (action : Action) (at : Stance) (move : Move) → HasShape s h → AsksByKind s action → IsChosen s h roots action at (move_in roots move)
     → AnswersByKind s action (answer_of action (move_in roots move))
 answers s h roots action at (made.ReadsWord base word value) shape a c =
@@ -195,7 +195,7 @@ either-fits : {State : Type 0} (Fits : State → Type 0) (b : Bool) (x y : State
 either-fits Fits true x y f g = f
 either-fits Fits false x y f g = g
 
--- so the state behind the move fits
+-- so the state after the move fits
 pub moved-fits : (s : Setup) (m : Machine) (Fits : m.State → Type 0) (h : Shared) (stand : Stand m.State) (move : Move) → HasShape s h → KeepsKinds s m.action m.after_answer m.roots Fits stand.state → Fits stand.state
     → IsChosen s h (m.roots stand.state) (m.action stand.state) stand.stance (move_in (m.roots stand.state) move)
     → Fits (moved s m (standing m.roots stand) (move_in (m.roots stand.state) move)).state

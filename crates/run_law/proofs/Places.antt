@@ -80,7 +80,7 @@ abbrev pub left_in : (thread stage : ℕ) → Option Step → Place → ℕ → 
 left_in thread stage None p m = m
 left_in thread stage (Some step) p m = left_by (ask_of thread stage step) p m
 
--- so of each move
+-- the same for each move
 pub held-left : (h : Shared) (t stage : ℕ) (roots : List Reference) (move : Move) (p : Place) → CanTake h t stage move → SeesCell h move
     → held_at (with_move h t stage move) p ≡ left_in t stage (step_of (move_in roots move)) p (held_at h p)
 held-left h t stage roots made.Works p can sees = refl

@@ -82,7 +82,7 @@ PutsByKind s (made.StoresBehindBarrier base word value) = MayHold s (kind_of s b
 PutsByKind s (made.StoresPlain base word value) = MayHold s (kind_of s base.cell word) value
 PutsByKind s move = Unit {0}
 
--- so behind a thread's move
+-- the same after a thread's move
 pub shape-move : (s : Setup) (h : Shared) (t stage : ℕ) (move : Move) → HasShape s h → CanTake h t stage move → PutsByKind s move → HasShape s (with_move h t stage move)
 shape-move s h t stage made.Works shape can puts = shape
 shape-move s h t stage made.GoesWrong shape can puts = shape

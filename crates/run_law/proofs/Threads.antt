@@ -1,4 +1,4 @@
--- A next move of a thread of a run leaves what stands behind the longer run.
+-- A next move of a thread of a run leaves the words and births after the longer run.
 use Rattle.std.proofs.Common.{◌≡◌, ◌≢◌, ◌≤◌, ◌<◌, ◌^◌, ℕ, Some, List, length, sym, ◌∙◌, subst, arith}
 use Rattle.pools.specs.Heap.{Setup, cells}
 use Rattle.colours.specs.Mutator.{Phase, Ended, HasBegun, phase_of}
@@ -36,7 +36,7 @@ few-tried s layout first tried few f =
     let below = pool-within s layout (length (falling first tried)) f.few in
     omega (arith, few, count, below)
 
--- there is a pool, and so few were tried
+-- there is a pool, and fewer than 2^32 cells were tried
 try-left : (s : Setup) (action : Action) (roots : List Reference) (at : Stance) → cells s ≤ 2 ^ 32 → TriesFrom s action (phase_at roots at) → HasTryLeft s.pools action at
 try-left s action roots stance.Ready few f = tt
 try-left s action roots (stance.MarkingOld c i o) few f = tt

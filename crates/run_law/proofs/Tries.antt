@@ -58,7 +58,7 @@ pub record TriedFrom (s : Setup) (layout : ℕ) (tried : List ℕ) : Type 0 wher
   pub some : 0 < length tried
   pub are : tried ≡ falling (first_cell s.pools layout) (length tried)
 
--- so where a thread stands
+-- the same, by the phase of a thread
 abbrev pub TriesFrom : Setup → Action → Phase → Type 0
 TriesFrom s action Ready = Unit {0}
 TriesFrom s action (MarkingOld c i o) = Unit {0}
@@ -73,7 +73,7 @@ TriesFrom s action Leaving = Unit {0}
 TriesFrom s (Alloc layout) (Trying tried) = TriedFrom s layout tried
 TriesFrom s action (Trying tried) = ⊥
 
--- behind one more lost try of a call
+-- after one more lost try of a call
 lost : (s : Setup) (layout : ℕ) (tried : List ℕ) (cell : ℕ) → IsOfLayout s layout cell → cell ≡ lowest s layout tried → tried ≡ falling (first_cell s.pools layout) (length tried)
     → length tried < slice_index s.pools layout
     → TriesFrom s (Alloc layout) (if length (cell ∷ tried) == slice_index s.pools (layout_of s cell) then Ready else Trying (cell ∷ tried))
@@ -88,7 +88,7 @@ lost s layout tried cell o e are few = go (length (cell ∷ tried) == slice_inde
         let other : length (cell ∷ tried) ≢ slice_index s.pools layout = subst (λ (l : ℕ). length (cell ∷ tried) ≢ slice_index s.pools l) o.2 (test_false _ _ x) in
         record { few = omega (arith, few, other); some = omega arith; are = more }
 
--- behind a move that the action asks for
+-- after a move that the action asks for
 tries-at : (s : Setup) (stage : ℕ) (roots : List Reference) (old : Reference) (action : Action) (phase : Phase) (move : Move) → AsksFor s roots old action phase move → IsLowest s action phase move
     → TriesFrom s action phase → TriesFrom s action (phase_behind s stage phase (step_of move))
 tries-at s stage roots old Local Ready Works a l f = tt
@@ -127,7 +127,7 @@ tries-at s stage roots old End Ready (StoresStage to rs) a l f = go (to == done)
     go false = tt
 tries-at s stage roots old action phase move a l f = absurd a
 
--- behind a move of a late thread's try to begin
+-- after a move of a late thread's try to begin
 tries-late : (s : Setup) (stage : ℕ) (action : Action) (phase : Phase) (move : Move) → IsOfTry phase move → TriesFrom s action (phase_behind s stage phase (step_of move))
 tries-late s stage action Absent (ReadsPostedFirst posted) a = tt
 tries-late s stage action (Arriving posted) (EntersStage next) a = tt
@@ -153,7 +153,7 @@ tries-between s m state next move Entering f = tt
 tries-between s m state next move Leaving f = tt
 tries-between s m state next move (Trying tried) f = rw (ends_between move (Trying tried) refl) f
 
--- behind each share that tries the lowest cells
+-- after each share that tries the lowest cells
 pub tries-from : (s : Setup) (m : Machine) (t : ℕ) (start : m.State) (share : List Move) → IsShare s m t start share → TriesLowest s m t start share
     → TriesFrom s (m.action (state_after s m t start share)) (phase_of s t (steps_of share))
 tries-from s m t start [] h l = go (is_late s t)

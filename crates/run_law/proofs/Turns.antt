@@ -70,7 +70,7 @@ names-cells s h few shape cell word is = go (nat_lt cell (cells s)) refl
         let none = ap (λ (r : Reference). r.cell) (null-outside h.words cell word past) in
         omega (arith, none)
 
--- ---- where it stands behind a look
+-- ---- where it is after a look
 
 -- the wait for a thread
 wait-in : (s : Setup) (stage thread : ℕ) → IsInHeap s (in_order (wait_from (plan_of s) stage thread))
@@ -134,7 +134,7 @@ place-there s h stage (Clearing cell word) found shape is = go (nat_lt word (len
         word-there s h cell word shape is (omega (arith, count, within))
     go false e = let count = shape.colours in omega (arith, count, is)
 
--- and where it stands then
+-- and where it is then
 pub in-heap-behind : (s : Setup) (h : Shared) (stage : ℕ) (at : Collection) (found : ℕ) → HasShape s h → IsInHeap s at
     → found ≡ held_at h (place_of (turn_of (cycle_of stage) (turn_in (plan_of s) stage at found))) → IsInHeap s (in_order (behind (plan_of s) stage at found))
 in-heap-behind s h stage Posting found shape is e = wait-in s (stage + 1) 0

@@ -1,4 +1,4 @@
--- The words and births behind a thread's move are those of the longer run.
+-- The words and births after a thread's move are those of the longer run.
 use Rattle.std.proofs.Common.{◌≡◌, ℕ, suc, ◌==◌, ◌&&◌, Bool, true, false, Option, Some, None, List, ◌∷◌, slice_index, slice_set, if◌then◌else◌, refl, sym, ap, ◌∙◌}
 use Rattle.lemmas.specs.Numbers.{test_true, test_yes, test_false, test_no}
 use Rattle.pools.specs.Heap.{Setup}
@@ -44,7 +44,7 @@ birth-stored rows c i r d j n e same =
     ∙ birth-of ((c == d) && (i == j)) r (word_at rows d j)
     ∙ ap (λ m. if (c == d) && (i == j) then r.birth else m) same
 
--- so of each move
+-- the same for each move
 birth-left : (h : Shared) (t stage : ℕ) (roots : List Reference) (move : Move) (d j n : ℕ) → CanTake h t stage move → (word_at h.words d j).birth ≡ n
     → (word_at (with_move h t stage move).words d j).birth ≡ left_birth (move_in roots move) d j n
 birth-left h t stage roots made.Works d j n can same = same
@@ -84,7 +84,7 @@ born-won births c birth d next e = e ∙ go (c == d) refl
     go true is = rw (test_yes d c (sym (test_true c d is))) (next ∙ ap (λ n. suc (slice_index births n)) (test_true c d is))
     go false is = rw (test_no d c (λ x. test_false c d is (sym x))) refl
 
--- so of each move
+-- the same for each move
 born-left : (h : Shared) (t stage : ℕ) (roots : List Reference) (move : Move) (d : ℕ) → CanTake h t stage move → SeesCell h move
     → slice_index (with_move h t stage move).births d ≡ won_by (step_of (move_in roots move)) d (slice_index h.births d)
 born-left h t stage roots made.Works d can sees = refl
@@ -102,7 +102,7 @@ born-left h t stage roots (made.Claims r true) d can sees = born-won h.births r.
 
 -- ---- all of them
 
--- behind a thread's move
+-- after a thread's move
 pub words-grow : (s : Setup) (run : List Happening) (t stage : ℕ) (roots : List Reference) (h : Shared) (move : Move) → stage ≡ stage_of (steps_of (share_of t run))
     → StandBehind s run h → CanTake h t stage move → SeesCell h move → PutsByKind s move
     → StandBehind s (OfThread t (move_in roots move) ∷ run) (with_move h t stage move)

@@ -12,6 +12,6 @@ pub record IsBounded (s : Setup) (run : List Happening) : Type 0 where
       → stage_of (steps_of (share_of t run)) < 2 ^ 62
   pub births : (cell : ℕ) → birth_of s run cell < 2 ^ 62
 
--- so behind each run
+-- the same after each run
 abbrev pub AreBounded : (s : Setup) (m : Machine) → Type 0
 AreBounded s m = (starts : ℕ → m.State) (run : List Happening) → IsModuleRun s m starts run → IsBounded s run

@@ -1,4 +1,4 @@
--- What a next step leaves of the words and births behind a run.
+-- What a next step leaves of the words and births after a run.
 use Rattle.std.specs.Prelude.{ℕ, ◌≡◌, ◌<◌, ◌≤◌, ◌^◌, Option, Some, None, List, ◌∷◌, slice_index}
 use Rattle.pools.specs.Heap.{Setup, cells}
 use Rattle.colours.specs.Collector.{Collection, Posting, Waiting, ShadingGlobals, Passing, Scanning, Shading, Sweeping, Clearing}
@@ -24,7 +24,7 @@ use Rattle.moves.specs.Stands.{HasTryLeft, standing, sight_in}
 
 -- ---- threads
 
--- where a thread of a run stands, with a state that fits the heap, and the words and births behind the run
+-- where a thread of a run is, with a state that fits the heap, and the words and births after the run
 pub record ThreadIsBehind (s : Setup) (m : Machine) (Fits : m.State → Type 0) (starts : ℕ → m.State) (run : List Happening) (t : ℕ) (stand : Stand m.State) (h : Shared) : Type 0 where
   pub few_cells : cells s ≤ 2 ^ 32
   pub is_run : IsModuleRun s m starts run
@@ -35,7 +35,7 @@ pub record ThreadIsBehind (s : Setup) (m : Machine) (Fits : m.State → Type 0) 
   pub replaced : stand.replaced.cell < cells s
   pub words : StandBehind s run h
 
--- a next move of the thread may be made, and leaves what stands behind the longer run
+-- a next move of the thread may be made, and leaves the words and births after the longer run
 pub record MoveGrows (s : Setup) (m : Machine) (Fits : m.State → Type 0) (run : List Happening) (t : ℕ) (stand : Stand m.State) (h : Shared) (made : Move) : Type 0 where
   pub may_make : (call : Call) → action_of call ≡ m.action stand.state → MayMake s (m.roots stand.state) call stand.stance made
   pub can_take : CanTake h t stand.stage made
@@ -50,14 +50,14 @@ pub record ThreadGrows (s : Setup) (m : Machine) (Fits : m.State → Type 0) (ru
   pub try_left : HasTryLeft s.pools (m.action stand.state) stand.stance
   pub move : (made : Move) → next_move_of s m (sight_in s h) (standing m.roots stand) ≡ Some (move_in (m.roots stand.state) made) → MoveGrows s m Fits run t stand h made
 
--- so of each thread of a machine that keeps to the kinds of words
+-- the same for each thread of a machine that obeys the kinds of words
 abbrev pub ThreadsGrow : (s : Setup) {State : Type 0} (action : State → Action) (after_answer : State → Answer → State) (roots : State → List Reference) (Fits : State → Type 0) → Type 0
 ThreadsGrow s {State} action after_answer roots Fits = (starts : ℕ → State) (run : List Happening) (t : ℕ) (stand : Stand State) (h : Shared)
     → ThreadIsBehind s (machine_of action after_answer roots) Fits starts run t stand h → ThreadGrows s (machine_of action after_answer roots) Fits run t stand h
 
 -- ---- the collector
 
--- a collector stands at a thread or at a cell of the heap, and has a cell in hand
+-- a collector is at a thread or at a cell of the heap, and what it has in hand is a cell
 abbrev pub IsInHeap : Setup → Collection → Type 0
 IsInHeap s Posting = Unit {0}
 IsInHeap s (Waiting thread) = thread < s.threads
@@ -68,26 +68,26 @@ IsInHeap s (Shading value cell word p) = (value < cells s) × (cell < cells s)
 IsInHeap s (Sweeping cell) = cell < cells s
 IsInHeap s (Clearing cell word) = cell < cells s
 
--- the words behind a step of the collector: another number in its word, if it stores one
+-- the words after a step of the collector: another number in its word, if it stores one
 abbrev pub with_stored : Shared → Motion → Option ℕ → Shared
 with_stored h motion None = h
 with_stored h motion (Some n) = with_number h motion.place n
 
--- where the collector of a run stands, and the words and births behind the run
+-- where the collector of a run is, and the words and births after the run
 pub record CollectorIsBehind (s : Setup) (run : List Happening) (c : Collecting) (h : Shared) : Type 0 where
   pub few_cells : cells s ≤ 2 ^ 32
   pub stands : collector.StandsBehind s (turns_of (heap_of run)) c
   pub in_heap : IsInHeap s c.at
   pub words : StandBehind s run h
 
--- its next step may be made, and leaves what stands behind the longer run
+-- its next step may be made, and leaves the words and births after the longer run
 pub record MotionGrows (s : Setup) (run : List Happening) (h : Shared) (motion : Motion) (behind : Collecting) : Type 0 where
   pub can_hold : CanHold h motion.place
   pub stands : collector.StandsBehind s (turns_of (heap_of (OfCollector motion.turn ∷ run))) behind
   pub in_heap : IsInHeap s behind.at
   pub words : StandBehind s (OfCollector motion.turn ∷ run) (with_stored h motion motion.stored)
 
--- so behind each run
+-- the same after each run
 abbrev pub CollectorGrows : Setup → Type 0
 CollectorGrows s = (run : List Happening) (c : Collecting) (h : Shared) → CollectorIsBehind s run c h
     → NamesCells c.heap (held_at h) × ((motion : Motion) (behind : Collecting) → IsStepOn (held_at h) c motion behind → MotionGrows s run h motion behind)

@@ -1,4 +1,4 @@
-//! Law of runs: how far stages and births go, and what one more step makes of the words, the births and the threads.
+//! Law of runs: bounds of stages and births, and what one more step makes of the words, the births and the threads.
 #![tactic(auto)]
 
 mod bounds_laws;

@@ -1,4 +1,4 @@
--- What a thread promises, over the real heap: a log whose answers are possible, and a next move that the machine asks for, keep the heap's discipline.
+-- What a thread promises, over the real heap: a log whose answers are possible, and a next move that the machine asks for, obey the heap's discipline.
 use Rattle.std.proofs.Common.{Option, Some, None, List, [], ◌∷◌, MatchOption}
 use Rattle.pools.specs.Heap.{Setup}
 use Rattle.colours.specs.Steps.{Step}

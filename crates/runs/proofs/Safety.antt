@@ -24,7 +24,7 @@ use Rattle.runs.specs.Promises.{AreCareful, HeapLaw, IsSafe, IsNeverWrong}
 use Rattle.runs.specs.Shares.{same_cell, log_is, run_with, heap_run, is_share, brings_gains, leaves_keeps, holds_held, disciplined}
 use Rattle.runs.proofs.Births.{birth_stays, birth_given, birth_elsewhere, word_birth_left}
 
--- what holds of each end of a run: the heap part keeps the discipline, answers were possible, and the births of references are the heap's
+-- what holds of each end of a run: the heap part obeys the discipline, answers were possible, and the births of references are the heap's
 pub record Invariant (s : Setup) (run : List Happening) : Type 0 where
   pub discipline : KeepsDiscipline s (heap_of run)
   pub possible : (t : ℕ) → ArePossible s (share_of t run)
@@ -148,7 +148,7 @@ record Setting (s : Setup) (m : Machine) (starts : ℕ → m.State) : Type 0 whe
 heap_is : (s : Setup) (m : Machine) (starts : ℕ → m.State) → Setting s m starts → (run : List Happening) → IsModuleRun s m starts run → Invariant s run → IsHeapRun s (heap_of run)
 heap_is s m starts g run r inv = record { setup = g.setup; run_of = heap_run s m starts run r; discipline = inv.discipline }
 
--- the thread keeps to the discipline
+-- the thread obeys the discipline
 keeps : (s : Setup) (m : Machine) (starts : ℕ → m.State) → Setting s m starts → (run : List Happening) → IsModuleRun s m starts run → Invariant s run
     → (t : ℕ) (move : Move) → IsNext s m starts run (OfThread t move) → KeepsTo s (share_of t run) move
 keeps s m starts g run r inv t move n = (g.careful t n.0).moves (share_of t run) move (is_share s m starts run t r) (inv.possible t) n.1
@@ -325,7 +325,7 @@ safe s m starts setup law careful run r broken = go broken
     go (inr (inl x)) = touched run r x
     go (inr (inr x)) = not_gone s run x.0 (law.kept (heap_of run) (heap_is s m starts g run r inv) x.0.cell x.0.birth (reached_kept s m starts g run r inv x.0 x.1)) x.2
 
--- ---- no thread stands at an instruction that has no meaning
+-- ---- no thread is at an instruction that has no meaning
 
 pub never_wrong : (s : Setup) (m : Machine) (starts : ℕ → m.State) → IsSafe s m starts → IsNeverWrong s m starts
 never_wrong s m starts safe run r t lt p w = safe (OfThread t GoesWrong ∷ run) (r, (lt, (tt, inr asked), tt, tt)) (inl tt)

@@ -1,5 +1,5 @@
--- A thread claims a cell, stores it in a global at the first stage and again at a sync stage, answers a stage between the two,
--- finds no cell in an empty pool, and ends.
+-- A thread claims a cell, stores it in a global at the first stage and again at a sync stage, and answers a stage between
+-- the two. It finds no cell in an empty pool, and ends.
 use Rattle.std.proofs.Common.{ℕ, inr, true, List, [], ◌∷◌, refl, lit<}
 use Rattle.pools.specs.declared.word_kind.WordKind.TheVariants as kind
 use Rattle.pools.specs.Heap.{Setup, kind_of, layout_of, is_late}

@@ -87,7 +87,7 @@ sound s = record {
 abbrev begun : List (List Reference → Action) → Script
 begun code = record { code = code; values = [] }
 
--- so any number of tame scripts make safe runs, over a heap that keeps its law
+-- so any number of tame scripts make safe runs, over a heap that satisfies its law
 pub tame_safe : (s : Setup) (codes : ℕ → List (List Reference → Action)) → IsSetup s → HeapLaw s → ((t : ℕ) → IsTame (codes t)) → IsSafe s scripts (λ t. begun (codes t))
 tame_safe s codes setup law tame =
     safe s scripts (λ t. begun (codes t)) setup law

@@ -18,7 +18,7 @@ use Rattle.runs.specs.Causes.{shows_broken}
 abbrev heap : Setup
 heap = record { threads = 2; late = []; layouts = (kind.Integer 64 ∷ kind.Reference 0 ∷ []) ∷ []; pools = 1 ∷ []; globals = kind.Reference 0 ∷ []; values = 0 ∷ [] }
 
--- the first thread makes this call behind three safepoints, and the second one claims a cell there
+-- the first thread makes this call after three safepoints, and the second one claims a cell there
 abbrev starts : (last : List Reference → Action) → ℕ → Script
 starts last zero = record { code = (λ v. Alloc 0) ∷ (λ v. Safepoint) ∷ (λ v. Safepoint) ∷ (λ v. Safepoint) ∷ last ∷ []; values = [] }
 starts last (suc t) = record { code = (λ v. Safepoint) ∷ (λ v. Safepoint) ∷ (λ v. Safepoint) ∷ (λ v. Alloc 0) ∷ []; values = [] }
@@ -407,7 +407,7 @@ unfolding word_after births_after layout_of kind_of is_late
 stays (inl e) = absurd (omega (arith, e))
 stays (inr n) = n refl
 
--- ---- the stale reference is stored, with no touch of its cell: a path from the globals comes to another birth
+-- ---- the stale reference is stored, with no touch of its cell: a path from the globals reaches another birth
 
 abbrev store_it : List Reference → Action
 store_it v = Write null 0 (first v)

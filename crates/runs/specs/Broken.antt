@@ -1,4 +1,4 @@
--- What is reachable behind a module run, what is gone, and when the run's end is broken, with the cause.
+-- What is reachable after a module run, what is gone, and when the run's end is broken, with the cause.
 use Rattle.std.specs.Prelude.{ℕ, ◌<◌, ◌≡◌, ◌≢◌, ◌⊎◌, Option, Some, None, List, ◌∷◌, IsTrue, MatchOption}
 use Rattle.pools.specs.Heap.{Setup, kind_of}
 use Rattle.pools.specs.Layouts.{is_reference_kind}
@@ -23,14 +23,14 @@ pub record IsRoot (s : Setup) (m : Machine) (starts : ℕ → m.State) (run : Li
   pub is_under_way : IsUnderWay (phase_of s thread (steps_of (share_of thread run)))
   pub is_root : IsIn r (m.roots (state_after s m thread (starts thread) (share_of thread run)))
 
--- what a path of reference words comes to, from the cell of the globals or from one of these: a cell, with the birth on the path
+-- what a path of reference words reaches, from the cell of the globals or from one of these: a cell, with the birth on the path
 pub data Reached (s : Setup) (run : List Happening) (From : Reference → Type 0) : Reference → Type 0 where
   globals : Reached s run From null
   from : (r : Reference) → From r → r.cell ≢ 0 → Reached s run From r
   further : (r : Reference) (word : ℕ) → Reached s run From r → IsTrue (is_reference_kind (kind_of s r.cell word)) → word_after s (heap_of run) (Word r.cell word) ≢ 0
       → Reached s run From (record { cell = word_after s (heap_of run) (Word r.cell word); birth = birth_in run r.cell word })
 
--- the reference stands at the end of a path from the globals or from a root
+-- the reference is at the end of a path from the globals or from a root
 abbrev pub IsReachable : (s : Setup) (m : Machine) (starts : ℕ → m.State) → List Happening → Reference → Type 0
 IsReachable s m starts run r = Reached s run (IsRoot s m starts run) r
 
@@ -120,7 +120,7 @@ pub record IsCause (s : Setup) (m : Machine) (starts : ℕ → m.State) (run : L
   pub shows : Shows s m starts run cause
   pub first : (other : Cause) → GoesBefore other cause → ¬ Shows s m starts run other
 
--- the cause of a run's end says that it is broken, there is at most one, and an end that isn't broken alone has none
+-- the cause of a run's end says that it is broken, there is at most one, and only an end that isn't broken has none
 pub record CausesName (s : Setup) (m : Machine) (starts : ℕ → m.State) (run : List Happening) : Type 0 where
   pub broken : (cause : Cause) → IsCause s m starts run cause → IsBroken s m starts run
   pub one : (c d : Cause) → IsCause s m starts run c → IsCause s m starts run d → c ≡ d

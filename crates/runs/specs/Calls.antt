@@ -1,4 +1,4 @@
--- A thread whose calls are sound keeps to the discipline at each move of each call.
+-- A thread whose calls are sound obeys the discipline at each move of each call.
 use Rattle.std.proofs.Common.{◌≡◌, ◌≢◌, ℕ, zero, suc, ◌==◌, ◌⊎◌, inl, inr, Bool, true, false, not, Option, Some, None, List, [], ◌∷◌, length, if◌then◌else◌, refl, sym, ◌∙◌, subst, slice_index, slice_get, filter, IsTrue, MatchOption}
 use Rattle.std.proofs.Math.Path.{ap}
 use Rattle.lemmas.specs.Numbers.{test_yes, test_false}
@@ -21,13 +21,13 @@ abbrev Old : Setup → List Move → Phase → Type 0
 Old s share (MarkingOld c i o) = Holds s share (old_of share)
 Old s share phase = Unit {0}
 
--- behind a move of a call: the thread has ended, or its facts hold
+-- after a move of a call: the thread has ended, or its facts hold
 abbrev Stands : (s : Setup) (m : Machine) (Sound : List Move → m.State → Type 0) (share : List Move) (state : m.State) → Action → Phase → Move → Type 0
 Stands s m Sound share state action phase move =
     (phase ≡ Ended)
     ⊎ (Sound (move ∷ share) (if ends_call move phase then m.after_answer state (answer_of action move) else state) × Old s (move ∷ share) phase × HasBegun phase)
 
--- a step that keeps all roots and stores nothing leaves held and fresh what was so
+-- a step that keeps all roots and stores nothing leaves what was held held, and what was fresh fresh
 abbrev IsQuiet : Move → Type 0
 IsQuiet (ReadsOldValue b w v) = Unit {0}
 IsQuiet (Marks r) = Unit {0}
@@ -184,7 +184,7 @@ no_move s roots old phase action move e a = go action (subst (λ (x : Phase). Is
     go Safepoint (inr a) = a
     go End (inr a) = a
 
--- where a thread stands behind a move, by its step
+-- where a thread is after a move, by its step
 pub phase_with : (s : Setup) (t : ℕ) (log : List Step) (o : Option Step) → phase_behind s (stage_of log) (phase_of s t log) o ≡ phase_of s t (logged o log)
 phase_with s t log None = refl
 phase_with s t log (Some step) = refl
@@ -193,7 +193,7 @@ follows : (s : Setup) (t : ℕ) (log : List Step) (o : Option Step) → Follows 
 follows s t log None f = tt
 follows s t log (Some step) f = f
 
--- what holds where a thread has not ended: its facts; and if it has not begun, it stands at its start
+-- what holds where a thread has not ended: its facts; and if it has not begun, it is at its start
 record Standing (s : Setup) (m : Machine) (t : ℕ) (start : m.State) (Sound : List Move → m.State → Type 0) (share : List Move) (state : m.State) (phase : Phase) : Type 0 where
   facts : Sound share state
   old : Old s share phase

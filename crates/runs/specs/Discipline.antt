@@ -43,7 +43,7 @@ MayPut s share None value = ⊥
 MayPut s share (Some (kind.Integer bits)) value = value.cell < 2 ^ bits
 MayPut s share (Some (kind.Reference layout)) value = (value.cell ≡ 0) ⊎ (Holds s share value × IsOfLayout s layout value.cell)
 
--- the move keeps to the discipline. That of a thread that goes wrong never does
+-- the move obeys the discipline. That of a thread that goes wrong never does
 abbrev pub KeepsTo : Setup → List Move → Move → Type 0
 KeepsTo s share GoesWrong = ⊥
 KeepsTo s share (ReadsWord base word value) = MayTouch s share base × (kind_of s base.cell word ≢ None)

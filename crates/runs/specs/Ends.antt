@@ -20,7 +20,7 @@ pub record Standing (State : Type 0) : Type 0 where
 
 -- ---- one thread
 
--- the thread stands so behind its share
+-- the thread has this state after its share
 pub record StandsBehind (s : Setup) (m : Machine) (starts : ℕ → m.State) (run : List Happening) (t : ℕ) (stand : Standing m.State) : Type 0 where
   pub state : stand.state ≡ state_after s m t (starts t) (share_of t run)
   pub stage : stand.stage ≡ stage_of (steps_of (share_of t run))
@@ -31,7 +31,7 @@ pub record StandsBehind (s : Setup) (m : Machine) (starts : ℕ → m.State) (ru
 abbrev pub begun : (s : Setup) (m : Machine) (starts : ℕ → m.State) (thread : ℕ) → Standing m.State
 begun s m starts t = record { state = starts t; stage = 0; phase = if is_late s t then Absent else Ready; old = null }
 
--- the stage behind a move
+-- the stage after a move
 abbrev pub stage_behind : (stage : ℕ) → Move → ℕ
 stage_behind stage (StoresStage next roots) = next
 stage_behind stage (EntersStage next) = next
@@ -42,7 +42,7 @@ abbrev pub old_by : Move → Reference
 old_by (ReadsOldValue base word value) = value
 old_by move = null
 
--- the thread behind a move
+-- the thread after a move
 abbrev pub moved : (s : Setup) (m : Machine) → Standing m.State → Move → Standing m.State
 moved s m stand move = record {
   state = if ends_call move (phase_behind s stand.stage stand.phase (step_of move)) then m.after_answer stand.state (answer_of (m.action stand.state) move) else stand.state;
@@ -51,11 +51,11 @@ moved s m stand move = record {
   old = old_by move;
 }
 
--- the next move of a thread that stands so
+-- the next move of a thread in this state
 abbrev pub next_move_of : (s : Setup) (m : Machine) → Sight → Standing m.State → Option Move
 next_move_of s m h stand = next_move s h stand.stage (m.roots stand.state) stand.old (m.action stand.state) stand.phase
 
--- from where a thread stands behind a run, its next move and where it stands behind one more happening
+-- how a thread goes on from where it is after a run: its next move, and where it is after one more happening
 pub record GoesOn (s : Setup) (m : Machine) (starts : ℕ → m.State) (run : List Happening) (t : ℕ) (stand : Standing m.State) : Type 0 where
   pub next : (h : Sight) → next_move_of s m h stand ≡ next_move_in s m starts run h t
   pub own : (move : Move) → StandsBehind s m starts (OfThread t move ∷ run) t (moved s m stand move)

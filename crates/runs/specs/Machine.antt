@@ -1,4 +1,4 @@
--- What the theorems ask of a thread's machine: its states, what a state asks for, and the state behind the answer.
+-- What the theorems ask of a thread's machine: its states, what a state asks for, and the state after the answer.
 use Rattle.std.specs.Prelude.{ℕ, Option, List}
 
 -- a cell, and the birth by which the reference's user knows it. Null is cell 0 with birth 0
@@ -6,18 +6,18 @@ pub record Reference : Type 0 where
   pub cell : ℕ
   pub birth : ℕ
 
--- what the instruction at which a thread stands asks for. A base is the cell of the globals, as cell 0, or a reference that isn't null
+-- what a thread's current instruction asks for. A base is the cell of the globals, as cell 0, or a reference that isn't null
 pub data Action : Type 0 where
   Local : Action  -- one step that touches no shared word
   Read : (base : Reference) (word : ℕ) → Action
-  StorePlain : (base : Reference) (word : ℕ) (value : Reference) → Action  -- without the barrier. An integer stands as a cell's number, with birth 0
-  Write : (base : Reference) (word : ℕ) (value : Reference) → Action  -- behind the barrier
+  StorePlain : (base : Reference) (word : ℕ) (value : Reference) → Action  -- without the barrier. An integer is written as a cell's number, with birth 0
+  Write : (base : Reference) (word : ℕ) (value : Reference) → Action  -- after the barrier
   Alloc : (layout : ℕ) → Action
   Safepoint : Action
   End : Action
   Wrong : Action  -- the instruction has no meaning here
 
--- what an action is answered with
+-- what an action gets back
 pub data Answer : Type 0 where
   Done : Answer
   Got : Reference → Answer  -- what was read, or the cell of an alloc

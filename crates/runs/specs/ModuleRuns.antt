@@ -38,7 +38,7 @@ heap_of (OfCollector turn ∷ run) = ByCollector turn ∷ heap_of run
 abbrev pub birth_of : Setup → List Happening → (cell : ℕ) → ℕ
 birth_of s run c = (births_after s (heap_of run)).of_cell c
 
--- of the reference that a move leaves in a word, from the birth that stood there
+-- of the reference that a move leaves in a word, from the birth that was there
 abbrev pub left_birth : Move → (cell word birth : ℕ) → ℕ
 left_birth (StoresBehindBarrier base word value) c i b = if (base.cell == c) && (word == i) then value.birth else b
 left_birth (StoresPlain base word value) c i b = if (base.cell == c) && (word == i) then value.birth else b
@@ -55,7 +55,7 @@ birth_in [] c i = 0
 birth_in (OfThread t move ∷ run) c i = left_birth move c i (birth_in run c i)
 birth_in (OfCollector turn ∷ run) c i = cleared_birth turn c i (birth_in run c i)
 
--- what a move brings has the birth that stands there
+-- what a move brings has the birth that is there
 abbrev pub FindsBirth : Setup → List Happening → Move → Type 0
 FindsBirth s run (ReadsWord base word value) = value.birth ≡ birth_in run base.cell word
 FindsBirth s run (ReadsOldValue base word value) = value.birth ≡ birth_in run base.cell word

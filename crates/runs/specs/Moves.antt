@@ -24,7 +24,7 @@ pub data Move : Type 0 where
   EntersStage : (stage : ℕ) → Move
   ReadsPostedAgain : (stage : ℕ) → Move
 
--- the null reference. As a base it stands for the cell of the globals
+-- the null reference. As a base it means the cell of the globals
 abbrev pub null : Reference
 null = record { cell = 0; birth = 0 }
 
@@ -33,7 +33,7 @@ abbrev pub cells_of : List Reference → List ℕ
 cells_of [] = []
 cells_of (r ∷ rs) = r.cell ∷ cells_of rs
 
--- the reference stands in the list
+-- the reference is in the list
 abbrev pub IsIn : Reference → List Reference → Type 0
 IsIn r [] = ⊥
 IsIn r (q ∷ qs) = (r ≡ q) ⊎ IsIn r qs
@@ -66,19 +66,19 @@ abbrev pub steps_of : List Move → List Step
 steps_of [] = []
 steps_of (move ∷ share) = logged (step_of move) (steps_of share)
 
--- where the thread stands behind a step, if it is one
+-- where the thread is after a step, if it is one
 abbrev pub phase_behind : Setup → (stage : ℕ) → Phase → Option Step → Phase
 phase_behind s stage phase None = phase
 phase_behind s stage phase (Some step) = phase_after s stage phase step
 
 -- ---- the thread's state
 
--- a call of the machine is over with this move, behind which the thread stands so. The arrival of a late thread is no call
+-- a call of the machine is over with this move, after which the thread is in this phase. The arrival of a late thread is no call
 abbrev pub ends_call : Move → Phase → Bool
 ends_call (ReadsPostedAgain stage) phase = false
 ends_call move phase = is_between phase
 
--- what the last move of a call answers
+-- what the last move of a call returns
 abbrev pub answer_of : Action → Move → Answer
 answer_of (Alloc layout) Works = Got null
 answer_of action (ReadsWord base word value) = Got value
@@ -88,7 +88,7 @@ answer_of action (ReadsPosted stage) = Answered None
 answer_of action (StoresStage stage roots) = Answered (Some stage)
 answer_of action _ = Done
 
--- the state behind a share. It changes at the last move of each call
+-- the state after a share. It changes at the last move of each call
 abbrev pub state_after : (s : Setup) (m : Machine) (thread : ℕ) → m.State → List Move → m.State
 state_after s m t start [] = start
 state_after s m t start (move ∷ share) =
@@ -101,7 +101,7 @@ HasEnded s t share = phase_of s t (steps_of share) ≡ Ended
 
 -- ---- what may come next
 
--- the root to be marked next: behind so many marks, null left out
+-- the root to be marked next: after this number of marks, null left out
 abbrev pub next_root : List Reference → (marked : List ℕ) → Option Reference
 next_root roots marked = slice_get (filter (λ r. not (r.cell == 0)) roots) (length marked)
 
@@ -138,12 +138,12 @@ AsksFor s roots old Safepoint (Answering next marked) (StoresStage to rs) = rs �
 AsksFor s roots old End Ready (StoresStage to rs) = (to ≡ done) × (rs ≡ [])
 AsksFor s roots old action phase move = ⊥
 
--- the order of a thread's steps allows the move behind this log
+-- the order of a thread's steps allows the move after this log
 abbrev pub Follows : Setup → (thread : ℕ) → List Step → Option Step → Type 0
 Follows s t log None = Unit {0}
 Follows s t log (Some step) = MayFollow s (stage_of log) (phase_of s t log) step
 
--- the thread, begun in this state, makes this move next behind this share
+-- the thread, begun in this state, makes this move next after this share
 abbrev pub IsAsked : (s : Setup) (m : Machine) (thread : ℕ) → m.State → List Move → Move → Type 0
 IsAsked s m t start share move =
     let state = state_after s m t start share in

@@ -78,7 +78,7 @@ next_some rs k r e = passes rs (get_in (filter (λ (q : Reference). not (q.cell 
         go rest true n (inr x) = rest x
         go rest false n x = rest x
 
--- ---- where a thread stands agrees with its instruction
+-- ---- where a thread is agrees with its instruction
 
 -- the place in the call is one of the action's calls, and names the action's words and values
 abbrev Fits : (roots : List Reference) (old : Reference) → Action → Phase → Type 0
@@ -269,7 +269,7 @@ none_left s h stage roots old action phase f e = absurd f
 
 -- ---- and it happens
 
--- what the move says of the heap stands there
+-- what the move says of the heap is there
 abbrev StandsThere : Setup → List Happening → (t stage : ℕ) → Move → Type 0
 StandsThere s run t stage move = MatchOption (step_of move) (Unit {0}) (λ step. Found step (word_after s (heap_of run) (place_of (ask_of t stage step)))) × FindsBirth s run move
 

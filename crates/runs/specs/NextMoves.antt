@@ -1,4 +1,4 @@
--- The one next move of a thread, from what stands in the heap.
+-- The one next move of a thread, from the contents of the heap.
 use Rattle.std.specs.Prelude.{ℕ, suc, ◌<◌, ◌≡◌, ◌≢◌, ◌==◌, ◌||◌, Bool, Option, Some, None, List, [], slice_index, MatchOption, if◌then◌else◌}
 use Rattle.pools.specs.Heap.{Setup, IsOfLayout}
 use Rattle.colours.specs.declared.place.Place.TheVariants.{Posted, Colour, Word}
@@ -9,7 +9,7 @@ use Rattle.runs.specs.Machine.{Reference, Action, Local, Read, StorePlain, Write
 use Rattle.runs.specs.Moves.{Move, Works, GoesWrong, ReadsWord, ReadsOldValue, Marks, StoresBehindBarrier, StoresPlain, Claims, ReadsPosted, StoresStage, ReadsPostedFirst, EntersStage, ReadsPostedAgain, next_root, steps_of, state_after, old_of}
 use Rattle.runs.specs.ModuleRuns.{Happening, OfThread, share_of, heap_of, birth_of, birth_in, IsNext, IsModuleRun}
 
--- what stands in the heap, and the order in which cells are tried
+-- the contents of the heap, and the order in which cells are tried
 pub record Sight : Type 0 where
   pub word : (cell word : ℕ) → Reference
   pub posted : ℕ
@@ -25,7 +25,7 @@ mark_or_answer stage roots (Some r) = Marks r
 abbrev pub try_of : Sight → Reference → Move
 try_of h r = Claims r (h.is_blue r.cell)
 
--- the next move of a thread at this stage, that stands so in the call that its action asks for
+-- the next move of a thread at this stage, in this phase of the call that its action asks for
 abbrev pub next_move : Setup → Sight → (stage : ℕ) → (roots : List Reference) → (old : Reference) → Action → Phase → Option Move
 next_move s h stage roots old action Absent = Some (ReadsPostedFirst h.posted)
 next_move s h stage roots old action (Arriving posted) = Some (EntersStage posted)
@@ -49,14 +49,14 @@ next_move s h stage roots old Safepoint (Answering next marked) =
 next_move s h stage roots old End Ready = Some (StoresStage done [])
 next_move s h stage roots old action phase = None
 
--- the next move of a thread behind a run
+-- the next move of a thread after a run
 abbrev pub next_move_in : (s : Setup) (m : Machine) (starts : ℕ → m.State) → List Happening → Sight → (thread : ℕ) → Option Move
 next_move_in s m starts run h t =
     let share = share_of t run in
     let state = state_after s m t (starts t) share in
     next_move s h (stage_of (steps_of share)) (m.roots state) (old_of share) (m.action state) (phase_of s t (steps_of share))
 
--- what is seen is what stands at the end of the run
+-- what is seen are the contents of the heap at the end of the run
 pub record IsSightOf (s : Setup) (run : List Happening) (h : Sight) : Type 0 where
   pub word : (c i : ℕ) → (h.word c i).cell ≡ word_after s (heap_of run) (Word c i)
   pub word_birth : (c i : ℕ) → (h.word c i).birth ≡ birth_in run c i
@@ -79,12 +79,12 @@ TriesInPool s h (Alloc layout) Ready = slice_index s.pools layout ≢ 0 → MayT
 TriesInPool s h (Alloc layout) (Trying tried) = MayTry s tried (h.claim layout tried).cell × IsOfLayout s layout (h.claim layout tried).cell
 TriesInPool s h action phase = Unit {0}
 
--- so of a thread behind a run
+-- the same for a thread after a run
 abbrev pub TriesInPoolBehind : (s : Setup) (m : Machine) (starts : ℕ → m.State) → List Happening → Sight → (thread : ℕ) → Type 0
 TriesInPoolBehind s m starts run h t =
     TriesInPool s h (m.action (state_after s m t (starts t) (share_of t run))) (phase_of s t (steps_of (share_of t run)))
 
--- behind every run, the next move of a thread from what stands there may happen next; and there is one unless the thread has ended
+-- after every run, the next move of a thread from the heap there may happen next. There is one unless the thread has ended
 pub record NextMoveIsNext (s : Setup) (m : Machine) (starts : ℕ → m.State) (run : List Happening) (h : Sight) (t : ℕ) : Type 0 where
   pub is_next : MatchOption (next_move_in s m starts run h t) (Unit {0}) (λ move. IsNext s m starts run (OfThread t move))
   pub ends : next_move_in s m starts run h t ≡ None → phase_of s t (steps_of (share_of t run)) ≡ Ended

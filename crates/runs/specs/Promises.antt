@@ -12,10 +12,10 @@ use Rattle.runs.specs.Discipline.{MayName, KeepsTo, MayCall, ArePossible}
 use Rattle.runs.specs.ModuleRuns.{Happening, IsModuleRun, share_of}
 use Rattle.runs.specs.Broken.{IsUnderWay, IsBroken}
 
--- a thread that begins in this state keeps to the discipline, as long as each answer is possible
+-- a thread that begins in this state obeys the discipline, as long as each answer is possible
 pub record IsCareful (s : Setup) (m : Machine) (thread : ℕ) (start : m.State) : Type 0 where
   pub moves : (share : List Move) (move : Move) → IsShare s m thread start share → ArePossible s share → IsAsked s m thread start share move → KeepsTo s share move
-  -- where it stands between two calls, it may make the call that it asks for
+  -- where it is between two calls, it may make the call that it asks for
   pub calls : (share : List Move) → IsShare s m thread start share → ArePossible s share → phase_of s thread (steps_of share) ≡ Ready
       → MayCall s share (m.action (state_after s m thread start share))
   pub roots : (share : List Move) → IsShare s m thread start share → ArePossible s share → IsUnderWay (phase_of s thread (steps_of share))
@@ -34,7 +34,7 @@ pub record HeapLaw (s : Setup) : Type 0 where
 abbrev pub IsSafe : (s : Setup) (m : Machine) (starts : ℕ → m.State) → Type 0
 IsSafe s m starts = (run : List Happening) → IsModuleRun s m starts run → ¬ IsBroken s m starts run
 
--- at no end of a run does a thread stand at an instruction that has no meaning
+-- at no end of a run is a thread at an instruction that has no meaning
 abbrev pub IsNeverWrong : (s : Setup) (m : Machine) (starts : ℕ → m.State) → Type 0
 IsNeverWrong s m starts = (run : List Happening) → IsModuleRun s m starts run → (t : ℕ) → t < s.threads
     → phase_of s t (steps_of (share_of t run)) ≡ Ready → m.action (state_after s m t (starts t) (share_of t run)) ≢ machine.Wrong
@@ -43,6 +43,6 @@ IsNeverWrong s m starts = (run : List Happening) → IsModuleRun s m starts run 
 abbrev pub CarefulIsSafe : (s : Setup) (m : Machine) → Type 0
 CarefulIsSafe s m = (starts : ℕ → m.State) → IsSetup s → AreCareful s m starts → IsSafe s m starts
 
--- and none of them stands at an instruction that has no meaning
+-- and none of them is at an instruction that has no meaning
 abbrev pub CarefulIsNeverWrong : (s : Setup) (m : Machine) → Type 0
 CarefulIsNeverWrong s m = (starts : ℕ → m.State) → IsSetup s → AreCareful s m starts → IsNeverWrong s m starts

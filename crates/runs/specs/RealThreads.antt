@@ -15,7 +15,7 @@ BringsNoBirth (ReadsOldValue base word value) = value.birth ≡ 0
 BringsNoBirth (Claims r won) = r.birth ≡ 0
 BringsNoBirth move = Unit {0}
 
--- so of each move of a share
+-- the same for each move of a share
 abbrev pub HasNoBirths : List Move → Type 0
 HasNoBirths [] = Unit {0}
 HasNoBirths (move ∷ share) = HasNoBirths share × BringsNoBirth move
@@ -37,19 +37,19 @@ pub record IsWholeShare (s : Setup) (m : Machine) (thread : ℕ) (start : m.Stat
   pub leads_to : state_after s m thread start share ≡ state
   pub ended : HasEnded s thread share
 
--- what a thread of a real run leaves: a whole share where it returned or ended; where it stopped or found no memory, a beginning of one,
--- with at most the step that finishes it behind; and where a late thread never began, whole tries
+-- what a thread of a real run leaves. Where it returned or ended: a whole share. Where it stopped or found no memory: a
+-- beginning of one, with at most the finishing step at its end. Where a late thread never began: whole tries
 pub data Left (s : Setup) (m : Machine) (thread : ℕ) (start : m.State) : List Step → Type 0 where
   whole : (log : List Step) (state : m.State) → IsWholeShare s m thread start log state → Left s m thread start log
   cut : (log : List Step) (state : m.State) → IsRealShare s m thread start log state → Left s m thread start log
   finished : (log : List Step) (state : m.State) → IsRealShare s m thread start log state → phase_of s thread log ≡ Ready → Left s m thread start (StoreStage done [] ∷ log)
   absent : (log : List Step) (state : m.State) → IsRealShare s m thread start log state → phase_of s thread log ≡ Absent → Left s m thread start log
 
--- each call that the machine asks for behind a log of possible answers keeps to the heap's discipline
+-- each call that the machine asks for after a log of possible answers obeys the heap's discipline
 abbrev pub MeetsConditions : (s : Setup) (m : Machine) (thread : ℕ) (start : m.State) → Type 0
 MeetsConditions s m t start = (share : List Move) (move : Move) → IsShare s m t start share → IsPossibleLog s (steps_of share) → IsAsked s m t start share move
     → MatchOption (step_of move) (Unit {0}) (λ step. IsDisciplined s (steps_of share) step)
 
--- so of a careful thread
+-- the same for a careful thread
 abbrev pub CarefulMeetsConditions : (s : Setup) (m : Machine) → Type 0
 CarefulMeetsConditions s m = (t : ℕ) (start : m.State) → IsCareful s m t start → MeetsConditions s m t start

@@ -138,7 +138,7 @@ name_cells s share (q ∷ qs) h c (inl e) = go (h q (inl refl))
     go (inr x) = inr (subst (λ (d : ℕ). Held s (steps_of share) d) (sym e) (holds_held s share q x))
 name_cells s share (q ∷ qs) h c (inr x) = name_cells s share qs (λ r y. h r (inr y)) c x
 
--- the step of a move that keeps to the discipline is disciplined
+-- the step of a move that obeys the discipline is disciplined
 pub disciplined : (s : Setup) (share : List Move) (move : Move) → KeepsTo s share move → MatchOption (step_of move) (Unit {0}) (λ step. IsDisciplined s (steps_of share) step)
 disciplined s share Works h = tt
 disciplined s share GoesWrong h = tt

@@ -1,4 +1,4 @@
--- What is to be shown of a machine, call by call, so that its threads keep to the discipline at each move.
+-- What is to be shown of a machine, call by call, so that its threads obey the discipline at each move.
 use Rattle.std.specs.Prelude.{ℕ, ◌<◌, ◌≡◌, List, [], ◌∷◌, slice_index}
 use Rattle.pools.specs.Heap.{Setup, IsOfLayout}
 use Rattle.colours.specs.Mutator.{Fresh}
@@ -23,14 +23,14 @@ pub record Grows (s : Setup) (share more : List Move) : Type 0 where
   pub held : (r : Reference) → Holds s share r → Holds s more r
   pub fresh : (cell : ℕ) → Fresh s (steps_of share) cell → Fresh s (steps_of more) cell
 
--- the predicate speaks of a share and the state behind it, as facts at the place of an instruction do; so it is sound for the machine
+-- the predicate is about a share and the state after it, as the facts at an instruction's place are; this makes it sound for the machine
 pub record IsSound (s : Setup) (m : Machine) (Sound : List Move → m.State → Type 0) : Type 0 where
   -- the thread may make the call that it asks for, and its roots may be named
   pub calls : (share : List Move) (state : m.State) → Sound share state → MayCall s share (m.action state)
   pub roots : (share : List Move) (state : m.State) → Sound share state → (r : Reference) → IsIn r (m.roots state) → MayName s share r
-  -- it lasts within a call, in which more may come to be held
+  -- it lasts within a call, in which the thread may get more to hold
   pub grows : (share more : List Move) (state : m.State) → Sound share state → Grows s share more → Sound more state
-  -- and holds again behind the call
+  -- and holds again after the call
   pub goes_on : (share : List Move) (state : m.State) (move : Move) → Sound share state → EndsCall s (m.roots state) (m.action state) move → IsPossibleMove s share move
       → Sound (move ∷ share) (m.after_answer state (answer_of (m.action state) move))
 

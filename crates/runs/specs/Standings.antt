@@ -1,4 +1,4 @@
--- Where a thread stands behind a run, and how it goes on from there.
+-- Where a thread is after a run, and how it goes on from there.
 use Rattle.std.proofs.Common.{◌≡◌, ◌≢◌, ℕ, List, [], ◌∷◌, if◌then◌else◌, refl, sym, ◌∙◌, subst}
 use Rattle.std.proofs.Math.Path.{ap}
 use Rattle.lemmas.specs.Numbers.{test_yes, test_no}
@@ -16,7 +16,7 @@ use Rattle.runs.specs.Calls.{phase_with}
 pub begins : (s : Setup) (m : Machine) (starts : ℕ → m.State) (t : ℕ) → StandsBehind s m starts [] t (begun s m starts t)
 begins s m starts t = record { state = refl; stage = refl; phase = refl; old = refl }
 
--- a thread stands so behind this share
+-- a thread has this state after this share
 record IsAt (s : Setup) (m : Machine) (t : ℕ) (start : m.State) (share : List Move) (stand : Standing m.State) : Type 0 where
   state : stand.state ≡ state_after s m t start share
   stage : stand.stage ≡ stage_of (steps_of share)
@@ -72,7 +72,7 @@ own_move s m t start share stand x move = record {
 
 -- ---- every happening
 
--- the thread goes on from where it stands
+-- the thread goes on from where it is
 pub goes_on : (s : Setup) (m : Machine) (starts : ℕ → m.State) (run : List Happening) (t : ℕ) (stand : Standing m.State) → StandsBehind s m starts run t stand → GoesOn s m starts run t stand
 goes_on s m starts run t stand x = record {
   next = same_next;

@@ -59,7 +59,7 @@ record TriedSo (s : Setup) (layout : ℕ) (tried : List ℕ) : Type 0 where
   below : (c : ℕ) → IsAmong c tried → c < lowest s layout tried
   last : IsLast s layout tried
 
--- so where a thread stands
+-- the same, by the phase of a thread
 abbrev StandsSo : Setup → Action → Phase → Type 0
 StandsSo s action Ready = Unit {0}
 StandsSo s action (MarkingOld c i o) = Unit {0}
@@ -74,7 +74,7 @@ StandsSo s action Leaving = Unit {0}
 StandsSo s (Alloc layout) (Trying tried) = TriedSo s layout tried
 StandsSo s action (Trying tried) = ⊥
 
--- behind one more lost try of a call
+-- after one more lost try of a call
 lost : (s : Setup) (layout : ℕ) (tried : List ℕ) (cell : ℕ) → IsOfLayout s layout cell → cell ≡ lowest s layout tried → ((c : ℕ) → IsAmong c tried → c < lowest s layout tried)
     → length tried < slice_index s.pools layout
     → StandsSo s (Alloc layout) (if length (cell ∷ tried) == slice_index s.pools (layout_of s cell) then Ready else Trying (cell ∷ tried))

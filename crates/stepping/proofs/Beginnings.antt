@@ -40,18 +40,18 @@ zeros-more (x ∷ xs) zeros (suc k) = zeros-more xs (λ j. zeros (suc j)) k
 
 -- ---- a row
 
--- what the words of a cell hold is what stands there at the start
+-- what the words of a cell hold is their value at the start
 starts-at : (s : Setup) (values : List ℕ) → s.values ≡ values → (cell word : ℕ) → value_at_start values cell word ≡ word_at_start s (Word cell word)
 starts-at s values e zero word = ap (λ (v : List ℕ). slice_index v word) (sym e)
 starts-at s values e (suc cell) word = refl
 
--- nothing stands outside a cell
+-- a word outside a cell is 0
 outside : (s : Setup) → IsSetup s → (cell word : ℕ) → length (words_of_cell s cell) ≤ word → word_at_start s (Word cell word) ≡ 0
 unfolding kind_of
 outside s setup zero word le = subst (λ (k : Option WordKind). IsStartOf k (slice_index s.values word)) (slice_get_past s.globals word le) (setup word)
 outside s setup (suc cell) word le = refl
 
--- what stands there may be held
+-- such a value may be held
 may-hold : (s : Setup) → IsSetup s → (cell word : ℕ) (k : WordKind) → kind_of s cell word ≡ Some k → (value : Reference) → value.cell ≡ word_at_start s (Word cell word) → value.cell < 2 ^ 64 → MayHold s (Some k) value
 may-hold s setup cell word (kind.Integer bits) e value is few = few
 may-hold s setup zero word (kind.Reference layout) e value is few = inl (is ∙ subst (λ (k : Option WordKind). IsStartOf k (slice_index s.values word)) e (setup word))
@@ -107,7 +107,7 @@ rows-more s n rows row are is = record {
 
 -- ---- all words
 
--- they are what stands behind no step
+-- they are the words after no step
 pub stand-behind-none : (s : Setup) → IsSetup s → s.late ≡ [] → (stages zeros births : List ℕ) (rows : List (List Reference)) → length stages ≡ s.threads → length zeros ≡ cells s → length births ≡ cells s
     → ((k : ℕ) → slice_index stages k ≡ 0) → ((k : ℕ) → slice_index zeros k ≡ 0) → ((k : ℕ) → slice_index births k ≡ 0) → AreRowsAtStart s (cells s) rows
     → StandBehind s [] (record { posted = 0; stages = stages; colours = slice_set zeros 0 1; births = births; words = rows })
@@ -165,7 +165,7 @@ got-start [] t stand e = absurd cc
 got-start (x ∷ xs) zero stand e = (x, refl, cc)
 got-start (x ∷ xs) (suc t) stand e = got-start xs t stand e
 
--- a thread that was not late stands so before its first move
+-- a thread that was not late is in this state before its first move
 stands-first : (s : Setup) (m : Machine) (starts : ℕ → m.State) → s.late ≡ [] → (t : ℕ) (state : m.State) → starts t ≡ state → StandsBehind s m starts [] t (standing m.roots (stand_at_start state))
 unfolding is_late
 stands-first s m starts late t state e =

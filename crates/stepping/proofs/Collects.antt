@@ -1,4 +1,4 @@
--- The collector's next step, and the actors behind it.
+-- The collector's next step, and the actors after it.
 use Rattle.std.proofs.Common.{◌≡◌, ℕ, Bool, true, false, Option, Some, None, List, ◌∷◌, refl, sym, ap, ◌∙◌, subst}
 use Rattle.pools.specs.Heap.{Setup}
 use Rattle.colours.specs.declared.place.Place.{Place}
@@ -32,7 +32,7 @@ use Rattle.stepping.specs.declared.happening.Step.{Step}
 use Rattle.stepping.specs.Ends.{AreBehindSteps, IsEnd, IsOneStep}
 use Rattle.stepping.proofs.Ends.{run_more, run_same, KeepsAll, is_longer_run}
 
--- where the collector stands
+-- where the collector is
 pub collector_is_behind : (s : Setup) (m : Machine) (Fits : m.State → Type 0) (starts : ℕ → m.State) (before : List Actor) (a : Actors m.State) → AreBehindSteps s m Fits starts before a
     → CollectorIsBehind s (run_by s m starts before) a.collector a.shared
 collector_is_behind s m Fits starts before a b =
@@ -64,7 +64,7 @@ same-turn : (w v : Place → ℕ) → ((p : Place) → w p ≡ v p) → (c : Col
 same-turn w v e c None = refl
 same-turn w v e c (Some ask) = ap (λ n. Some (turn_of c n)) (e (place_of ask))
 
--- the next happening, by the collector and the words as they stand
+-- the next happening, by the collector and the words as they are
 next-by-collector : (s : Setup) (m : Machine) (Fits : m.State → Type 0) (starts : ℕ → m.State) (before : List Actor) (a : Actors m.State) → AreBehindSteps s m Fits starts before a
     → next_by s m starts (run_by s m starts before) Collector ≡ by_collector (turn_for a.collector (held_at a.shared) (ask_of a.collector))
 next-by-collector s m Fits starts before a b =
@@ -94,14 +94,14 @@ collected-none s m Fits starts before a b limit =
 
 -- ---- before it
 
--- where the collector stands behind the run's next step
+-- where the collector is after the run's next step
 collects-more : (s : Setup) (c : Collecting) (run : List Happening) (word_at : Place → ℕ) (motion : Motion) (behind : Collecting) → c ≡ collector_behind s (turns_of (heap_of run)) → IsStepOn word_at c motion behind
     → behind ≡ collector_behind s (turns_of (heap_of (OfCollector motion.turn ∷ run)))
 unfolding collector_behind
 collects-more s c run word_at motion behind e x =
     x.moves ∙ sym (moved-found c (word_at motion.place)) ∙ ap (λ (t : Turn). moved c (found_in t)) (sym x.turn) ∙ ap (λ (d : Collecting). moved d (found_in motion.turn)) e
 
--- the actors stand behind it
+-- the actors are those after it
 pub collected : (s : Setup) (m : Machine) (Fits : m.State → Type 0) (starts : ℕ → m.State) (before : List Actor) (a : Actors m.State) → AreBehindSteps s m Fits starts before a
     → (motion : Motion) (behind : Collecting) → IsStepOn (held_at a.shared) a.collector motion behind → MotionGrows s (run_by s m starts before) a.shared motion behind
     → KeepsAll s m starts → (may_lose : Bool) → (may_lose ≡ false → LosesNothing s m starts (run_by s m starts before) (OfCollector motion.turn))
@@ -147,7 +147,7 @@ pub loses-none : (s : Setup) (m : Machine) (starts : ℕ → m.State) (run : Lis
 loses-none s m starts run (Free cell) none = none cell refl
 loses-none s m starts run turn none = tt
 
--- the words behind a step that stores nothing
+-- the words after a step that stores nothing
 pub stored-none : (h : Shared) (motion : Motion) → ((n : ℕ) → motion.stored ≡ Some n → ⊥) → with_stored h motion motion.stored ≡ h
 stored-none h motion none = go motion.stored refl
   where
@@ -155,7 +155,7 @@ stored-none h motion none = go motion.stored refl
     go None e = refl
     go (Some n) e = absurd (none n e)
 
--- the actors behind the step, with these words
+-- the actors after the step, with these words
 pub with-words : (s : Setup) (m : Machine) (Fits : m.State → Type 0) (starts : ℕ → m.State) (before : List Actor) (made : Option Step) (a d : Actors m.State) (h k : Shared) (c : Collecting) → k ≡ h
     → d ≡ record { plan = a.plan; threads = a.threads; shared = h; collector = c }
     → IsOneStep s m Fits starts before Collector made (record { plan = a.plan; threads = a.threads; shared = k; collector = c }) → IsOneStep s m Fits starts before Collector made d

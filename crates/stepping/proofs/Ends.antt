@@ -1,4 +1,4 @@
--- The run of one actor more, and what a loss is behind it.
+-- The run of one actor more, and what a loss is after it.
 use Rattle.std.proofs.Common.{◌≡◌, ℕ, Option, Some, None, List, ◌∷◌, ap, subst}
 use Rattle.pools.specs.Heap.{Setup}
 use Rattle.runs.specs.Machine.{Machine}
@@ -8,13 +8,13 @@ use Rattle.moves.specs.Runs.{next_by, with_next, run_by, AreActors}
 use Rattle.moves.specs.Drawn.{drawn}
 use Rattle.stepping.specs.Reach.{IsFirstGone, LosesNothing}
 
--- the run behind one step more
+-- the run after one step more
 pub run_more : (s : Setup) (m : Machine) (starts : ℕ → m.State) (before : List Actor) (actor : Actor) (happening : Happening) → next_by s m starts (run_by s m starts before) actor ≡ Some happening
     → run_by s m starts (actor ∷ before) ≡ happening ∷ run_by s m starts before
 unfolding run_by
 run_more s m starts before actor happening e = ap (λ (o : Option Happening). with_next o (run_by s m starts before)) e
 
--- and behind none
+-- and after none
 pub run_same : (s : Setup) (m : Machine) (starts : ℕ → m.State) (before : List Actor) (actor : Actor) → next_by s m starts (run_by s m starts before) actor ≡ None
     → run_by s m starts (actor ∷ before) ≡ run_by s m starts before
 unfolding run_by

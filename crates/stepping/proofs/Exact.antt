@@ -1,4 +1,4 @@
--- A walk that looked at all that it met tells the first thing that is gone and can be reached behind a run.
+-- A walk that looked at all that it met finds the first thing that is gone and can be reached after a run.
 use Rattle.std.proofs.Common.{◌≡◌, ◌≢◌, ◌<◌, inl, inr, ℕ, zero, suc, Bool, true, false, Option, Some, None, List, [], ◌∷◌, length, slice_index, slice_index_or, refl, sym, ap, subst, ◌∙◌, IsTrue, IfSome, arith}
 use Rattle.pools.specs.declared.word_kind.WordKind.{WordKind}
 use Rattle.pools.specs.declared.word_kind.WordKind.TheVariants as kind
@@ -53,7 +53,7 @@ module _ (s : Setup) (h : Shared) (roots : List Reference) (shape : HasShape s h
       let words = whole.words_seen at.0 at.1 in
       subst (λ c. IsTrue (is_reference_kind (kind_of s c word)) → (word_at h.words c word).cell ≢ 0 → IsSeen h w (word_at h.words c word)) at.2 (words word) is n
 
--- ---- as behind the run
+-- ---- as after the run
 
 module _ (s : Setup) (m : Machine) (starts : ℕ → m.State) (run : List Happening) (h : Shared) (roots : List Reference)
     (stand : StandBehind s run h) (are : AreRoots s m starts run roots) where
@@ -106,7 +106,7 @@ module _ (s : Setup) (m : Machine) (starts : ℕ → m.State) (run : List Happen
         | inr reborn ↦ reborns r (found-all r reached) (λ z. reborn (sym (stand.behind.births r.cell) ∙ z))
       ]
 
-  -- a walk that looked at all that it met tells it
+  -- a walk that looked at all that it met finds it
   pub first-gone : (w : Walk) → length w.met ≡ cells s → IsWhole s h roots w → IsFirstGone s m starts run (gone_of w.blue w.reborn)
   first-gone w wide whole =
       let seen = seen-all s h roots stand.shape are.are_cells w wide whole in

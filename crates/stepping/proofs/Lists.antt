@@ -1,11 +1,11 @@
--- A list with another element in one place, and what is said of an error.
+-- A list with another element in one place, and a fact as one about an error.
 use mathlib.Core.HLevel.{is_prop→PathP}
 use native.Mathlib.Nat.{ℕ_set}
 use native.Mathlib.Bridge.{le_prop}
 use Rattle.std.proofs.Common.{Result, Ok, Err, OnErr, ◌≡◌, ◌≢◌, ◌≤◌, ◌⊎◌, inl, inr, ℕ, zero, suc, Some, Vec, List, [], ◌∷◌, length, slice_get, slice_set, refl, ap}
 use Rattle.std.specs.Vec.{with_item}
 
--- what stands in a place is what was put there, or what stood there
+-- the element at a place is what was put there, or what was there before
 pub got-set : {X : Type 0} (xs : List X) (t u : ℕ) (y z : X) → slice_get (slice_set xs t y) u ≡ Some z → ((u ≡ t) × (z ≡ y)) ⊎ ((u ≢ t) × (slice_get xs u ≡ Some z))
 got-set [] t u y z e = absurd cc
 got-set (x ∷ xs) zero zero y z e = inl (refl, cc)
@@ -16,7 +16,7 @@ got-set (x ∷ xs) (suc t) (suc u) y z e = elim (got-set xs t u y z e) [
   | inr h ↦ inr (λ q. h.0 cc, h.1)
 ]
 
--- a Vec with the element put back that stood there
+-- a Vec with the element put back that was there
 pub put-back : {X Z : Type 0} (v : Vec X Z) (i : ℕ) (x : X) → slice_set v.items i x ≡ v.items → with_item v i x ≡ v
 put-back v i x e = λ j. record {
   ptr = v.ptr;

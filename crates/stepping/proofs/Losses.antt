@@ -1,4 +1,4 @@
--- A step that frees nothing, stores no reference, begins no thread and leaves the roots of its thread loses nothing.
+-- A step that frees nothing, stores no reference, begins no thread and leaves the roots of its thread unchanged loses nothing.
 use Rattle.std.proofs.Common.{◌≡◌, ◌≢◌, ◌==◌, ◌&&◌, inl, inr, ℕ, Bool, true, false, Option, Some, None, List, ◌∷◌, if◌then◌else◌, refl, sym, ap, subst, ◌∙◌, MatchOption, arith}
 use Rattle.lemmas.specs.Numbers.{test_true, test_no, raised, exchanged}
 use Rattle.pools.specs.Heap.{Setup}
@@ -35,7 +35,7 @@ IsAsItWas s run happening cell word =
     word_after s (heap_of (happening ∷ run)) (Word cell word) ≢ 0
     → (word_after s (heap_of (happening ∷ run)) (Word cell word) ≡ word_after s (heap_of run) (Word cell word)) × (birth_in (happening ∷ run) cell word ≡ birth_in run cell word)
 
--- behind a store of null or 0
+-- after a store of null or 0
 stored-none : (b : Bool) (value was birth other : ℕ) → value ≡ 0 → (if b then value else was) ≢ 0 → ((if b then value else was) ≡ was) × ((if b then birth else other) ≡ other)
 stored-none true value was birth other z n = absurd (n z)
 stored-none false value was birth other z n = (refl, refl)
@@ -89,7 +89,7 @@ same-birth s m starts run (OfCollector turn) next cell n = refl
 
 -- ---- roots
 
--- the step is not the one behind which a late thread has begun
+-- the step is not the one after which a late thread has begun
 abbrev IsNoBegin : Step → Type 0
 IsNoBegin (step.ReadPostedAgain stage) = ⊥
 IsNoBegin step = Unit {0}
@@ -98,7 +98,7 @@ no-begin : (move : Move) → AddsNothing move → MatchOption (step_of move) (Un
 no-begin (ReadsPostedAgain stage) adds = adds
 no-begin move adds = tt
 
--- a thread that is under way behind such a step was so before it
+-- a thread that is under way after such a step was so before it
 under_way-before : (s : Setup) (stage : ℕ) (phase : Phase) (made : Step) → IsNoBegin made → MayFollow s stage phase made → IsUnderWay (phase_after s stage phase made) → IsUnderWay phase
 under_way-before s stage Absent (step.ReadPostedFirst posted) no_begin follows way = absurd way
 under_way-before s stage Absent made no_begin follows way = absurd follows
@@ -111,12 +111,12 @@ under_way-before s stage Leaving made no_begin follows way = absurd follows
 under_way-before s stage Ended made no_begin follows way = absurd follows
 under_way-before s stage phase made no_begin follows way = tt
 
--- so of its move
+-- the same for its move
 was-under_way : (s : Setup) (t : ℕ) (log : List Step) (o : Option Step) → MatchOption o (Unit {0}) IsNoBegin → Follows s t log o → IsUnderWay (phase_of s t (logged o log)) → IsUnderWay (phase_of s t log)
 was-under_way s t log None no_begin follows way = way
 was-under_way s t log (Some made) no_begin follows way = under_way-before s (stage_of log) (phase_of s t log) made no_begin follows way
 
--- a root behind the step was one before it
+-- a root after the step was one before it
 root-before : (s : Setup) (m : Machine) (starts : ℕ → m.State) (run : List Happening) (happening : Happening) → IsNext s m starts run happening → LosesNothing s m starts run happening
     → (r : Reference) → IsRoot s m starts (happening ∷ run) r → IsRoot s m starts run r
 root-before s m starts run (OfCollector turn) next loses r is = record { thread = is.thread; is_thread = is.is_thread; is_under_way = is.is_under_way; is_root = is.is_root }
@@ -139,7 +139,7 @@ root-before s m starts run (OfThread t move) next loses r is = go (t == is.threa
 
 -- ---- what can be reached
 
--- what can be reached behind the step could be reached before it
+-- what can be reached after the step could be reached before it
 reached-before : (s : Setup) (m : Machine) (starts : ℕ → m.State) (run : List Happening) (happening : Happening) → IsNext s m starts run happening → LosesNothing s m starts run happening
     → (r : Reference) → IsReachable s m starts (happening ∷ run) r → IsReachable s m starts run r
 reached-before s m starts run happening next loses _ globals = globals
@@ -151,7 +151,7 @@ reached-before s m starts run happening next loses _ (further r word reached is 
     = sym (ap (λ c. record { cell = c; birth = birth_in (happening ∷ run) r.cell word }) same.0 ∙ ap (λ b. record { cell = word_after s (heap_of run) (Word r.cell word); birth = b }) same.1) in
     subst (λ (q : Reference). IsReachable s m starts run q) whole (further r word before is (λ z. n (same.0 ∙ z)))
 
--- where nothing that is gone could be reached, so it is behind the step
+-- where nothing that is gone could be reached, nothing can be after the step
 pub nothing-lost : (s : Setup) (m : Machine) (starts : ℕ → m.State) (run : List Happening) (happening : Happening) → IsModuleRun s m starts (happening ∷ run) → LosesNothing s m starts run happening
     → ((r : Reference) → IsReachable s m starts run r → ¬ IsGone s run r) → (r : Reference) → IsReachable s m starts (happening ∷ run) r → ¬ IsGone s (happening ∷ run) r
 nothing-lost s m starts run happening is_run loses none r reached gone =

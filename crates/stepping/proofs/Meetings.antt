@@ -1,4 +1,4 @@
--- A walk behind one more reference, and behind the words of a cell.
+-- A walk after one more reference, and after the words of a cell.
 use Rattle.std.proofs.Common.{◌≡◌, ◌≢◌, ◌≤◌, ◌<◌, ◌⊎◌, ◌+◌, ◌-◌, ◌==◌, inl, inr, ℕ, zero, suc, not, Bool, true, false, Option, Some, None, List, [], ◌∷◌, ◌++◌, length, slice_get, slice_set, slice_index, slice_index_or, sum_by, if◌then◌else◌, refl, sym, ap, ◌∙◌, IsTrue, arith, add-one}
 use Rattle.std.proofs.lemmas.Bool.Decides.{nat_tests}
 use Rattle.std.proofs.lemmas.List.{get_or-set_same, get_or-set_other, get_or_past, get_or_append_left, length-append}
@@ -18,7 +18,7 @@ use Rattle.stepping.specs.Walks.{least, blue_with, reborn_with, met_with, meetin
 pub new-within : (met : List Bool) (cell : ℕ) → slice_index_or met cell true ≡ false → cell < length met
 new-within met cell e = grind (arith, get_or_past met cell true)
 
--- a cell is met, behind itself
+-- a cell is met, after itself
 met-here : (met : List Bool) (cell : ℕ) → slice_index_or (met_with met cell) cell true ≡ true
 met-here met cell = go (slice_index_or met cell true) refl
   where
@@ -59,7 +59,7 @@ abbrev pub unmet : Bool → ℕ
 unmet true = 0
 unmet false = 1
 
--- what a reference leaves of the row and the order
+-- how a reference changes the row and the order
 pub record Widens (before after : Walk) : Type 0 where
   pub wide : length after.met ≡ length before.met
   pub left : length after.order + sum_by unmet after.met ≡ length before.order + sum_by unmet before.met
@@ -111,7 +111,7 @@ widens-looking_at h w kind r = go (is_reference_kind kind)
     go true = widens-following h w r
     go false = widens-none w
 
--- behind the words of a cell
+-- after the words of a cell
 pub widens-looking : (h : Shared) (kinds : List WordKind) (row : List Reference) (w : Walk) (count : ℕ) → Widens w (looking h kinds row w count)
 unfolding looking
 widens-looking h kinds row w zero = widens-none w
@@ -129,7 +129,7 @@ at_most-here : (least_so_far : Option ℕ) (cell : ℕ) → IsAtMost (Some (leas
 at_most-here None cell = omega arith
 at_most-here (Some first) cell = omega arith
 
--- a reference is seen, behind itself
+-- a reference is seen, after itself
 pub seen-meeting : (h : Shared) (w : Walk) (r : Reference) → IsSeen h (meeting h w r) r
 seen-meeting h w r = record {
   met = met-here w.met r.cell;
@@ -161,7 +161,7 @@ seen-stays h w r q was = record {
     reborn true most = most
     reborn false most = at_most-least w.reborn r.cell q.cell most
 
--- behind a reference that may be null
+-- after a reference that may be null
 pub stays-following : (h : Shared) (w : Walk) (r q : Reference) → IsSeen h w q → IsSeen h (following h w r) q
 stays-following h w r q was = go (r.cell == 0)
   where
@@ -183,7 +183,7 @@ stays-looking_at h w kind r q was = go (is_reference_kind kind)
     go true = stays-following h w r q was
     go false = was
 
--- behind the words of a cell
+-- after the words of a cell
 pub stays-looking : (h : Shared) (kinds : List WordKind) (row : List Reference) (w : Walk) (q : Reference) (count : ℕ) → IsSeen h w q → IsSeen h (looking h kinds row w count) q
 unfolding looking
 stays-looking h kinds row w q zero was = was
@@ -216,7 +216,7 @@ seen-looking h kinds row w (suc last) word lt is n = go (λ less. seen-looking h
 
 -- ---- word by word
 
--- behind one more word
+-- after one more word
 pub looking-more : (h : Shared) (kinds : List WordKind) (row : List Reference) (w : Walk) (word : ℕ) (kind : WordKind) (held : Reference) → slice_get kinds word ≡ Some kind → held ≡ slice_index_or row word null
     → looking_at h (looking h kinds row w word) (Some kind) held ≡ looking h kinds row w (word + 1)
 unfolding looking
@@ -232,7 +232,7 @@ looking-wide h kinds row w now count limit is few =
 pub looking-longer : (h : Shared) (kinds : List WordKind) (row : List Reference) (w now : Walk) (count : ℕ) → now ≡ looking h kinds row w count → length w.order ≤ length now.order
 looking-longer h kinds row w now count is = let widens = widens-looking h kinds row w count in rw is (omega (arith, widens.longer))
 
--- and behind one more cell fewer are left
+-- and after one more cell fewer are left
 pub looking-smaller : (h : Shared) (kinds : List WordKind) (row : List Reference) (w now : Walk) (count looked : ℕ) → now ≡ looking h kinds row w count → looked < length w.order
     → length now.order + sum_by unmet now.met - (looked + 1) < length w.order + sum_by unmet w.met - looked
 looking-smaller h kinds row w now count looked is lt = let widens = widens-looking h kinds row w count in rw is (omega (arith, widens.left, lt))

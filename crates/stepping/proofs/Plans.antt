@@ -17,7 +17,7 @@ is_plan-heap_with plan = record { pools = refl; layouts = refl; globals = refl }
 pub cells-planned : (s : Setup) (plan : Plan) → IsPlanOf s plan → cells_in plan.pools.now ≡ cells_in s.pools
 cells-planned s plan is = ap cells_in (sym is.pools)
 
--- those of a cell behind that of the globals are those of its layout
+-- those of a cell after that of the globals are those of its layout
 pub words-in_pool : (s : Setup) (plan : Plan) (cell layout : ℕ) (words : List WordKind) → IsPlanOf s plan → (cell ≡ 0 → ⊥)
     → layout ≡ layout_at plan.pools.now (cell - 1) → words ≡ words_of plan.layouts.now layout → words ≡ words_of_cell s cell
 unfolding layout_of

@@ -32,7 +32,7 @@ pub roots-of-more : {State : Type 0} (roots : State → List Reference) (xs : Li
 roots-of-more roots xs i stand lt e =
     ap (roots_of roots) (take_more xs i stand lt) ∙ roots-of-append roots (take i xs) (slice_index_or xs i stand) ∙ ap (λ (v : Stand _). roots_of roots (take i xs) ++ own_roots roots v) (sym e)
 
--- what stands in a joined list stands in one of the two
+-- what is in a joined list is in one of the two
 in-either : (r : Reference) (xs ys : List Reference) → IsIn r (xs ++ ys) → IsIn r xs ⊎ IsIn r ys
 in-either r [] ys e = inr e
 in-either r (x ∷ xs) ys (inl e) = inl (inl e)

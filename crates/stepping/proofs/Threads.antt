@@ -1,4 +1,4 @@
--- A thread's next move, and the actors behind it.
+-- A thread's next move, and the actors after it.
 use Rattle.std.proofs.Common.{◌≡◌, ◌<◌, inl, inr, ℕ, Bool, false, Option, Some, None, List, ◌∷◌, slice_get, slice_set, length-set, refl, sym, ap, ◌∙◌, subst, if◌then◌else◌}
 use Rattle.std.specs.Vec.{with_item}
 use Rattle.lemmas.specs.Numbers.{test_yes}
@@ -58,9 +58,9 @@ asks-for machine.Safepoint = refl
 asks-for machine.End = refl
 asks-for machine.Wrong = refl
 
--- ---- where it stands
+-- ---- where it is
 
--- where the thread stands
+-- where the thread is
 pub thread_is_behind : (s : Setup) (m : Machine) (Fits : m.State → Type 0) (starts : ℕ → m.State) (before : List Actor) (a : Actors m.State) → AreBehindSteps s m Fits starts before a
     → (t : ℕ) → t < s.threads → (stand : Stand m.State) → slice_get a.threads.items t ≡ Some stand → ThreadIsBehind s m Fits starts (run_by s m starts before) t stand a.shared
 thread_is_behind s m Fits starts before a b t lt stand is =
@@ -77,7 +77,7 @@ thread_is_behind s m Fits starts before a b t lt stand is =
       words = end.words;
     }
 
--- its next happening, by where it stands and the words as they stand
+-- its next happening, by where it is and the words as they are
 next-by-thread : (s : Setup) (m : Machine) (Fits : m.State → Type 0) (starts : ℕ → m.State) (before : List Actor) (a : Actors m.State) → AreBehindSteps s m Fits starts before a
     → (t : ℕ) (stand : Stand m.State) → slice_get a.threads.items t ≡ Some stand
     → next_by s m starts (run_by s m starts before) (Thread t) ≡ by_thread t (next_move_of s m (sight_in s a.shared) (standing m.roots stand))
@@ -85,7 +85,7 @@ next-by-thread s m Fits starts before a b t stand is =
     let end = b.is_behind.is_end in
     next_in_words s m starts (run_by s m starts before) t (standing m.roots stand) a.shared end.words.behind (end.stands t stand is)
 
--- the actors with a thread put back that stood there
+-- the actors with a thread put back that was there
 pub same-actors : {State : Type 0} (a : Actors State) (t : ℕ) (stand : Stand State) → slice_set a.threads.items t stand ≡ a.threads.items
     → record { plan = a.plan; threads = with_item a.threads t stand; shared = a.shared; collector = a.collector } ≡ a
 same-actors {State} a t stand e =
@@ -118,7 +118,7 @@ moved-none s m Fits starts before a b t lt stand is ended =
 share-with : (t : ℕ) (move : moves.Move) (run : List Happening) → share_of t (OfThread t move ∷ run) ≡ move ∷ share_of t run
 share-with t move run = ap (λ (b : Bool). if b then move ∷ share_of t run else share_of t run) (test_yes t t refl)
 
--- a step that stores nothing and leaves the roots loses nothing
+-- a step that stores nothing and leaves the roots unchanged loses nothing
 loses-none : (s : Setup) (m : Machine) (starts : ℕ → m.State) (run : List Happening) (t : ℕ) (stand : Stand m.State) (move : moves.Move) (behind : Stand m.State)
     → StandsBehind s m starts run t (standing m.roots stand) → standing m.roots behind ≡ moved s m (standing m.roots stand) move
     → AddsNothing move × (m.roots behind.state ≡ m.roots stand.state) → LosesNothing s m starts run (OfThread t move)
@@ -163,7 +163,7 @@ moves-on s m Fits starts run a end t stand is made grows behind behind_is = reco
     move : moves.Move
     move = move_in (m.roots stand.state) made
 
--- what the move is told as, and the actors behind it
+-- what the move is reported as, and the actors after it
 pub moved-on : (s : Setup) (m : Machine) (Fits : m.State → Type 0) (starts : ℕ → m.State) (before : List Actor) (a : Actors m.State) → AreBehindSteps s m Fits starts before a
     → (t : ℕ) → t < s.threads → (stand : Stand m.State) → slice_get a.threads.items t ≡ Some stand
     → (made : Move) → next_move_of s m (sight_in s a.shared) (standing m.roots stand) ≡ Some (move_in (m.roots stand.state) made) → MoveGrows s m Fits (run_by s m starts before) t stand a.shared made

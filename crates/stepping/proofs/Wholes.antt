@@ -25,7 +25,7 @@ none-past each place none = elim ((slice_get_cases each place).1) [
   | inr over ↦ over.0
 ]
 
--- the row has so many cells, those that are left and those of the order are as many, and those of the order are cells
+-- the row has this number of cells, those that are left and those of the order are as many, and those of the order are cells
 pub record IsShaped (cells : ℕ) (w : Walk) : Type 0 where
   pub wide : length w.met ≡ cells
   pub left : length w.order + sum_by unmet w.met ≡ cells
@@ -65,7 +65,7 @@ shaped-looking_at cells h w kind r shaped = go (is_reference_kind kind)
     go true = shaped-following cells h w r shaped
     go false = shaped
 
--- behind the words of a cell
+-- after the words of a cell
 pub shaped-looking : (cells : ℕ) (h : Shared) (kinds : List WordKind) (row : List Reference) (w : Walk) (count : ℕ) → IsShaped cells w → IsShaped cells (looking h kinds row w count)
 unfolding looking
 shaped-looking cells h kinds row w zero shaped = shaped
@@ -79,7 +79,7 @@ shaped-begun cells =
     let counted : sum_by unmet (replicate cells false) ≡ cells * 1 = sum_by-replicate unmet cells false in
     record { wide = wide; left = omega (arith, counted); within = λ place lt. absurd (omega (arith, lt)) }
 
--- and behind the globals
+-- and after the globals
 pub shaped-globals : (cells : ℕ) (h : Shared) → IsShaped cells (meeting h (begun cells) null)
 shaped-globals cells h = shaped-meeting cells h (begun cells) null (shaped-begun cells)
 
@@ -100,7 +100,7 @@ least-one P (Some first) cell h here = go (nat_le first cell) refl
         let is : cell ≡ min first cell = omega (arith, gt) in
         subst P is here
 
--- what was met can be reached, and stands in the order
+-- what was met can be reached, and is in the order
 pub record IsGood (s : Setup) (h : Shared) (roots : List Reference) (w : Walk) : Type 0 where
   pub sound : IsSound s h roots w
   pub listed : IsListed w
@@ -146,7 +146,7 @@ module _ (s : Setup) (h : Shared) (roots : List Reference) where
           let isnt : slice_index h.births r.cell ≢ r.birth = grind (arith, nat_tests) in
           least-one (IsFoundReborn s h roots) w.reborn r.cell sound.reborn (record { birth = r.birth; is_found = found; is_reborn = isnt })
 
-  -- behind a reference that can be reached
+  -- after a reference that can be reached
   pub good-meeting : (w : Walk) (r : Reference) → Found s h roots r → IsGood s h roots w → IsGood s h roots (meeting h w r)
   good-meeting w r found good = record { sound = sound-meeting w r found good.sound; listed = listed (slice_index_or w.met r.cell true) refl }
     where
@@ -174,7 +174,7 @@ module _ (s : Setup) (h : Shared) (roots : List Reference) where
       go true found = good-following w r (found refl) good
       go false found = good
 
-  -- behind the words of a cell that can be reached
+  -- after the words of a cell that can be reached
   pub good-looking : (kinds : List WordKind) (row : List Reference) (w : Walk) (count : ℕ)
       → ((word : ℕ) → IsTrue (is_reference_kind (slice_get kinds word)) → (slice_index_or row word null).cell ≢ 0 → Found s h roots (slice_index_or row word null))
       → IsGood s h roots w → IsGood s h roots (looking h kinds row w count)
@@ -203,13 +203,13 @@ module _ (s : Setup) (h : Shared) (roots : List Reference) where
 
   -- ---- the walk from the roots
 
-  -- so many of the roots were met
+  -- the first roots were met, this number of them
   pub record IsRooted (w : Walk) (count : ℕ) : Type 0 where
     pub good : IsGood s h roots w
     pub globals_seen : IsSeen h w null
     pub roots_seen : (place : ℕ) → place < count → (slice_index_or roots place null).cell ≢ 0 → IsSeen h w (slice_index_or roots place null)
 
-  -- behind the globals
+  -- after the globals
   pub rooted-begin : (cells : ℕ) → IsRooted (meeting h (begun cells) null) 0
   rooted-begin cells = record {
     good = good-meeting (begun cells) null globals (good-begun cells);
@@ -222,7 +222,7 @@ module _ (s : Setup) (h : Shared) (roots : List Reference) where
   root-at (first ∷ each) zero lt = inl refl
   root-at (first ∷ each) (suc place) lt = inr (root-at each place (omega (arith, lt)))
 
-  -- behind one more root
+  -- after one more root
   pub rooted-more : (w : Walk) (count : ℕ) (r : Reference) → count < length roots → slice_index_or roots count null ≡ r → IsRooted w count → IsRooted (following h w r) (count + 1)
   rooted-more w count r lt is rooted = record {
     good = good-following w r (root r (subst (λ (q : Reference). IsIn q roots) is (root-at roots count lt))) rooted.good;
@@ -244,7 +244,7 @@ module _ (s : Setup) (h : Shared) (roots : List Reference) where
   place-of (first ∷ each) r (inl is) = (0, omega arith, sym is)
   place-of (first ∷ each) r (inr later) = let rest = place-of each r later in (suc rest.0, omega (arith, rest.1), rest.2)
 
-  -- behind all roots
+  -- after all roots
   pub walked-begin : (w : Walk) (count : ℕ) → length roots ≤ count → IsRooted w count → IsWalked s h roots w 0
   walked-begin w count all rooted = record {
     sound = rooted.good.sound;
@@ -273,7 +273,7 @@ module _ (s : Setup) (h : Shared) (roots : List Reference) where
           lost : IsTrue false → ⊥
           lost t = cc
 
-  -- the walk behind the words of a cell of the heap
+  -- the walk after the words of a cell of the heap
   abbrev looked_into : Walk → (cell : ℕ) → Walk
   looked_into w cell = looking h (words_of_cell s cell) (slice_index_or h.words cell []) w (length (words_of_cell s cell))
 
@@ -289,7 +289,7 @@ module _ (s : Setup) (h : Shared) (roots : List Reference) where
       good-looking (words_of_cell s cell) (slice_index_or h.words cell []) w (length (words_of_cell s cell))
       (λ word is n. further (record { cell = cell; birth = found.birth }) word found.is_found is n) good
 
-  -- behind one more cell
+  -- after one more cell
   pub walked-more : (w : Walk) (looked cell : ℕ) → looked < length w.order → slice_index w.order looked ≡ cell → IsWalked s h roots w looked → IsWalked s h roots (looked_into w cell) (looked + 1)
   walked-more w looked cell lt is walked = record {
     sound = good.sound;

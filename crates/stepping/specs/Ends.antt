@@ -1,4 +1,4 @@
--- Threads, shared words and a collector as the end of the run that a list of actors makes; and one step more.
+-- The threads, the shared words and the collector at the end of the run that a list of actors makes, and one step more.
 use Rattle.std.specs.Prelude.{ℕ, ◌≡◌, ◌<◌, ◌≤◌, ◌^◌, false, Option, Some, None, List, [], ◌∷◌, length, slice_get}
 use Rattle.pools.specs.Heap.{Setup, IsSetup, cells}
 use Rattle.colours.specs.Runs.{turns_of}
@@ -23,7 +23,7 @@ use Rattle.stepping.specs.declared.happening.Happening.{Happening}
 use Rattle.stepping.specs.declared.happening.Happening.TheVariants.{Thread, Collector}
 use Rattle.stepping.specs.declared.happening.Step.{Step}
 
--- they are where the actors stand at the end of this run, and what the words and births are there
+-- the threads, the shared words and the collector at the end of this run
 pub record IsEnd (s : Setup) (m : Machine) (Fits : m.State → Type 0) (starts : ℕ → m.State) (run : List runs.Happening) (threads : List (Stand m.State)) (shared : Shared) (collector : Collecting) : Type 0 where
   pub none_late : s.late ≡ []
   pub few_cells : cells s ≤ 2 ^ 32
@@ -41,7 +41,7 @@ pub record IsBehind (s : Setup) (m : Machine) (Fits : m.State → Type 0) (start
   pub are_actors : AreActors s.threads actors
   pub is_end : IsEnd s m Fits starts (run_by s m starts actors) threads shared collector
 
--- so of the actors of the code
+-- the same for the actors of the code
 pub record AreBehindSteps (s : Setup) (m : Machine) (Fits : m.State → Type 0) (starts : ℕ → m.State) (before : List Actor) (actors : Actors m.State) : Type 0 where
   pub plan : IsPlanOf s actors.plan
   pub setup : IsSetup s
@@ -54,21 +54,21 @@ abbrev pub Tells : (roots : ℕ → List Reference) → Happening → runs.Happe
 Tells roots (Thread t made) happening = happening ≡ OfThread t (move_in (roots t) made)
 Tells roots (Collector turn) happening = happening ≡ OfCollector turn
 
--- the step tells what the actor made behind this run, and how it breaks the run
+-- the step says what the actor made after this run, and how it breaks the run
 pub record IsStep (s : Setup) (m : Machine) (starts : ℕ → m.State) (run : List runs.Happening) (actor : Actor) (step : Step) : Type 0 where
   pub happening : runs.Happening
   pub next : next_by s m starts run actor ≡ Some happening
   pub tells : Tells (λ t. m.roots (moves.state_after s m t (starts t) (share_of t run))) step.happening happening
   pub broke : IsStepCause s m starts (happening ∷ run) step.broke
-  -- where nothing that is gone could be reached before, so it is behind a step that loses nothing
+  -- where nothing that is gone could be reached before, nothing can be after a step that loses nothing
   pub loses : step.may_lose ≡ false → IsFirstGone s m starts run None → IsFirstGone s m starts (happening ∷ run) None
 
--- and no step that there is none
+-- where no step was made, the actor has no next step
 abbrev pub IsStepOrNone : (s : Setup) (m : Machine) (starts : ℕ → m.State) → List runs.Happening → Actor → Option Step → Type 0
 IsStepOrNone s m starts run actor None = next_by s m starts run actor ≡ None
 IsStepOrNone s m starts run actor (Some step) = IsStep s m starts run actor step
 
--- what the actor made behind these is told, and the actors are those behind it
+-- what the actor made after these is returned, and the actors are those after it
 pub record IsOneStep (s : Setup) (m : Machine) (Fits : m.State → Type 0) (starts : ℕ → m.State) (before : List Actor) (actor : Actor) (made : Option Step) (actors : Actors m.State) : Type 0 where
   pub made_is : IsStepOrNone s m starts (run_by s m starts before) actor made
   pub behind : AreBehindSteps s m Fits starts (actor ∷ before) actors

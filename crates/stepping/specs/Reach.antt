@@ -1,4 +1,4 @@
--- The first thing that is gone and can be reached, behind a run.
+-- The first thing that is gone and can be reached, after a run.
 use Rattle.std.specs.Prelude.{ℕ, ◌≡◌, ◌≢◌, ◌<◌, Option, Some, None, List, ◌∷◌}
 use Rattle.pools.specs.Heap.{Setup, cells}
 use Rattle.colours.specs.declared.turn.Turn.TheVariants.{Free}
@@ -35,14 +35,14 @@ gone_of (Some cell) reborn = Some (Blue cell)
 gone_of None (Some cell) = Some (Reborn cell)
 gone_of None None = None
 
--- the move puts nothing but null or 0 into a word, and is not the one behind which a late thread has begun
+-- the move puts nothing but null or 0 into a word, and is not the one after which a late thread has begun
 abbrev pub AddsNothing : Move → Type 0
 AddsNothing (StoresBehindBarrier base word value) = value.cell ≡ 0
 AddsNothing (StoresPlain base word value) = value.cell ≡ 0
 AddsNothing (ReadsPostedAgain stage) = ⊥
 AddsNothing move = Unit {0}
 
--- the step behind this run frees no cell, stores no reference, begins no thread, and leaves the roots of its thread
+-- the step after this run frees no cell, stores no reference, begins no thread, and leaves the roots of its thread unchanged
 abbrev pub LosesNothing : (s : Setup) (m : Machine) (starts : ℕ → m.State) → List Happening → Happening → Type 0
 LosesNothing s m starts run (OfCollector (Free cell)) = ⊥
 LosesNothing s m starts run (OfCollector turn) = Unit {0}

@@ -14,7 +14,7 @@ unless_ended stance roots = roots
 abbrev pub own_roots : {State : Type 0} → (roots : State → List Reference) → Stand State → List Reference
 own_roots roots stand = unless_ended stand.stance (roots stand.state)
 
--- and of all, one thread behind the other
+-- and of all, one thread after the other
 abbrev pub roots_of : {State : Type 0} → (roots : State → List Reference) → List (Stand State) → List Reference
 roots_of roots [] = []
 roots_of roots (stand ∷ stands) = own_roots roots stand ++ roots_of roots stands

@@ -15,14 +15,14 @@ abbrev pub value_at_start : (values : List ℕ) → (cell word : ℕ) → ℕ
 value_at_start values zero word = slice_index values word
 value_at_start values (suc cell) word = 0
 
--- the words of a cell hold what stands there before the first step, with birth 0
+-- the words of a cell hold their values before the first step, with birth 0
 pub record IsRowAtStart (s : Setup) (cell : ℕ) (row : List Reference) : Type 0 where
   pub count : length row ≡ length (words_of_cell s cell)
   pub holds : (word : ℕ) → (slice_index_or row word null).cell ≡ word_at_start s (Word cell word)
   pub births : (word : ℕ) → (slice_index_or row word null).birth ≡ 0
   pub kinds : (word : ℕ) (kind : WordKind) → kind_of s cell word ≡ Some kind → MayHold s (Some kind) (slice_index_or row word null)
 
--- so do those of so many cells
+-- so do those of the first cells, this number of them
 pub record AreRowsAtStart (s : Setup) (count : ℕ) (rows : List (List Reference)) : Type 0 where
   pub count_is : length rows ≡ count
   pub rows_are : (cell : ℕ) → cell < count → IsRowAtStart s cell (slice_index_or rows cell [])

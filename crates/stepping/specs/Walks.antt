@@ -1,4 +1,4 @@
--- A walk over what can be reached, over the words as they stand.
+-- A walk over what can be reached, over the words as they are now.
 use Rattle.std.specs.Prelude.{ℕ, zero, suc, ◌≡◌, ◌≢◌, ◌<◌, ◌≤◌, ◌==◌, not, Bool, true, false, min, Option, Some, None, List, [], ◌∷◌, ◌++◌, length, slice_get, slice_set, slice_index, slice_index_or, replicate, if◌then◌else◌, IsTrue, IfSome}
 use Rattle.pools.specs.declared.word_kind.WordKind.{WordKind}
 use Rattle.pools.specs.Heap.{Setup, kind_of}
@@ -11,7 +11,7 @@ use Rattle.stepping.specs.declared.walk.Walk.{Walk}
 
 -- ---- what can be reached
 
--- what a path of reference words comes to, from the cell of the globals or from one of these roots
+-- what a path of reference words reaches, from the cell of the globals or from one of these roots
 pub data Found (s : Setup) (h : Shared) (roots : List Reference) : Reference → Type 0 where
   globals : Found s h roots null
   root : (r : Reference) → IsIn r roots → r.cell ≢ 0 → Found s h roots r
@@ -20,7 +20,7 @@ pub data Found (s : Setup) (h : Shared) (roots : List Reference) : Reference →
 
 -- ---- the walk, reference by reference
 
--- before any reference is met, over so many cells
+-- before any reference is met, over this number of cells
 abbrev pub begun : (cells : ℕ) → Walk
 begun cells = record { met = replicate cells false; order = []; blue = None; reborn = None }
 
@@ -33,7 +33,7 @@ abbrev pub least : Option ℕ → ℕ → ℕ
 least None cell = cell
 least (Some other) cell = min other cell
 
--- the least free cell, behind a reference that is met
+-- the least free cell, after a reference is met
 abbrev pub blue_with : Shared → Option ℕ → Reference → Option ℕ
 blue_with h blue r = if slice_index h.colours r.cell == 0 then Some (least blue r.cell) else blue
 
@@ -49,7 +49,7 @@ met_with met cell = if is_new met cell then slice_set met cell true else met
 abbrev pub order_with : List Bool → List ℕ → (cell : ℕ) → List ℕ
 order_with met order cell = if is_new met cell then order ++ cell ∷ [] else order
 
--- the walk behind a reference
+-- the walk after a reference
 abbrev pub meeting : Shared → Walk → Reference → Walk
 meeting h w r = record {
   met = met_with w.met r.cell;
@@ -58,15 +58,15 @@ meeting h w r = record {
   reborn = reborn_with h w.reborn r;
 }
 
--- and behind one that may be null, which leads nowhere
+-- and after one that may be null, which points to nothing
 abbrev pub following : Shared → Walk → Reference → Walk
 following h w r = if r.cell == 0 then w else meeting h w r
 
--- behind what a word of this kind holds
+-- after what a word of this kind holds
 abbrev pub looking_at : Shared → Walk → Option WordKind → Reference → Walk
 looking_at h w kind r = if is_reference_kind kind then following h w r else w
 
--- behind so many words of a cell
+-- after the first words of a cell, this number of them
 unfoldable pub looking : Shared → List WordKind → (row : List Reference) → Walk → (count : ℕ) → Walk
 looking h kinds row w zero = w
 looking h kinds row w (suc word) = looking_at h (looking h kinds row w word) (slice_get kinds word) (slice_index_or row word null)
@@ -78,7 +78,7 @@ abbrev pub IsAtMost : Option ℕ → ℕ → Type 0
 IsAtMost None cell = ⊥
 IsAtMost (Some other) cell = other ≤ cell
 
--- the reference was met, and if it is gone, so it was taken down
+-- the reference was met, and if it is gone, it was recorded
 pub record IsSeen (h : Shared) (w : Walk) (r : Reference) : Type 0 where
   pub met : slice_index_or w.met r.cell true ≡ true
   pub blue : slice_index h.colours r.cell ≡ 0 → IsAtMost w.blue r.cell
@@ -101,7 +101,7 @@ pub record IsSound (s : Setup) (h : Shared) (roots : List Reference) (w : Walk) 
   pub blue : IfSome w.blue (λ cell. (slice_index h.colours cell ≡ 0) × IsFound s h roots cell)
   pub reborn : IfSome w.reborn (IsFoundReborn s h roots)
 
--- each cell that was met stands in the order
+-- each cell that was met is in the order
 abbrev pub IsListed : Walk → Type 0
 IsListed w = (cell : ℕ) → slice_index_or w.met cell false ≡ true → (place : ℕ) × (place < length w.order) × (slice_index w.order place ≡ cell)
 
@@ -109,7 +109,7 @@ IsListed w = (cell : ℕ) → slice_index_or w.met cell false ≡ true → (plac
 abbrev pub AreSeen : Setup → Shared → Walk → (cell : ℕ) → Type 0
 AreSeen s h w cell = (word : ℕ) → IsTrue (is_reference_kind (kind_of s cell word)) → (word_at h.words cell word).cell ≢ 0 → IsSeen h w (word_at h.words cell word)
 
--- the walk looked at the words of so many cells of its order, and at the roots
+-- the walk looked at the words of the first cells of its order, this number of them, and at the roots
 pub record IsWalked (s : Setup) (h : Shared) (roots : List Reference) (w : Walk) (looked : ℕ) : Type 0 where
   pub sound : IsSound s h roots w
   pub listed : IsListed w

@@ -32,7 +32,7 @@ pub(crate) fn shared_at_start(
     })
 }
 
-/// So many zeros.
+/// This number of zeros.
 fn zeros(alloc: Global, count: usize) -> Result<Items<u64>, AllocError>
     ensures count { IfOk result (λ numbers. length numbers ≡ count) }
     ensures zeros { IfOk result (λ numbers. (k : ℕ) → slice_index numbers k ≡ 0) }

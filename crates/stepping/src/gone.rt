@@ -42,8 +42,8 @@ impl<'a> Plan<'a> {
     }
 }
 
-/// The first thing that is gone and can be reached from the globals or from these roots, where the words and births stand as
-/// behind a run, and the roots are those of the threads under way.
+/// The first thing that is gone and can be reached from the globals or from these roots. The words and births are those
+/// after a run, and the roots are those of the threads under way.
 pub fn first_gone<M: Machine>(
     alloc: Global,
     plan: Plan<'_>,

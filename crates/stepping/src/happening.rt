@@ -14,6 +14,6 @@ pub struct Step {
     pub happening: Happening,
     /// The cause by which the step itself breaks the run: it is wrong, or uses a cell that was gone before it.
     pub broke: Option<Cause>,
-    /// Whether behind it a reference may be reachable that is gone, where none was before.
+    /// Whether a reference that is gone may be reachable after the step, where none was before.
     pub may_lose: bool,
 }

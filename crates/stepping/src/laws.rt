@@ -6,8 +6,8 @@ ghost use Rattle.stepping.specs.Reach.{IsFirstGone, LosesNothing};
 
 use runs::Machine;
 
-/// The law of losses: where nothing that is gone can be reached, so it is behind a step that loses nothing: one that frees no cell,
-/// stores no reference, begins no thread, and leaves the roots of its thread.
+/// The law of losses: where nothing that is gone can be reached, nothing can be after a step that loses nothing. Such a step
+/// frees no cell, stores no reference, begins no thread, and leaves the roots of its thread unchanged.
 pub fn loss_law<M: Machine>()
     ensures { (s : Setup) (starts : ℕ → M) (run : List Happening) (happening : Happening)
         → IsModuleRun s (machine_of M.action M.after_answer M.roots) starts (happening ∷ run)

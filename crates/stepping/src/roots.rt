@@ -4,7 +4,7 @@ ghost use Rattle.stepping.specs.Roots as roots;
 use moves::{Reference, Runner, Stance, Stand};
 use std::alloc::{AllocError, Global};
 
-/// The roots of the threads under way, one thread behind the other.
+/// The roots of the threads under way, one thread after the other.
 pub(crate) fn roots_under_way<M: Runner>(
     alloc: Global,
     threads: &[Stand<M>],

@@ -24,7 +24,7 @@ pub(crate) struct Walk {
 }
 
 impl Walk {
-    /// Before any reference is met, over so many cells.
+    /// Before any reference is met, over this number of cells.
     fn new(alloc: Global, cells: u32) -> Result<Self, AllocError>
         ensures { IfOk result (λ walk. walk ≡ walks.begun cells) }
     {
@@ -67,7 +67,7 @@ impl Walk {
         Ok(())
     }
 
-    /// What a word or a root holds can be reached; null leads nowhere.
+    /// What a word or a root holds can be reached; null points to nothing.
     fn follow(&mut self, shared: &Shared, held: Reference) -> Result<(), AllocError>
         requires { length self.old.met ≤ 2 ^ 20 }
         ensures { OnOk result (self.new ≡ following shared.now self.old held) }
@@ -119,7 +119,7 @@ fn least(so_far: Option<u64>, cell: u64) -> u64
     }
 }
 
-/// What is told of this place; yes outside the list.
+/// The entry at this place; true outside the list.
 fn is_set(each: &[bool], at: usize) -> bool
     ensures value { result ≡ slice_index_or each.now at true }
     ensures within { IsFalse result → at < length each.now }

@@ -35,7 +35,7 @@ in_order (Scanning cell word p) = Scanning cell word (without_list p)
 in_order (Shading value cell word p) = Shading value cell word (without_list p)
 in_order c = c
 
--- a collector: what it knows of the heap, the stage that it posted last, and where it stands
+-- a collector: what it knows of the heap, the stage that it posted last, and where it is
 pub record Collecting : Type 0 where
   pub heap : Setup
   pub posted : ℕ
@@ -58,7 +58,7 @@ scans turn = false
 abbrev pub turn_of : Collecting → (found : ℕ) → Turn
 turn_of c found = turn_in c.heap c.posted c.at found
 
--- the stage posted last, behind a step
+-- the stage posted last, after a step
 abbrev pub posted_by : Turn → (stage : ℕ) → ℕ
 posted_by (PostStage to) stage = to
 posted_by turn stage = stage

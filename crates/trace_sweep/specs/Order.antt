@@ -32,7 +32,7 @@ next_is n = omega arith
 
 -- ---- the step in turn is one of the order
 
--- in the grammar it leads to the place behind it
+-- in the grammar it leads to the place after it
 pub turns-turn_in : (s : Setup) (stage : ℕ) (c : Collection) (found : ℕ) → is_at_limit stage c ≡ false → TurnsInOrder s stage c (turn_in s stage c found) (behind s stage c found)
 turns-turn_in s stage Posting found e = (next_is stage, further stage e, refl)
 turns-turn_in s stage (Waiting thread) found e = (refl, ap (λ n. if has_answered stage found then wait_from s stage n else Waiting thread) (next_is thread))
@@ -90,7 +90,7 @@ turn_of-turn_in cycle s stage (Clearing cell word) found other = elim (yes_or_no
 
 -- ---- and no other step is
 
--- a step in turn that says what its word holds is this one, and leads to the place behind it
+-- a step in turn that says what its word holds is this one, and leads to the place after it
 pub turn_in-only : (s : Setup) (stage : ℕ) (c : Collection) (turn : Turn) (d : Collection) (found : ℕ) → TurnsInOrder s stage c turn d → FoundBy turn found
     → (is_at_limit stage c ≡ false) × (turn ≡ turn_in s stage c found) × (d ≡ behind s stage c found)
 turn_in-only s stage Posting (PostStage to) d found x f = (limit, ap PostStage is, x.2 ∙ ap (λ n. wait_from s n 0) is)
@@ -157,14 +157,14 @@ same_turn s stage (Shading value cell word p) found = refl
 same_turn s stage (Sweeping cell) found = refl
 same_turn s stage (Clearing cell word) found = refl
 
--- the pass behind it
+-- the pass after it
 same_pass : (s : Setup) (p : Pass) → in_order (pass_from s (without_list p)) ≡ in_order (pass_from s p)
 same_pass s p = elim (yes_or_no (nat_lt p.next (cells s))) [
   | inl e ↦ rw e refl
   | inr e ↦ rw e (elim (yes_or_no p.met_grey) [ inl m ↦ rw m refl | inr m ↦ rw m refl ])
 ]
 
--- and the place behind it
+-- and the place after it
 same_behind : (s : Setup) (stage : ℕ) (c : Collection) (found : ℕ) → in_order (behind s stage (in_order c) found) ≡ in_order (behind s stage c found)
 same_behind s stage Posting found = refl
 same_behind s stage (Waiting thread) found = refl
@@ -200,7 +200,7 @@ in_order-turns s stage (Shading value cell word p) turn c x = x
 in_order-turns s stage (Sweeping cell) turn c x = x
 in_order-turns s stage (Clearing cell word) turn c x = x
 
--- ---- behind the step, a collector stands behind the longer log
+-- ---- after the step, a collector is at the end of the longer log
 
 -- the stage posted last is that of the longer log
 posted_by-posted_of : (turn : Turn) (log : List Turn) → posted_by turn (posted_of log) ≡ posted_of (turn ∷ log)
@@ -213,7 +213,7 @@ posted_by-posted_of (Blacken c) log = refl
 posted_by-posted_of (ClearWord c w) log = refl
 posted_by-posted_of (Free c) log = refl
 
--- behind its step a collector stands behind the longer log, where it is seen at this place
+-- after its step a collector is at the end of the longer log, where it is seen at this place
 stands_as : (s : Setup) (stage : ℕ) (log : List Turn) (place : Collection) (found : ℕ) → stage ≡ posted_of log → Collects s log place → is_at_limit stage (in_order place) ≡ false
     → StandsBehind s (turn_in (plan_of s) stage (in_order place) found ∷ log) (moved (record { heap = plan_of s; posted = stage; at = in_order place }) found)
 stands_as s stage log place found e col more = record {

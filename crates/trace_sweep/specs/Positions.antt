@@ -37,7 +37,7 @@ word_of (Marking value cell word p) = word
 word_of (Clearing cell word) = word
 word_of position = 0
 
--- how far a wait has come, and how far the pass around a scan
+-- the number of threads that a wait has reached, or 0
 abbrev pub thread_of : Position → ℕ
 thread_of (Waiting thread) = thread + 1
 thread_of position = 0

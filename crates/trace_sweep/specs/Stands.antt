@@ -11,7 +11,7 @@ use Rattle.trace_sweep.specs.declared.motion.Motion.{Motion}
 use Rattle.trace_sweep.specs.Turns.{is_at_limit}
 use Rattle.trace_sweep.specs.Collecting.{Collecting, plan_of, in_order, turn_of, moved, stored_by}
 
--- the collector of this heap stands where the order of the steps is behind this log
+-- the collector of this heap is where the order of the steps is after this log
 pub record StandsBehind (s : Setup) (log : List Turn) (c : Collecting) : Type 0 where
   pub heap : c.heap ≡ plan_of s
   pub posted : c.posted ≡ posted_of log
@@ -19,11 +19,11 @@ pub record StandsBehind (s : Setup) (log : List Turn) (c : Collecting) : Type 0 
   pub at : c.at ≡ in_order place
   pub collects : Collects s log place
 
--- the step is the next one of the order behind each log that led here
+-- the step is the next one of the order after each log that led here
 abbrev pub ExtendsLogs : (before : Collecting) → Turn → (behind : Collecting) → Type 0
 ExtendsLogs before turn behind = (s : Setup) (log : List Turn) → StandsBehind s log before → StandsBehind s (turn ∷ log) behind
 
--- the collector makes this step on these words, and stands so behind it
+-- the collector makes this step on these words, and is in this state after it
 pub record IsStepOn (word_at : Place → ℕ) (before : Collecting) (m : Motion) (behind : Collecting) : Type 0 where
   pub further : is_at_limit before.posted before.at ≡ false
   pub turn : m.turn ≡ turn_of before (word_at m.place)
@@ -32,7 +32,7 @@ pub record IsStepOn (word_at : Place → ℕ) (before : Collecting) (m : Motion)
   pub found : steps.FoundBy m.turn (word_at m.place)
   pub moves : behind ≡ moved before (word_at m.place)
 
--- the words behind a motion: its caller has stored what it tells
+-- the words after a motion: its caller has stored what the motion says
 abbrev pub word_behind : (Place → ℕ) → Motion → Place → ℕ
 word_behind word_at m p = if steps.same_place m.place p then unwrap_or m.stored (word_at p) else word_at p
 

@@ -1,4 +1,4 @@
--- The collector's next step in turn, and where it stands behind that step.
+-- The collector's next step in turn, and where it is after that step.
 use Rattle.std.specs.Prelude.{ℕ, ◌+◌, ◌^◌, ◌≡◌, ◌==◌, not, Bool, false, Option, Some, None, length, if◌then◌else◌, nat_lt}
 use Rattle.pools.specs.Heap.{Setup, words_of_cell}
 use Rattle.colours.specs.declared.ask.Ask.{Ask}
@@ -29,7 +29,7 @@ turn_in s stage (Shading value cell word p) found = MarkFound value found
 turn_in s stage (Sweeping cell) found = ReadColour cell found
 turn_in s stage (Clearing cell word) found = if nat_lt word (length (words_of_cell s cell)) then ClearWord cell word else Free cell
 
--- where the collector stands behind that step
+-- where the collector is after that step
 abbrev pub behind : Setup → (stage : ℕ) → Collection → (found : ℕ) → Collection
 behind s stage Posting found = wait_from s (stage + 1) 0
 behind s stage (Waiting thread) found = if has_answered stage found then wait_from s stage (thread + 1) else Waiting thread

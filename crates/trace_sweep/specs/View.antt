@@ -1,4 +1,4 @@
--- What contracts see of the collector's fields, and what they keep.
+-- What contracts see of the collector's fields, and the invariant that the fields satisfy.
 use Rattle.std.specs.Prelude.{◌<◌, ◌≤◌, ◌^◌, ◌≡◌}
 use Rattle.pools.specs.Heap.{Setup, cells_in}
 use Rattle.colours.specs.Colours.{cycle_of}

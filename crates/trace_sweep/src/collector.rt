@@ -48,7 +48,7 @@ impl<'a> Model for Collector<'a> {
 }
 
 impl<'a> Collector<'a> {
-    /// The collector before its first step, for a heap with these globals and so many threads.
+    /// The collector before its first step, for a heap with these globals and this number of threads.
     pub fn new(
         pools: &'a Pools,
         layouts: &'a Layouts,
@@ -59,7 +59,7 @@ impl<'a> Collector<'a> {
         requires words { All (λ words. length words < 2 ^ 32) layouts.now }
         ensures begun { result ≡ begun (plan threads layouts.now pools.now globals.now) }
 
-        // It stands behind the empty log of each heap with this plan.
+        // It is after the empty log of each heap with this plan.
         ensures stands { (s : Setup) → plan_of s ≡ result.heap → StandsBehind s [] result }
     {
         Collector {
@@ -83,20 +83,20 @@ impl<'a> Collector<'a> {
         Some(operation_of(self.turn(0), cycle_of(self.posted)))
     }
 
-    /// Takes what the word of the step held, and tells the step.
+    /// Takes what the word of the step held, and returns the step.
     pub fn took(&mut self, answer: u64) -> Turn
         requires asked { IsSome (ask_of self.old) }
         requires fits { FitsNext self.old answer }
         ensures turn { result ≡ turn_of self.old answer }
         ensures moved { self.new ≡ moved self.old answer }
 
-        // The step is the next one of the order behind each log that led here.
+        // The step is the next one of the order after each log that led here.
         ensures collects { ExtendsLogs self.old result self.new }
     {
         self.step(answer)
     }
 
-    /// Makes one step on these words: looks at its word, and tells the step and what the caller has to store.
+    /// Makes one step on these words: looks at its word, and returns the step and what the caller has to store.
     /// None at the limit of the cycles alone, and then nothing changes.
     pub fn next<W: Words>(&mut self, words: &W) -> Option<Motion>
         requires { NamesCells self.old.heap (W.word_at words.now) }
@@ -104,10 +104,10 @@ impl<'a> Collector<'a> {
         ensures unmoved { IfNone result (self.new ≡ self.old) }
         ensures step { IfSome result (λ motion. IsStepOn (W.word_at words.now) self.old motion self.new) }
 
-        // The step is the next one of the order behind each log that led here.
+        // The step is the next one of the order after each log that led here.
         ensures collects { IfSome result (λ motion. ExtendsLogs self.old motion.turn self.new) }
 
-        // On the words of a run it is the run's next step, and tells the words behind it.
+        // On the words of a run it is the run's next step, and gives the words after it.
         ensures extends { IfSome result (λ motion. ExtendsRuns self.old (W.word_at words.now) motion) }
     {
         let ask = self.ask()?;
@@ -165,7 +165,7 @@ impl<'a> Collector<'a> {
         }
     }
 
-    /// Where the collector stands behind that step.
+    /// Where the collector is after that step.
     fn behind(&self, found: u64) -> Position
         requires asked { IsSome (ask_of self.now) }
         requires fits { FitsNext self.now found }
@@ -196,7 +196,7 @@ impl<'a> Collector<'a> {
         }
     }
 
-    /// Behind a look at the cell in turn: a grey one is scanned.
+    /// After a look at the cell in turn: a grey one is scanned.
     fn behind_look(&self, pass: Pass, colour: u64) -> Position
         requires { pass.next < cells self.now.heap }
         ensures place { collection_of result
@@ -221,7 +221,7 @@ impl<'a> Collector<'a> {
         })
     }
 
-    /// The next thread of a wait, or what comes behind the last one's answer.
+    /// The next thread of a wait, or what comes after the last one's answer.
     fn wait_from(&self, stage: u64, thread: usize) -> Position
         requires { thread ≤ self.now.heap.threads }
         ensures place { collection_of result ≡ in_order (wait_from self.now.heap stage thread) }
@@ -273,7 +273,7 @@ impl<'a> Collector<'a> {
         first_reference(self.words(cell), word)
     }
 
-    /// What the words of a cell hold.
+    /// The kinds of a cell's words.
     fn words(&self, cell: u32) -> &[WordKind]
         requires { cell < cells self.now.heap }
         ensures { result.now ≡ words_of_cell self.now.heap cell }

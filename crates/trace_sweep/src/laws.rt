@@ -22,7 +22,7 @@ pub fn stage_law()
         → IsRun s (event ∷ run) → ¬ IsFree event → LowersNoColour s run event }
 {}
 
-/// In every run of threads that keep the discipline and of the collector each word fits its kind: an integer its bits,
+/// In every run of threads that obey the discipline and of the collector each word fits its kind: an integer its bits,
 /// and a reference is null or a cell of its layout.
 pub fn word_law()
     ensures { (s : Setup) (run : List Event) → IsHeapRun s run → EachWordFits s run }
@@ -33,9 +33,9 @@ pub fn trace_law()
     ensures { (s : Setup) (run : List Event) → IsHeapRun s run → IsPastTrace s run → KeptIsBlack s run }
 {}
 
-/// The heap theorem: in every run of threads that keep the discipline and of the collector, for every number of threads,
-/// late ones among them, and every pool, what is kept is alive with its own birth, so is each reference that a thread
-/// still holds, no thread's step touches a cell that is free or was claimed again, and each answer is a possible one.
+/// The heap theorem, for every run of the collector and of threads that obey the discipline, for every number of threads, late
+/// ones among them, and for every pool. What is kept is alive with its own birth, and so is each reference that a thread still
+/// holds. No thread's step touches a cell that is free or was claimed again, and each answer is a possible one.
 pub fn heap_law()
     ensures kept { (s : Setup) (run : List Event) → IsHeapRun s run → KeptIsAlive s run }
     ensures held { (s : Setup) (run : List Event) → IsHeapRun s run → ReferencesAreAlive s run }

@@ -1,4 +1,4 @@
--- The thread behind its move, by whether its call ends.
+-- The thread after its move, by whether its call ends.
 use Rattle.std.proofs.Common.{sym, ap, ◌∙◌, subst}
 use Rattle.runs.specs.Machine.{machine_of}
 use Rattle.runs.specs.Moves.{answer_of}

@@ -1,4 +1,4 @@
--- A mark and a lost try go by where the thread stands.
+-- A mark and a lost try go by where the thread is.
 use Rattle.std.proofs.Common.{◌≡◌, Bool, false, Some, rules, subst, sym, ap, ◌∙◌}
 use Rattle.colours.specs.Steps as steps
 use Rattle.runs.specs.Machine.{Reference}

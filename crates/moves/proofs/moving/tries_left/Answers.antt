@@ -1,4 +1,4 @@
--- Where so many were tried, no cell is left.
+-- Where all cells of a pool were tried, none is left.
 use Rattle.std.proofs.Common.{◌≤◌, arith}
 use Rattle.moves.proofs.Losses.{none-left}
 use Rattle.moves.proofs.moving.tries_left.Goals as goal

@@ -1,4 +1,4 @@
--- The root behind those that are marked is marked next.
+-- The root after those that are marked is marked next.
 use Rattle.std.proofs.Common.{◌≡◌, true, Some, List, slice_get, rules, sym, ap, ◌∙◌}
 use Rattle.colours.specs.Colours.{is_async}
 use Rattle.runs.specs.Machine.{Reference}

@@ -1,4 +1,4 @@
--- Where the thread stands, and what it asks for, give its next move.
+-- Where the thread is, and what it asks for, give its next move.
 use Rattle.std.proofs.Common.{Some, ap, sym, ◌∙◌, subst}
 use Rattle.runs.specs.Machine.{machine_of, Safepoint}
 use Rattle.moves.specs.Calls.{action_of}
@@ -8,7 +8,7 @@ use Rattle.moves.specs.Stands.{sight_in}
 use Rattle.moves.specs.Nexts.{stands-next, falling-length, counts-none}
 use Rattle.moves.proofs.next.next_move.Goals as goal
 
--- where it stands, nothing is counted
+-- where it is, nothing is counted
 
 pub returns-in-Ready-clause-room : goal.returns-in-Ready-clause-room
 returns-in-Ready-clause-room g c = counts-none c.args.stand.now.stance _ c.in-Ready.is tt tt (Some c.first_move.result)

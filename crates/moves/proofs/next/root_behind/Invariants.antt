@@ -1,4 +1,4 @@
--- What is looked for among all is what is looked for, behind fewer, among those that are left; and each that was passed is one of the list.
+-- The root at the given place of the whole list is the root at the remaining place of the rest. Each root that was passed is one of the list.
 use Rattle.std.proofs.Common.{◌≡◌, ◌≤◌, ◌+◌, ◌==◌, not, filter, drop, slice_get}
 use Rattle.moves.proofs.next.root_behind.Given as goal
 

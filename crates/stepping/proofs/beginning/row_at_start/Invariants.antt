@@ -1,4 +1,4 @@
--- So many words so far.
+-- The words so far.
 use Rattle.std.proofs.Common.{ℕ, ◌≡◌, ◌<◌, ◌^◌, length, slice_index_or}
 use Rattle.runs.specs.Moves.{null}
 use Rattle.stepping.specs.Starts.{value_at_start}

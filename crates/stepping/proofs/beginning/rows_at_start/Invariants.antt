@@ -1,4 +1,4 @@
--- The words of so many cells so far.
+-- The words of the cells so far.
 use Rattle.std.proofs.Common.{◌≡◌}
 use Rattle.pools.specs.Heap.{Setup, IsSetup}
 use Rattle.stepping.specs.Reach.{IsPlanOf}

@@ -1,4 +1,4 @@
--- So many zeros so far.
+-- The zeros so far.
 use Rattle.std.proofs.Common.{ℕ, ◌≡◌, length, slice_index}
 use Rattle.stepping.proofs.beginning.zeros.Given as goal
 

@@ -1,4 +1,4 @@
--- Behind one thread more its roots stand at the end.
+-- After one thread more its roots are at the end.
 use Rattle.std.proofs.Common.{◌<◌, List, length, take, ◌++◌, arith, ap, sym, ◌∙◌}
 use Rattle.runs.specs.Machine.{Reference}
 use Rattle.stepping.specs.Roots.{roots_of}

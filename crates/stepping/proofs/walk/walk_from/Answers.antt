@@ -1,4 +1,4 @@
--- The globals, the roots and the words of each cell that is met, one behind the other.
+-- The globals, the roots and the words of each cell that is met, one after the other.
 use Rattle.std.proofs.Common.{◌≡◌, ◌≤◌, ◌<◌, ◌+◌, length, slice_index_or, slice_get, Some, [], refl, sym, ap, subst, ◌∙◌, arith}
 use Rattle.std.proofs.lemmas.Option.{get_or_from_slice_get, slice_get_read, slice_get_within}
 use Rattle.pools.specs.Heap.{cells_in, words_of_cell}

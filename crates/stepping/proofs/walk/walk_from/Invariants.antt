@@ -1,4 +1,4 @@
--- So many roots were met, and behind them the words of so many cells were looked at.
+-- The roots so far were met, and after them the words of the cells so far were looked at.
 use Rattle.std.proofs.Common.{◌≤◌, ◌+◌, ◌-◌, length, sum_by}
 use Rattle.pools.specs.Heap.{Setup, cells_in}
 use Rattle.stepping.specs.Reach.{IsPlanOf}

@@ -1,4 +1,4 @@
--- The collector's step on the words as they stand is the run's next one.
+-- The collector's step on the words as they are is the run's next one.
 use Rattle.std.proofs.Common.{◌≡◌, true, false, refl, sym, ap, ◌∙◌}
 use Rattle.runs.specs.Machine.{machine_of}
 use Rattle.runs.specs.ModuleRuns.{OfCollector}

@@ -1,4 +1,4 @@
--- A thread's move on the words as they stand is its next one in the run.
+-- A thread's move on the words as they are is its next one in the run.
 use Rattle.std.proofs.Common.{◌≡◌, ℕ, Option, Some, List, slice_get, slice_set, true, false, sym, ap, ◌∙◌, subst}
 use Rattle.std.specs.Vec.{with_item}
 use Rattle.std.proofs.lemmas.Option.{slice_get_read}

@@ -1,4 +1,4 @@
--- The words of a cell, one behind the other.
+-- The words of a cell, one after the other.
 use Rattle.std.proofs.Common.{◌^◌, ◌∙◌, refl}
 use Rattle.std.proofs.lemmas.Option.{slice_get_read}
 use Rattle.stepping.specs.Walks.{looking}

@@ -1,4 +1,4 @@
--- So many words of the cell.
+-- The words of the cell so far.
 use Rattle.std.proofs.Common.{◌≡◌}
 use Rattle.stepping.specs.Walks.{looking}
 use Rattle.stepping.proofs.walk.Walk.look_into.Given as goal

@@ -1,4 +1,4 @@
--- So many cells of the row.
+-- The cells of the row so far.
 use Rattle.std.proofs.Common.{◌≡◌, false, replicate}
 use Rattle.stepping.proofs.walk.Walk.new.Given as goal
 
