@@ -18,7 +18,7 @@ use Rattle.collector_law.proofs.Sweep.{rests}
 use Rattle.collector_law.proofs.Match.{IsSync, IsInvariant, Shows, Safe}
 use Rattle.collector_law.proofs.Numbers.{cycle_is}
 
--- the state behind a step of the collector
+-- the state after a step of the collector
 abbrev pub behind : law.State → law.Part → (cycle posted : ℕ) → (ℕ → ℕ) → (ℕ → ℕ → ℕ) → law.State
 behind S p k posted colour word = record S { part = p; cycle = k; posted = posted; colour = colour; word = word }
 

@@ -72,7 +72,7 @@ pub record IsStore (p q : Picture) (x i new : ℕ) : Type 0 where
   pub replaced : (W : ℕ → Bool) → IsUnsupported q W → p.IsRead x i ⊎ ((W (p.word x i) ≡ false) ⊎ p.IsLoose x i)
   pub stored : p.IsHeld new ⊎ (q.IsWhite new → ⊥)
 
--- a store behind the barrier keeps the law
+-- a barriered store preserves the law
 pub store : (p q : Picture) (x i new : ℕ) → IsStore p q x i new → IsSafe p → IsSafe q
 store p q x i new s safe W u = record {
   held = λ c h. spared.held c (s.held c h);

@@ -9,6 +9,6 @@ use Rattle.ir_forms.specs.declared.decorating.Spot.{Spot}
 use Rattle.ir_forms.specs.declared.decorating.Trail.{Trail}
 use Rattle.ir_forms.specs.Decorations.{begins_decoration, decorations, trailing, trail_of, trailed}
 
--- an operation with nothing behind it
+-- an operation with nothing after it
 pub not_trailed : (op : Op) (i : Input) → sees k.Comma i.cursor ≡ false → (trailed op).says i op i
 not_trailed op i e = (tt, i, trailing_said (trail_of op) i e, (refl, refl))

@@ -97,7 +97,7 @@ null_fits : (bits : Option ℕ) → Fits bits c.Null
 null_fits None u = tt
 null_fits (Some bits) u = tt
 
--- the name stands at its number
+-- the name is at its number
 pub named_at : (names : List Text) (n : ℕ) (name : Text) → slice_get names n ≡ Some name → name_at names n ≡ name
 named_at names n name e = ap (λ (x : Option Text). unwrap_or x []) e
 

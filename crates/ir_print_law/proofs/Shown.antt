@@ -92,7 +92,7 @@ some_level (Named name) = omega arith
 
 -- ---- what kind of type was read
 
--- a type of this base with so many stars
+-- a type of this base with this number of stars
 abbrev looking : Base → ℕ → WrittenType
 looking b stars = record { base = b; stars = stars; id = 0; room = 0 }
 
@@ -113,7 +113,7 @@ scalar_read shape most w o h = by_looks is_scalar shape most w o (λ id room b s
 pub pointer_read : (shape : Shape) (most : ℕ) (w : WrittenType) (o : Input) → IsTypeRead shape most w o → nat_lt 0 w.stars ≡ is_pointer_shape shape
 pointer_read shape most w o h = ap (nat_lt 0) h.stars_are ∙ pointer_looks shape
 
--- one behind a number is 1 where the number is 0
+-- the successor of a number is 1 where the number is 0
 one_star : (n : ℕ) → suc n == 1 ≡ n == 0
 one_star zero = refl
 one_star (suc n) = suc_one n ∙ sym (suc_not_null n)

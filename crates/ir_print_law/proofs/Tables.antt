@@ -55,7 +55,7 @@ in_front (y ∷ xs) more (suc n) x e = in_front xs more n x e
 pub stays : {A : Type 0} (xs ys : List A) (n : ℕ) (x : A) → Begins xs ys → slice_get xs n ≡ Some x → slice_get ys n ≡ Some x
 stays xs ys n x b e = ap (λ l. slice_get l n) b.1 ∙ in_front xs b.0 n x e
 
--- what stands at a place of a list with one element more stood there before, or is that element
+-- what is at a place of a list with one element more was there before, or is that element
 pub at_end_or_before : {A : Type 0} (xs : List A) (y : A) (n : ℕ) (x : A) → slice_get (xs ++ y ∷ []) n ≡ Some x → (slice_get xs n ≡ Some x) ⊎ ((n ≡ length xs) × (y ≡ x))
 at_end_or_before [] y zero x e = inr (refl, cc)
 at_end_or_before [] y (suc n) x e = absurd cc

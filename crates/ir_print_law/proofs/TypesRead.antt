@@ -28,7 +28,7 @@ use Rattle.ir_print_law.proofs.Looks.{starred, base_of, stars_of, IsTypeOf, IsSh
 use Rattle.ir_print_law.proofs.Reading.{Reading}
 use Rattle.ir_print_law.proofs.Tokens.{IsAt, IsInterned, Has, skip_keeps, expect_keeps, intern_goes, interned_keeps, struct_name_keeps}
 
--- so many bits as an integer type may have
+-- a number of bits that an integer type may have
 abbrev AreBits : ℕ → Type 0
 AreBits bits = (1 ≤ bits) × (bits ≤ 64)
 

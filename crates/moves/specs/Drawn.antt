@@ -24,7 +24,7 @@ use Rattle.moves.specs.declared.actor.Actor.{Actor}
 use Rattle.moves.specs.declared.actor.Actor.TheVariants.{Thread, Collector}
 use Rattle.moves.specs.Runs.{found_in, collector_behind, turn_for, by_thread, by_collector, next_by, with_next, run_by, AreActors}
 
--- what a step found, by its entry, leads to the same place
+-- the number that a step's entry records leads to the same place
 pub moved-found : (c : Collecting) (found : ℕ) → moved c (found_in (turn_of c found)) ≡ moved c found
 moved-found c found = go c.heap c.posted c.at
   where

@@ -38,7 +38,7 @@ use Rattle.replay.specs.Worlds.{AreEndings, ending_at, ending_of, run_of}
 
 -- ---- lists
 
--- what was put at a place stands get_some
+-- what was put at a place is there
 set_same : {A : Type 0} (xs : List A) (i : ℕ) (x : A) → i < length xs → slice_get (slice_set xs i x) i ≡ Some x
 set_same [] i x within = absurd (omega arith)
 set_same (y ∷ xs) zero x within = refl

@@ -66,14 +66,14 @@ one_more p starts t begun before at may u other lt found = elim (below_next u t 
       subst (MayBegin p) is may
 ]
 
--- a thread may begin where get_some is no fault and each before it may
+-- a thread may begin where there is no fault and each before it may
 may_begin : (p : LaidOut) (setup : Setup) (t : ℕ) (begun : Start) → HasNoFault p setup → MayBeginBefore p setup.starts t → slice_get setup.starts t ≡ Some begun → MayBegin p begun
 may_begin p setup t begun none before at = record {
   takes_integers = λ by_reference. none (ReferenceParameter t) (before, (begun, at, by_reference));
   takes_these = λ wrongly. none (WrongArguments t) (before, (begun, at, wrongly));
 }
 
--- so where get_some is no fault, each thread may begin
+-- so where there is no fault, each thread may begin
 all_before : (p : LaidOut) (setup : Setup) → HasNoFault p setup → (t : ℕ) → MayBeginBefore p setup.starts t
 all_before p setup none zero u begun lt at = absurd (omega arith)
 all_before p setup none (suc t) u begun lt at = elim (below_next u t lt) [
@@ -84,7 +84,7 @@ all_before p setup none (suc t) u begun lt at = elim (below_next u t lt) [
 pub each_may_begin : (p : LaidOut) (setup : Setup) → HasNoFault p setup → (t : ℕ) (begun : Start) → slice_get setup.starts t ≡ Some begun → MayBegin p begun
 each_may_begin p setup none t begun at = may_begin p setup t begun none (all_before p setup none t) at
 
--- and where each thread may begin, get_some is no fault
+-- and where each thread may begin, there is no fault
 pub no_fault : (p : LaidOut) (setup : Setup) → ((t : ℕ) (begun : Start) → slice_get setup.starts t ≡ Some begun → MayBegin p begun) → HasNoFault p setup
 no_fault p setup may (ReferenceParameter t) fault = (may t fault.1.0 fault.1.1).takes_integers fault.1.2
 no_fault p setup may (WrongArguments t) fault = (may t fault.1.0 fault.1.1).takes_these fault.1.2

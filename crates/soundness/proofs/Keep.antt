@@ -33,7 +33,7 @@ got_other (x ∷ xs) zero (suc j) a d ne = refl
 got_other (x ∷ xs) (suc i) zero a d ne = refl
 got_other (x ∷ xs) (suc i) (suc j) a d ne = got_other xs i j a d (λ e. ne (ap suc e))
 
--- a value that is a reference behind a write is the one written, or was one
+-- a value that is a reference after a write is the one written, or was one
 pub set_cell : (values : List Known) (v j : ℕ) (k : Known) (c l : ℕ) (s : Bool) → known_at (slice_set values v k) j ≡ Cell c l s → ((v ≡ j) × (k ≡ Cell c l s)) ⊎ (known_at values j ≡ Cell c l s)
 set_cell values v j k c l s =
     at_set (λ x. x ≡ Cell c l s → ((v ≡ j) × (k ≡ Cell c l s)) ⊎ (known_at values j ≡ Cell c l s)) values v j k Nothing (λ e lt is. inl (e, is)) (λ ne is. inr is) (λ is. absurd cc)

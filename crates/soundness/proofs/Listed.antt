@@ -364,7 +364,7 @@ module _ (heap : Setup) (p : LaidOut) (table : SlotTable) (guarded : Guarded) (l
   nothing_own : OwnClasses (nothing_known (length registers) (length slots))
   nothing_own v c l s e = let z = sym (replicated (length registers) v Nothing) ∙ e in absurd cc
 
-  -- ---- test_true values are of one class
+  -- ---- equal values are of one class
 
   module _ (from to : ℕ) (f : FactSet) (g : Given f) (equal_names : names from ≡ names to) (within : to < length registers) (a b la lb : ℕ) (sa sb : Bool) (of_from : known_at f.values a ≡ Cell from la sa) (of_to : known_at f.values b ≡ Cell to lb sb) where
     abbrev merged : Class
@@ -532,7 +532,7 @@ module _ (heap : Setup) (p : LaidOut) (table : SlotTable) (guarded : Guarded) (l
   slot_held s x (Address y w) f is same g = g
   slot_held s x (GlobalAddress y) f is same g = g
 
-  -- a slot that holds a class here is test_true to a value of it
+  -- a slot that holds a class here is equal to a value of it
   holds_same : (s x : ℕ) (holds : Option ℕ) (k : Known) → (slot_at here.slots s).holds ≡ holds → known_at here.values x ≡ k → holds_known holds k ≡ true → slot_value slots s ≡ names x
   holds_same s x (Some d) (Cell c l st) iss is e =
       let m = subst (λ k. Means heap p guarded log cells (length here.classes) registers k (names x)) is (h.values x) in

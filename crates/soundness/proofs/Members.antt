@@ -584,7 +584,7 @@ all_listed_held : (table : SlotTable) (lines : List Line) (facts : FactSet) → 
 all_listed_held table [] facts none = none
 all_listed_held table (line ∷ lines) facts none = all_listed_held table lines (list_line table line facts) (listed_held table line facts none)
 
--- nor where two values are said to be test_true
+-- nor where two values are said to be equal
 joined_held : (first second : Known) (facts : FactSet) → NoneHeld facts → NoneHeld (join_values first second facts)
 joined_held (Cell c l s) (Cell d k t) facts none =
     let a = class_at facts.classes c in
@@ -601,7 +601,7 @@ joined_held Null second facts none = none
 joined_held (Address b w) second facts none = none
 joined_held (GlobalAddress g) second facts none = none
 
--- nor behind what a line says of test_true values
+-- nor after what a line says of equal values
 tied_held : (line : Line) (facts : FactSet) → NoneHeld facts → NoneHeld (tie_line line facts)
 tied_held (line.Value v (fact.Number bits below)) facts none = none
 tied_held (line.Value v (fact.Reference layout nonnull age None)) facts none = none

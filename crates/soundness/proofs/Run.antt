@@ -86,7 +86,7 @@ into_called : (called : Option ℕ) (n : ℕ) → mc.onward_of_call called ≡ m
 into_called None n e = absurd cc
 into_called (Some m) n e = let same : m ≡ n = cc in ap Some same
 
--- no name is and_parts of a defined function and of one of the runtime
+-- no name is both of a defined function and of one of the runtime
 one_sort : (m : Module) (q : Option SymbolSort) (n : ℕ) (called : Runtime) → a.number_of_sort q ≡ Some n → runtime_of_sort m q ≡ Some called → ⊥
 one_sort m None n called e r = absurd cc
 one_sort m (Some symbol.Unknown) n called e r = absurd cc

@@ -1,4 +1,4 @@
--- Behind the mark of its next root a thread has marked one more.
+-- After the mark of its next root a thread has marked one more.
 use Rattle.moves.specs.Marked.{answering-mark}
 use Rattle.moves.proofs.moving.behind_mark.Goals as goal
 
