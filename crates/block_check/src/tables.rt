@@ -24,10 +24,10 @@ impl Tables {
     pub fn of(alloc: Global, module: &Module, function: &Function) -> Result<Tables, AllocError>
         ensures { IfOk result (IsOf «module».now function.now) }
     {
+        let operands = operands_of(alloc, function)?;
+        let predecessors = Predecessors::of(alloc, function)?;
         let slots = Slots::of(alloc, module, function)?;
         let blank = Facts::new(alloc, function.locals.count(), slots.count())?;
-        let predecessors = Predecessors::of(alloc, function)?;
-        let operands = operands_of(alloc, function)?;
         Ok(Tables {
             slots,
             blank,

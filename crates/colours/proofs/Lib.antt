@@ -1,9 +1,2 @@
 pub mod Barriers
 pub mod Tries
-mod FirstTurns
-mod FourFullCycle
-mod StoreInTheMiddle
-mod ThirdClaimReuses
-mod ThreeTouchesBlue
-mod ThreeTouchesReborn
-mod StopsInsideAStore

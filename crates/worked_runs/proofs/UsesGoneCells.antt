@@ -12,7 +12,7 @@ use Rattle.runs.specs.Moves.{ReadsWord, ReadsOldValue, StoresBehindBarrier, Clai
 use Rattle.runs.specs.ModuleRuns.{Happening, OfThread, OfCollector, heap_of, birth_in, IsModuleRun}
 use Rattle.runs.specs.Broken as broken
 use Rattle.runs.specs.Broken.{IsRoot, Reached, IsReachable, IsGone, IsBroken, Cause, Wrong, TouchBlue, TouchBirth, ReachBlue, ReachBirth, Shows, GoesBefore, IsCause}
-use Rattle.runs.proofs.Scripts.{Script, first, forgetful}
+use Rattle.worked_runs.proofs.Scripts.{Script, first, forgetful}
 use Rattle.runs.specs.Causes.{shows_broken}
 
 abbrev heap : Setup

@@ -10,7 +10,7 @@ use Rattle.colours.specs.Runs.{turns_of, word_after, births_after}
 use Rattle.runs.specs.Machine.{Reference, Alloc}
 use Rattle.runs.specs.Moves.{Claims, StoresStage, ReadsPostedFirst, EntersStage, ReadsPostedAgain, state_after}
 use Rattle.runs.specs.ModuleRuns.{Happening, OfThread, OfCollector, share_of, heap_of, IsModuleRun}
-use Rattle.runs.proofs.Scripts.{Script, scripts}
+use Rattle.worked_runs.proofs.Scripts.{Script, scripts}
 
 abbrev heap : Setup
 heap = record { threads = 1; late = true ∷ []; layouts = (kind.Integer 64 ∷ []) ∷ []; pools = 1 ∷ []; globals = []; values = [] }

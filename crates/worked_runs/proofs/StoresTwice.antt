@@ -10,7 +10,7 @@ use Rattle.colours.specs.Runs.{turns_of, word_after, births_after}
 use Rattle.runs.specs.Machine.{Reference, Alloc, Write, Safepoint}
 use Rattle.runs.specs.Moves.{Works, ReadsOldValue, Marks, StoresBehindBarrier, Claims, ReadsPosted, StoresStage, null}
 use Rattle.runs.specs.ModuleRuns.{Happening, OfThread, OfCollector, heap_of, IsModuleRun}
-use Rattle.runs.proofs.Scripts.{Script, first, scripts}
+use Rattle.worked_runs.proofs.Scripts.{Script, first, scripts}
 
 abbrev heap : Setup
 heap = record { threads = 1; late = []; layouts = (kind.Integer 64 ∷ kind.Reference 0 ∷ []) ∷ []; pools = 1 ∷ []; globals = kind.Reference 0 ∷ []; values = 0 ∷ [] }

@@ -1,0 +1,12 @@
+mod FirstTurns
+mod FourFullCycle
+mod StopsInsideAStore
+mod StoreInTheMiddle
+mod ThirdClaimReuses
+mod ThreeTouchesBlue
+mod ThreeTouchesReborn
+mod Scripts
+mod StoresTwice
+mod ArrivesLate
+mod UsesGoneCells
+mod TameScripts
