@@ -84,7 +84,7 @@ def page():
         lines.append(f"| `{name}` | {described(name)} | {within} | {count:,} | {made} ({of_code}) |")
     lines.append(f"| {len(own)} crates | | | {total:,} | {all_edits} ({all_of_code}) |")
     kit = sorted({use for _, _, uses in own for use in uses if use not in names})
-    foot = "\n\nCrates of the kit that are used besides its standard library: " + ", ".join(f"`{name}`" for name in kit) + ".\n"
+    foot = "\n\nCrates of the kit, other than its standard library, that are used: " + ", ".join(f"`{name}`" for name in kit) + ".\n"
     return HEAD + "\n".join(lines) + foot
 
 
