@@ -5,10 +5,10 @@
 
 Draws N modules of sixty functions each: integers of many widths, branches, loops with phis that exchange values,
 switches, calls, slots, nested structs and arrays with counted indices, references in cells and globals, with the
-barriers and without. Each function is run by `dgc replay`, one thread behind another and without the collector, and
+barriers and without. Each function is run by `dgc replay`, one thread after another and without the collector, and
 by LLVM: `clang -O0` builds the same text with a runtime whose cells are never freed (from -O1 on LLVM 14 may fail
 where it lowers gcroot). Half of what is computed and loaded is mixed into what a function returns. The meaning of an
-instruction is a definition (the specs of machine_values, machine_asks and machine), so nothing proves it to be
+instruction is a definition (crates/machine/specs), so nothing proves it to be
 LLVM's; this looks for a difference, and prints the first one. FOLDER keeps the files. For use by hand.
 """
 import argparse
@@ -237,7 +237,7 @@ class Function:
         self.put("call void @dg_safepoint()")
 
     def inside(self, label, depth):
-        """Writes a part of the code behind a label; answers what could be drawn before it."""
+        """Writes a part of the code after a label; returns what could be drawn before it."""
         kept = list(self.values)
         self.begin(label)
         self.body(depth - 1)

@@ -5,7 +5,7 @@
 
 Takes modules with certificates that are accepted (those of generate.py and of examples/swap), takes out, doubles,
 exchanges or replaces one or two tokens of the module, and hands it to `dgc check` and to `llvm-as`. Prints what
-changed in each text that dgc accepts and LLVM refuses, how often the two agree, and what dgc answers to texts that
+changed in each text that dgc accepts and LLVM refuses, how often the two agree, and what dgc says of texts that
 LLVM alone takes, with counts. Three kinds of the first are meant: what docs/TEXT.md reads without effect, a runtime
 function that is declared with other types and never called, and a phi with one entry for a block from which a switch
 leads to it twice. For use by hand.
@@ -36,7 +36,7 @@ def sources(folder):
 
 
 def kind(token):
-    """Which tokens may often stand in a token's place."""
+    """Which tokens are often allowed in a token's place."""
     return "0" if token[-1].isdigit() and token[0] in "-0123456789" else "a" if token[0].isalpha() else token[0]
 
 

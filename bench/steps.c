@@ -3,7 +3,7 @@
        steps TRACE
 
    The program is the one that replays.py writes: each thread claims a cell, keeps it in its root slot, stores it in the
-   global behind the barrier, comes to a safepoint, and does so again. The cells are of two words, an integer and a
+   global with the barrier, comes to a safepoint, and does so again. The cells are of two words, an integer and a
    reference. Prints what `dgc replay` prints of the same trace. The collector and the barrier are those of
    docs/COLLECTOR.md; cells are tried from the lowest number up. */
 #include <stdint.h>
@@ -58,14 +58,14 @@ static void claim(struct thread *t) {
     t->place = CAST;
 }
 
-static enum place behind_old(const struct thread *t) { return t->stage % 3 != 0 && t->got != 0 ? MARK_NEW : STORE; }
+static enum place after_old(const struct thread *t) { return t->stage % 3 != 0 && t->got != 0 ? MARK_NEW : STORE; }
 
 static void step_of_thread(struct thread *t) {
     switch (t->place) {
     case CLAIM: claim(t); break;
     case KEEP: t->slot = t->got; t->place = READ_OLD; break;
-    case READ_OLD: t->old = (uint32_t)global_word; t->place = t->old != 0 ? MARK_OLD : behind_old(t); break;
-    case MARK_OLD: mark(t->old, cycle_of(t->stage)); t->place = behind_old(t); break;
+    case READ_OLD: t->old = (uint32_t)global_word; t->place = t->old != 0 ? MARK_OLD : after_old(t); break;
+    case MARK_OLD: mark(t->old, cycle_of(t->stage)); t->place = after_old(t); break;
     case MARK_NEW: mark(t->got, cycle_of(t->stage)); t->place = STORE; break;
     case STORE: global_word = t->got; t->place = READ_POSTED; break;
     case READ_POSTED:
@@ -85,7 +85,7 @@ static void post(uint64_t stage, enum turn next) {
     turn = threads == 0 ? next + 1 : next;
 }
 
-/* Reads a thread's stage; behind the last one that has answered comes the turn after waiting. */
+/* Reads a thread's stage; after the last one that has answered comes the turn after waiting. */
 static void wait_for_threads(void) {
     if (thread[asked].stage == posted && ++asked == threads) turn++;
 }
