@@ -44,7 +44,9 @@ use Rattle.soundness.proofs.KindLemmas.{pointer_same}
 use Rattle.soundness.specs.Goes.{Goes, HaveMembers}
 use Rattle.soundness.proofs.Callees.{two_parameters, three_parameters, read_types, read_declared, write_types, write_declared}
 use Rattle.soundness.proofs.WordReads.{read_goes}
-use Rattle.soundness.proofs.Steps.{all_hold, no_pointer, none_of, usable}
+use Rattle.soundness.proofs.Steps.{no_pointer, none_of, usable}
+use Rattle.soundness.proofs.Kept.{kept}
+use Rattle.block_rules.specs.declared.rule.Rule.TheVariants.{K1, K2, K3, K4, K10, K19}
 use Rattle.soundness.proofs.WordStores.{IsStored, write_goes}
 use Rattle.soundness.proofs.Touches.{IsPlace}
 
@@ -105,17 +107,17 @@ module _ (heap : Setup) (p : LaidOut) (certs : List Section) (reaches : Bool) (f
   read_pair : (object place : Argument) → is_declared_as p.of_module d runtime.GcRead ≡ true → first_failing (read_conditions p f table here facts returned object place) ≡ None
       → Goes heap p table frame.slots reaches guarded log (after_read_call p result (object ∷ place ∷ []) facts) (asked (object ∷ place ∷ []) runtime.GcRead) (behind (object ∷ place ∷ []) runtime.GcRead)
   read_pair object place declared e =
-      let all = all_hold (read_conditions p f table here facts returned object place) e in
-      let k1 = and_parts (o.is_available table facts object.operand) (o.is_available table facts place.operand) all.0 in
-      let k2 = and_parts (o.is_value p.of_module f facts object.written object.operand && o.is_typed p.of_module f place.written place.operand && may_read p table facts place.operand) (is_written_as p.of_module returned (object ∷ place ∷ []) runtime.GcRead) all.1.0 in
+      let all = kept (read_conditions p f table here facts returned object place) e in
+      let k1 = and_parts (o.is_available table facts object.operand) (o.is_available table facts place.operand) (all K1) in
+      let k2 = and_parts (o.is_value p.of_module f facts object.written object.operand && o.is_typed p.of_module f place.written place.operand && may_read p table facts place.operand) (is_written_as p.of_module returned (object ∷ place ∷ []) runtime.GcRead) (all K2) in
       let m = and_parts (o.is_value p.of_module f facts object.written object.operand && o.is_typed p.of_module f place.written place.operand) (may_read p table facts place.operand) k2.0 in
       let t = and_parts (o.is_value p.of_module f facts object.written object.operand) (o.is_typed p.of_module f place.written place.operand) m.0 in
-      let k3 = and_parts (o.is_current facts (o.known_of facts object.operand)) (o.is_current facts (o.known_of facts place.operand)) all.1.1.0 in
-      let k10 = and_parts (o.is_no_slot table object.operand) (o.is_no_slot table place.operand) all.1.1.1.1.1.0 in
+      let k3 = and_parts (o.is_current facts (o.known_of facts object.operand)) (o.is_current facts (o.known_of facts place.operand)) (all K3) in
+      let k10 = and_parts (o.is_no_slot table object.operand) (o.is_no_slot table place.operand) (all K10) in
       let w = and_parts (is_runtime_type p.of_module returned types.Pointer) (is_runtime_type p.of_module object.written types.Pointer && (is_runtime_type p.of_module place.written types.PointerToPointer && true)) k2.1 in
       let w2 = and_parts (is_runtime_type p.of_module object.written types.Pointer) (is_runtime_type p.of_module place.written types.PointerToPointer && true) w.1 in
       let w3 = and_parts (is_runtime_type p.of_module place.written types.PointerToPointer) true w2.1 in
-      let s = access_place p f table facts place.written place.operand k1.1 t.1 k3.1 all.1.1.1.0 k10.1 all.1.1.1.1.1.1.1.0 w3.0 in
+      let s = access_place p f table facts place.written place.operand k1.1 t.1 k3.1 (all K4) k10.1 (all K19) w3.0 in
       read_by object place (read_declared p.of_module d declared) (read_types p.of_module returned object.written place.written w.0 w2.0 w3.0)
       (usable heap p certs reaches f table guarded log cells facts frame h object.written object.operand k1.0 t.0 (none_of (o.slot_named table object.operand) k10.0))
       (any_reference (kind_of p.of_module returned) w.0) s (reads s.no_slot m.1) where
@@ -146,17 +148,17 @@ module _ (heap : Setup) (p : LaidOut) (certs : List Section) (reaches : Bool) (f
   write_triple : (stored object place : Argument) → is_declared_as p.of_module d runtime.GcWrite ≡ true → first_failing (write_conditions p f table here facts returned stored object place) ≡ None
       → Goes heap p table frame.slots reaches guarded log (after_write (stored ∷ object ∷ place ∷ []) facts) (asked (stored ∷ object ∷ place ∷ []) runtime.GcWrite) (behind (stored ∷ object ∷ place ∷ []) runtime.GcWrite)
   write_triple stored object place declared e =
-      let all = all_hold (write_conditions p f table here facts returned stored object place) e in
-      let k1 = and_parts (o.is_available table facts stored.operand && o.is_available table facts object.operand) (o.is_available table facts place.operand) all.0 in
+      let all = kept (write_conditions p f table here facts returned stored object place) e in
+      let k1 = and_parts (o.is_available table facts stored.operand && o.is_available table facts object.operand) (o.is_available table facts place.operand) (all K1) in
       let k1s = and_parts (o.is_available table facts stored.operand) (o.is_available table facts object.operand) k1.0 in
       let k2 = and_parts (o.is_value p.of_module f facts stored.written stored.operand && o.is_value p.of_module f facts object.written object.operand && o.is_typed p.of_module f place.written place.operand && may_write p table facts stored.operand place.operand)
-      (is_written_as p.of_module returned (stored ∷ object ∷ place ∷ []) runtime.GcWrite) all.1.0 in
+      (is_written_as p.of_module returned (stored ∷ object ∷ place ∷ []) runtime.GcWrite) (all K2) in
       let m = and_parts (o.is_value p.of_module f facts stored.written stored.operand && o.is_value p.of_module f facts object.written object.operand && o.is_typed p.of_module f place.written place.operand) (may_write p table facts stored.operand place.operand) k2.0 in
       let t = and_parts (o.is_value p.of_module f facts stored.written stored.operand && o.is_value p.of_module f facts object.written object.operand) (o.is_typed p.of_module f place.written place.operand) m.0 in
       let v = and_parts (o.is_value p.of_module f facts stored.written stored.operand) (o.is_value p.of_module f facts object.written object.operand) t.0 in
-      let k3 = and_parts (o.is_current facts (o.known_of facts stored.operand) && o.is_current facts (o.known_of facts object.operand)) (o.is_current facts (o.known_of facts place.operand)) all.1.1.0 in
+      let k3 = and_parts (o.is_current facts (o.known_of facts stored.operand) && o.is_current facts (o.known_of facts object.operand)) (o.is_current facts (o.known_of facts place.operand)) (all K3) in
       let k3s = and_parts (o.is_current facts (o.known_of facts stored.operand)) (o.is_current facts (o.known_of facts object.operand)) k3.0 in
-      let k10 = and_parts (o.is_no_slot table stored.operand && o.is_no_slot table object.operand) (o.is_no_slot table place.operand) all.1.1.1.1.1.0 in
+      let k10 = and_parts (o.is_no_slot table stored.operand && o.is_no_slot table object.operand) (o.is_no_slot table place.operand) (all K10) in
       let k10s = and_parts (o.is_no_slot table stored.operand) (o.is_no_slot table object.operand) k10.0 in
       let w = and_parts (is_runtime_type p.of_module returned types.Void)
       (is_runtime_type p.of_module stored.written types.Pointer && (is_runtime_type p.of_module object.written types.Pointer && (is_runtime_type p.of_module place.written types.PointerToPointer && true))) k2.1 in
@@ -164,7 +166,7 @@ module _ (heap : Setup) (p : LaidOut) (certs : List Section) (reaches : Bool) (f
       let w2 = and_parts (is_runtime_type p.of_module object.written types.Pointer) (is_runtime_type p.of_module place.written types.PointerToPointer && true) w1.1 in
       let w3 = and_parts (is_runtime_type p.of_module place.written types.PointerToPointer) true w2.1 in
       let none = none_of (o.slot_named table stored.operand) k10s.0 in
-      let s = access_place p f table facts place.written place.operand k1.1 t.1 k3.1 all.1.1.1.0 k10.1 all.1.1.1.1.1.1.1.0 w3.0 in
+      let s = access_place p f table facts place.written place.operand k1.1 t.1 k3.1 (all K4) k10.1 (all K19) w3.0 in
       write_by stored object place (write_declared p.of_module d declared) (write_types p.of_module returned stored.written object.written place.written w.0 w1.0 w2.0 w3.0)
       (usable heap p certs reaches f table guarded log cells facts frame h stored.written stored.operand k1s.0 v.0 none)
       (usable heap p certs reaches f table guarded log cells facts frame h object.written object.operand k1s.1 v.1 (none_of (o.slot_named table object.operand) k10s.1))

@@ -30,7 +30,8 @@ use Rattle.soundness.specs.Goes.{Goes, HaveMembers}
 use Rattle.soundness.proofs.Accesses.{gcread_goes, gcwrite_goes}
 use Rattle.soundness.proofs.Callees.{IsCallee, callee_is, defined_is}
 use Rattle.soundness.proofs.StepCalls.{alloc_goes, root_goes, safepoint_goes}
-use Rattle.soundness.proofs.Steps.{all_hold}
+use Rattle.soundness.proofs.Kept.{kept}
+use Rattle.block_rules.specs.declared.rule.Rule.TheVariants.{K18}
 
 module _ (heap : Setup) (p : LaidOut) (certs : List Section) (reaches : Bool) (f : Function) (table : SlotTable) (guarded : Guarded) (log : Log) (guards : (cell : ℕ) → guarded cell → IsFresh log cell) (fits : IsHeapFor heap p) (here : Standing) (marked : is_may here.mark ≡ true → reaches ≡ true) (cells : Cells) (facts : FactSet)
     (frame : Frame) (h : Holds heap p table guarded log cells facts frame.registers frame.slots) (members : HaveMembers facts) (result : Option ℕ) (returned : ℕ) where
@@ -45,8 +46,8 @@ module _ (heap : Setup) (p : LaidOut) (certs : List Section) (reaches : Bool) (f
   -- no other call is allowed
   never : (arguments : List Argument) → first_failing (unknown_conditions p.of_module f table here facts arguments) ≡ None → ⊥
   never arguments e =
-      let all = all_hold (unknown_conditions p.of_module f table here facts arguments) e in
-      let k18 = all.1.1.1.1.1.0 in
+      let all = kept (unknown_conditions p.of_module f table here facts arguments) e in
+      let k18 = all K18 in
       cc
 
   -- by the declaration

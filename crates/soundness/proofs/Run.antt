@@ -61,7 +61,9 @@ use Rattle.soundness.specs.Goes.{HaveMembers, HasRoots}
 use Rattle.soundness.proofs.Callees.{IsDefined, callee_is, defined_is}
 use Rattle.soundness.proofs.Members.{members_stay, line_members, parameter_members, arguments_members, mark_members, result_members}
 use Rattle.soundness.proofs.Rows.{instructions_go}
-use Rattle.soundness.proofs.Steps.{AllHold, all_hold, none_of, usable}
+use Rattle.soundness.proofs.Steps.{none_of, usable}
+use Rattle.soundness.proofs.Kept.{Kept, kept}
+use Rattle.block_rules.specs.declared.rule.Rule.TheVariants.{K1, K2, K3, K10, K13, K14, K17, K18}
 use Rattle.soundness.specs.Discipline.{AreCertified, CertifiedIsNeverWrong}
 use Rattle.soundness.proofs.Calls.{Waits, waits, waiting_fresh, Waiting, AllPass, all_pass, machine_pass, arguments_given}
 use Rattle.soundness.proofs.Phis.{Kept, kept, phis_stand}
@@ -387,18 +389,18 @@ module _ (heap : Setup) (program : LaidOut) (heap_is : IsHeapFor heap program) (
     returns : (op : Op) → mc.onward_of program.of_module op ≡ mc.Back → first_failing (op_conditions program certs f table here facts instr.result op) ≡ None
         → (a.op_action program f table frame.block frame.registers op ≡ End) × IsGiven heap (GuardedBy x.saves) log (given_by (kind_of program.of_module f.returned)) (promised_in (slice_get certs frame.function)) (mc.result_of program.of_module frame.registers op)
     returns ReturnVoid back allowed =
-        let all = all_hold (op_conditions program certs f table here facts instr.result ReturnVoid) allowed in (
-          rw (sym (void_same program.of_module f.returned) ∙ all.0) refl,
-          subst (λ g. IsGiven heap (GuardedBy x.saves) log g (promised_in (slice_get certs frame.function)) value.Unset) (sym (void_given (kind_of program.of_module f.returned) all.0)) tt,
+        let all = kept (op_conditions program certs f table here facts instr.result ReturnVoid) allowed in (
+          rw (sym (void_same program.of_module f.returned) ∙ (all K2)) refl,
+          subst (λ g. IsGiven heap (GuardedBy x.saves) log g (promised_in (slice_get certs frame.function)) value.Unset) (sym (void_given (kind_of program.of_module f.returned) (all K2))) tt,
         )
     returns (Return argument) back allowed =
-        let all = all_hold (op_conditions program certs f table here facts instr.result (Return argument)) allowed in
-        let b = and_parts (o.is_value program.of_module f facts argument.written argument.operand) (argument.written == f.returned) all.1.0 in
-        let none = none_of (o.slot_named table argument.operand) all.1.1.1.0 in
-        let passes : Passes heap program certs f table (GuardedBy x.saves) log x.now.cells facts frame x.standing.holds argument.written argument.operand = record { there = all.0; typed = b.0; current = all.1.1.0; no_slot = none } in (
-          rw (b.1, usable heap program certs false f table (GuardedBy x.saves) log x.now.cells facts frame x.standing.holds argument.written argument.operand all.0 b.0 none) refl,
+        let all = kept (op_conditions program certs f table here facts instr.result (Return argument)) allowed in
+        let b = and_parts (o.is_value program.of_module f facts argument.written argument.operand) (argument.written == f.returned) (all K2) in
+        let none = none_of (o.slot_named table argument.operand) (all K10) in
+        let passes : Passes heap program certs f table (GuardedBy x.saves) log x.now.cells facts frame x.standing.holds argument.written argument.operand = record { there = (all K1); typed = b.0; current = (all K3); no_slot = none } in (
+          rw (b.1, usable heap program certs false f table (GuardedBy x.saves) log x.now.cells facts frame x.standing.holds argument.written argument.operand (all K1) b.0 none) refl,
           subst (λ t. IsGiven heap (GuardedBy x.saves) log (given_by (kind_of program.of_module t)) (promised_in (slice_get certs frame.function)) (mc.result_of program.of_module frame.registers (Return argument))) (test_true argument.written f.returned b.1)
-              (value_given heap program certs f table (GuardedBy x.saves) log x.now.cells facts frame x.standing.holds argument.written (GuardedBy x.saves) argument.operand (promised_in (slice_get certs frame.function)) (λ c l at own. own) passes all.1.1.1.1.1.0),
+              (value_given heap program certs f table (GuardedBy x.saves) log x.now.cells facts frame x.standing.holds argument.written (GuardedBy x.saves) argument.operand (promised_in (slice_get certs frame.function)) (λ c l at own. own) passes (all K14)),
         )
     returns (Call returned callee arguments) back allowed = absurd (no_return (a.number_called program.of_module callee) back)
     returns _ back allowed = absurd cc
@@ -415,7 +417,7 @@ module _ (heap : Setup) (program : LaidOut) (heap_is : IsHeapFor heap program) (
         → first_failing (op_conditions program certs f table here facts instr.result (Call returned callee arguments)) ≡ None → callee_of program.of_module callee (length arguments) ≡ OfModule n
     is_called returned callee arguments n into allowed = by (callee_of program.of_module callee (length arguments)) refl allowed where
       by : (called : Callee) → callee_of program.of_module callee (length arguments) ≡ called → first_failing (call_conditions program certs f table here facts returned arguments called) ≡ None → callee_of program.of_module callee (length arguments) ≡ OfModule n
-      by NoFunction e allowed = let k18 = (all_hold (unknown_conditions program.of_module f table here facts arguments) allowed).1.1.1.1.1.0 in absurd cc
+      by NoFunction e allowed = let k18 = kept (unknown_conditions program.of_module f table here facts arguments) allowed K18 in absurd cc
       by (OfRuntime called) e allowed =
           absurd (one_sort program.of_module (slice_get program.of_module.sorts callee) n called (into_called (a.number_called program.of_module callee) n into) (callee_is program.of_module callee (length arguments) called e).1)
       by (OfModule number) e allowed =
@@ -436,19 +438,19 @@ module _ (heap : Setup) (program : LaidOut) (heap_is : IsHeapFor heap program) (
       abbrev section : Option Section
       section = slice_get certs n
 
-      all : AllHold (defined_conditions program.of_module f table here facts returned arguments (Some q) section)
-      all = all_hold (defined_conditions program.of_module f table here facts returned arguments (Some q) section)
+      all : Kept (defined_conditions program.of_module f table here facts returned arguments (Some q) section)
+      all = kept (defined_conditions program.of_module f table here facts returned arguments (Some q) section)
           (subst (λ g. first_failing (defined_conditions program.of_module f table here facts returned arguments g section) ≡ None) d.there
           (subst (λ c. first_failing (call_conditions program certs f table here facts returned arguments c) ≡ None) e allowed))
 
       k2 : (all_values program.of_module f facts arguments ≡ true) × (is_written_with returned arguments (Some q) ≡ true)
-      k2 = and_parts (all_values program.of_module f facts arguments) (is_written_with returned arguments (Some q)) all.1.0
+      k2 = and_parts (all_values program.of_module f facts arguments) (is_written_with returned arguments (Some q)) (all K2)
 
       types : ((returned == q.returned) ≡ true) × (list_all is_written_for (zip arguments q.parameters) ≡ true)
       types = and_parts (returned == q.returned) (list_all is_written_for (zip arguments q.parameters)) k2.1
 
       pass : AllPass heap program certs f table (GuardedBy x.saves) log x.now.cells facts frame x.standing.holds x.standing.members arguments
-      pass = all_pass heap program certs f table (GuardedBy x.saves) log x.now.cells facts frame x.standing.holds x.standing.members arguments all.0 k2.0 all.1.1.0 all.1.1.1.0
+      pass = all_pass heap program certs f table (GuardedBy x.saves) log x.now.cells facts frame x.standing.holds x.standing.members arguments (all K1) k2.0 (all K3) (all K10)
 
       count : length arguments ≡ length q.parameters
       count = test_true (length arguments) (length q.parameters) d.arity
@@ -466,7 +468,7 @@ module _ (heap : Setup) (program : LaidOut) (heap_is : IsHeapFor heap program) (
       arguments_are : AllGiven heap program (GuardedBy (w ∷ x.saves)) log q.parameters (promises_in section) (mc.values_of program.of_module frame.registers arguments)
       arguments_are = all_fewer heap program log (Waiting heap program certs f table (GuardedBy x.saves) log x.now.cells facts frame x.standing.holds x.standing.members arguments) (GuardedBy (w ∷ x.saves))
           (λ cell g. elim g [ inl y ↦ inl (wait.fresh cell y) | inr y ↦ inr y ]) q.parameters (promises_in section) (mc.values_of program.of_module frame.registers arguments)
-          (arguments_given heap program certs f table (GuardedBy x.saves) log x.now.cells facts frame x.standing.holds x.standing.members arguments q.parameters (promises_in section) pass count types.1 all.1.1.1.1.1.0)
+          (arguments_given heap program certs f table (GuardedBy x.saves) log x.now.cells facts frame x.standing.holds x.standing.members arguments q.parameters (promises_in section) pass count types.1 (all K13))
 
       -- after the call its facts are those with the result
       behind_is : after program certs table facts instr ≡ receive_result program.of_module instr.result q.returned (promised_in section) w.facts
@@ -479,7 +481,7 @@ module _ (heap : Setup) (program : LaidOut) (heap_is : IsHeapFor heap program) (
         standing = next_place (GuardedBy x.saves) log frame w (receive_result program.of_module instr.result q.returned (promised_in section) w.facts)
             (record { function = refl; into = refl; block = refl; place = refl; size = refl; rooted = λ r. r }) wait.holds
             (mark_members (callee_mark section) (drop_arguments arguments facts) (arguments_members arguments facts x.standing.members)) behind_is;
-        marks = λ z. agrees here.mark (callee_mark section) all.1.1.1.1.1.1.0 (own_called section z);
+        marks = λ z. agrees here.mark (callee_mark section) (all K17) (own_called section z);
         still = λ z. wait.still (own_called section z);
         named = wait.named;
       }

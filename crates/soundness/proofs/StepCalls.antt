@@ -50,7 +50,9 @@ use Rattle.soundness.proofs.SlotsKeep.{slot_keeps}
 use Rattle.soundness.proofs.Stale.{own_later, root_own, stale_cells, stale_keeps}
 use Rattle.soundness.specs.Goes.{HaveClasses, HasRoots, Goes}
 use Rattle.soundness.proofs.Callees.{one_parameter, two_parameters, alloc_types, alloc_declared, root_types, root_declared}
-use Rattle.soundness.proofs.Steps.{goes_local, all_hold, usable, null_fits, fresh_apart}
+use Rattle.soundness.proofs.Steps.{goes_local, usable, null_fits, fresh_apart}
+use Rattle.soundness.proofs.Kept.{kept}
+use Rattle.block_rules.specs.declared.rule.Rule.TheVariants.{K2, K9, K17}
 use Rattle.soundness.proofs.Moves.{place_is}
 
 -- ---- a cell that is not held is apart from each value of the frame
@@ -200,9 +202,9 @@ module _ (heap : Setup) (p : LaidOut) (certs : List Section) (reaches : Bool) (f
         one : (argument : Argument) → first_failing (alloc_conditions p.of_module f table here facts returned (argument ∷ [])) ≡ None
             → Goes heap p table frame.slots reaches guarded log (after_alloc_call result (argument ∷ []) facts) (call_action (argument ∷ []) (Some d) defined (Some runtime.Alloc)) (behind_call (argument ∷ []) (Some runtime.Alloc))
         one argument e =
-            let all = all_hold (alloc_conditions p.of_module f table here facts returned (argument ∷ [])) e in
-            let k2 = all.1 in
-            let a = and_parts (all_values p.of_module f facts (argument ∷ []) && is_written_as p.of_module returned (argument ∷ []) runtime.Alloc) (number_layouts p.of_module (argument ∷ [])) k2.0 in
+            let all = kept (alloc_conditions p.of_module f table here facts returned (argument ∷ [])) e in
+            let k2 = all K2 in
+            let a = and_parts (all_values p.of_module f facts (argument ∷ []) && is_written_as p.of_module returned (argument ∷ []) runtime.Alloc) (number_layouts p.of_module (argument ∷ [])) k2 in
             let b = and_parts (all_values p.of_module f facts (argument ∷ [])) (is_written_as p.of_module returned (argument ∷ []) runtime.Alloc) a.0 in
             let c = and_parts (is_runtime_type p.of_module returned types.Pointer) (is_runtime_type p.of_module argument.written types.Number && true) b.1 in
             let g = and_parts (is_runtime_type p.of_module argument.written types.Number) true c.1 in
@@ -284,16 +286,16 @@ module _ (heap : Setup) (p : LaidOut) (certs : List Section) (reaches : Bool) (f
         two : (place metadata : Argument) → first_failing (root_conditions p.of_module f table here facts returned (place ∷ metadata ∷ [])) ≡ None
             → Goes heap p table frame.slots reaches guarded log (after_root_call table (place ∷ metadata ∷ []) facts) (call_action (place ∷ metadata ∷ []) (Some d) defined (Some runtime.GcRoot)) (behind_call (place ∷ metadata ∷ []) (Some runtime.GcRoot))
         two place metadata e =
-            let all = all_hold (root_conditions p.of_module f table here facts returned (place ∷ metadata ∷ [])) e in
-            let k2 = all.1 in
-            let k9 = all.1.1.1 in
-            let a = and_parts (all_values p.of_module f facts (place ∷ metadata ∷ [])) (is_written_as p.of_module returned (place ∷ metadata ∷ []) runtime.GcRoot) k2.0 in
+            let all = kept (root_conditions p.of_module f table here facts returned (place ∷ metadata ∷ [])) e in
+            let k2 = all K2 in
+            let k9 = all K9 in
+            let a = and_parts (all_values p.of_module f facts (place ∷ metadata ∷ [])) (is_written_as p.of_module returned (place ∷ metadata ∷ []) runtime.GcRoot) k2 in
             let t = and_parts (o.is_value p.of_module f facts place.written place.operand) (o.is_value p.of_module f facts metadata.written metadata.operand && true) a.0 in
             let t2 = and_parts (o.is_value p.of_module f facts metadata.written metadata.operand) true t.1 in
             let w = and_parts (is_runtime_type p.of_module returned types.Void) (is_runtime_type p.of_module place.written types.PointerToPointer && (is_runtime_type p.of_module metadata.written types.Pointer && true)) a.1 in
             let w2 = and_parts (is_runtime_type p.of_module place.written types.PointerToPointer) (is_runtime_type p.of_module metadata.written types.Pointer && true) w.1 in
             let w3 = and_parts (is_runtime_type p.of_module metadata.written types.Pointer) true w2.1 in
-            let q = and_parts (here.in_head && o.is_null metadata.operand) (is_unrooted p.of_module table facts (o.slot_named table place.operand)) k9.0 in
+            let q = and_parts (here.in_head && o.is_null metadata.operand) (is_unrooted p.of_module table facts (o.slot_named table place.operand)) k9 in
             let q2 = and_parts here.in_head (o.is_null metadata.operand) q.0 in
             slot place metadata (o.slot_named table place.operand) refl q.1 (root_types p.of_module returned place.written metadata.written w.0 w2.0 w3.0) t.0 t2.0 q2.1
 
@@ -327,12 +329,12 @@ module _ (heap : Setup) (p : LaidOut) (certs : List Section) (reaches : Bool) (f
   pub safepoint_goes : (defined : Option Function) (d : Declare) (arguments : List Argument) → is_declared_as p.of_module d runtime.Safepoint ≡ true → (length arguments == 0) ≡ true → first_failing (safepoint_conditions p.of_module here returned arguments) ≡ None
       → Goes heap p table frame.slots reaches guarded log (make_stale facts) (call_action arguments (Some d) defined (Some runtime.Safepoint)) (behind_call arguments (Some runtime.Safepoint))
   safepoint_goes defined d arguments declared arity e =
-      let all = all_hold (safepoint_conditions p.of_module here returned arguments) e in
+      let all = kept (safepoint_conditions p.of_module here returned arguments) e in
       let b = and_parts (is_runtime_type p.of_module d.returned types.Void) _ declared in
       let c = and_parts (length d.parameters == 0) _ b.1 in
-      let w = and_parts (is_runtime_type p.of_module returned types.Void) _ all.0 in
+      let w = and_parts (is_runtime_type p.of_module returned types.Void) _ (all K2) in
       let none = no_parameters d.parameters c.0 in
       let declared_so : a.are_safepoint_types p.of_module d.returned d.parameters ≡ true = rw none (sym (void_same p.of_module d.returned) ∙ b.0) in
       let written_so : a.are_safepoint_types p.of_module returned [] ≡ true = sym (void_same p.of_module returned) ∙ w.0 in
       subst (λ x. Goes heap p table frame.slots reaches guarded log (make_stale facts) (call_action x (Some d) defined (Some runtime.Safepoint)) (λ given. frame)) (sym (no_parameters arguments arity))
-      (subst (λ x. Goes heap p table frame.slots reaches guarded log (make_stale facts) x (λ given. frame)) (sym (rw (declared_so, written_so) refl)) (stage_goes all.1.1.0))
+      (subst (λ x. Goes heap p table frame.slots reaches guarded log (make_stale facts) x (λ given. frame)) (sym (rw (declared_so, written_so) refl)) (stage_goes (all K17)))

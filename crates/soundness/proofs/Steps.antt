@@ -17,13 +17,11 @@ use Rattle.certs.specs.declared.section.Section.{Section}
 use Rattle.facts.specs.declared.known.Known.{Known}
 use Rattle.facts.specs.declared.known.Known.TheVariants.{Nothing, Number, Cell, Null, Address, GlobalAddress}
 use Rattle.facts.specs.Facts.{FactSet, known_at}
-use Rattle.block_rules.specs.declared.rule.Rule.{Rule}
 use Rattle.block_rules.specs.declared.type_kind.TypeKind.{TypeKind}
 use Rattle.block_rules.specs.declared.type_kind.TypeKind.TheVariants.{NoValue, Bits, Reference, AnyReference, Address as AddressKind, Other}
 use Rattle.block_rules.specs.Bounds.{below_next}
 use Rattle.block_rules.specs.Integers.{below_of, below_known}
 use Rattle.block_rules.specs.Operands as o
-use Rattle.block_rules.specs.FirstFailing.{first_failing}
 use Rattle.block_rules.specs.Rules.{after_op, after_alloca}
 use Rattle.block_rules.specs.TypeKinds.{kind_of, is_integer, is_pointer, may_be_reference}
 use Rattle.machine.specs.declared.value.Reference.{Reference as Ref}
@@ -56,19 +54,6 @@ goes_local heap p table slots reaches guarded log next action after e h = subst 
   leads (answer.Number n) roots has q = absurd q
   leads answer.Null roots has q = absurd q
   leads (answer.Cell at) roots has q = absurd q
-
--- each condition of a list
-abbrev pub AllHold : List (Rule × Bool) → Type 0
-AllHold [] = Unit {0}
-AllHold (condition ∷ rest) = (condition.1 ≡ true) × AllHold rest
-
--- where no condition of a list fails, each holds
-pub all_hold : (conditions : List (Rule × Bool)) → first_failing conditions ≡ None → AllHold conditions
-all_hold [] e = tt
-all_hold (condition ∷ rest) e = pick condition.1 refl e (all_hold rest) where
-  pick : (b : Bool) → condition.1 ≡ b → (if b then first_failing rest else Some condition.0) ≡ None → (first_failing rest ≡ None → AllHold rest) → (condition.1 ≡ true) × AllHold rest
-  pick true is e others = (is, others e)
-  pick false is e others = absurd cc
 
 -- of two tests one passes
 pub chosen : (a b c : Bool) → (a || b) ≡ true → (b ≡ true → c ≡ true) → (a || c) ≡ true

@@ -38,7 +38,9 @@ use Rattle.soundness.specs.Meaning.{Cells, Guarded, Holds}
 use Rattle.soundness.proofs.Edges.{edge_holds}
 use Rattle.soundness.proofs.KindLemmas.{bits_same, constant_passes}
 use Rattle.soundness.proofs.Tests.{Decides, test_learned}
-use Rattle.soundness.proofs.Steps.{all_hold, none_of, kind_bits, number_usable}
+use Rattle.soundness.proofs.Steps.{none_of, kind_bits, number_usable}
+use Rattle.soundness.proofs.Kept.{kept}
+use Rattle.block_rules.specs.declared.rule.Rule.TheVariants.{K1, K2}
 
 -- an integer of n bits is an integer
 bits_integer : (n : ℕ) (x : TypeKind) → is_bits n x ≡ true → is_integer x ≡ true
@@ -98,9 +100,9 @@ module _ (heap : Setup) (program : LaidOut) (certs : List Section) (f : Function
   jump_taken : (here : Standing) (result : Option ℕ) (label : ℕ) → first_failing (op_conditions program certs f table here facts result (Jump label)) ≡ None
       → w.unshown_on scene frame.block facts (w.ways (Jump label)) ≡ None → Taken (Jump label)
   jump_taken here result label allowed shown =
-      let all = all_hold (op_conditions program certs f table here facts result (Jump label)) allowed in
+      let all = kept (op_conditions program certs f table here facts result (Jump label)) allowed in
       let s = shown_first (w.open_way label) [] shown in
-      record { label = label; leads = refl; acts = refl; known = facts; holds = h; opened = record { named = all.0; shown = s.0 } }
+      record { label = label; leads = refl; acts = refl; known = facts; holds = h; opened = record { named = (all K2); shown = s.0 } }
 
   -- a condition that the rules allow is one of the machine
   condition_is : (written : ℕ) (x : Operand) → o.is_available table facts x ≡ true → r.is_condition program.of_module f facts written x ≡ true → o.is_no_slot table x ≡ true
@@ -140,11 +142,11 @@ module _ (heap : Setup) (program : LaidOut) (certs : List Section) (f : Function
   branch_taken : (here : Standing) (result : Option ℕ) (written : ℕ) (x : Operand) (taken other : ℕ) → first_failing (op_conditions program certs f table here facts result (Branch written x taken other)) ≡ None
       → w.unshown_on scene frame.block facts (w.branch_ways x taken other) ≡ None → Taken (Branch written x taken other)
   branch_taken here result written x taken other allowed shown =
-      let all = all_hold (op_conditions program certs f table here facts result (Branch written x taken other)) allowed in
-      let b1 = and_parts (r.is_condition program.of_module f facts written x && names_target f taken && names_target f other) (o.is_no_slot table x) all.1.0 in
+      let all = kept (op_conditions program certs f table here facts result (Branch written x taken other)) allowed in
+      let b1 = and_parts (r.is_condition program.of_module f facts written x && names_target f taken && names_target f other) (o.is_no_slot table x) (all K2) in
       let b2 = and_parts (r.is_condition program.of_module f facts written x && names_target f taken) (names_target f other) b1.0 in
       let b3 = and_parts (r.is_condition program.of_module f facts written x) (names_target f taken) b2.0 in
-      by x (condition_is written x all.0 b3.0 b1.1) b3.1 b2.1 shown where
+      by x (condition_is written x (all K1) b3.0 b1.1) b3.1 b2.1 shown where
         undecided : (x : Operand) → a.is_condition program.of_module f table frame.registers written x ≡ true → names_target f taken ≡ true → names_target f other ≡ true
             → w.unshown_on scene frame.block facts (w.open_way taken ∷ w.open_way other ∷ []) ≡ None → Taken (Branch written x taken other)
         undecided x is names_taken names_other shown =
@@ -189,13 +191,13 @@ module _ (heap : Setup) (program : LaidOut) (certs : List Section) (f : Function
   switch_taken : (here : Standing) (result : Option ℕ) (written : ℕ) (x : Operand) (otherwise : ℕ) (cases : List Case) → first_failing (op_conditions program certs f table here facts result (Switch written x otherwise cases)) ≡ None
       → w.unshown_on scene frame.block facts (w.ways (Switch written x otherwise cases)) ≡ None → Taken (Switch written x otherwise cases)
   switch_taken here result written x otherwise cases allowed shown =
-      let all = all_hold (op_conditions program certs f table here facts result (Switch written x otherwise cases)) allowed in
-      let b1 = and_parts (o.is_value program.of_module f facts written x && is_integer (kind_of program.of_module written) && names_target f otherwise && are_cases program.of_module f written cases) (o.is_no_slot table x) all.1.0 in
+      let all = kept (op_conditions program certs f table here facts result (Switch written x otherwise cases)) allowed in
+      let b1 = and_parts (o.is_value program.of_module f facts written x && is_integer (kind_of program.of_module written) && names_target f otherwise && are_cases program.of_module f written cases) (o.is_no_slot table x) (all K2) in
       let b2 = and_parts (o.is_value program.of_module f facts written x && is_integer (kind_of program.of_module written) && names_target f otherwise) (are_cases program.of_module f written cases) b1.0 in
       let b3 = and_parts (o.is_value program.of_module f facts written x && is_integer (kind_of program.of_module written)) (names_target f otherwise) b2.0 in
       let b4 = and_parts (o.is_value program.of_module f facts written x) (is_integer (kind_of program.of_module written)) b3.0 in
       let bits = kind_bits heap program certs false f table guarded log cells facts frame h (kind_of program.of_module written) b4.1 in
-      let usable = number_usable heap program certs false f table guarded log cells facts frame h written bits.0 x bits.1 all.0 b4.0 (none_of (o.slot_named table x) b1.1) in
+      let usable = number_usable heap program certs false f table guarded log cells facts frame h written bits.0 x bits.1 (all K1) b4.0 (none_of (o.slot_named table x) b1.1) in
       let s = shown_first (w.open_way otherwise) (map (λ case. w.open_way case.target) cases) shown in
       record {
         label = j.switch_way program.of_module written (number_in (value_of program.of_module frame.registers written x)) otherwise cases;
