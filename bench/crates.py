@@ -6,12 +6,11 @@
 
 The order, the groups and the crates that each one uses come from crates.txt: a comment line names the group of the crates
 below it. What a crate does is the comment at the head of its src/lib.rt or src/main.rt. Source lines are all lines of the
-.rt files in src/. Edits are the files of must-fail/, and how many of them change src/.
+.rt files in src/. Edits are the files of must-fail/.
 """
 import argparse
 import glob
 import os
-import re
 import sys
 
 TOP = os.path.dirname(os.path.dirname(os.path.abspath(__file__)))
@@ -21,7 +20,7 @@ HEAD = """# Crates
 
 This page is made by `bench/crates.py` from crates.txt, from the comment at the head of each crate, and from its files. Do not edit it: run the script. `bench/crates.py --check` says whether the page is current.
 
-A crate uses only crates above it in the table. docs/THEOREMS.md says what each one promises, and docs/ARCHITECTURE.md how they fit together. An edit is a change that the prover has to refuse: a file of the crate's folder must-fail/. Most edits change code, in src/. The others change definitions, in specs/, on which a proof depends.
+A crate uses only crates above it in the table. docs/THEOREMS.md says what each one promises, and docs/ARCHITECTURE.md how they fit together. An edit is a change that the prover has to refuse: a file of the crate's folder must-fail/. Each changes code.
 
 """
 
@@ -62,27 +61,25 @@ def source_lines(name):
 
 
 def edits(name):
-    """How many edits it has, and how many of them change src/."""
-    paths = glob.glob(os.path.join(TOP, "crates", name, "must-fail", "*.edit"))
-    texts = [open(path, encoding="utf-8").read() for path in paths]
-    return len(texts), sum(bool(re.search(r"^file: src/", text, re.M)) for text in texts)
+    """How many edits it has."""
+    return len(glob.glob(os.path.join(TOP, "crates", name, "must-fail", "*.edit")))
 
 
 def page():
     """The text of the page."""
     own = listed()
     names = {name for name, _, _ in own}
-    lines = ["| Crate | Does | Uses | Source lines | Edits (of src/) |", "|---|---|---|---:|---:|"]
-    total, all_edits, all_of_code, last = 0, 0, 0, None
+    lines = ["| Crate | Does | Uses | Source lines | Edits |", "|---|---|---|---:|---:|"]
+    total, all_edits, last = 0, 0, None
     for name, group, uses in own:
         if group != last:
             lines.append(f"| **{group}** | | | | |")
             last = group
-        count, (made, of_code) = source_lines(name), edits(name)
-        total, all_edits, all_of_code = total + count, all_edits + made, all_of_code + of_code
+        count, made = source_lines(name), edits(name)
+        total, all_edits = total + count, all_edits + made
         within = " ".join(f"`{use}`" for use in uses if use in names)
-        lines.append(f"| `{name}` | {described(name)} | {within} | {count:,} | {made} ({of_code}) |")
-    lines.append(f"| {len(own)} crates | | | {total:,} | {all_edits} ({all_of_code}) |")
+        lines.append(f"| `{name}` | {described(name)} | {within} | {count:,} | {made} |")
+    lines.append(f"| {len(own)} crates | | | {total:,} | {all_edits} |")
     kit = sorted({use for _, _, uses in own for use in uses if use not in names})
     foot = "\n\nCrates of the kit, other than its standard library, that are used: " + ", ".join(f"`{name}`" for name in kit) + ".\n"
     return HEAD + "\n".join(lines) + foot
