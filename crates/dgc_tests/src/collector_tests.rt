@@ -19,7 +19,7 @@ impl Words for Everywhere {
     }
 }
 
-/// What the next step's word holds: a colour, or a null global.
+/// The word of the next step: a colour, or a null global.
 fn next_word(ask: Option<Ask>, colours: &[u32; 2]) -> u32 {
     match ask {
         Some(Ask::Load(Place::Colour(cell)) | Ask::FetchMax(Place::Colour(cell), _)) =>

@@ -1,4 +1,4 @@
-//! Commands that no row of files shows: on long texts that are made here, and on outputs that take nothing.
+//! Commands on long texts, which are made here, and on outputs that take nothing.
 use crate::texts::{HEAD, joined};
 use commands::{Line, STATUS_NO, STATUS_UNREADABLE, STATUS_USAGE, status_of, work};
 use std::alloc::{AllocError, Global};

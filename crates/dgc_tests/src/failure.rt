@@ -1,12 +1,12 @@
-//! What keeps the rows from being tried.
+//! Why a row cannot be run.
 use std::alloc::{AllocError, AllocFailed};
 use std::io;
 
-/// What keeps the rows from being tried.
+/// Why a row cannot be run.
 #[derive(Clone, Copy, PartialEq, Eq)]
 pub enum Failure {
     Memory,
-    /// A file is not as a row's file has to be, or a write failed.
+    /// A file of the row is missing or malformed, or a write failed.
     Outside,
 }
 

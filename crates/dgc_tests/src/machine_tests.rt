@@ -1,4 +1,4 @@
-//! Threads of the machine, from the text of a module to the action at which each stops.
+//! Threads of the machine: how many steps each makes until it asks for something.
 use ir_ast::FuncId;
 use ir_text::read;
 use layout::Program;
@@ -11,11 +11,11 @@ use std::test::Fail;
 const DOWN: &str =
     "define void @down(i64 %n) {\nentry:\n  %c = icmp eq i64 %n, 0\n  br i1 %c, label %out, label %on\non:\n  %m = sub i64 %n, 1\n  call void @down(i64 %m)\n  ret void\nout:\n  ret void\n}\n";
 
-/// Asks for a cell where its number is even, which two functions find out that call each other.
+/// Claims a cell if its number is even. Two functions that call each other find that out.
 const PARITY: &str =
     "%T = type { i64 }\ndeclare i8* @dg_alloc(i32)\ndefine void @main(i64 %n) gc \"shadow-stack\" {\nentry:\n  %v = call i64 @even(i64 %n)\n  %c = icmp eq i64 %v, 1\n  br i1 %c, label %yes, label %no\nyes:\n  %a = call i8* @dg_alloc(i32 0)\n  ret void\nno:\n  ret void\n}\ndefine i64 @even(i64 %n) {\nentry:\n  %c = icmp eq i64 %n, 0\n  br i1 %c, label %out, label %on\non:\n  %m = sub i64 %n, 1\n  %v = call i64 @odd(i64 %m)\n  ret i64 %v\nout:\n  ret i64 1\n}\ndefine i64 @odd(i64 %n) {\nentry:\n  %c = icmp eq i64 %n, 0\n  br i1 %c, label %out, label %on\non:\n  %m = sub i64 %n, 1\n  %v = call i64 @even(i64 %m)\n  ret i64 %v\nout:\n  ret i64 0\n}\n";
 
-/// How many local steps a thread makes, and what it asks for behind them.
+/// The number of local steps of a thread, and what it asks for after them.
 #[derive(Clone, Copy, PartialEq, Eq)]
 struct Fate {
     steps: u32,
@@ -29,7 +29,7 @@ fn program_of(alloc: Global, text: &str) -> Option<Program> {
     }
 }
 
-/// The steps of a thread up to the first that is not local, or a hundred thousand.
+/// Makes the steps of a thread up to the first that is not local, at most a hundred thousand.
 fn fate_of(thread: &mut Thread<'_>) -> Result<Fate, AllocError> {
     for steps in 0..100_000u32 {
         let asked = thread.next();
@@ -44,7 +44,7 @@ fn fate_of(thread: &mut Thread<'_>) -> Result<Fate, AllocError> {
     })
 }
 
-/// How a thread of a program's first function fares that is given this number, if it begins.
+/// Starts a thread at a program's first function with this number, and makes its local steps.
 fn fate_in(alloc: Global, program: &Program, number: u64) -> Result<Option<Fate>, AllocError> {
     if program.module().functions.is_empty() {
         return Ok(None);
@@ -60,7 +60,7 @@ fn fate_in(alloc: Global, program: &Program, number: u64) -> Result<Option<Fate>
     }
 }
 
-/// So of a program's text.
+/// Does this for the program of a text.
 fn tried(alloc: Global, text: &str, number: u64) -> Result<Option<Fate>, AllocError> {
     match program_of(alloc, text) {
         Some(program) => {
@@ -75,7 +75,7 @@ fn tried(alloc: Global, text: &str, number: u64) -> Result<Option<Fate>, AllocEr
 #[test]
 fn a_thread_has_ten_thousand_frames(rt: HostRuntime) -> Result<(), Fail> {
     let alloc = rt.alloc();
-    // Four steps a level on the way down, three in the deepest, and one for each return but the last.
+    // Four steps a level on the way down, three in the deepest, one for each return but the last.
     let deepest = tried(alloc, DOWN, 9_999)?;
     assert!(rt;
         deepest
@@ -84,7 +84,7 @@ fn a_thread_has_ten_thousand_frames(rt: HostRuntime) -> Result<(), Fail> {
                 asked: Action::End
             })
     );
-    // The call for whose frame there is no room ends the thread.
+    // A call that has no room for its frame ends the thread.
     let too_deep = tried(alloc, DOWN, 10_000)?;
     assert!(rt;
         too_deep
@@ -99,7 +99,7 @@ fn a_thread_has_ten_thousand_frames(rt: HostRuntime) -> Result<(), Fail> {
 #[test]
 fn functions_call_each_other(rt: HostRuntime) -> Result<(), Fail> {
     let alloc = rt.alloc();
-    // A call, four steps a level on the way down, three in the deepest, a return for each of the others, and the test of the result.
+    // A call, four steps a level on the way down, three in the deepest, a return for each of the others, the test of the result.
     let even = tried(alloc, PARITY, 1_000)?;
     let steps = 1 + 4 * 1_000 + 3 + 1_000 + 2;
     assert!(rt;

@@ -1,4 +1,11 @@
-//! `dgc_tests`, the program: does the command of each row that `rows.txt` names, and says which do not print what is wanted.
+//! `dgc_tests`, the program: runs commands of `dgc` on files and compares what they print with what is wanted.
+//!
+//! `rows.txt` names the rows, one a line. The folder `rows/NAME` of a row has these files:
+//! - `args`: the command line after `dgc`, one word a line.
+//! - `status`, `stdout`, `stderr`: the wanted exit status and the wanted bytes of both outputs.
+//! - The files that `args` names. A file that is not there cannot be read by the command either.
+//!
+//! The line `<clap text>` in `stdout` or `stderr` stands for any text of `clap`: a refused command line, the help, the version.
 #![tactic(auto)]
 
 #[cfg(test)]
@@ -32,31 +39,31 @@ use std::{fs, io};
 /// The file with the names of the rows, one a line.
 const ROWS: &str = "rows.txt";
 
-/// How many rows are as wanted, and how many are not.
+/// The numbers of rows that are as wanted, and of those that are not.
 #[derive(Clone, Copy)]
 struct Tally {
     alike: u32,
     different: u32,
 }
 
-/// Whether the command of a row prints what is wanted. Where it does not, says so.
-fn is_as_wanted<O: Write>(
+/// Runs the command of a row. Returns whether it prints what is wanted, and writes what differs.
+fn compare_row<O: Write>(
     rt: &(impl Runtime + AllocGlobal + Threads + Sync),
     name: &str,
     out: &mut O,
 ) -> Result<bool, Failure> {
     let row = Row::read(rt, name)?;
     let printed = row.printed(rt)?;
-    Ok(printed.is_wanted(out, name, row.wanted())?)
+    Ok(printed.compare(out, name, row.wanted())?)
 }
 
-/// So of a row whose files may be missing.
-fn is_there_as_wanted<O: Write>(
+/// Runs the command of a row. A row whose own files cannot be read is not as wanted.
+fn try_row<O: Write>(
     rt: &(impl Runtime + AllocGlobal + Threads + Sync),
     name: &str,
     out: &mut O,
 ) -> Result<bool, Failure> {
-    match is_as_wanted(rt, name, out) {
+    match compare_row(rt, name, out) {
         Err(Failure::Outside) => {
             writeln!(
                 out,
@@ -68,8 +75,8 @@ fn is_there_as_wanted<O: Write>(
     }
 }
 
-/// Tries the rows.
-fn tried<O: Write>(
+/// Runs all rows.
+fn tally_of<O: Write>(
     rt: &(impl Runtime + AllocGlobal + Threads + Sync),
     out: &mut O,
 ) -> Result<Tally, Failure> {
@@ -79,7 +86,7 @@ fn tried<O: Write>(
         different: 0,
     };
     for name in names.lines() {
-        if is_there_as_wanted(rt, name, out)? {
+        if try_row(rt, name, out)? {
             tally.alike = tally.alike.saturating_add(1);
         } else {
             tally.different = tally.different.saturating_add(1);
@@ -88,17 +95,17 @@ fn tried<O: Write>(
     Ok(tally)
 }
 
-/// Tries the rows, and says how many are as wanted. Answers whether all are.
+/// Runs all rows and writes how many are as wanted. Returns whether all are.
 fn run<O: Write>(
     rt: &(impl Runtime + AllocGlobal + Threads + Sync),
     out: &mut O,
 ) -> Result<bool, Failure> {
-    let Tally { alike, different } = tried(rt, out)?;
+    let Tally { alike, different } = tally_of(rt, out)?;
     writeln!(out, "{alike} rows as wanted, {different} not")?;
     Ok(different == 0)
 }
 
-/// Says why the rows were not all tried.
+/// Writes why not all rows were run.
 fn write_failure<E: Write>(err: &mut E, failure: Failure) -> io::Result<()> {
     match failure {
         Failure::Memory => writeln!(err, "error memory"),

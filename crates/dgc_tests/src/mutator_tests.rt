@@ -1,8 +1,8 @@
-//! The calls of a thread on the heap: what each asks for, ask by ask.
+//! The calls of a thread on the heap: each step that they ask for.
 use colours::{Ask, Colour, Op, Place, claim_at, colour, mark_at};
 use handshake::answer_safepoint;
 
-/// What a mark and a claim make of a colour word at a stage.
+/// The colours that a mark and a claim write at a stage.
 fn values_at(stage: u8) -> (u64, u64) {
     (mark_at(u64::from(stage)), claim_at(u64::from(stage)))
 }

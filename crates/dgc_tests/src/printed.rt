@@ -1,4 +1,4 @@
-//! What a command prints, and how that differs from what is wanted.
+//! What a command prints, compared with what is wanted.
 use crate::failure::Failure;
 use commands::{STATUS_USAGE, STATUS_YES};
 use std::alloc::{AllocError, Global};
@@ -6,13 +6,13 @@ use std::io::Write;
 use std::rt::Runtime;
 use std::{fs, io};
 
-/// What stands in a row's file for any text of the reader of command lines.
+/// A row has this line in place of any text of `clap`.
 const CLAP_TEXT: &[u8] = b"<clap text>\n";
 
-/// At most so many bytes are shown of a text that differs.
+/// The number of bytes that are shown of a text that differs.
 const SHOWN: usize = 100;
 
-/// The status with which a command ends, and what it writes to its two outputs.
+/// The exit status of a command, and the bytes of its two outputs.
 #[derive(Drop)]
 pub struct Printed {
     pub status: u8,
@@ -20,7 +20,7 @@ pub struct Printed {
     pub err: Vec<u8>,
 }
 
-/// The number that a text of one line is.
+/// Reads an exit status.
 fn status_in(text: &str) -> Result<u8, Failure> {
     match text.trim().parse::<u8>() {
         Ok(status) => Ok(status),
@@ -29,7 +29,7 @@ fn status_in(text: &str) -> Result<u8, Failure> {
 }
 
 impl Printed {
-    /// What the files `status`, `stdout` and `stderr` of a folder say.
+    /// Reads the files `status`, `stdout` and `stderr` of a folder.
     pub fn read(rt: &(impl Runtime + AllocGlobal), folder: &str) -> Result<Printed, Failure> {
         let alloc = rt.alloc();
         let status = fs::read_to_string(rt, format!(in alloc; "{folder}/status")?.as_str())?;
@@ -40,7 +40,7 @@ impl Printed {
         })
     }
 
-    /// What comes of words that are no command line: a text, as a fault or because the words ask for it.
+    /// A text of `clap`: a fault, or the help or version that was asked for.
     pub fn of_clap(alloc: Global, is_fault: bool) -> Result<Printed, AllocError> {
         let text = Vec::from_slice(alloc, CLAP_TEXT)?;
         let nothing = Vec::new(alloc);
@@ -65,13 +65,8 @@ impl Printed {
             && self.err.as_slice() == other.err.as_slice()
     }
 
-    /// Whether this is what the row of this name wants. Where it is not, says what is wanted.
-    pub fn is_wanted<W: Write>(
-        &self,
-        out: &mut W,
-        name: &str,
-        wanted: &Printed,
-    ) -> io::Result<bool> {
+    /// Returns whether this is as wanted, and writes what differs in the row of this name.
+    pub fn compare<W: Write>(&self, out: &mut W, name: &str, wanted: &Printed) -> io::Result<bool> {
         if self.status != wanted.status {
             writeln!(
                 out,
@@ -85,7 +80,7 @@ impl Printed {
     }
 }
 
-/// Says what is wanted in place of a text that differs.
+/// Writes the wanted and the printed text if they differ.
 fn write_difference<W: Write>(
     out: &mut W,
     name: &str,
@@ -102,7 +97,7 @@ fn write_difference<W: Write>(
     writeln!(out, "'")
 }
 
-/// Writes the front of a text, a line end as `\n`.
+/// Writes the first bytes of a text, a line end as `\n`.
 fn write_front<W: Write>(out: &mut W, text: &[u8]) -> io::Result<()> {
     for byte in text.iter().take(SHOWN) {
         if *byte == b'\n' {

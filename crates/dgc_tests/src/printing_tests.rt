@@ -5,15 +5,15 @@ use ir_text::read;
 use std::alloc::{AllocError, Global};
 use std::test::Fail;
 
-/// As a compiler prints it.
+/// A function as a compiler prints it.
 const ADDS: &str =
     "define dso_local i64 @\"a b\"(i64 %0) #0 {\n  %2 = add nsw i64 %0, -1, !dbg !7 ; x\n  ret i64 %2\n}\n";
 
-/// And as it is printed here.
+/// The same function as `print` prints it.
 const ADDS_PRINTED: &str =
     "define i64 @\"a b\"(i64 %0) {\n1:\n  %2 = add i64 %0, 18446744073709551615\n  ret i64 %2\n}\n";
 
-/// Whether a text is read, and printed so.
+/// Whether this is printed of the module of a text.
 fn is_printed_as(alloc: Global, text: &[u8], printed: &[u8]) -> Result<bool, AllocError> {
     match read(alloc, text) {
         Ok(module) => {
@@ -36,7 +36,7 @@ fn prints_without_decorations(rt: HostRuntime) -> Result<(), Fail> {
 #[test]
 fn prints_its_own_form_again(rt: HostRuntime) -> Result<(), Fail> {
     let alloc = rt.alloc();
-    // Written in the form that is printed: one item or instruction a line, without decorations.
+    // This text has the printed form: one item or instruction a line, without decorations.
     let text = joined(alloc, [HEAD, TWO].as_slice())?;
     assert!(rt; is_printed_as(alloc, text.as_slice(), text.as_slice())?);
     Ok(())

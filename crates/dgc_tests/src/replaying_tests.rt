@@ -1,4 +1,4 @@
-//! Replays of traces that are made here: what a seed draws, and traces in which actors stop for good.
+//! Replays of traces that are made here: one that a seed draws, and those in which an actor stops for good.
 use crate::texts::{HEAD, joined};
 use commands::{Line, status_of, work};
 use ir_text::read;
@@ -14,31 +14,31 @@ const REPLAY: Line<'static> = Line::Replay {
     trace_path: "module.trace",
 };
 
-/// The functions of a module, and a trace of them.
+/// The functions of a module and a trace of them.
 type Case<'a> = (&'a str, &'a str);
 
-/// Loads its root again behind the safepoints.
+/// Loads its root again after the safepoints.
 const FOUR: &str =
     "define void @four() gc \"shadow-stack\" {\nentry:\n  %s = alloca %Node*\n  %r = bitcast %Node** %s to i8**\n  call void @llvm.gcroot(i8** %r, i8* null)\n  %a = call i8* @dg_alloc(i32 0)\n  %x = bitcast i8* %a to %Node*\n  %c = icmp eq %Node* %x, null\n  br i1 %c, label %no, label %ok\nno:\n  ret void\nok:\n  store %Node* %x, %Node** %s\n  call void @dg_safepoint()\n  call void @dg_safepoint()\n  call void @dg_safepoint()\n  %y = load %Node*, %Node** %s\n  %p = getelementptr %Node, %Node* %y, i32 0, i32 0\n  %v = load i64, i64* %p\n  ret void\n}\n";
 
 const FULL_CYCLE: &str =
     "trace 1\npool Node 1\nstart @four\nsteps\nt 0 8\nc 1\nt 0 2\nc 2\nt 0 2\nc 3\nt 0 3\nc 10\nt 0 4\nend\n";
 
-/// A thread that publishes a cell, loads it again behind safepoints, and keeps it in its slot; and one that clears the global.
+/// A thread publishes a cell, loads it again after safepoints and keeps it in its slot. Another clears the global.
 const PUBLISHER_AND_CLEARER: &str =
     "define void @zero() gc \"shadow-stack\" {\nentry:\n  %s = alloca %Node*\n  %r = bitcast %Node** %s to i8**\n  call void @llvm.gcroot(i8** %r, i8* null)\n  %a = call i8* @dg_alloc(i32 0)\n  call void @llvm.gcwrite(i8* %a, i8* null, i8** bitcast (%Node** @g to i8**))\n  call void @dg_safepoint()\n  call void @dg_safepoint()\n  call void @dg_safepoint()\n  %x = load %Node*, %Node** @g\n  store %Node* %x, %Node** %s\n  call void @dg_safepoint()\n  %y = load %Node*, %Node** %s\n  ret void\n}\ndefine void @one() gc \"shadow-stack\" {\nentry:\n  call void @dg_safepoint()\n  call void @llvm.gcwrite(i8* null, i8* null, i8** bitcast (%Node** @g to i8**))\n  call void @dg_safepoint()\n  call void @dg_safepoint()\n  ret void\n}\n";
 
 const IN_THE_MIDDLE: &str =
     "trace 1\npool Node 1\nstart @zero\nstart @one\nsteps\nc 1\nt 1 3\nt 0 6\nt 0 2\nc 3\nt 0 2\nc 2\nt 0 3\nt 1 1\nt 1 2\nc 3\nt 1 2\nt 0 3\nc 11\nt 0 2\nt 1 1\nend\n";
 
-/// Asks three times for a cell.
+/// Claims three cells.
 const CLAIMER: &str =
     "define void @thrice() gc \"shadow-stack\" {\nentry:\n  %a = call i8* @dg_alloc(i32 0)\n  %b = call i8* @dg_alloc(i32 0)\n  call void @dg_safepoint()\n  call void @dg_safepoint()\n  call void @dg_safepoint()\n  %d = call i8* @dg_alloc(i32 0)\n  ret void\n}\n";
 
 const THIRD_CLAIM: &str =
     "trace 1\npool Node 1\nstart @thrice\nsteps\nt 0 2\nc 1\nt 0 2\nc 2\nt 0 2\nc 3\nt 0 2\nc 11\nt 0 2\nend\n";
 
-/// Keeps a register over safepoints, and uses it again and again.
+/// Keeps a register over safepoints and uses it again and again.
 const KEEPER: &str =
     "define void @keeper() gc \"shadow-stack\" {\nentry:\n  %a = call i8* @dg_alloc(i32 0)\n  %x = bitcast i8* %a to %Node*\n  %p = getelementptr %Node, %Node* %x, i32 0, i32 0\n  br label %loop\nloop:\n  call void @dg_safepoint()\n  %v = load i64, i64* %p\n  br label %loop\n}\n";
 
@@ -60,7 +60,7 @@ fn text_of(alloc: Global, bytes: &[u8]) -> Result<String, AllocError> {
     }
 }
 
-/// What a replay of this trace of these functions prints as its answer.
+/// What a replay of this trace of these functions prints.
 fn answer_to(
     rt: &(impl Threads + Sync),
     alloc: Global,
@@ -77,7 +77,7 @@ fn answer_to(
     text_of(alloc, out.as_slice())
 }
 
-/// The text of the trace of this program that a seed draws from the start of this one.
+/// The text of the trace that a seed draws for this program.
 fn drawn_from(alloc: Global, program: &Program, seed: u32) -> Result<String, AllocError> {
     match read_trace(alloc, KEPT.as_bytes(), program) {
         Ok(trace) => {
@@ -90,7 +90,7 @@ fn drawn_from(alloc: Global, program: &Program, seed: u32) -> Result<String, All
     }
 }
 
-/// The text of the trace that a seed draws.
+/// The text of the trace that a seed draws for the keeper.
 fn drawn_text(alloc: Global, seed: u32) -> Result<String, AllocError> {
     match program_of(alloc, KEEPER)? {
         Some(program) => {
@@ -105,14 +105,14 @@ fn drawn_text(alloc: Global, seed: u32) -> Result<String, AllocError> {
 #[test]
 fn replays_what_a_broken_seed_draws(rt: HostRuntime) -> Result<(), Fail> {
     let alloc = rt.alloc();
-    // The row `register_kept_for_ever` says that this seed is the least whose run is broken.
+    // By the row `register_kept_for_ever` this is the least seed whose run is broken.
     let text = drawn_text(alloc, 50)?;
     let answer = answer_to(&rt, alloc, KEEPER, text.as_str())?;
     assert_eq!(rt; answer.as_str(), "broken 45 t 0 touch-blue 1\n", "{text}");
     Ok(())
 }
 
-/// The actors of a trace's steps, one for each step.
+/// The actor of each step of a trace.
 fn actors_of(alloc: Global, trace: &Trace) -> Result<Vec<Actor>, AllocError> {
     let mut actors = Vec::new(alloc);
     for steps in trace.steps.as_slice() {
@@ -123,7 +123,7 @@ fn actors_of(alloc: Global, trace: &Trace) -> Result<Vec<Actor>, AllocError> {
     Ok(actors)
 }
 
-/// The text of a trace with the steps of these actors, without those that this one makes behind the step at this place.
+/// The text of a trace with a step of each of these actors. One of them makes no step after the last place.
 fn stopped(
     alloc: Global,
     head: &str,
@@ -146,7 +146,7 @@ fn stopped(
     Ok(text)
 }
 
-/// The actors of the steps of a trace of this program.
+/// The actor of each step of a trace's text.
 fn actors_in(alloc: Global, program: &Program, trace: &str) -> Result<Vec<Actor>, AllocError> {
     match read_trace(alloc, trace.as_bytes(), program) {
         Ok(trace) => {
@@ -158,7 +158,7 @@ fn actors_in(alloc: Global, program: &Program, trace: &str) -> Result<Vec<Actor>
     }
 }
 
-/// The actors of the steps of a trace.
+/// The actor of each step of a trace of these functions.
 fn actors_at(alloc: Global, functions: &str, trace: &str) -> Result<Vec<Actor>, AllocError> {
     match program_of(alloc, functions)? {
         Some(program) => {
@@ -170,7 +170,7 @@ fn actors_at(alloc: Global, functions: &str, trace: &str) -> Result<Vec<Actor>, 
     }
 }
 
-/// The traces of a case in which one actor stops for good, for each of its steps.
+/// For each step of a trace, the trace in which its actor makes no further step.
 fn stops_of(alloc: Global, functions: &str, trace: &str) -> Result<Vec<String>, AllocError> {
     let mut texts = Vec::new(alloc);
     let Some((head, _)) = trace.split_once("steps\n") else {
@@ -184,7 +184,7 @@ fn stops_of(alloc: Global, functions: &str, trace: &str) -> Result<Vec<String>, 
     Ok(texts)
 }
 
-/// Cases in which an actor may stop anywhere, and how many steps each has.
+/// Functions with a trace of them, and its number of steps.
 const CASES: [(Case<'static>, usize); 3] = [
     ((FOUR, FULL_CYCLE), 35),
     ((PUBLISHER_AND_CLEARER, IN_THE_MIDDLE), 47),
@@ -205,7 +205,7 @@ fn lets_actors_stop_for_good(rt: HostRuntime) -> Result<(), Fail> {
     Ok(())
 }
 
-/// What is printed of the trace of a text, if it is one of this program.
+/// What is printed of the trace of a text, if it is a trace of this program.
 fn printed_again(
     alloc: Global,
     program: &Program,
@@ -221,7 +221,7 @@ fn printed_again(
     }
 }
 
-/// Whether the trace of this text is one of the program, and what is printed of it is read and printed so again.
+/// Whether what is printed of this trace is read again, and printed alike.
 fn is_traced_again(alloc: Global, program: &Program, trace: &str) -> Result<bool, AllocError> {
     let Some(printed) = printed_again(alloc, program, trace.as_bytes())? else {
         return Ok(false);
@@ -232,7 +232,7 @@ fn is_traced_again(alloc: Global, program: &Program, trace: &str) -> Result<bool
     }
 }
 
-/// So of a trace of these functions.
+/// Does this for the program with these functions.
 fn is_read_again(alloc: Global, functions: &str, trace: &str) -> Result<bool, AllocError> {
     match program_of(alloc, functions)? {
         Some(program) => {

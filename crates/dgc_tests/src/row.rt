@@ -1,4 +1,4 @@
-//! A row: a folder with the files of a command, its command line, and what it has to print.
+//! A row: a command line, the folder of its files, and what it has to print.
 use crate::failure::Failure;
 use crate::printed::Printed;
 use commands::{Line, LineFault, STATUS_USAGE, line, status_of, work};
@@ -6,10 +6,10 @@ use std::fs;
 use std::rt::Runtime;
 use std::thread::Threads;
 
-/// A run of a command, and what is wanted of it.
+/// A command line with the folder of its files, and what it has to print.
 #[derive(Drop)]
 pub struct Row {
-    /// The folder in which its files lie.
+    /// The folder of its files.
     folder: String,
     /// The words of its command line, the program's name first.
     words: Vec<String>,
@@ -28,7 +28,7 @@ fn bytes_of(rt: &(impl Runtime + AllocGlobal), path: &str) -> Result<Option<Vec<
 }
 
 impl Row {
-    /// The row in the folder of this name.
+    /// Reads the row of this name.
     pub fn read(rt: &(impl Runtime + AllocGlobal), name: &str) -> Result<Row, Failure> {
         let alloc = rt.alloc();
         let folder = format!(in alloc; "rows/{name}")?;
@@ -46,11 +46,12 @@ impl Row {
         })
     }
 
+    /// What the command has to print.
     pub fn wanted(&self) -> &Printed {
         &self.wanted
     }
 
-    /// What its command line comes to.
+    /// Runs the command line.
     pub fn printed(
         &self,
         rt: &(impl Runtime + AllocGlobal + Threads + Sync),
@@ -69,7 +70,7 @@ impl Row {
         }
     }
 
-    /// What its command prints.
+    /// Runs the command of a line that is accepted.
     fn done(
         &self,
         rt: &(impl Runtime + AllocGlobal + Threads + Sync),
