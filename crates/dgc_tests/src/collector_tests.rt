@@ -28,6 +28,22 @@ fn next_word(ask: Option<Ask>, colours: &[u32; 2]) -> u32 {
     }
 }
 
+/// The turns of the first cycle, and the first turn of the second.
+const FIRST_TURNS: [Turn; 12] = [
+    Turn::PostStage(1),
+    Turn::PostStage(2),
+    Turn::MarkFound(0, 1),
+    Turn::PostStage(3),
+    Turn::ReadColour(0, 2),
+    Turn::ScanWord(0, 0, 0),
+    Turn::Blacken(0),
+    Turn::ReadColour(1, 0),
+    Turn::ReadColour(0, 3),
+    Turn::ReadColour(1, 0),
+    Turn::ReadColour(1, 0),
+    Turn::PostStage(4),
+];
+
 #[test]
 fn first_turns_over_one_blue_cell(rt: HostRuntime) -> Result<(), Fail> {
     let alloc = rt.alloc();
@@ -37,21 +53,7 @@ fn first_turns_over_one_blue_cell(rt: HostRuntime) -> Result<(), Fail> {
     let globals = [WordKind::Reference(LayoutId::new(0))];
     let mut collector = Collector::new(&pools, &layouts, &globals, 0);
     let mut colours = [1, 0];
-    let turns = [
-        Turn::PostStage(1),
-        Turn::PostStage(2),
-        Turn::MarkFound(0, 1),
-        Turn::PostStage(3),
-        Turn::ReadColour(0, 2),
-        Turn::ScanWord(0, 0, 0),
-        Turn::Blacken(0),
-        Turn::ReadColour(1, 0),
-        Turn::ReadColour(0, 3),
-        Turn::ReadColour(1, 0),
-        Turn::ReadColour(1, 0),
-        Turn::PostStage(4),
-    ];
-    for turn in turns {
+    for turn in FIRST_TURNS {
         let number = next_word(collector.ask(), &colours);
         let motion = collector.next(&Everywhere { number });
         assert_eq!(rt; motion.map(|motion| motion.turn), Some(turn));
