@@ -7,6 +7,7 @@ mod command;
 mod faults;
 mod files;
 mod found;
+mod help;
 mod name;
 mod outcomes;
 mod reader;

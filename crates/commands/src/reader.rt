@@ -1,24 +1,25 @@
 //! The grammar of the command line, and how a line is read.
 ghost use Rattle.std.specs.Prelude.{◌≡◌, IfOk, IfErr, IsOk, [], map, option_map, false};
-ghost use Rattle.clap.specs.Words.{app_of, fault_of, found_of, rows_of, rule_of};
+ghost use Rattle.clap.specs.Words.{app_of, fault_of, found_of, new_app, rows_of, rule_of};
 ghost use Rattle.clap.specs.declared.builder.command.Command.TheViews.{out-Command};
 ghost use Rattle.commands.specs.Asked.{asked_by};
 ghost use Rattle.commands.specs.Grammar.{asked_in, asked_of, check_of, dgc_app, file_rule, files_app, IsRefusalOf, number_of, number_rule, paths_in, replay_of, soak_app, soak_of};
 
 use crate::asked::{Line, LineFault};
+use crate::help::{CHECK, CommandHelp, DGC_ABOUT, DGC_AFTER, MODULE, REPLAY, SEEDS, SOAK, STEPS};
 use clap::{Arg, ArgMatches, Command, value_parser};
 use std::alloc::{AllocError, Global};
 
 /// A file's path, which has to be given.
-fn file<'a>(alloc: Global, name: &'a str) -> Arg<'a>
+fn file<'a>(alloc: Global, name: &'a str, help: &'a str) -> Arg<'a>
     ensures rule { rule_of result ≡ file_rule name.entry.now }
     ensures own { result.global ≡ false }
 {
-    Arg::new(alloc, name).required(true)
+    Arg::new(alloc, name).required(true).help(help)
 }
 
 /// A number that has to be given as the option of this name.
-fn number<'a>(alloc: Global, name: &'a str, shown: &'a str) -> Arg<'a>
+fn number<'a>(alloc: Global, name: &'a str, shown: &'a str, help: &'a str) -> Arg<'a>
     ensures rule { rule_of result ≡ number_rule name.entry.now }
     ensures own { result.global ≡ false }
 {
@@ -27,6 +28,15 @@ fn number<'a>(alloc: Global, name: &'a str, shown: &'a str) -> Arg<'a>
         .value_name(shown)
         .value_parser(value_parser!(u32))
         .required(true)
+        .help(help)
+}
+
+/// A command of this name, with the texts that its help begins and ends with.
+fn told_command<'a>(alloc: Global, name: &'a str, about: &'a str, after: &'a str) -> Command<'a>
+    ensures app { app_of result ≡ new_app name.entry.now }
+    ensures own { (out-Command result).has_globals ≡ false }
+{
+    Command::new(alloc, name).about(about).after_help(after)
 }
 
 /// A command of this name on two files, a module and another one.
@@ -34,34 +44,35 @@ fn files_command<'a>(
     alloc: Global,
     name: &'a str,
     second: &'a str,
+    help: CommandHelp,
 ) -> Result<Command<'a>, AllocError>
     ensures app { IfOk result (λ command. app_of command ≡ files_app name.entry.now second.entry.now) }
     ensures own { IfOk result (λ command. (out-Command command).has_globals ≡ false) }
 {
-    Command::new(alloc, name)
-        .arg(file(alloc, "MODULE"))?
-        .arg(file(alloc, second))
+    told_command(alloc, name, help.about, help.after)
+        .arg(file(alloc, "MODULE", MODULE))?
+        .arg(file(alloc, second, help.second))
 }
 
 fn soak_command<'a>(alloc: Global) -> Result<Command<'a>, AllocError>
     ensures app { IfOk result (λ command. app_of command ≡ soak_app) }
     ensures own { IfOk result (λ command. (out-Command command).has_globals ≡ false) }
 {
-    files_command(alloc, "soak", "TRACE")?
-        .arg(number(alloc, "seeds", "N"))?
-        .arg(number(alloc, "steps", "S"))
+    files_command(alloc, "soak", "TRACE", SOAK)?
+        .arg(number(alloc, "seeds", "N", SEEDS))?
+        .arg(number(alloc, "steps", "S", STEPS))
 }
 
 fn dgc_command<'a>(alloc: Global) -> Result<Command<'a>, AllocError>
     ensures app { IfOk result (λ command. app_of command ≡ dgc_app) }
     ensures own { IfOk result (λ command. (out-Command command).has_globals ≡ false) }
 {
-    let check = files_command(alloc, "check", "CERT")?;
-    let command = Command::new(alloc, "dgc")
+    let check = files_command(alloc, "check", "CERT", CHECK)?;
+    let command = told_command(alloc, "dgc", DGC_ABOUT, DGC_AFTER)
         .version("0.1.0")
         .subcommand_required(true)
         .subcommand(check)?;
-    let Ok(replay) = files_command(alloc, "replay", "TRACE") else {
+    let Ok(replay) = files_command(alloc, "replay", "TRACE", REPLAY) else {
         drop(command);
         return Err(AllocError);
     };

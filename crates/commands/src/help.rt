@@ -1,0 +1,90 @@
+//! What the help of the command line says.
+
+/// What the help says of a command on two files.
+#[derive(Clone, Copy)]
+pub(crate) struct CommandHelp {
+    /// What the command does, in one line.
+    pub(crate) about: &'static str,
+    /// What the file after the module is.
+    pub(crate) second: &'static str,
+    /// What is printed, and the exit statuses.
+    pub(crate) after: &'static str,
+}
+
+pub(crate) const MODULE: &str =
+    "A module: textual LLVM IR with typed pointers, gcroot and the shadow stack (docs/TEXT.md)";
+
+pub(crate) const SEEDS: &str = "How many seeds; the seeds are 0 to N-1";
+
+pub(crate) const STEPS: &str = "How many steps each seed makes";
+
+pub(crate) const CHECK: CommandHelp = CommandHelp {
+    about: "Checks a module against a certificate",
+    second: "A certificate: what its author claims to hold at each block (docs/CERTIFICATES.md)",
+    after: "\
+Prints `yes F`, where F is the number of defined functions. Or prints `no @f %b I Kn`:
+the function, the block, the place of the instruction in its block (from 0), and the rule
+that it breaks (docs/RULES.md). After K15 come the target block and the line of the
+certificate that is not shown.
+
+Of a text that is not read, one line goes to standard error, as `error L4 23:13` (a line
+and a column) or `error C5 @f`.
+
+Exit status:
+  0  yes
+  1  no
+  2  a text is not read, or the module has no layouts
+  3  memory was refused
+  4  the command line is refused, a file cannot be read, or a write failed",
+};
+
+pub(crate) const REPLAY: CommandHelp = CommandHelp {
+    about: "Makes the steps of a trace, and says which one breaks the run",
+    second: "A trace: how a run begins, and who makes its steps (docs/TRACES.md)",
+    after: "\
+Each step is one atomic step of a thread or of the collector. Prints the first step after
+which the run is broken, who made it, and why, as `broken 32 t 0 touch-blue 1`. Or prints
+`sound 35`, a line for each thread, and a line with the counts. docs/TRACES.md has each line.
+
+Of a text that is not read, one line goes to standard error, as `error L4 23:13` (a line
+and a column).
+
+Exit status:
+  0  sound
+  1  broken
+  2  a text is not read, the module has no layouts, or a thread may not begin
+  3  memory was refused
+  4  the command line is refused, a file cannot be read, or a write failed",
+};
+
+pub(crate) const SOAK: CommandHelp = CommandHelp {
+    about: "Makes S steps for each of N seeds, and says which one breaks the run",
+    second: "A trace: how each run begins; its steps are ignored (docs/TRACES.md)",
+    after: "\
+Each seed draws who makes the next step: a thread or the collector. Prints `sound N seeds`.
+Or prints the least seed whose run is broken, the first step after which it is broken, who
+made that step, and why, as `broken seed 3 32 t 0 touch-blue 1`. N and S are decimal
+numbers from 0 to 4294967295.
+
+Of a text that is not read, one line goes to standard error, as `error L4 23:13` (a line
+and a column).
+
+Exit status:
+  0  sound
+  1  broken
+  2  a text is not read, the module has no layouts, or a thread may not begin
+  3  memory was refused
+  4  the command line is refused, a file cannot be read, or a write failed",
+};
+
+pub(crate) const DGC_ABOUT: &str = "\
+Checks code that compilers emit against a concurrent mark-and-sweep garbage collector.
+Also runs that code beside a model of the collector, one atomic step at a time.";
+
+pub(crate) const DGC_AFTER: &str = "\
+Exit status:
+  0  yes or sound, or help or the version was asked for
+  1  no or broken
+  2  a text is not read, the module has no layouts, or a thread may not begin
+  3  memory was refused
+  4  the command line is refused, a file cannot be read, or a write failed";
