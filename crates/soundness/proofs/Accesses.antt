@@ -45,7 +45,7 @@ use Rattle.soundness.specs.Goes.{Goes, HaveMembers}
 use Rattle.soundness.proofs.Callees.{two_parameters, three_parameters, read_types, read_declared, write_types, write_declared}
 use Rattle.soundness.proofs.WordReads.{read_goes}
 use Rattle.soundness.proofs.Steps.{no_pointer, none_of, usable}
-use Rattle.soundness.proofs.Kept.{kept}
+use Rattle.soundness.proofs.RulesHold.{rules_hold}
 use Rattle.block_rules.specs.declared.rule.Rule.TheVariants.{K1, K2, K3, K4, K10, K19}
 use Rattle.soundness.proofs.WordStores.{IsStored, write_goes}
 use Rattle.soundness.proofs.Touches.{IsPlace}
@@ -107,7 +107,7 @@ module _ (heap : Setup) (p : LaidOut) (certs : List Section) (reaches : Bool) (f
   read_pair : (object place : Argument) → is_declared_as p.of_module d runtime.GcRead ≡ true → first_failing (read_conditions p f table here facts returned object place) ≡ None
       → Goes heap p table frame.slots reaches guarded log (after_read_call p result (object ∷ place ∷ []) facts) (asked (object ∷ place ∷ []) runtime.GcRead) (behind (object ∷ place ∷ []) runtime.GcRead)
   read_pair object place declared e =
-      let all = kept (read_conditions p f table here facts returned object place) e in
+      let all = rules_hold (read_conditions p f table here facts returned object place) e in
       let k1 = and_parts (o.is_available table facts object.operand) (o.is_available table facts place.operand) (all K1) in
       let k2 = and_parts (o.is_value p.of_module f facts object.written object.operand && o.is_typed p.of_module f place.written place.operand && may_read p table facts place.operand) (is_written_as p.of_module returned (object ∷ place ∷ []) runtime.GcRead) (all K2) in
       let m = and_parts (o.is_value p.of_module f facts object.written object.operand && o.is_typed p.of_module f place.written place.operand) (may_read p table facts place.operand) k2.0 in
@@ -148,7 +148,7 @@ module _ (heap : Setup) (p : LaidOut) (certs : List Section) (reaches : Bool) (f
   write_triple : (stored object place : Argument) → is_declared_as p.of_module d runtime.GcWrite ≡ true → first_failing (write_conditions p f table here facts returned stored object place) ≡ None
       → Goes heap p table frame.slots reaches guarded log (after_write (stored ∷ object ∷ place ∷ []) facts) (asked (stored ∷ object ∷ place ∷ []) runtime.GcWrite) (behind (stored ∷ object ∷ place ∷ []) runtime.GcWrite)
   write_triple stored object place declared e =
-      let all = kept (write_conditions p f table here facts returned stored object place) e in
+      let all = rules_hold (write_conditions p f table here facts returned stored object place) e in
       let k1 = and_parts (o.is_available table facts stored.operand && o.is_available table facts object.operand) (o.is_available table facts place.operand) (all K1) in
       let k1s = and_parts (o.is_available table facts stored.operand) (o.is_available table facts object.operand) k1.0 in
       let k2 = and_parts (o.is_value p.of_module f facts stored.written stored.operand && o.is_value p.of_module f facts object.written object.operand && o.is_typed p.of_module f place.written place.operand && may_write p table facts stored.operand place.operand)

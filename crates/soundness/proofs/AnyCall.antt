@@ -30,7 +30,7 @@ use Rattle.soundness.specs.Goes.{Goes, HaveMembers}
 use Rattle.soundness.proofs.Accesses.{gcread_goes, gcwrite_goes}
 use Rattle.soundness.proofs.Callees.{IsCallee, callee_is, defined_is}
 use Rattle.soundness.proofs.StepCalls.{alloc_goes, root_goes, safepoint_goes}
-use Rattle.soundness.proofs.Kept.{kept}
+use Rattle.soundness.proofs.RulesHold.{rules_hold}
 use Rattle.block_rules.specs.declared.rule.Rule.TheVariants.{K18}
 
 module _ (heap : Setup) (p : LaidOut) (certs : List Section) (reaches : Bool) (f : Function) (table : SlotTable) (guarded : Guarded) (log : Log) (guards : (cell : ℕ) → guarded cell → IsFresh log cell) (fits : IsHeapFor heap p) (here : Standing) (marked : is_may here.mark ≡ true → reaches ≡ true) (cells : Cells) (facts : FactSet)
@@ -46,7 +46,7 @@ module _ (heap : Setup) (p : LaidOut) (certs : List Section) (reaches : Bool) (f
   -- no other call is allowed
   never : (arguments : List Argument) → first_failing (unknown_conditions p.of_module f table here facts arguments) ≡ None → ⊥
   never arguments e =
-      let all = kept (unknown_conditions p.of_module f table here facts arguments) e in
+      let all = rules_hold (unknown_conditions p.of_module f table here facts arguments) e in
       let k18 = all K18 in
       cc
 

@@ -11,7 +11,7 @@ pub mod Stale
 pub mod Tests
 pub mod Numbers
 pub mod KindLemmas
-pub mod Kept
+pub mod RulesHold
 pub mod Steps
 pub mod SameKinds
 pub mod Globals

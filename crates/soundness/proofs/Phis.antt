@@ -34,7 +34,7 @@ use Rattle.machine.specs.Jumps.{is_phi, is_phi_op}
 use Rattle.machine.specs.Kinds as k
 use Rattle.soundness.proofs.KindLemmas.{constant_passes, integer_same, refers_same}
 use Rattle.soundness.proofs.Steps.{none_of}
-use Rattle.soundness.proofs.Kept.{kept}
+use Rattle.soundness.proofs.RulesHold.{rules_hold}
 use Rattle.block_rules.specs.declared.rule.Rule.TheVariants.{K2}
 
 -- ---- what an instruction that obeys the rules shows
@@ -106,7 +106,7 @@ module _ (p : LaidOut) (certs : List Section) (f : Function) (table : SlotTable)
   -- a phi that the rules allow may take its entry
   phi_fits_so : (from : ℕ) (here : Standing) (facts : FactSet) (result : Option ℕ) (op : Op) → is_phi_op op ≡ true → first_failing (op_conditions p certs f table here facts result op) ≡ None → j.phi_fits p.of_module f table from op ≡ true
   phi_fits_so from here facts result (Phi written incoming) is e =
-      let all = kept (op_conditions p certs f table here facts result (Phi written incoming)) e in
+      let all = rules_hold (op_conditions p certs f table here facts result (Phi written incoming)) e in
       let b = and_parts (may_choose (kind_of p.of_module written)) (all_come_in p.of_module f table written incoming) (all K2) in
       rw (scalar_written written b.0, entry_typed written from incoming b.1) refl
   phi_fits_so from here facts result _ is e = absurd cc

@@ -30,7 +30,7 @@ use Rattle.machine.specs.declared.value.Value.{Value}
 use Rattle.machine.specs.Jumps as j
 use Rattle.machine.specs.Kinds as k
 use Rattle.machine.specs.Machine as mc
-use Rattle.soundness.proofs.Kept.{kept}
+use Rattle.soundness.proofs.RulesHold.{rules_hold}
 use Rattle.block_rules.specs.declared.rule.Rule.TheVariants.{K8}
 use Rattle.soundness.proofs.Phis.{kept}
 use Rattle.soundness.proofs.Slots.{AllocaIs, AllNamed, BlocksNamed, NamesRoots, AreRooted, rooted_set}
@@ -56,7 +56,7 @@ same_instructions (Some block) = refl
 
 module _ (p : LaidOut) (certs : List Section) (f : Function) (table : SlotTable) where
   alloca_allowed : (here : Standing) (facts : FactSet) (result : Option ℕ) (op : Op) → first_failing (op_conditions p certs f table here facts result op) ≡ None → AllocaIs (λ w held. may_hold p.of_module table (Some w) held ≡ true) result op
-  alloca_allowed here facts result (Alloca held) e = λ w is. subst (λ name. may_hold p.of_module table name held ≡ true) is (kept (op_conditions p certs f table here facts result (Alloca held)) e K8)
+  alloca_allowed here facts result (Alloca held) e = λ w is. subst (λ name. may_hold p.of_module table name held ≡ true) is (rules_hold (op_conditions p certs f table here facts result (Alloca held)) e K8)
   alloca_allowed here facts result _ e = tt
 
 -- each alloca of instructions that obey the rules is allowed

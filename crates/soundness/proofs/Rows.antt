@@ -38,7 +38,7 @@ use Rattle.machine.specs.Log.{Log, IsFresh}
 use Rattle.soundness.specs.Meaning.{Cells, Guarded, Holds}
 use Rattle.soundness.specs.Goes.{Goes, HaveMembers, InstructionsGo}
 use Rattle.soundness.proofs.Steps.{goes_local, none_of, alloca_goes}
-use Rattle.soundness.proofs.Kept.{kept}
+use Rattle.soundness.proofs.RulesHold.{rules_hold}
 use Rattle.block_rules.specs.declared.rule.Rule.TheVariants.{K1, K2, K3, K4, K5, K6, K10, K19}
 use Rattle.soundness.proofs.Casts.{constant_goes, slot_goes, value_goes, global_goes}
 use Rattle.soundness.proofs.Moves.{slot_load_goes, slot_store_goes}
@@ -65,7 +65,7 @@ module _ (heap : Setup) (p : LaidOut) (certs : List Section) (reaches : Bool) (f
   -- a bitcast: of a constant, of a slot, or of a value
   bitcast_by : (result : Option ℕ) (from : ℕ) (x : Operand) (to : ℕ) → GoesOn result (Bitcast from x to)
   bitcast_by result from x to e =
-      let all = kept (op_conditions p certs f table here facts result (Bitcast from x to)) e in
+      let all = rules_hold (op_conditions p certs f table here facts result (Bitcast from x to)) e in
       let k19 = and_parts (c.casts_operand p.of_module x) (c.may_cast p table facts from to x) (all K19) in
       by x (all K1) (all K2) k19.0 k19.1 where
         of_name : (u : ℕ) → o.is_available table facts (operand.Local u) ≡ true → has_type p.of_module f from u ≡ true → c.may_cast p table facts from to (operand.Local u) ≡ true → (slot : Option ℕ) → slot_of table u ≡ slot
@@ -86,7 +86,7 @@ module _ (heap : Setup) (p : LaidOut) (certs : List Section) (reaches : Bool) (f
   -- a load: from a slot, or from an operand that is a place
   load_by : (result : Option ℕ) (loaded place_type : ℕ) (place : Operand) → GoesOn result (Load loaded place_type place)
   load_by result loaded place_type place e =
-      let all = kept (op_conditions p certs f table here facts result (Load loaded place_type place)) e in
+      let all = rules_hold (op_conditions p certs f table here facts result (Load loaded place_type place)) e in
       let k2 = and_parts (o.is_typed p.of_module f place_type place) (q.may_load p table facts loaded place) (all K2) in
       let k4 = and_parts (not (o.is_null place)) (o.base_nonnull facts (o.known_of facts place)) (all K4) in
       by place (all K1) k2.0 k2.1 (all K3) k4.0 k4.1 (all K19) where
@@ -108,7 +108,7 @@ module _ (heap : Setup) (p : LaidOut) (certs : List Section) (reaches : Bool) (f
   -- a store: to a slot, or to an operand that is a place
   store_by : (result : Option ℕ) (stored : ℕ) (x : Operand) (place_type : ℕ) (place : Operand) → GoesOn result (Store stored x place_type place)
   store_by result stored x place_type place e =
-      let all = kept (op_conditions p certs f table here facts result (Store stored x place_type place)) e in
+      let all = rules_hold (op_conditions p certs f table here facts result (Store stored x place_type place)) e in
       let k1 = and_parts (o.is_available table facts x) (o.is_available table facts place) (all K1) in
       let k2 = and_parts (o.is_value p.of_module f facts stored x && o.is_typed p.of_module f place_type place) (q.may_store p table facts stored (o.known_of facts x) place) (all K2) in
       let t = and_parts (o.is_value p.of_module f facts stored x) (o.is_typed p.of_module f place_type place) k2.0 in
@@ -134,7 +134,7 @@ module _ (heap : Setup) (p : LaidOut) (certs : List Section) (reaches : Bool) (f
   -- a getelementptr
   element_by : (result : Option ℕ) (source base_type : ℕ) (base : Operand) (indices : List Argument) → GoesOn result (Element source base_type base indices)
   element_by result source base_type base indices e =
-      let all = kept (op_conditions p certs f table here facts result (Element source base_type base indices)) e in
+      let all = rules_hold (op_conditions p certs f table here facts result (Element source base_type base indices)) e in
       let k1 = and_parts (o.is_available table facts base) (list_all (λ index. o.is_available table facts index.operand) indices) (all K1) in
       let k2 = and_parts (o.is_typed p.of_module f base_type base && is_pointer (kind_of p.of_module base_type) && g.may_be_base (o.known_of facts base) && g.are_indices p.of_module f facts indices) (no_slots table indices) (all K2) in
       let i = and_parts (o.is_typed p.of_module f base_type base && is_pointer (kind_of p.of_module base_type) && g.may_be_base (o.known_of facts base)) (g.are_indices p.of_module f facts indices) k2.0 in
@@ -145,7 +145,7 @@ module _ (heap : Setup) (p : LaidOut) (certs : List Section) (reaches : Bool) (f
   -- an arithmetic instruction
   arithmetic_by : (result : Option ℕ) (kind : Operation) (written : ℕ) (first second : Operand) → GoesOn result (Arithmetic kind written first second)
   arithmetic_by result kind written first second e =
-      let all = kept (op_conditions p certs f table here facts result (Arithmetic kind written first second)) e in
+      let all = rules_hold (op_conditions p certs f table here facts result (Arithmetic kind written first second)) e in
       let k1 = and_parts (o.is_available table facts first) (o.is_available table facts second) (all K1) in
       let k2 = and_parts (o.is_value p.of_module f facts written first && o.is_value p.of_module f facts written second && is_integer (kind_of p.of_module written) && o.is_no_slot table first) (o.is_no_slot table second) (all K2) in
       let t = and_parts (o.is_value p.of_module f facts written first && o.is_value p.of_module f facts written second && is_integer (kind_of p.of_module written)) (o.is_no_slot table first) k2.0 in
@@ -156,7 +156,7 @@ module _ (heap : Setup) (p : LaidOut) (certs : List Section) (reaches : Bool) (f
   -- a change of width
   resize_by : (result : Option ℕ) (kind : Width) (from : ℕ) (x : Operand) (to : ℕ) → GoesOn result (Resize kind from x to)
   resize_by result kind from x to e =
-      let all = kept (op_conditions p certs f table here facts result (Resize kind from x to)) e in
+      let all = rules_hold (op_conditions p certs f table here facts result (Resize kind from x to)) e in
       let k2 = and_parts (o.is_value p.of_module f facts from x && r.may_resize kind (kind_of p.of_module from) (kind_of p.of_module to)) (o.is_no_slot table x) (all K2) in
       let t = and_parts (o.is_value p.of_module f facts from x) (r.may_resize kind (kind_of p.of_module from) (kind_of p.of_module to)) k2.0 in
       resize_goes heap p certs reaches f table guarded log cells facts frame h result kind from x to (all K1) t.0 t.1 (none_of (o.slot_named table x) k2.1)
@@ -164,7 +164,7 @@ module _ (heap : Setup) (p : LaidOut) (certs : List Section) (reaches : Bool) (f
   -- a comparison
   compare_by : (result : Option ℕ) (kind : Comparison) (written : ℕ) (first second : Operand) → GoesOn result (Compare kind written first second)
   compare_by result kind written first second e =
-      let all = kept (op_conditions p certs f table here facts result (Compare kind written first second)) e in
+      let all = rules_hold (op_conditions p certs f table here facts result (Compare kind written first second)) e in
       let k1 = and_parts (o.is_available table facts first) (o.is_available table facts second) (all K1) in
       let k2 = and_parts (o.is_value p.of_module f facts written first && o.is_value p.of_module f facts written second) (r.may_compare kind (kind_of p.of_module written)) (all K2) in
       let v = and_parts (o.is_value p.of_module f facts written first) (o.is_value p.of_module f facts written second) k2.0 in
@@ -174,7 +174,7 @@ module _ (heap : Setup) (p : LaidOut) (certs : List Section) (reaches : Bool) (f
   -- a choice
   select_by : (result : Option ℕ) (condition_type : ℕ) (condition : Operand) (written : ℕ) (chosen other : Operand) → GoesOn result (Select condition_type condition written chosen other)
   select_by result condition_type condition written chosen other e =
-      let all = kept (op_conditions p certs f table here facts result (Select condition_type condition written chosen other)) e in
+      let all = rules_hold (op_conditions p certs f table here facts result (Select condition_type condition written chosen other)) e in
       let k1 = and_parts (o.is_available table facts condition && o.is_available table facts chosen) (o.is_available table facts other) (all K1) in
       let k1s = and_parts (o.is_available table facts condition) (o.is_available table facts chosen) k1.0 in
       let k2 = and_parts _ (o.is_no_slot table condition) (all K2) in

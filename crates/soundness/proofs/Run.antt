@@ -62,7 +62,7 @@ use Rattle.soundness.proofs.Callees.{IsDefined, callee_is, defined_is}
 use Rattle.soundness.proofs.Members.{members_stay, line_members, parameter_members, arguments_members, mark_members, result_members}
 use Rattle.soundness.proofs.Rows.{instructions_go}
 use Rattle.soundness.proofs.Steps.{none_of, usable}
-use Rattle.soundness.proofs.Kept.{Kept, kept}
+use Rattle.soundness.proofs.RulesHold.{RulesHold, rules_hold}
 use Rattle.block_rules.specs.declared.rule.Rule.TheVariants.{K1, K2, K3, K10, K13, K14, K17, K18}
 use Rattle.soundness.specs.Discipline.{AreCertified, CertifiedIsNeverWrong}
 use Rattle.soundness.proofs.Calls.{Waits, waits, waiting_fresh, Waiting, AllPass, all_pass, machine_pass, arguments_given}
@@ -389,12 +389,12 @@ module _ (heap : Setup) (program : LaidOut) (heap_is : IsHeapFor heap program) (
     returns : (op : Op) → mc.onward_of program.of_module op ≡ mc.Back → first_failing (op_conditions program certs f table here facts instr.result op) ≡ None
         → (a.op_action program f table frame.block frame.registers op ≡ End) × IsGiven heap (GuardedBy x.saves) log (given_by (kind_of program.of_module f.returned)) (promised_in (slice_get certs frame.function)) (mc.result_of program.of_module frame.registers op)
     returns ReturnVoid back allowed =
-        let all = kept (op_conditions program certs f table here facts instr.result ReturnVoid) allowed in (
+        let all = rules_hold (op_conditions program certs f table here facts instr.result ReturnVoid) allowed in (
           rw (sym (void_same program.of_module f.returned) ∙ (all K2)) refl,
           subst (λ g. IsGiven heap (GuardedBy x.saves) log g (promised_in (slice_get certs frame.function)) value.Unset) (sym (void_given (kind_of program.of_module f.returned) (all K2))) tt,
         )
     returns (Return argument) back allowed =
-        let all = kept (op_conditions program certs f table here facts instr.result (Return argument)) allowed in
+        let all = rules_hold (op_conditions program certs f table here facts instr.result (Return argument)) allowed in
         let b = and_parts (o.is_value program.of_module f facts argument.written argument.operand) (argument.written == f.returned) (all K2) in
         let none = none_of (o.slot_named table argument.operand) (all K10) in
         let passes : Passes heap program certs f table (GuardedBy x.saves) log x.now.cells facts frame x.standing.holds argument.written argument.operand = record { there = (all K1); typed = b.0; current = (all K3); no_slot = none } in (
@@ -417,7 +417,7 @@ module _ (heap : Setup) (program : LaidOut) (heap_is : IsHeapFor heap program) (
         → first_failing (op_conditions program certs f table here facts instr.result (Call returned callee arguments)) ≡ None → callee_of program.of_module callee (length arguments) ≡ OfModule n
     is_called returned callee arguments n into allowed = by (callee_of program.of_module callee (length arguments)) refl allowed where
       by : (called : Callee) → callee_of program.of_module callee (length arguments) ≡ called → first_failing (call_conditions program certs f table here facts returned arguments called) ≡ None → callee_of program.of_module callee (length arguments) ≡ OfModule n
-      by NoFunction e allowed = let k18 = kept (unknown_conditions program.of_module f table here facts arguments) allowed K18 in absurd cc
+      by NoFunction e allowed = let k18 = rules_hold (unknown_conditions program.of_module f table here facts arguments) allowed K18 in absurd cc
       by (OfRuntime called) e allowed =
           absurd (one_sort program.of_module (slice_get program.of_module.sorts callee) n called (into_called (a.number_called program.of_module callee) n into) (callee_is program.of_module callee (length arguments) called e).1)
       by (OfModule number) e allowed =
@@ -438,8 +438,8 @@ module _ (heap : Setup) (program : LaidOut) (heap_is : IsHeapFor heap program) (
       abbrev section : Option Section
       section = slice_get certs n
 
-      all : Kept (defined_conditions program.of_module f table here facts returned arguments (Some q) section)
-      all = kept (defined_conditions program.of_module f table here facts returned arguments (Some q) section)
+      all : RulesHold (defined_conditions program.of_module f table here facts returned arguments (Some q) section)
+      all = rules_hold (defined_conditions program.of_module f table here facts returned arguments (Some q) section)
           (subst (λ g. first_failing (defined_conditions program.of_module f table here facts returned arguments g section) ≡ None) d.there
           (subst (λ c. first_failing (call_conditions program certs f table here facts returned arguments c) ≡ None) e allowed))
 

@@ -51,7 +51,7 @@ use Rattle.soundness.proofs.Stale.{own_later, root_own, stale_cells, stale_keeps
 use Rattle.soundness.specs.Goes.{HaveClasses, HasRoots, Goes}
 use Rattle.soundness.proofs.Callees.{one_parameter, two_parameters, alloc_types, alloc_declared, root_types, root_declared}
 use Rattle.soundness.proofs.Steps.{goes_local, usable, null_fits, fresh_apart}
-use Rattle.soundness.proofs.Kept.{kept}
+use Rattle.soundness.proofs.RulesHold.{rules_hold}
 use Rattle.block_rules.specs.declared.rule.Rule.TheVariants.{K2, K9, K17}
 use Rattle.soundness.proofs.Moves.{place_is}
 
@@ -202,7 +202,7 @@ module _ (heap : Setup) (p : LaidOut) (certs : List Section) (reaches : Bool) (f
         one : (argument : Argument) → first_failing (alloc_conditions p.of_module f table here facts returned (argument ∷ [])) ≡ None
             → Goes heap p table frame.slots reaches guarded log (after_alloc_call result (argument ∷ []) facts) (call_action (argument ∷ []) (Some d) defined (Some runtime.Alloc)) (behind_call (argument ∷ []) (Some runtime.Alloc))
         one argument e =
-            let all = kept (alloc_conditions p.of_module f table here facts returned (argument ∷ [])) e in
+            let all = rules_hold (alloc_conditions p.of_module f table here facts returned (argument ∷ [])) e in
             let k2 = all K2 in
             let a = and_parts (all_values p.of_module f facts (argument ∷ []) && is_written_as p.of_module returned (argument ∷ []) runtime.Alloc) (number_layouts p.of_module (argument ∷ [])) k2 in
             let b = and_parts (all_values p.of_module f facts (argument ∷ [])) (is_written_as p.of_module returned (argument ∷ []) runtime.Alloc) a.0 in
@@ -286,7 +286,7 @@ module _ (heap : Setup) (p : LaidOut) (certs : List Section) (reaches : Bool) (f
         two : (place metadata : Argument) → first_failing (root_conditions p.of_module f table here facts returned (place ∷ metadata ∷ [])) ≡ None
             → Goes heap p table frame.slots reaches guarded log (after_root_call table (place ∷ metadata ∷ []) facts) (call_action (place ∷ metadata ∷ []) (Some d) defined (Some runtime.GcRoot)) (behind_call (place ∷ metadata ∷ []) (Some runtime.GcRoot))
         two place metadata e =
-            let all = kept (root_conditions p.of_module f table here facts returned (place ∷ metadata ∷ [])) e in
+            let all = rules_hold (root_conditions p.of_module f table here facts returned (place ∷ metadata ∷ [])) e in
             let k2 = all K2 in
             let k9 = all K9 in
             let a = and_parts (all_values p.of_module f facts (place ∷ metadata ∷ [])) (is_written_as p.of_module returned (place ∷ metadata ∷ []) runtime.GcRoot) k2 in
@@ -329,7 +329,7 @@ module _ (heap : Setup) (p : LaidOut) (certs : List Section) (reaches : Bool) (f
   pub safepoint_goes : (defined : Option Function) (d : Declare) (arguments : List Argument) → is_declared_as p.of_module d runtime.Safepoint ≡ true → (length arguments == 0) ≡ true → first_failing (safepoint_conditions p.of_module here returned arguments) ≡ None
       → Goes heap p table frame.slots reaches guarded log (make_stale facts) (call_action arguments (Some d) defined (Some runtime.Safepoint)) (behind_call arguments (Some runtime.Safepoint))
   safepoint_goes defined d arguments declared arity e =
-      let all = kept (safepoint_conditions p.of_module here returned arguments) e in
+      let all = rules_hold (safepoint_conditions p.of_module here returned arguments) e in
       let b = and_parts (is_runtime_type p.of_module d.returned types.Void) _ declared in
       let c = and_parts (length d.parameters == 0) _ b.1 in
       let w = and_parts (is_runtime_type p.of_module returned types.Void) _ (all K2) in

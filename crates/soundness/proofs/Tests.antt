@@ -2,7 +2,7 @@
 use Rattle.std.proofs.Common.{◌≡◌, ◌≢◌, ℕ, zero, suc, ◌<◌, ◌≤◌, List, [], ◌∷◌, length, get_or, refl, sym, ap, ◌∙◌, subst, arith, true, false, Bool, Option, Some, None, slice_set, inl, inr}
 use Rattle.std.proofs.lemmas.Bool.{cases_lt}
 use Rattle.std.specs.Prelude.{◌==◌, ◌⊎◌, not, if◌then◌else◌, nat_lt, nat_le}
-use Rattle.lemmas.specs.Numbers.{test_true, lt_yes, lt_no}
+use Rattle.lemmas.specs.Numbers.{test_true, lt_true, lt_false}
 use Rattle.ir_ast.specs.declared.op.Comparison.{Comparison}
 use Rattle.ir_ast.specs.declared.op.Comparison.TheVariants.{Equal, NotEqual, UnsignedGreater, UnsignedGreaterOrEqual, UnsignedLess, UnsignedLessOrEqual, SignedGreater, SignedGreaterOrEqual, SignedLess, SignedLessOrEqual}
 use Rattle.ir_ast.specs.declared.operand.Constant.{Constant}
@@ -89,7 +89,7 @@ module _ (heap : Setup) (p : LaidOut) (table : SlotTable) (guarded : Guarded) (l
 
   -- a comparison of a number with a constant, on the edge that it decides
   number_learned : (v n bits : ℕ) (kind : Comparison) (taken : Bool) → ((a : ℕ) → register_at registers v ≡ value.Number a → compares kind bits a (wrapped bits n) ≡ taken) → After (learn_number_test v n kind taken facts)
-  number_learned v n bits UnsignedLess true d = below_learned v n (λ a e. let x = lt_yes a (wrapped bits n) (d a e) in let y = wrapped_le bits n in omega (arith, x, y))
+  number_learned v n bits UnsignedLess true d = below_learned v n (λ a e. let x = lt_true a (wrapped bits n) (d a e) in let y = wrapped_le bits n in omega (arith, x, y))
   number_learned v n bits UnsignedLess false d = h
   number_learned v n bits UnsignedLessOrEqual true d = up_to_learned v n (λ a e. let x = le_is a (wrapped bits n) (d a e) in let y = wrapped_le bits n in omega (arith, x, y))
   number_learned v n bits UnsignedLessOrEqual false d = h
@@ -99,7 +99,7 @@ module _ (heap : Setup) (p : LaidOut) (table : SlotTable) (guarded : Guarded) (l
   number_learned v n bits NotEqual true d = h
   number_learned v n bits UnsignedGreaterOrEqual false d = below_learned v n (λ a e. let x = le_not (wrapped bits n) a (d a e) in let y = wrapped_le bits n in omega (arith, x, y))
   number_learned v n bits UnsignedGreaterOrEqual true d = h
-  number_learned v n bits UnsignedGreater false d = up_to_learned v n (λ a e. let x = lt_no (wrapped bits n) a (d a e) in let y = wrapped_le bits n in omega (arith, x, y))
+  number_learned v n bits UnsignedGreater false d = up_to_learned v n (λ a e. let x = lt_false (wrapped bits n) a (d a e) in let y = wrapped_le bits n in omega (arith, x, y))
   number_learned v n bits UnsignedGreater true d = h
   number_learned v n bits SignedGreater taken d = h
   number_learned v n bits SignedGreaterOrEqual taken d = h

@@ -39,7 +39,7 @@ use Rattle.soundness.proofs.Edges.{edge_holds}
 use Rattle.soundness.proofs.KindLemmas.{bits_same, constant_passes}
 use Rattle.soundness.proofs.Tests.{Decides, test_learned}
 use Rattle.soundness.proofs.Steps.{none_of, kind_bits, number_usable}
-use Rattle.soundness.proofs.Kept.{kept}
+use Rattle.soundness.proofs.RulesHold.{rules_hold}
 use Rattle.block_rules.specs.declared.rule.Rule.TheVariants.{K1, K2}
 
 -- an integer of n bits is an integer
@@ -100,7 +100,7 @@ module _ (heap : Setup) (program : LaidOut) (certs : List Section) (f : Function
   jump_taken : (here : Standing) (result : Option ℕ) (label : ℕ) → first_failing (op_conditions program certs f table here facts result (Jump label)) ≡ None
       → w.unshown_on scene frame.block facts (w.ways (Jump label)) ≡ None → Taken (Jump label)
   jump_taken here result label allowed shown =
-      let all = kept (op_conditions program certs f table here facts result (Jump label)) allowed in
+      let all = rules_hold (op_conditions program certs f table here facts result (Jump label)) allowed in
       let s = shown_first (w.open_way label) [] shown in
       record { label = label; leads = refl; acts = refl; known = facts; holds = h; opened = record { named = (all K2); shown = s.0 } }
 
@@ -142,7 +142,7 @@ module _ (heap : Setup) (program : LaidOut) (certs : List Section) (f : Function
   branch_taken : (here : Standing) (result : Option ℕ) (written : ℕ) (x : Operand) (taken other : ℕ) → first_failing (op_conditions program certs f table here facts result (Branch written x taken other)) ≡ None
       → w.unshown_on scene frame.block facts (w.branch_ways x taken other) ≡ None → Taken (Branch written x taken other)
   branch_taken here result written x taken other allowed shown =
-      let all = kept (op_conditions program certs f table here facts result (Branch written x taken other)) allowed in
+      let all = rules_hold (op_conditions program certs f table here facts result (Branch written x taken other)) allowed in
       let b1 = and_parts (r.is_condition program.of_module f facts written x && names_target f taken && names_target f other) (o.is_no_slot table x) (all K2) in
       let b2 = and_parts (r.is_condition program.of_module f facts written x && names_target f taken) (names_target f other) b1.0 in
       let b3 = and_parts (r.is_condition program.of_module f facts written x) (names_target f taken) b2.0 in
@@ -191,7 +191,7 @@ module _ (heap : Setup) (program : LaidOut) (certs : List Section) (f : Function
   switch_taken : (here : Standing) (result : Option ℕ) (written : ℕ) (x : Operand) (otherwise : ℕ) (cases : List Case) → first_failing (op_conditions program certs f table here facts result (Switch written x otherwise cases)) ≡ None
       → w.unshown_on scene frame.block facts (w.ways (Switch written x otherwise cases)) ≡ None → Taken (Switch written x otherwise cases)
   switch_taken here result written x otherwise cases allowed shown =
-      let all = kept (op_conditions program certs f table here facts result (Switch written x otherwise cases)) allowed in
+      let all = rules_hold (op_conditions program certs f table here facts result (Switch written x otherwise cases)) allowed in
       let b1 = and_parts (o.is_value program.of_module f facts written x && is_integer (kind_of program.of_module written) && names_target f otherwise && are_cases program.of_module f written cases) (o.is_no_slot table x) (all K2) in
       let b2 = and_parts (o.is_value program.of_module f facts written x && is_integer (kind_of program.of_module written) && names_target f otherwise) (are_cases program.of_module f written cases) b1.0 in
       let b3 = and_parts (o.is_value program.of_module f facts written x && is_integer (kind_of program.of_module written)) (names_target f otherwise) b2.0 in

@@ -33,13 +33,13 @@ condition_of rule [] = true
 condition_of rule (condition ∷ rest) = if code condition.0 == code rule then condition.1 else condition_of rule rest
 
 -- the condition of each rule holds
-abbrev pub Kept : List (Rule × Bool) → Type 0
-Kept conditions = (rule : Rule) → condition_of rule conditions ≡ true
+abbrev pub RulesHold : List (Rule × Bool) → Type 0
+RulesHold conditions = (rule : Rule) → condition_of rule conditions ≡ true
 
 -- where no condition of a list fails, that of each rule holds
-pub kept : (conditions : List (Rule × Bool)) → first_failing conditions ≡ None → Kept conditions
-kept [] e rule = refl
-kept (condition ∷ rest) e rule = pick (code condition.0 == code rule) condition.1 refl e (λ rest_holds. kept rest rest_holds rule) where
+pub rules_hold : (conditions : List (Rule × Bool)) → first_failing conditions ≡ None → RulesHold conditions
+rules_hold [] e rule = refl
+rules_hold (condition ∷ rest) e rule = pick (code condition.0 == code rule) condition.1 refl e (λ rest_holds. rules_hold rest rest_holds rule) where
   pick : (same holds : Bool) → condition.1 ≡ holds → (if holds then first_failing rest else Some condition.0) ≡ None → (first_failing rest ≡ None → condition_of rule rest ≡ true)
       → (if same then condition.1 else condition_of rule rest) ≡ true
   pick true true is e others = is
