@@ -8,7 +8,10 @@ use Rattle.ir_tokens.specs.Bytes.{Text}
 abbrev pub is_line_end : ℕ → Bool
 is_line_end b = b == 10
 
--- One line more than there are line ends before the place, and one column more than there are bytes after the last of them.
+-- The position after this text: one line more than it has line ends, and one column more than there are bytes after the last of them.
+abbrev pub position_after : Text → Position
+position_after before = record { line = count_by is_line_end before + 1; column = suffix_len (λ b. not (is_line_end b)) before + 1 }
+
+-- the position of a place of a text
 abbrev pub position_of : Text → ℕ → Position
-position_of bytes place =
-    record { line = count_by is_line_end (take place bytes) + 1; column = suffix_len (λ b. not (is_line_end b)) (take place bytes) + 1 }
+position_of bytes place = position_after (take place bytes)

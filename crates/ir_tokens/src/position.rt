@@ -30,16 +30,22 @@ fn last_line_len(bytes: &[u8]) -> usize
 }
 
 impl Position {
-    ghost use Rattle.ir_tokens.specs.Position.{position_of};
+    ghost use Rattle.ir_tokens.specs.Position.{position_after, position_of};
+
+    /// The line and the column of the byte that would come after this text.
+    pub fn after(before: &[u8]) -> Position
+        ensures { result ≡ position_after before.now }
+    {
+        Position {
+            line: line_ends(before) + 1,
+            column: last_line_len(before) + 1,
+        }
+    }
 
     /// The line and the column of the byte at this place, or of the end of a shorter text.
     pub fn of(bytes: &[u8], place: u32) -> Position
         ensures { result ≡ position_of bytes.now place }
     {
-        let before = front(bytes, place as usize);
-        Position {
-            line: line_ends(before) + 1,
-            column: last_line_len(before) + 1,
-        }
+        Position::after(front(bytes, place as usize))
     }
 }
