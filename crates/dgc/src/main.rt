@@ -1,27 +1,7 @@
 //! `dgc`, the program: reads the command line and the files, does the command, and ends with its status.
 #![tactic(auto)]
 
-#[cfg(test)]
-mod barrier_tests;
-#[cfg(test)]
-mod calling_tests;
-#[cfg(test)]
-mod checking_tests;
-#[cfg(test)]
-mod collector_tests;
 mod failure;
-#[cfg(test)]
-mod machine_tests;
-#[cfg(test)]
-mod mutator_tests;
-#[cfg(test)]
-mod printing_tests;
-#[cfg(test)]
-mod reading_tests;
-#[cfg(test)]
-mod replaying_tests;
-#[cfg(test)]
-mod tests;
 
 use commands::{Line, LineFault, STATUS_USAGE, STATUS_YES, line, memory, status_of, work};
 use failure::Failure;

@@ -1,0 +1,2 @@
+define void @f(i64 %n) {
+  switch i64 %n, label %a [ i64 [1]

@@ -1,0 +1,2 @@
+define void @f(i64 %n) {
+  %x = icmp eq i64 %n, [1 x i64]

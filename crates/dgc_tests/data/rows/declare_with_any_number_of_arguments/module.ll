@@ -1,0 +1,1 @@
+declare i32 @printf(i8* noundef, ...) #1

@@ -1,0 +1,1 @@
+define dso_local void @f(i32* noundef %0) {

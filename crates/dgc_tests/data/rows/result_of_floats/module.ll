@@ -1,0 +1,1 @@
+define dso_local double @f(double noundef %0) {

@@ -1,0 +1,19 @@
+%Node = type { i64, %Node* }
+@g = global %Node* null
+declare i8* @dg_alloc(i32)
+declare void @dg_safepoint()
+declare void @llvm.gcroot(i8**, i8*)
+declare i8* @llvm.gcread(i8*, i8**)
+declare void @llvm.gcwrite(i8*, i8*, i8**)
+define i64 @walk(%Node* %n, i64 %k) gc "shadow-stack" {
+entry:
+  br label %loop
+loop:
+  %p = phi %Node* [ %n, %entry ], [ %q, %loop ]
+  %f = getelementptr %Node, %Node* %p, i32 0, i32 1
+  %q = load %Node*, %Node** %f
+  %c = icmp eq i64 %k, 0
+  br i1 %c, label %out, label %loop
+out:
+  ret i64 0
+}

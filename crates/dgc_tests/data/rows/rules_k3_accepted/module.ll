@@ -1,0 +1,19 @@
+%Node = type { i64, %Node* }
+@g = global %Node* null
+declare i8* @dg_alloc(i32)
+declare void @dg_safepoint()
+declare void @llvm.gcroot(i8**, i8*)
+declare i8* @llvm.gcread(i8*, i8**)
+declare void @llvm.gcwrite(i8*, i8*, i8**)
+define i64 @read(%Node* %n) gc "shadow-stack" {
+entry:
+  %s = alloca %Node*
+  %r = bitcast %Node** %s to i8**
+  call void @llvm.gcroot(i8** %r, i8* null)
+  store %Node* %n, %Node** %s
+  call void @dg_safepoint()
+  %m = load %Node*, %Node** %s
+  %p = getelementptr %Node, %Node* %m, i32 0, i32 0
+  %v = load i64, i64* %p
+  ret i64 %v
+}

@@ -1,0 +1,15 @@
+%Node = type { i64, %Node* }
+@g = global %Node* null
+declare i8* @dg_alloc(i32)
+declare void @dg_safepoint()
+declare void @llvm.gcroot(i8**, i8*)
+declare i8* @llvm.gcread(i8*, i8**)
+declare void @llvm.gcwrite(i8*, i8*, i8**)
+define i8* @next(%Node* %n, %Node* %other) gc "shadow-stack" {
+entry:
+  %f = getelementptr %Node, %Node* %n, i32 0, i32 1
+  %q = bitcast %Node** %f to i8**
+  %o = bitcast %Node* %other to i8*
+  %r = call i8* @llvm.gcread(i8* null, i8** %q)
+  ret i8* %r
+}

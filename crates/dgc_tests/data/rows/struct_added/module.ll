@@ -1,0 +1,2 @@
+define void @f() {
+  %x = add i64 { i64 1 }, 1

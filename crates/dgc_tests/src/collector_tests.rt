@@ -1,0 +1,72 @@
+//! The collector over one cell: its first turns.
+use colours::{Ask, Place, Turn};
+use items::Items;
+use pools::{LayoutId, Layouts, Pools, WordKind};
+use std::test::Fail;
+use trace_sweep::{Collector, Motion, Words};
+
+/// Words that all hold the same number.
+#[derive(Drop)]
+struct Everywhere {
+    number: u32,
+}
+
+impl Words for Everywhere {
+    ghost word_at = { λ words place. words.number };
+
+    fn look(&self, _place: Place) -> u64 {
+        u64::from(self.number)
+    }
+}
+
+/// The word of the next step: a colour, or a null global.
+fn next_word(ask: Option<Ask>, colours: &[u32; 2]) -> u32 {
+    match ask {
+        Some(Ask::Load(Place::Colour(cell)) | Ask::FetchMax(Place::Colour(cell), _)) =>
+            colours[cell as usize % 2],
+        _ => 0,
+    }
+}
+
+/// The turns of the first cycle, and the first turn of the second.
+const FIRST_TURNS: [Turn; 12] = [
+    Turn::PostStage(1),
+    Turn::PostStage(2),
+    Turn::MarkFound(0, 1),
+    Turn::PostStage(3),
+    Turn::ReadColour(0, 2),
+    Turn::ScanWord(0, 0, 0),
+    Turn::Blacken(0),
+    Turn::ReadColour(1, 0),
+    Turn::ReadColour(0, 3),
+    Turn::ReadColour(1, 0),
+    Turn::ReadColour(1, 0),
+    Turn::PostStage(4),
+];
+
+#[test]
+fn first_turns_over_one_blue_cell(rt: HostRuntime) -> Result<(), Fail> {
+    let alloc = rt.alloc();
+    let mut layouts = Layouts::new(alloc);
+    layouts.push(Items::new(alloc))?;
+    let pools = Pools::new(alloc, &layouts, &[1])?;
+    let globals = [WordKind::Reference(LayoutId::new(0))];
+    let mut collector = Collector::new(&pools, &layouts, &globals, 0);
+    let mut colours = [1, 0];
+    for turn in FIRST_TURNS {
+        let number = next_word(collector.ask(), &colours);
+        let motion = collector.next(&Everywhere { number });
+        assert_eq!(rt; motion.map(|motion| motion.turn), Some(turn));
+        if let Some(
+            Motion {
+                place: Place::Colour(cell),
+                stored: Some(colour),
+                ..
+            },
+        ) = motion
+        {
+            colours[cell as usize % 2] = u32::try_from(colour).unwrap_or(u32::MAX);
+        }
+    }
+    Ok(())
+}

@@ -1,0 +1,125 @@
+//! `dgc_tests`, the program: runs commands of `dgc` on files and compares what they print with what is wanted.
+//!
+//! `rows.txt` names the rows, one a line. The folder `rows/NAME` of a row has these files:
+//! - `args`: the command line after `dgc`, one word a line.
+//! - `status`, `stdout`, `stderr`: the wanted exit status and the wanted bytes of both outputs.
+//! - The files that `args` names. A file that is not there cannot be read by the command either.
+//!
+//! The line `<clap text>` in `stdout` or `stderr` stands for any text of `clap`: a refused command line, the help, the version.
+#![tactic(auto)]
+
+#[cfg(test)]
+mod collector_tests;
+#[cfg(test)]
+mod command_tests;
+mod failure;
+#[cfg(test)]
+mod machine_tests;
+#[cfg(test)]
+mod mutator_tests;
+mod printed;
+#[cfg(test)]
+mod printing_tests;
+#[cfg(test)]
+mod reading_tests;
+#[cfg(test)]
+mod replaying_tests;
+mod row;
+#[cfg(test)]
+mod texts;
+
+use failure::Failure;
+use row::Row;
+use std::io::Write;
+use std::process::ExitCode;
+use std::rt::Runtime;
+use std::thread::Threads;
+use std::{fs, io};
+
+/// The file with the names of the rows, one a line.
+const ROWS: &str = "rows.txt";
+
+/// The numbers of rows that are as wanted, and of those that are not.
+#[derive(Clone, Copy)]
+struct Tally {
+    alike: u32,
+    different: u32,
+}
+
+/// Runs the command of a row. Returns whether it prints what is wanted, and writes what differs.
+fn compare_row<O: Write>(
+    rt: &(impl Runtime + AllocGlobal + Threads + Sync),
+    name: &str,
+    out: &mut O,
+) -> Result<bool, Failure> {
+    let row = Row::read(rt, name)?;
+    let printed = row.printed(rt)?;
+    Ok(printed.compare(out, name, row.wanted())?)
+}
+
+/// Runs the command of a row. A row whose own files cannot be read is not as wanted.
+fn try_row<O: Write>(
+    rt: &(impl Runtime + AllocGlobal + Threads + Sync),
+    name: &str,
+    out: &mut O,
+) -> Result<bool, Failure> {
+    match compare_row(rt, name, out) {
+        Err(Failure::Outside) => {
+            writeln!(
+                out,
+                "{name}: wanted the files args, status, stdout and stderr"
+            )?;
+            Ok(false)
+        }
+        answer => answer,
+    }
+}
+
+/// Runs all rows.
+fn tally_of<O: Write>(
+    rt: &(impl Runtime + AllocGlobal + Threads + Sync),
+    out: &mut O,
+) -> Result<Tally, Failure> {
+    let names = fs::read_to_string(rt, ROWS)?;
+    let mut tally = Tally {
+        alike: 0,
+        different: 0,
+    };
+    for name in names.lines() {
+        if try_row(rt, name, out)? {
+            tally.alike = tally.alike.saturating_add(1);
+        } else {
+            tally.different = tally.different.saturating_add(1);
+        }
+    }
+    Ok(tally)
+}
+
+/// Runs all rows and writes how many are as wanted. Returns whether all are.
+fn run<O: Write>(
+    rt: &(impl Runtime + AllocGlobal + Threads + Sync),
+    out: &mut O,
+) -> Result<bool, Failure> {
+    let Tally { alike, different } = tally_of(rt, out)?;
+    writeln!(out, "{alike} rows as wanted, {different} not")?;
+    Ok(different == 0)
+}
+
+/// Writes why not all rows were run.
+fn write_failure<E: Write>(err: &mut E, failure: Failure) -> io::Result<()> {
+    match failure {
+        Failure::Memory => writeln!(err, "error memory"),
+        Failure::Outside => writeln!(err, "error file {ROWS}"),
+    }
+}
+
+fn main(rt: HostRuntime) -> ExitCode {
+    match run(&rt, &mut rt.stdout()) {
+        Ok(true) => ExitCode::SUCCESS,
+        Ok(false) => ExitCode::FAILURE,
+        Err(failure) => {
+            let _ = write_failure(&mut rt.stderr(), failure);
+            ExitCode::FAILURE
+        }
+    }
+}

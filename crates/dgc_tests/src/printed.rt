@@ -1,0 +1,110 @@
+//! What a command prints, compared with what is wanted.
+use crate::failure::Failure;
+use commands::{STATUS_USAGE, STATUS_YES};
+use std::alloc::{AllocError, Global};
+use std::io::Write;
+use std::rt::Runtime;
+use std::{fs, io};
+
+/// A row has this line in place of any text of `clap`.
+const CLAP_TEXT: &[u8] = b"<clap text>\n";
+
+/// The number of bytes that are shown of a text that differs.
+const SHOWN: usize = 100;
+
+/// The exit status of a command, and the bytes of its two outputs.
+#[derive(Drop)]
+pub struct Printed {
+    pub status: u8,
+    pub out: Vec<u8>,
+    pub err: Vec<u8>,
+}
+
+/// Reads an exit status.
+fn status_in(text: &str) -> Result<u8, Failure> {
+    match text.trim().parse::<u8>() {
+        Ok(status) => Ok(status),
+        Err(_) => Err(Failure::Outside),
+    }
+}
+
+impl Printed {
+    /// Reads the files `status`, `stdout` and `stderr` of a folder.
+    pub fn read(rt: &(impl Runtime + AllocGlobal), folder: &str) -> Result<Printed, Failure> {
+        let alloc = rt.alloc();
+        let status = fs::read_to_string(rt, format!(in alloc; "{folder}/status")?.as_str())?;
+        Ok(Printed {
+            status: status_in(status.as_str())?,
+            out: fs::read(rt, format!(in alloc; "{folder}/stdout")?.as_str())?,
+            err: fs::read(rt, format!(in alloc; "{folder}/stderr")?.as_str())?,
+        })
+    }
+
+    /// A text of `clap`: a fault, or the help or version that was asked for.
+    pub fn of_clap(alloc: Global, is_fault: bool) -> Result<Printed, AllocError> {
+        let text = Vec::from_slice(alloc, CLAP_TEXT)?;
+        let nothing = Vec::new(alloc);
+        Ok(if is_fault {
+            Printed {
+                status: STATUS_USAGE,
+                out: nothing,
+                err: text,
+            }
+        } else {
+            Printed {
+                status: STATUS_YES,
+                out: text,
+                err: nothing,
+            }
+        })
+    }
+
+    fn is_like(&self, other: &Printed) -> bool {
+        self.status == other.status
+            && self.out.as_slice() == other.out.as_slice()
+            && self.err.as_slice() == other.err.as_slice()
+    }
+
+    /// Returns whether this is as wanted, and writes what differs in the row of this name.
+    pub fn compare<W: Write>(&self, out: &mut W, name: &str, wanted: &Printed) -> io::Result<bool> {
+        if self.status != wanted.status {
+            writeln!(
+                out,
+                "{name}: wanted status {}, not {}",
+                wanted.status, self.status
+            )?;
+        }
+        write_difference(out, name, wanted.out.as_slice(), self.out.as_slice())?;
+        write_difference(out, name, wanted.err.as_slice(), self.err.as_slice())?;
+        Ok(self.is_like(wanted))
+    }
+}
+
+/// Writes the wanted and the printed text if they differ.
+fn write_difference<W: Write>(
+    out: &mut W,
+    name: &str,
+    wanted: &[u8],
+    text: &[u8],
+) -> io::Result<()> {
+    if wanted == text {
+        return Ok(());
+    }
+    write!(out, "{name}: wanted '")?;
+    write_front(out, wanted)?;
+    write!(out, "', not '")?;
+    write_front(out, text)?;
+    writeln!(out, "'")
+}
+
+/// Writes the first bytes of a text, a line end as `\n`.
+fn write_front<W: Write>(out: &mut W, text: &[u8]) -> io::Result<()> {
+    for byte in text.iter().take(SHOWN) {
+        if *byte == b'\n' {
+            out.write_all(b"\\n".as_slice())?;
+        } else {
+            out.write_all([*byte].as_slice())?;
+        }
+    }
+    Ok(())
+}

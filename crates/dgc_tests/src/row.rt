@@ -1,0 +1,91 @@
+//! A row: a command line, the folder of its files, and what it has to print.
+use crate::failure::Failure;
+use crate::printed::Printed;
+use commands::{Line, LineFault, STATUS_USAGE, line, status_of, work};
+use std::fs;
+use std::rt::Runtime;
+use std::thread::Threads;
+
+/// A command line with the folder of its files, and what it has to print.
+#[derive(Drop)]
+pub struct Row {
+    /// The folder of its files.
+    folder: String,
+    /// The words of its command line, the program's name first.
+    words: Vec<String>,
+    wanted: Printed,
+}
+
+/// The bytes of a file, if it can be read.
+fn bytes_of(rt: &(impl Runtime + AllocGlobal), path: &str) -> Result<Option<Vec<u8>>, Failure> {
+    match fs::read(rt, path) {
+        Ok(bytes) => Ok(Some(bytes)),
+        Err(error) => match Failure::from(error) {
+            Failure::Memory => Err(Failure::Memory),
+            Failure::Outside => Ok(None),
+        },
+    }
+}
+
+impl Row {
+    /// Reads the row of this name.
+    pub fn read(rt: &(impl Runtime + AllocGlobal), name: &str) -> Result<Row, Failure> {
+        let alloc = rt.alloc();
+        let folder = format!(in alloc; "rows/{name}")?;
+        let args = fs::read_to_string(rt, format!(in alloc; "{folder}/args")?.as_str())?;
+        let mut words = Vec::new(alloc);
+        words.push("dgc".to_owned(alloc)?)?;
+        for word in args.lines() {
+            words.push(word.to_owned(alloc)?)?;
+        }
+        let wanted = Printed::read(rt, folder.as_str())?;
+        Ok(Row {
+            folder,
+            words,
+            wanted,
+        })
+    }
+
+    /// What the command has to print.
+    pub fn wanted(&self) -> &Printed {
+        &self.wanted
+    }
+
+    /// Runs the command line.
+    pub fn printed(
+        &self,
+        rt: &(impl Runtime + AllocGlobal + Threads + Sync),
+    ) -> Result<Printed, Failure> {
+        let alloc = rt.alloc();
+        let words: Vec<&str> = self.words.iter().map(|word| word.as_str()).collect(alloc)?;
+        match line(alloc, words.as_slice()) {
+            Ok(line) => self.done(rt, &line),
+            Err(LineFault::Words(error)) => Ok(Printed::of_clap(alloc, error.use_stderr())?),
+            Err(LineFault::NoCommand) => Ok(Printed {
+                status: STATUS_USAGE,
+                out: Vec::new(alloc),
+                err: Vec::new(alloc),
+            }),
+            Err(LineFault::Memory) => Err(Failure::Memory),
+        }
+    }
+
+    /// Runs the command of a line that is accepted.
+    fn done(
+        &self,
+        rt: &(impl Runtime + AllocGlobal + Threads + Sync),
+        line: &Line<'_>,
+    ) -> Result<Printed, Failure> {
+        let alloc = rt.alloc();
+        let mut files = Vec::new(alloc);
+        for path in line.paths(alloc)? {
+            let path = format!(in alloc; "{}/{path}", self.folder)?;
+            files.push(bytes_of(rt, path.as_str())?)?;
+        }
+        let mut out = Vec::new(alloc);
+        let mut err = Vec::new(alloc);
+        let answered = work(rt, alloc, line, files.as_slice(), &mut out, &mut err);
+        let status = status_of(answered);
+        Ok(Printed { status, out, err })
+    }
+}
