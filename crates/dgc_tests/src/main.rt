@@ -4,8 +4,6 @@
 //! - `args`: the command line after `dgc`, one word a line.
 //! - `status`, `stdout`, `stderr`: the wanted exit status and the wanted bytes of both outputs.
 //! - The files that `args` names. A file that is not there cannot be read by the command either.
-//!
-//! The line `<clap text>` in `stdout` or `stderr` stands for any text of `clap`: a refused command line, the help, the version.
 #![tactic(auto)]
 
 #[cfg(test)]

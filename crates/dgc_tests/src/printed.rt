@@ -1,13 +1,10 @@
 //! What a command prints, compared with what is wanted.
 use crate::failure::Failure;
 use commands::{STATUS_USAGE, STATUS_YES};
-use std::alloc::{AllocError, Global};
+use std::alloc::Global;
 use std::io::Write;
 use std::rt::Runtime;
 use std::{fs, io};
-
-/// A row has this line in place of any text of `clap`.
-const CLAP_TEXT: &[u8] = b"<clap text>\n";
 
 /// The number of bytes that are shown of a text that differs.
 const SHOWN: usize = 100;
@@ -41,10 +38,9 @@ impl Printed {
     }
 
     /// A text of `clap`: a fault, or the help or version that was asked for.
-    pub fn of_clap(alloc: Global, is_fault: bool) -> Result<Printed, AllocError> {
-        let text = Vec::from_slice(alloc, CLAP_TEXT)?;
+    pub fn of_clap(alloc: Global, text: Vec<u8>, is_fault: bool) -> Printed {
         let nothing = Vec::new(alloc);
-        Ok(if is_fault {
+        if is_fault {
             Printed {
                 status: STATUS_USAGE,
                 out: nothing,
@@ -56,7 +52,7 @@ impl Printed {
                 out: text,
                 err: nothing,
             }
-        })
+        }
     }
 
     fn is_like(&self, other: &Printed) -> bool {

@@ -60,7 +60,10 @@ impl Row {
         let words: Vec<&str> = self.words.iter().map(|word| word.as_str()).collect(alloc)?;
         match line(alloc, words.as_slice()) {
             Ok(line) => self.done(rt, &line),
-            Err(LineFault::Words(error)) => Ok(Printed::of_clap(alloc, error.use_stderr())?),
+            Err(LineFault::Words(error)) => {
+                let text = format!(in alloc; "{error}")?;
+                Ok(Printed::of_clap(alloc, text.into_bytes(), error.use_stderr()))
+            }
             Err(LineFault::NoCommand) => Ok(Printed {
                 status: STATUS_USAGE,
                 out: Vec::new(alloc),
