@@ -6,7 +6,7 @@ use Rattle.std.specs.Str.{bytes_eq}
 use Rattle.std.proofs.lemmas.Bool.{eqb-true, eq-eqb}
 use Rattle.std.proofs.lemmas.List.{append-nil}
 use Rattle.lemmas.specs.Lists.{all_end}
-use Rattle.lemmas.specs.Bools.{or_second, or_first, or_neither, and_second, and_first, and_true}
+use Rattle.lemmas.specs.Bools.{or_second, or_first, or_neither, and_second, and_first}
 use Rattle.grammar.specs.Many.{Listed}
 use Rattle.ir_ast.specs.declared.block.Block.{Block}
 use Rattle.ir_ast.specs.declared.function.Function.{Function}

@@ -8,10 +8,10 @@ use Rattle.trace_text.specs.declared.trace.Actor.{Actor}
 use Rattle.trace_text.specs.declared.trace.Actor.TheVariants as actor
 use Rattle.machine.specs.declared.value.Value.{Value}
 use Rattle.machine.specs.declared.value.Value.TheVariants as value
-use Rattle.replay.specs.Faults.{SetupFault}
-use Rattle.replay.specs.Faults as setup
-use Rattle.replay.specs.Ends.{ThreadEnd}
-use Rattle.replay.specs.Ends as thread
+use Rattle.replay.specs.declared.setup_fault.SetupFault.{SetupFault}
+use Rattle.replay.specs.declared.setup_fault.SetupFault.TheVariants as setup
+use Rattle.replay.specs.declared.thread_end.ThreadEnd.{ThreadEnd}
+use Rattle.replay.specs.declared.thread_end.ThreadEnd.TheVariants as thread
 use Rattle.replay.specs.declared.outcome.Break.{Break}
 use Rattle.replay.specs.declared.outcome.Outcome.{Outcome}
 use Rattle.replay.specs.declared.outcome.Outcome.TheVariants as outcome

@@ -1,5 +1,5 @@
 -- Which values rows name, and what rows say once some are changed.
-use Rattle.std.proofs.Common.{◌≡◌, ◌<◌, ◌≤◌, ◌⊎◌, ℕ, length, List, ◌++◌, get_or, map, refl, sym, ap, subst, inl, inr, ◌∙◌, true, false, Bool, Option, Some, None, slice_set, ◌-◌, Result, Ok, Err, OnErr}
+use Rattle.std.proofs.Common.{◌≡◌, ◌<◌, ◌≤◌, ◌⊎◌, ℕ, length, List, ◌++◌, get_or, map, refl, sym, ap, subst, inl, inr, ◌∙◌, true, false, Option, Some, None, slice_set, ◌-◌, Result, Ok, Err, OnErr}
 use Rattle.std.proofs.Math.ListN.{get_or-map}
 use Rattle.std.proofs.lemmas.Bool.{cases_lt}
 use Rattle.std.proofs.lemmas.List.{ext_get_or, get_or_past, get_or-set_same, get_or-set_other, map-set, length-map, length-set, set-append_left, set-append_right}

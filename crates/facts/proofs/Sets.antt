@@ -1,7 +1,6 @@
 -- What is at a place of a list after a write, and small facts on tests.
-use Rattle.std.proofs.Common.{◌≡◌, ◌<◌, ℕ, length, zero, suc, List, [], ◌∷◌, get_or, map, refl, sym, ap, arith, true, false, Bool, slice_set}
-use Rattle.std.proofs.lemmas.Bool.Decides.{Decides-eqb}
-use Rattle.std.specs.Prelude.{◌==◌, ◌||◌}
+use Rattle.std.proofs.Common.{◌≡◌, ◌<◌, ℕ, length, zero, suc, List, [], ◌∷◌, get_or, refl, ap, arith, true, false, Bool, slice_set}
+use Rattle.std.specs.Prelude.{◌||◌}
 use Rattle.std.specs.List.{list_any}
 use Rattle.lemmas.specs.Bools.{or_second, or_first}
 

@@ -1,6 +1,6 @@
 -- What a safepoint leaves.
 use Rattle.std.proofs.Common.{◌≡◌, ◌<◌, ◌≤◌, ◌+◌, ℕ, zero, suc, List, [], ◌∷◌, length, map, refl, sym, ap, ◌∙◌, subst, arith, true, false, Bool}
-use Rattle.std.specs.Prelude.{◌||◌, ◌↔◌}
+use Rattle.std.specs.Prelude.{◌↔◌}
 use Rattle.std.specs.List.{enumerate_from, zip}
 use Rattle.lemmas.specs.Lists.{at_map}
 use Rattle.lemmas.specs.Bools.{or_false}

@@ -1,5 +1,5 @@
 -- Names and their numbers.
-use Rattle.std.specs.Prelude.{ℕ, List, ◌++◌, [], ◌∷◌, Option, Some, None, position, length, slice_get, unwrap_or, is_some, if◌then◌else◌}
+use Rattle.std.specs.Prelude.{ℕ, List, ◌++◌, [], ◌∷◌, Option, position, length, slice_get, unwrap_or, is_some, if◌then◌else◌}
 use Rattle.std.specs.Str.{bytes_eq}
 
 -- the number of a name: its place, if it is there

@@ -1,5 +1,5 @@
 -- The place of a type holds that type, and a table of types by a test of equality has the places that the definitions say.
-use Rattle.std.proofs.Common.{◌≡◌, ℕ, Bool, true, false, ◌==◌, List, [], ◌∷◌, ◌++◌, length, slice_get, get_or, is_some, unwrap_or, if◌then◌else◌, ◌&&◌, Option, None, Some, Result, Ok, Err, IfOk, eqb-true, false-eqb, true≢false, refl, sym, ap, ◌∙◌, arith}
+use Rattle.std.proofs.Common.{◌≡◌, ℕ, Bool, true, false, ◌==◌, List, [], ◌∷◌, ◌++◌, length, slice_get, get_or, is_some, if◌then◌else◌, ◌&&◌, Option, None, Some, IfOk, eqb-true, true≢false, refl, sym, ap, ◌∙◌}
 use Rattle.std.proofs.lemmas.List.Quantifiers.{position-Some}
 use Rattle.std.proofs.lemmas.Option.{slice_get-get_or}
 use Rattle.std.specs.List.{position_or_len, list_any}

@@ -1,13 +1,11 @@
 -- Where there is no decoration, none is read.
-use Rattle.std.proofs.Common.{◌≡◌, false, not, [], refl, ap}
+use Rattle.std.proofs.Common.{◌≡◌, false, refl}
 use Rattle.ir_print_law.proofs.CallsAgain.{trailing_said}
 use Rattle.ir_ast.specs.declared.op.Op.{Op}
 use Rattle.ir_tokens.specs.declared.token.Kind.TheVariants as k
-use Rattle.ir_forms.specs.Cursor.{kind, sees, begins_line}
+use Rattle.ir_forms.specs.Cursor.{sees}
 use Rattle.ir_forms.specs.declared.input.Input.{Input}
-use Rattle.ir_forms.specs.declared.decorating.Spot.{Spot}
-use Rattle.ir_forms.specs.declared.decorating.Trail.{Trail}
-use Rattle.ir_forms.specs.Decorations.{begins_decoration, decorations, trailing, trail_of, trailed}
+use Rattle.ir_forms.specs.Decorations.{trail_of, trailed}
 
 -- an operation with nothing after it
 pub not_trailed : (op : Op) (i : Input) → sees k.Comma i.cursor ≡ false → (trailed op).says i op i

@@ -1,12 +1,11 @@
 -- What the names of a function mean where it ends.
-use Rattle.std.proofs.Common.{◌≡◌, ℕ, zero, suc, ◌+◌, ◌<◌, true, List, [], ◌∷◌, ◌++◌, length, drop, map, slice_get, unwrap_or, Option, None, Some, refl, sym, ap, subst, ◌∙◌, arith, append_assoc, inl, inr, ◌⊎◌}
+use Rattle.std.proofs.Common.{◌≡◌, ℕ, zero, suc, ◌+◌, ◌<◌, true, List, [], ◌∷◌, ◌++◌, length, drop, map, slice_get, unwrap_or, Option, None, Some, sym, ap, subst, ◌∙◌, arith, append_assoc, inl, inr, ◌⊎◌}
 use Rattle.std.proofs.lemmas.List.{append-nil}
 use Rattle.std.proofs.lemmas.Option.{slice_get_within}
 use Rattle.ir_ast.specs.declared.block.Block.{Block}
 use Rattle.ir_ast.specs.declared.function.Function.{Function}
 use Rattle.ir_ast.specs.declared.function.LocalSort.{LocalSort}
 use Rattle.ir_ast.specs.declared.function.Parameter.{Parameter}
-use Rattle.ir_ast.specs.declared.instr.Instr.{Instr}
 use Rattle.ir_forms.specs.declared.table.Table.{Table}
 use Rattle.ir_forms.specs.declared.uses.LocalUse.{LocalUse}
 use Rattle.ir_forms.specs.declared.uses.Wanted.{Wanted}
@@ -20,7 +19,6 @@ use Rattle.ir_print_law.proofs.DefinedLocals.{used, wanted_is, in_list}
 use Rattle.ir_print_law.proofs.DefinedNames.{Defines, counts_on}
 use Rattle.ir_print_law.proofs.FunctionEnds.{nothing, whole_of}
 use Rattle.ir_print_law.proofs.FunctionPlaces.{Places, AreFirst, key_there}
-use Rattle.ir_print_law.proofs.Instructions.{with_result, with_results}
 use Rattle.ir_print_law.proofs.LocalNames.{Locals, keys_at}
 use Rattle.ir_print_law.proofs.Progresses.{parameters_labels, results_labels}
 use Rattle.ir_print_law.proofs.Reading.{Progress, with_named_value, with_named_label}

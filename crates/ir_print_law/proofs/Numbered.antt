@@ -5,7 +5,6 @@ use Rattle.std.specs.Fmt as text
 use Rattle.std.proofs.lemmas.Bool.Decides.{nat_tests}
 use Rattle.std.proofs.lemmas.Fmt.{decimal_by_steps}
 use Rattle.ir_print_law.proofs.NewLabels.{no_zero_on, kept_by}
-use Rattle.lemmas.specs.Bools.{not_true}
 use Rattle.ir_tokens.specs.Bytes.{Text}
 use Rattle.ir_ast.specs.LocalKeys.{key_of_digits}
 use Rattle.ir_ast.specs.Names.{number_of}

@@ -1,7 +1,6 @@
 -- Printed operands are read as operands that are printed alike.
 use Rattle.std.proofs.Common.{◌≡◌, ℕ, ◌+◌, ◌<◌, ◌≤◌, ◌^◌, Bool, true, false, not, List, [], ◌∷◌, ◌++◌, length, slice_get, Option, Some, unwrap_or, refl, sym, ap, subst, ◌∙◌, arith, append_assoc, length-append}
 use Rattle.std.specs.Prelude.{codes, nat_lt, option_and_then}
-use Rattle.std.proofs.lemmas.Bool.Decides.{nat_tests}
 use Rattle.grammar.specs.Grammar.{pure, ◌>>=◌, ◌>>◌}
 use Rattle.ir_ast.specs.Names.{place_of, number_of, numbered}
 use Rattle.ir_ast.specs.declared.function.Function.{Function}

@@ -1,5 +1,5 @@
 -- The types and the operations of a printed module are read as they are needed.
-use Rattle.std.proofs.Common.{◌≡◌, ℕ, Bool, true, false, not, List, [], ◌∷◌, ◌++◌, Option, Some, None, refl, sym, subst, ◌∙◌}
+use Rattle.std.proofs.Common.{◌≡◌, ℕ, true, false, List, [], ◌∷◌, ◌++◌, Option, Some, None, refl, sym, subst, ◌∙◌}
 use Rattle.std.specs.Prelude.{slice_get, codes}
 use Rattle.lemmas.specs.Bools.{not_true, not_false}
 use Rattle.ir_ast.specs.declared.function.Function.{Function}

@@ -2,8 +2,7 @@
 use Rattle.std.proofs.Common.{◌≡◌, ℕ, zero, suc, ◌+◌, ◌≤◌, Bool, true, false, List, [], ◌∷◌, ◌++◌, refl, sym, ap, ◌∙◌, arith}
 use Rattle.std.specs.Prelude.{codes, ◌==◌, nat_lt}
 use Rattle.std.specs.Fmt.{decimal}
-use Rattle.std.proofs.lemmas.Bool.Decides.{nat_tests}
-use Rattle.ir_print_law.proofs.Looks.{zero_less, suc_one, bits_looks, held_looks, passed_looks, scalar_looks, pointer_looks}
+use Rattle.ir_print_law.proofs.Looks.{suc_one, bits_looks, held_looks, passed_looks, scalar_looks, pointer_looks}
 use Rattle.lemmas.specs.Numbers.{suc_not_null}
 use Rattle.ir_ast.specs.declared.ir_type.IrType.{IrType}
 use Rattle.ir_tokens.specs.Bytes.{Text}

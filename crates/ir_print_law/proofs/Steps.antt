@@ -1,8 +1,6 @@
 -- One form after another, and the forms that read a token.
 use Rattle.std.proofs.Common.{◌≡◌, ℕ, ◌+◌, ◌<◌, ◌≤◌, ◌^◌, Bool, true, false, List, [], ◌∷◌, ◌++◌, length, slice_get, Some, refl, sym, ap, subst, ◌∙◌, arith, length-append}
-use Rattle.std.specs.Prelude.{nat_lt}
-use Rattle.std.proofs.lemmas.Bool.Decides.{nat_tests}
-use Rattle.ir_print_law.proofs.StarsRead.{interned, type_place_within}
+use Rattle.ir_print_law.proofs.StarsRead.{interned}
 use Rattle.grammar.specs.Grammar.{pure, step, checked, look, ◌>>=◌, ◌>>◌}
 use Rattle.ir_ast.specs.declared.function.Function.{Function}
 use Rattle.ir_ast.specs.declared.ir_type.IrType.{IrType}
@@ -17,7 +15,7 @@ use Rattle.ir_forms.specs.Cursor.{kind, next, sees}
 use Rattle.ir_forms.specs.declared.fault.Fault.{Fault}
 use Rattle.ir_forms.specs.declared.input.Input.{Input}
 use Rattle.ir_forms.specs.Input.{Form, left, advanced, skip, expect, sees_is}
-use Rattle.ir_forms.specs.Written.{intern, with_type_interned, place_in_table}
+use Rattle.ir_forms.specs.Written.{intern, with_type_interned}
 use Rattle.name_text.specs.Names.{is_plain}
 use Rattle.ir_print.specs.Standing.{Stands, IsSeam, AreBlanks}
 use Rattle.ir_print_law.proofs.Words.{word_comes, sign_comes, expected}

@@ -12,7 +12,7 @@ use Rattle.std.proofs.lemmas.List.Quantifiers.{position-Some}
 use Rattle.std.specs.Str.{bytes_eq}
 use Rattle.lemmas.specs.Lists.{get_end}
 use Rattle.ir_ast.specs.Names.{place_of, number_of, numbered}
-use Rattle.ir_ast.specs.Types.{place_of_type, number_of_type, numbered_type, is_same_type}
+use Rattle.ir_ast.specs.Types.{place_of_type, number_of_type, numbered_type}
 use Rattle.ir_ast.specs.declared.ir_type.IrType.{IrType}
 use Rattle.ir_ast.specs.TypePlaces.{stands}
 use Rattle.ir_tokens.specs.Bytes.{Text}

@@ -1,6 +1,6 @@
 -- A printed type is read as a type of the same shape.
 use Rattle.std.proofs.Common.{◌≡◌, ℕ, zero, suc, ◌+◌, ◌<◌, ◌≤◌, ◌^◌, Bool, true, false, not, [], ◌∷◌, ◌++◌, length, slice_get, if◌then◌else◌, Some, is_some, unwrap_or, refl, sym, ap, subst, ◌∙◌, arith, length-append}
-use Rattle.std.specs.Prelude.{◌==◌, nat_lt, nat_le}
+use Rattle.std.specs.Prelude.{nat_lt}
 use Rattle.std.specs.List.{list_all}
 use Rattle.std.specs.Fmt as text
 use Rattle.std.proofs.lemmas.Bool.Decides.{nat_tests}

@@ -1,5 +1,5 @@
 -- A module has layouts exactly where its first fault is none.
-use Rattle.std.proofs.Common.{◌≡◌, ◌≤◌, ◌<◌, inl, inr, ℕ, Bool, true, false, ◌||◌, List, [], ◌∷◌, length, position, map, Option, Some, None, is_none, refl, sym, ap, ◌∙◌, subst, arith, unwrap_or, zero, suc, get_or, min}
+use Rattle.std.proofs.Common.{◌≡◌, ◌≤◌, ◌<◌, inl, inr, ℕ, Bool, true, false, List, [], ◌∷◌, length, position, map, Option, Some, None, is_none, refl, sym, ap, ◌∙◌, subst, arith, unwrap_or, zero, suc, get_or, min}
 use Rattle.std.specs.List.{list_any}
 use Rattle.std.specs.Prelude.{slice_get}
 use Rattle.std.proofs.lemmas.List.Quantifiers.{position-Some}

@@ -1,6 +1,6 @@
 -- Lists: what is at a place, and what holds of all elements.
 use Rattle.std.proofs.Common.{◌≡◌, ℕ, zero, suc, ◌+◌, ◌<◌, Bool, true, List, [], ◌∷◌, ◌++◌, length, get_or, map, sum, slice_get, Some, refl, sym, ap, arith}
-use Rattle.std.specs.Prelude.{◌&&◌, replicate}
+use Rattle.std.specs.Prelude.{replicate}
 use Rattle.std.specs.List.{list_all}
 use Rattle.std.proofs.lemmas.List.Sums.{sum_by-cons}
 use Rattle.lemmas.specs.Bools.{and_parts, and_true}

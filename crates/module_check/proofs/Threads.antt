@@ -1,5 +1,5 @@
 -- What a certified module promises: its threads obey the discipline, and all their runs are safe.
-use Rattle.std.proofs.Common.{ℕ, ◌<◌, List, length, sym, subst}
+use Rattle.std.proofs.Common.{◌<◌, List, length, sym, subst}
 use Rattle.std.specs.Option.{option_map_or}
 use Rattle.layout.specs.Steps.{get_inside}
 use Rattle.layout.specs.Layouts.{LaidOut}

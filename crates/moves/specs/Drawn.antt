@@ -1,5 +1,5 @@
 -- A list of actors makes a run, and the collector is where its own steps in it lead.
-use Rattle.std.proofs.Common.{◌≡◌, ◌<◌, ◌⊎◌, inl, inr, ℕ, ◌==◌, Bool, true, false, Option, Some, None, List, [], ◌∷◌, refl, sym, ap, subst, if◌then◌else◌, MatchOption, nat_lt, length, is_some}
+use Rattle.std.proofs.Common.{◌≡◌, ◌<◌, inl, inr, ℕ, ◌==◌, Bool, true, false, Option, Some, None, List, [], ◌∷◌, refl, sym, ap, subst, if◌then◌else◌, MatchOption, nat_lt, length, is_some}
 use Rattle.lemmas.specs.Numbers.{test_true}
 use Rattle.lemmas.specs.Bools.{yes_or_no}
 use Rattle.pools.specs.Heap.{Setup, words_of_cell}

@@ -1,5 +1,5 @@
 -- Printed names and numbers are read as what they were printed of.
-use Rattle.std.proofs.Common.{◌≡◌, ℕ, suc, ◌<◌, ◌^◌, Bool, true, false, ◌||◌, [], ◌∷◌, length, Some, refl, ap, arith, rules}
+use Rattle.std.proofs.Common.{◌≡◌, ℕ, suc, ◌<◌, ◌^◌, true, false, ◌||◌, [], ◌∷◌, length, Some, refl, ap, arith, rules}
 use Rattle.std.specs.Prelude.{nat_le}
 use Rattle.std.specs.List.{list_all}
 use Rattle.std.specs.Fmt.{decimal}

@@ -2,7 +2,6 @@
 use Rattle.std.proofs.Math.Seq.{take-suc}
 use Rattle.std.proofs.Common.{add-one, take, slice_index, ◌≡◌, ℕ, zero, suc, ◌+◌, ◌-◌, ◌<◌, ◌≤◌, true, false, nat_lt, nat_le, List, [], ◌∷◌, ◌++◌, length, slice_index_or, sum, refl, ap, arith, ◌∙◌, subst}
 use Rattle.std.proofs.lemmas.Bool.Decides.{nat_tests}
-use Rattle.std.proofs.lemmas.List.Sums.{sum_by-cons}
 use Rattle.std.specs.List.Sorted.{IsPartitionPoint}
 use Rattle.lemmas.specs.Lists.{sum_cons}
 use Rattle.pools.specs.Heap.{layout_at, cells_in}

@@ -1,8 +1,8 @@
 -- What values fit a heap: those that instructions compute, those of operands, and those of lists with one more.
-use Rattle.std.proofs.Common.{◌≡◌, ℕ, zero, suc, ◌+◌, ◌<◌, ◌≤◌, ◌^◌, List, [], ◌∷◌, refl, arith, true, false, Bool, Option, Some, None, slice_set, inl, inr}
+use Rattle.std.proofs.Common.{ℕ, zero, suc, ◌+◌, ◌<◌, ◌≤◌, ◌^◌, List, [], ◌∷◌, arith, true, false, Bool, Option, Some, None, slice_set, inl, inr}
 use Rattle.std.proofs.lemmas.Bool.{cases_lt}
 use Rattle.std.proofs.lemmas.Nat.{mod_below, pow_below, pow_pos}
-use Rattle.std.specs.Prelude.{◌⊎◌, ◌&&◌, ◌==◌, ◌%◌, nat_lt, is_some, replicate, if◌then◌else◌}
+use Rattle.std.specs.Prelude.{◌⊎◌, ◌==◌, ◌%◌, is_some, replicate, if◌then◌else◌}
 use Rattle.lemmas.specs.Numbers.{lt_yes, lt_no}
 use Rattle.ir_ast.specs.declared.module.Module.{Module}
 use Rattle.ir_ast.specs.declared.op.Arithmetic.{Arithmetic as Operation}

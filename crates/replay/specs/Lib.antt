@@ -10,5 +10,3 @@ pub mod Outcomes
 pub mod Watched
 pub mod Soaks
 pub mod CauseNames
-pub mod Faults
-pub mod Ends

@@ -1,7 +1,6 @@
 -- Cells that are tried from the lowest number of their pool up are cells of the pool, each once.
 use Rattle.std.proofs.Common.{◌≡◌, ◌≢◌, ◌≤◌, ◌<◌, ◌⊎◌, ◌+◌, ◌-◌, inl, inr, ℕ, zero, suc, ◌==◌, Bool, true, false, Option, Some, None, List, [], ◌∷◌, length, sum, slice_index, if◌then◌else◌, nat_lt, refl, subst, MatchOption, arith}
 use Rattle.std.proofs.lemmas.Bool.Decides.{nat_tests}
-use Rattle.std.proofs.lemmas.List.Sums.{sum_by-cons}
 use Rattle.lemmas.specs.Lists.{sum_cons}
 use Rattle.lemmas.specs.Numbers.{test_false}
 use Rattle.pools.specs.Heap.{Setup, IsOfLayout, layout_of, layout_at, is_late}

@@ -6,7 +6,7 @@ use Rattle.std.proofs.lemmas.Bool.{cases_lt}
 use Rattle.std.proofs.lemmas.Grind.{common_steps}
 use Rattle.std.specs.Prelude.{◌⊎◌, ◌==◌, ◌%◌, nat_lt, not, if◌then◌else◌, position}
 use Rattle.std.specs.List.{take_while, prefix_len, position_or_len}
-use Rattle.lemmas.specs.Numbers.{lt_yes, lt_no}
+use Rattle.lemmas.specs.Numbers.{lt_yes}
 use Rattle.ir_ast.specs.declared.function.Function.{Function}
 use Rattle.ir_ast.specs.declared.instr.Instr.{Instr}
 use Rattle.ir_ast.specs.declared.module.Module.{Module}

@@ -1,10 +1,10 @@
 -- Fresh classes that have a value: the cells of the others may be forgotten.
-use Rattle.std.proofs.Common.{◌≡◌, ℕ, zero, suc, List, [], ◌∷◌, length, refl, sym, ap, ◌∙◌, subst, true, false, Bool, Some, inl, inr}
+use Rattle.std.proofs.Common.{◌≡◌, ℕ, List, length, refl, sym, ap, ◌∙◌, subst, true, false, Bool, Some}
 use Rattle.std.specs.Prelude.{◌&&◌, not, if◌then◌else◌}
 use Rattle.std.specs.List.{list_any}
 use Rattle.soundness.proofs.Members.{any_found}
 use Rattle.lemmas.specs.Numbers.{test_true}
-use Rattle.lemmas.specs.Bools.{and_parts, not_true, or_parts}
+use Rattle.lemmas.specs.Bools.{and_parts, not_true}
 use Rattle.pools.specs.Heap.{Setup}
 use Rattle.layout.specs.Layouts.{LaidOut}
 use Rattle.shadow_stack.specs.Slots.{SlotTable}

@@ -1,7 +1,6 @@
 -- What an edge shows by the comparison that decides it.
-use Rattle.std.proofs.Common.{◌≡◌, ◌≢◌, ℕ, zero, suc, ◌<◌, ◌≤◌, List, [], ◌∷◌, length, get_or, refl, sym, ap, ◌∙◌, subst, arith, true, false, Bool, Option, Some, None, slice_set, inl, inr}
-use Rattle.std.proofs.lemmas.Bool.{cases_lt}
-use Rattle.std.specs.Prelude.{◌==◌, ◌⊎◌, not, if◌then◌else◌, nat_lt, nat_le}
+use Rattle.std.proofs.Common.{◌≡◌, ◌≢◌, ℕ, zero, suc, ◌<◌, ◌≤◌, List, [], ◌∷◌, length, get_or, refl, sym, ap, ◌∙◌, subst, arith, true, false, Bool, Option, Some, None, slice_set}
+use Rattle.std.specs.Prelude.{◌==◌, not, if◌then◌else◌, nat_lt, nat_le}
 use Rattle.lemmas.specs.Numbers.{test_true, lt_true, lt_false}
 use Rattle.ir_ast.specs.declared.op.Comparison.{Comparison}
 use Rattle.ir_ast.specs.declared.op.Comparison.TheVariants.{Equal, NotEqual, UnsignedGreater, UnsignedGreaterOrEqual, UnsignedLess, UnsignedLessOrEqual, SignedGreater, SignedGreaterOrEqual, SignedLess, SignedLessOrEqual}

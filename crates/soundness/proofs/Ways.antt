@@ -1,5 +1,5 @@
 -- The edges out of a block: a thread takes one that the rules looked at, and what its target begins with holds there.
-use Rattle.std.proofs.Common.{◌≡◌, ℕ, ◌<◌, List, [], ◌∷◌, length, map, refl, sym, ap, ◌∙◌, arith, true, false, Bool, Option, Some, None}
+use Rattle.std.proofs.Common.{◌≡◌, ℕ, ◌<◌, List, [], ◌∷◌, length, map, refl, sym, ap, ◌∙◌, true, false, Bool, Option, Some, None}
 use Rattle.std.specs.Prelude.{◌==◌, ◌&&◌, not, if◌then◌else◌, nat_lt}
 use Rattle.std.specs.List.{take_while}
 use Rattle.lemmas.specs.Numbers.{test_true, test_yes, lt_true}

@@ -1,7 +1,6 @@
-use Rattle.std.proofs.Common.{◌≡◌, rules}
+use Rattle.std.proofs.Common.{rules}
 use Rattle.rand.specs.Draw.{Gives}
 use Rattle.rand_core.specs.Stream.{next_u32}
-use Rattle.replay.specs.Draws.{one_draw}
 use Rattle.replay.proofs.DrawLemmas.{drawn_is}
 use Rattle.replay.proofs.seeds.draw.Goals as goal
 

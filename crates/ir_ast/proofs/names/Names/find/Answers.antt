@@ -1,4 +1,4 @@
-use Rattle.std.proofs.Common.{◌≡◌, ap, ◌∙◌, sym}
+use Rattle.std.proofs.Common.{ap, ◌∙◌, sym}
 use Rattle.std.specs.Str.{bytes_eq}
 use Rattle.ir_ast.specs.Names.{place_of}
 use Rattle.ir_ast.specs.Places.{position-map}

@@ -1,4 +1,4 @@
-use Rattle.std.proofs.Common.{◌≡◌, ℕ, map, ap, ◌∙◌, sym, Vec, Global}
+use Rattle.std.proofs.Common.{ℕ, map, ap, ◌∙◌, sym, Vec, Global}
 use Rattle.ir_ast.specs.Places.{new_name}
 use Rattle.ir_ast.proofs.names.Names.number.Goals as goal
 

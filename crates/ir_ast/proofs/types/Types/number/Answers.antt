@@ -1,4 +1,4 @@
-use Rattle.std.proofs.Common.{◌≡◌, ◌∙◌, Result, Ok, Err, OnErr}
+use Rattle.std.proofs.Common.{◌∙◌, Result, Ok, Err, OnErr}
 use Rattle.ir_ast.specs.TypePlaces.{found_stands, number-is, types-are, none-is}
 use Rattle.ir_ast.proofs.types.Types.number.Goals as goal
 
