@@ -113,6 +113,8 @@ def help_places(rows):
                 places.append(Place(heading, False, "no block under this heading"))
             heading = f"{page}:{number}" if text.startswith("## dgc ") else None
             words = text.split()[2:]
+        elif kind == "block" and heading is None:
+            places.append(Place(f"{page}:{number}", False, "a block without a heading `## dgc ..` of its own"))
         elif kind == "block":
             outputs = [(text + "\n", "", "0"), ("", text + "\n", "4")]
             same = [row for row in rows if row.args in [words] + same_help(words)]
@@ -176,8 +178,9 @@ def change_places(rows, where, head, example, text):
         else:
             held = checks(rows, head, other, found["answer"])
             places.append(Place(where, held, "no row has the example of: " + found[0]))
-    if len(places) != text.count("the answer is"):
-        places.append(Place(where, False, "a sentence with `the answer is` is not in the form of bench/examples.py"))
+    starts = len(re.findall(r"\bWith(?:out)? `", text))
+    if len(places) != max(starts, text.count("the answer is")):
+        places.append(Place(where, False, "a sentence with `the answer is` or `With` is not in the form of bench/examples.py"))
     return places
 
 
@@ -210,9 +213,9 @@ def may_stand_for(args, words):
     if args[:1] != ["soak"] or words[:1] != ["soak"] or len(args) != 7 or len(words) != 7:
         return args == words
     same = [0, 1, 2, 3, 5]
-    if any(args[place] != words[place] for place in same):
+    if any(args[place] != words[place] for place in same) or not args[4].isdecimal() or not args[6].isdecimal():
         return False
-    return all(int(args[place]) <= int(words[place]) for place in (4, 6))
+    return all(words[place].isdecimal() and int(args[place]) <= int(words[place]) for place in (4, 6))
 
 
 def command_place(rows, where, command, printed):
@@ -301,9 +304,9 @@ def form_places(rows, page):
     """Pages of forms: their blocks that are a certificate or what is printed."""
     places = []
     for number, kind, text in pieces(page):
-        if kind == "block" and text.startswith("cert "):
+        if kind == "block" and (text.startswith("cert ") or "\nfunction @" in text):
             places.append(Place(f"{page}:{number}", is_file(rows, text), "no row has this certificate"))
-        elif kind == "block" and text.startswith(PRINTED) and text != FORM:
+        elif kind == "block" and (text.startswith(PRINTED) or re.search(r" \d+$", text)) and text != FORM:
             found = any(prints(row, text) for row in rows)
             places.append(Place(f"{page}:{number}", found, "no row prints this"))
     return places
