@@ -16,8 +16,18 @@ TICK = os.sysconf("SC_CLK_TCK")
 KINDS = ["proof", "tests", "edits"]
 
 
-def provers():
-    """Each running prover: its process, its crate, what it works on, and its processor time so far."""
+def descends(process, top):
+    """Whether a process is the top one, or was started by it or by one that it started."""
+    while process > 1:
+        if process == top:
+            return True
+        with open(f"/proc/{process}/stat") as file:
+            process = int(file.read().rpartition(")")[2].split()[1])
+    return False
+
+
+def provers(top):
+    """Each running prover that the top process started: its process, its crate, what it works on, and its processor time so far."""
     for entry in os.listdir("/proc"):
         if not entry.isdigit():
             continue
@@ -29,6 +39,8 @@ def provers():
             with open(f"/proc/{entry}/stat") as file:
                 fields = file.read().rpartition(")")[2].split()
             folder = os.readlink(f"/proc/{entry}/cwd")
+            if not descends(int(entry), top):
+                continue
         except (OSError, ValueError, IndexError):
             continue
         crate = words[words.index("--crate-name") + 1]
@@ -45,7 +57,7 @@ def run():
     with open("out/gate.log", "w") as log:
         gate = subprocess.Popen(["rt", "ci"], stdout=log, stderr=subprocess.STDOUT)
         while gate.poll() is None:
-            for process, crate, kind, spent in provers():
+            for process, crate, kind, spent in provers(gate.pid):
                 seen[process] = (crate, kind, spent)
             time.sleep(0.5)
     with open("out/gate.log") as log:
