@@ -37,9 +37,6 @@ CHANGE = re.compile(
 )
 PRINTED = ("yes ", "no ", "sound ", "broken ")
 
-# A line of docs/TRACES.md that shows the form of what soak prints. No document says of which module it is.
-FORM = "broken seed 3 32 t 0 touch-blue 1"
-
 
 def text_of(path):
     """The text of a file, with the line ends that it has."""
@@ -306,7 +303,7 @@ def form_places(rows, page):
     for number, kind, text in pieces(page):
         if kind == "block" and (text.startswith("cert ") or "\nfunction @" in text):
             places.append(Place(f"{page}:{number}", is_file(rows, text), "no row has this certificate"))
-        elif kind == "block" and (text.startswith(PRINTED) or re.search(r" \d+$", text)) and text != FORM:
+        elif kind == "block" and (text.startswith(PRINTED) or re.search(r" \d+$", text)):
             found = any(prints(row, text) for row in rows)
             places.append(Place(f"{page}:{number}", found, "no row prints this"))
     return places

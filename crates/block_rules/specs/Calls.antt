@@ -1,5 +1,5 @@
 -- Calls: what they ask, and what is known after them.
-use Rattle.std.specs.Prelude.{ℕ, ◌==◌, Bool, true, false, not, ◌&&◌, if◌then◌else◌, List, [], ◌∷◌, length, slice_get, nat_lt, Option, Some, None}
+use Rattle.std.specs.Prelude.{ℕ, ◌==◌, Bool, true, false, not, ◌&&◌, ◌||◌, if◌then◌else◌, List, [], ◌∷◌, length, slice_get, nat_lt, Option, Some, None}
 use Rattle.std.specs.List.{list_all, zip}
 use Rattle.ir_ast.specs.declared.function.Function.{Function}
 use Rattle.ir_ast.specs.declared.function.Parameter.{Parameter}
@@ -9,6 +9,7 @@ use Rattle.ir_ast.specs.declared.operand.Constant.{Constant}
 use Rattle.ir_ast.specs.declared.operand.Constant.TheVariants.{Number as Numeral}
 use Rattle.ir_ast.specs.declared.operand.Operand.{Operand}
 use Rattle.ir_ast.specs.declared.operand.Operand.TheVariants.{Constant as Written}
+use Rattle.ir_ast.specs.declared.runtime.Runtime.{Runtime}
 use Rattle.ir_ast.specs.declared.runtime.Runtime.TheVariants.{Alloc, Safepoint, GcRoot, GcRead, GcWrite}
 use Rattle.layout.specs.Layouts.{LaidOut}
 use Rattle.shadow_stack.specs.Slots.{SlotTable, held_type}
@@ -23,7 +24,7 @@ use Rattle.block_rules.specs.declared.callee.Callee.TheVariants.{OfRuntime, OfMo
 use Rattle.block_rules.specs.declared.rule.Rule.{Rule}
 use Rattle.block_rules.specs.declared.rule.Rule.TheVariants.{K1, K2, K3, K9, K10, K12, K13, K17, K18}
 use Rattle.block_rules.specs.declared.standing.Standing.{Standing}
-use Rattle.block_rules.specs.Operands.{slot_named, known_of, is_available, is_value, is_current, is_null, is_no_slot}
+use Rattle.block_rules.specs.Operands.{slot_named, known_of, is_available, is_typed, known_fits, is_value, is_current, is_null, is_no_slot}
 use Rattle.block_rules.specs.Signature.{is_written_as}
 use Rattle.block_rules.specs.TypeKinds.{kind_of, is_reference}
 use Rattle.block_rules.specs.Barriers.{read_conditions, write_conditions, after_read_call, after_write}
@@ -117,25 +118,45 @@ defined_conditions m f slots here facts returned arguments called section =
     ∷ (K13, show_promises facts arguments (promises_in section))
     ∷ (K17, marks_agree here.mark (callee_mark section)) ∷ []
 
--- of a call that is refused: its operands are looked at before
-abbrev pub unknown_conditions : Module → Function → SlotTable → Standing → FactSet → List Argument → List (Rule × Bool)
-unknown_conditions m f slots here facts arguments =
+-- the function of the runtime that is meant takes a slot
+abbrev pub takes_slot : (named : Option Runtime) → Bool
+takes_slot (Some GcRoot) = true
+takes_slot _ = false
+
+-- the function of the runtime that is meant takes an address
+abbrev pub takes_address : (named : Option Runtime) → Bool
+takes_address (Some GcRead) = true
+takes_address (Some GcWrite) = true
+takes_address _ = false
+
+-- K2: an argument of a call that is refused has its written type; it is a value, or an address where the function that is meant takes one
+abbrev pub is_taken : Module → Function → FactSet → (named : Option Runtime) → Argument → Bool
+is_taken m f facts named argument =
+    is_typed m f argument.written argument.operand && (takes_address named || known_fits (kind_of m argument.written) (known_of facts argument.operand))
+
+-- K2: the same of each argument
+abbrev pub all_taken : Module → Function → FactSet → (named : Option Runtime) → List Argument → Bool
+all_taken m f facts named arguments = list_all (is_taken m f facts named) arguments
+
+-- of a call that is refused: its operands are looked at before, as those of the function of the runtime that is meant
+abbrev pub refused_conditions : Module → Function → SlotTable → Standing → FactSet → (named : Option Runtime) → List Argument → List (Rule × Bool)
+refused_conditions m f slots here facts named arguments =
     (K1, all_available slots facts arguments)
-    ∷ (K2, all_values m f facts arguments)
+    ∷ (K2, all_taken m f facts named arguments)
     ∷ (K3, all_current facts arguments)
-    ∷ (K10, no_slots slots arguments)
+    ∷ (K10, takes_slot named || no_slots slots arguments)
     ∷ (K12, here.collected)
     ∷ (K18, false) ∷ []
 
 -- of gcread, by its arguments
 abbrev pub read_call_conditions : LaidOut → Function → SlotTable → Standing → FactSet → (returned : ℕ) → List Argument → List (Rule × Bool)
 read_call_conditions p f slots here facts returned (object ∷ place ∷ []) = read_conditions p f slots here facts returned object place
-read_call_conditions p f slots here facts returned arguments = unknown_conditions p.of_module f slots here facts arguments
+read_call_conditions p f slots here facts returned arguments = refused_conditions p.of_module f slots here facts (Some GcRead) arguments
 
 -- of gcwrite, by its arguments
 abbrev pub write_call_conditions : LaidOut → Function → SlotTable → Standing → FactSet → (returned : ℕ) → List Argument → List (Rule × Bool)
 write_call_conditions p f slots here facts returned (value ∷ object ∷ place ∷ []) = write_conditions p f slots here facts returned value object place
-write_call_conditions p f slots here facts returned arguments = unknown_conditions p.of_module f slots here facts arguments
+write_call_conditions p f slots here facts returned arguments = refused_conditions p.of_module f slots here facts (Some GcWrite) arguments
 
 -- of a call, by the function that it is of
 abbrev pub call_conditions : LaidOut → (certs : List Section) → Function → SlotTable → Standing → FactSet → (returned : ℕ) → List Argument → Callee → List (Rule × Bool)
@@ -146,7 +167,7 @@ call_conditions p certs f slots here facts returned arguments (OfRuntime GcRead)
 call_conditions p certs f slots here facts returned arguments (OfRuntime GcWrite) = write_call_conditions p f slots here facts returned arguments
 call_conditions p certs f slots here facts returned arguments (OfModule called) =
     defined_conditions p.of_module f slots here facts returned arguments (slice_get p.of_module.functions called) (slice_get certs called)
-call_conditions p certs f slots here facts returned arguments NoFunction = unknown_conditions p.of_module f slots here facts arguments
+call_conditions p certs f slots here facts returned arguments (NoFunction named) = refused_conditions p.of_module f slots here facts named arguments
 
 -- a gcroot puts null in its slot
 abbrev pub after_root : (slot : Option ℕ) → FactSet → FactSet
@@ -202,4 +223,4 @@ after_call p certs slots result returned arguments (OfRuntime Safepoint) facts =
 after_call p certs slots result returned arguments (OfRuntime GcRead) facts = after_read_call p result arguments facts
 after_call p certs slots result returned arguments (OfRuntime GcWrite) facts = after_write arguments facts
 after_call p certs slots result returned arguments (OfModule called) facts = after_defined p.of_module result returned arguments (slice_get certs called) facts
-after_call p certs slots result returned arguments NoFunction facts = facts
+after_call p certs slots result returned arguments (NoFunction named) facts = facts

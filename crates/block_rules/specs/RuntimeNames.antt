@@ -1,17 +1,9 @@
--- The names of the runtime's functions.
-use Rattle.std.specs.Prelude.{ℕ, Bool, false, ◌||◌, List, Option, Some, None, codes}
-use Rattle.std.specs.Str.{bytes_eq}
+-- The function of the runtime that a name of the module means.
+use Rattle.std.specs.Prelude.{ℕ, List, Option, Some, None}
+use Rattle.ir_ast.specs.declared.runtime.Runtime.{Runtime}
+use Rattle.ir_ast.specs.RuntimeNames.{runtime_of}
 
--- a name is one of a function of the runtime
-abbrev pub is_runtime_name : List ℕ → Bool
-is_runtime_name name =
-    bytes_eq name (codes "dg_alloc")
-    || bytes_eq name (codes "dg_safepoint")
-    || bytes_eq name (codes "llvm.gcroot")
-    || bytes_eq name (codes "llvm.gcread")
-    || bytes_eq name (codes "llvm.gcwrite")
-
--- the same of a name of the module, if there is one
-abbrev pub names_runtime : Option (List ℕ) → Bool
-names_runtime None = false
-names_runtime (Some name) = is_runtime_name name
+-- the function of the runtime that has this name of the module, if there is one
+abbrev pub runtime_named : Option (List ℕ) → Option Runtime
+runtime_named None = None
+runtime_named (Some name) = runtime_of name

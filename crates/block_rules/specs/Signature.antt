@@ -1,5 +1,5 @@
 -- The functions of the runtime, with their types, and which function a call is of.
-use Rattle.std.specs.Prelude.{ℕ, ◌==◌, Bool, not, ◌&&◌, if◌then◌else◌, List, [], ◌∷◌, length, slice_get, Option, Some, None}
+use Rattle.std.specs.Prelude.{ℕ, ◌==◌, Bool, ◌&&◌, if◌then◌else◌, List, [], ◌∷◌, length, slice_get, Option, Some, None, is_none}
 use Rattle.std.specs.List.{list_all, zip}
 use Rattle.ir_ast.specs.declared.function.Function.{Function}
 use Rattle.ir_ast.specs.declared.op.Argument.{Argument}
@@ -13,7 +13,7 @@ use Rattle.block_rules.specs.declared.callee.Callee.{Callee}
 use Rattle.block_rules.specs.declared.callee.Callee.TheVariants.{OfRuntime, OfModule, NoFunction}
 use Rattle.block_rules.specs.declared.signature.RuntimeType.{RuntimeType}
 use Rattle.block_rules.specs.declared.signature.RuntimeType.TheVariants.{Void, Number, Pointer, PointerToPointer}
-use Rattle.block_rules.specs.RuntimeNames.{names_runtime}
+use Rattle.block_rules.specs.RuntimeNames.{runtime_named}
 use Rattle.block_rules.specs.TypeKinds.{kind_of, place_kind, is_void, is_bits, is_any_reference}
 
 -- a function's result and parameters
@@ -59,26 +59,27 @@ is_written_as m returned arguments runtime =
 
 -- what a call of a declared name is of: a function of the runtime, if the name is declared with its types, and it takes this number of arguments
 abbrev pub callable : Module → (arguments : ℕ) → Declare → Option Runtime → Callee
-callable m arguments declared None = NoFunction
+callable m arguments declared None = NoFunction None
 callable m arguments declared (Some runtime) =
-    if is_declared_as m declared runtime && (arguments == length (signature_of runtime).parameters) then OfRuntime runtime else NoFunction
+    if is_declared_as m declared runtime && (arguments == length (signature_of runtime).parameters) then OfRuntime runtime else NoFunction (Some runtime)
 
 -- the same of a declared function, if there is one
 abbrev pub callable_declare : Module → (arguments : ℕ) → Option Declare → Callee
-callable_declare m arguments None = NoFunction
+callable_declare m arguments None = NoFunction None
 callable_declare m arguments (Some declared) = callable m arguments declared declared.runtime
 
 -- the same of a defined function, if there is one: it takes this number of arguments, and its name is none of the runtime's
 abbrev pub callable_function : Module → (callee arguments number : ℕ) → Option Function → Callee
-callable_function m callee arguments number None = NoFunction
+callable_function m callee arguments number None = NoFunction None
 callable_function m callee arguments number (Some function) =
-    if (arguments == length function.parameters) && not (names_runtime (slice_get m.symbols callee)) then OfModule number else NoFunction
+    let named = runtime_named (slice_get m.symbols callee) in
+    if (arguments == length function.parameters) && is_none named then OfModule number else NoFunction named
 
 -- the same by what a name is
 abbrev pub callable_sort : Module → (callee arguments : ℕ) → Option SymbolSort → Callee
-callable_sort m callee arguments None = NoFunction
-callable_sort m callee arguments (Some Unknown) = NoFunction
-callable_sort m callee arguments (Some (Global g)) = NoFunction
+callable_sort m callee arguments None = NoFunction None
+callable_sort m callee arguments (Some Unknown) = NoFunction None
+callable_sort m callee arguments (Some (Global g)) = NoFunction None
 callable_sort m callee arguments (Some (Declared d)) = callable_declare m arguments (slice_get m.declares d)
 callable_sort m callee arguments (Some (Defined f)) = callable_function m callee arguments f (slice_get m.functions f)
 

@@ -7,6 +7,6 @@ pub enum Callee {
     OfRuntime(Runtime),
     /// A function that the module defines.
     OfModule(FuncId),
-    /// No function that may be called so.
-    NoFunction,
+    /// No function that may be called so. `named` is the function of the runtime whose name is called, if it is one's.
+    NoFunction { named: Option<Runtime> },
 }

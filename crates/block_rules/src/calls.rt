@@ -3,13 +3,13 @@ ghost use Rattle.std.specs.List.{list_all, zip};
 ghost use Rattle.std.specs.Option.{option_copied};
 ghost use Rattle.block_rules.specs.FirstFailing.{first_failing};
 ghost use Rattle.block_rules.specs.Signature.{callee_of};
-ghost use Rattle.block_rules.specs.Calls.{all_available, all_values, all_current, no_slots, holds_reference, is_unrooted, may_root, numbers_one_of, numbers_layout, number_layouts, root_conditions, alloc_conditions, safepoint_conditions, is_written_for, is_written_with, defined_conditions, unknown_conditions, read_call_conditions, write_call_conditions, call_conditions, after_root, after_root_call, alloc_numbered, alloc_layout, after_alloc, after_alloc_call, drop_arguments, receive_result, after_defined, after_call};
+ghost use Rattle.block_rules.specs.Calls.{all_available, all_values, all_current, no_slots, holds_reference, is_unrooted, may_root, numbers_one_of, numbers_layout, number_layouts, root_conditions, alloc_conditions, safepoint_conditions, is_written_for, is_written_with, defined_conditions, takes_slot, takes_address, is_taken, all_taken, refused_conditions, read_call_conditions, write_call_conditions, call_conditions, after_root, after_root_call, alloc_numbered, alloc_layout, after_alloc, after_alloc_call, drop_arguments, receive_result, after_defined, after_call};
 
 use crate::barrier::{after_read_call, after_write, read_refusal, write_refusal};
 use crate::callee::Callee;
 use crate::conditions::first_failing;
 use crate::operands::{
-    is_available, is_no_slot, is_null, is_operand_current, is_value, known_of, slot_named,
+    is_available, is_no_slot, is_null, is_operand_current, is_typed, is_value, known_of, slot_named,
 };
 use crate::promises::{callee_mark, given_by, promised_in, promises_in, show_promises};
 use crate::rule::Rule;
@@ -61,7 +61,7 @@ pub fn call_refusal(
         Callee::OfRuntime(Runtime::GcWrite) => {
             write_call_refusal(scene, here, facts, returned, arguments)
         }
-        Callee::NoFunction => unknown_refusal(scene, here, facts, arguments),
+        Callee::NoFunction { named } => refused_refusal(scene, here, facts, *named, arguments),
     }
 }
 
@@ -76,7 +76,7 @@ fn read_call_refusal(
 {
     match arguments {
         [object, place] => read_refusal(scene, here, facts, returned, object, place),
-        _ => unknown_refusal(scene, here, facts, arguments),
+        _ => refused_refusal(scene, here, facts, Some(Runtime::GcRead), arguments),
     }
 }
 
@@ -93,7 +93,7 @@ fn write_call_refusal(
         [value, object, place] => {
             write_refusal(scene, here, facts, returned, value, object, place)
         }
-        _ => unknown_refusal(scene, here, facts, arguments),
+        _ => refused_refusal(scene, here, facts, Some(Runtime::GcWrite), arguments),
     }
 }
 
@@ -210,19 +210,59 @@ fn are_written_for(arguments: &[Argument], parameters: &[Parameter]) -> bool
         == parameter.written)
 }
 
-fn unknown_refusal(
+/// Whether gcroot is meant.
+fn takes_slot(named: Option<Runtime>) -> bool
+    ensures { result ≡ takes_slot named }
+{
+    match named {
+        Some(Runtime::GcRoot) => true,
+        _ => false,
+    }
+}
+
+/// Whether gcread or gcwrite is meant.
+fn takes_address(named: Option<Runtime>) -> bool
+    ensures { result ≡ takes_address named }
+{
+    match named {
+        Some(Runtime::GcRead | Runtime::GcWrite) => true,
+        _ => false,
+    }
+}
+
+fn is_taken(scene: &Scene, facts: &Facts, named: Option<Runtime>, argument: &Argument) -> bool
+    ensures { result ≡ is_taken scene.now.program.now.of_module scene.now.function.now facts.now named argument.now }
+{
+    if takes_address(named) {
+        is_typed(scene, argument.written, &argument.operand)
+    } else {
+        is_value(scene, facts, argument.written, &argument.operand)
+    }
+}
+
+fn all_taken(scene: &Scene, facts: &Facts, named: Option<Runtime>, arguments: &[Argument]) -> bool
+    ensures { result ≡ all_taken scene.now.program.now.of_module scene.now.function.now facts.now named arguments.now }
+{
+    arguments
+        .iter()
+        .all(|argument| is_taken(scene, facts, named, argument))
+}
+
+fn refused_refusal(
     scene: &Scene,
     here: Standing,
     facts: &Facts,
+    named: Option<Runtime>,
     arguments: &[Argument],
 ) -> Option<Rule>
-    ensures { result ≡ first_failing (unknown_conditions scene.now.program.now.of_module scene.now.function.now scene.now.slots.now here facts.now arguments.now) }
+    ensures { result ≡ first_failing (refused_conditions scene.now.program.now.of_module scene.now.function.now scene.now.slots.now here facts.now named arguments.now) }
 {
+    let slots = scene.slots;
     first_failing(&[
-        (Rule::K1, all_available(scene.slots, facts, arguments)),
-        (Rule::K2, all_values(scene, facts, arguments)),
+        (Rule::K1, all_available(slots, facts, arguments)),
+        (Rule::K2, all_taken(scene, facts, named, arguments)),
         (Rule::K3, all_current(facts, arguments)),
-        (Rule::K10, no_slots(scene.slots, arguments)),
+        (Rule::K10, takes_slot(named) || no_slots(slots, arguments)),
         (Rule::K12, here.collected),
         (Rule::K18, false),
     ])
@@ -441,6 +481,6 @@ pub fn after_call(
             let section = scene.certs.section(*called);
             after_defined(scene.module(), facts, defined, returned, arguments, section)
         }
-        Callee::NoFunction => Ok(()),
+        Callee::NoFunction { .. } => Ok(()),
     }
 }

@@ -3,7 +3,7 @@ ghost use Rattle.std.specs.List.{list_all, zip};
 ghost use Rattle.block_rules.specs.Signature.{signature_of, is_runtime_type, is_of_type, is_argument_of, is_declared_as, is_written_as, callable, callable_function, callee_of};
 
 use crate::callee::Callee;
-use crate::runtime_names::names_runtime;
+use crate::runtime_names::runtime_named;
 use crate::type_kind::TypeKind;
 use ir_ast::{Argument, Declare, FuncId, Module, Runtime, SymbolId, SymbolSort, TypeId};
 
@@ -106,11 +106,11 @@ pub fn callee_of(module: &Module, callee: SymbolId, arguments: usize) -> Callee
         Some(SymbolSort::Declared(declare)) => {
             match module.declares.get(declare.number() as usize) {
                 Some(declared) => callable(module, arguments, declared),
-                None => Callee::NoFunction,
+                None => Callee::NoFunction { named: None },
             }
         }
         Some(SymbolSort::Defined(number)) => callable_function(module, callee, arguments, *number),
-        _ => Callee::NoFunction,
+        _ => Callee::NoFunction { named: None },
     }
 }
 
@@ -121,7 +121,7 @@ fn callable(module: &Module, arguments: usize, declared: &Declare) -> Callee
         Some(runtime)
             if is_declared_as(module, declared, runtime)
                 && arguments == parameters_of(runtime).len() => { Callee::OfRuntime(runtime) }
-        _ => Callee::NoFunction,
+        named => Callee::NoFunction { named },
     }
 }
 
@@ -129,10 +129,10 @@ fn callable_function(module: &Module, callee: SymbolId, arguments: usize, number
     ensures { result ≡ callable_function «module».now callee arguments number (slice_get «module».now.functions number) }
 {
     match module.functions.get(number.number() as usize) {
-        Some(function)
-            if arguments == function.parameters.len() && !names_runtime(module, callee) => {
-            Callee::OfModule(number)
-        }
-        _ => Callee::NoFunction,
+        Some(function) => match runtime_named(module, callee) {
+            None if arguments == function.parameters.len() => Callee::OfModule(number),
+            named => Callee::NoFunction { named },
+        },
+        None => Callee::NoFunction { named: None },
     }
 }

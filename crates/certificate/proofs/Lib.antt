@@ -1,4 +1,3 @@
-pub mod Laws
 pub mod Between
 pub mod ReadSets
 pub mod ReadWords

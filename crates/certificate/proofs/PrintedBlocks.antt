@@ -16,6 +16,7 @@ use Rattle.name_text.specs.Words.{past_lines, word_at, stops}
 use Rattle.certificate.specs.Names.{block_of_word}
 use Rattle.certs.specs.RootNames.{root_names}
 use Rattle.certificate.specs.Drafts.{is_in, first_unlisted}
+use Rattle.name_text.specs.Reader.{noted}
 use Rattle.certificate.specs.Input.{Input, with_block}
 use Rattle.certificate.specs.Forms.{block_by, block_named, new_block}
 use Rattle.certificate.specs.Lines.{line}
@@ -105,13 +106,13 @@ all_listed block values lines (w ∷ wanted) same all named =
 
 -- besides the lines of the block nothing has changed
 abbrev pub SameRest : Input → Input → Type 0
-SameRest i o = (i.sections ≡ o.sections) × (i.draft.parameters ≡ o.draft.parameters) × (i.draft.blocks ≡ o.draft.blocks) × (i.draft.given ≡ o.draft.given)
+SameRest i o = (i.read.sections ≡ o.read.sections) × (i.read.draft.parameters ≡ o.read.draft.parameters) × (i.read.draft.blocks ≡ o.read.draft.blocks) × (i.read.draft.given ≡ o.read.draft.given)
 
-noted_same : (value : Option ℕ) (n : ℕ) (i : Input) → SameRest i (noting value n i) × ((noting value n i).draft.lines ≡ i.draft.lines)
+noted_same : (value : Option ℕ) (n : ℕ) (i : Input) → SameRest i (noting value n i) × ((noting value n i).read.draft.lines ≡ i.read.draft.lines)
 noted_same None n i = ((refl, refl, refl, refl), refl)
 noted_same (Some value) n i = ((refl, refl, refl, refl), refl)
 
-lined_same : (block n : ℕ) (said : Line) (i : Input) → SameRest i (lined block n said i) × ((lined block n said i).draft.lines ≡ i.draft.lines ++ said ∷ [])
+lined_same : (block n : ℕ) (said : Line) (i : Input) → SameRest i (lined block n said i) × ((lined block n said i).read.draft.lines ≡ i.read.draft.lines ++ said ∷ [])
 lined_same block n (line.Value value fact) i = let h = noted_same (named_in_fact fact) n i in (h.0, ap (λ (x : List Line). x ++ line.Value value fact ∷ []) h.1)
 lined_same block n (line.Slot slot nonnull holds) i = let h = noted_same holds n i in (h.0, ap (λ (x : List Line). x ++ line.Slot slot nonnull holds ∷ []) h.1)
 
@@ -122,20 +123,20 @@ more_named lines wanted said e =
     all_weaker (λ (w : Wanted). list_any (λ (line : Line). names w.value (named_in line)) lines) (λ (w : Wanted). list_any (λ (line : Line). names w.value (named_in line)) (lines ++ said ∷ [])) wanted
     (λ w h. any_more (λ (line : Line). names w.value (named_in line)) lines said ∙ or_first (list_any (λ (line : Line). names w.value (named_in line)) lines) (names w.value (named_in said)) h) e
 
-noted_named : (value : Option ℕ) (n : ℕ) (i : Input) (said : Line) → named_in said ≡ value → AllNamed i.draft
-    → list_all (λ (w : Wanted). list_any (λ (line : Line). names w.value (named_in line)) (i.draft.lines ++ said ∷ [])) (noting value n i).draft.wanted ≡ true
-noted_named None n i said is e = more_named i.draft.lines i.draft.wanted said e
+noted_named : (value : Option ℕ) (n : ℕ) (i : Input) (said : Line) → named_in said ≡ value → AllNamed i.read.draft
+    → list_all (λ (w : Wanted). list_any (λ (line : Line). names w.value (named_in line)) (i.read.draft.lines ++ said ∷ [])) (noting value n i).read.draft.wanted ≡ true
+noted_named None n i said is e = more_named i.read.draft.lines i.read.draft.wanted said e
 noted_named (Some value) n i said is e =
-    all_end (λ (w : Wanted). list_any (λ (line : Line). names w.value (named_in line)) (i.draft.lines ++ said ∷ [])) i.draft.wanted (record { value = value; left = n }) (more_named i.draft.lines i.draft.wanted said e)
-    (any_more (λ (line : Line). names value (named_in line)) i.draft.lines said ∙ or_second (list_any (λ (line : Line). names value (named_in line)) i.draft.lines) (names value (named_in said)) (ap (names value) is ∙ eq-eqb value value refl))
+    all_end (λ (w : Wanted). list_any (λ (line : Line). names w.value (named_in line)) (i.read.draft.lines ++ said ∷ [])) i.read.draft.wanted (record { value = value; left = n }) (more_named i.read.draft.lines i.read.draft.wanted said e)
+    (any_more (λ (line : Line). names value (named_in line)) i.read.draft.lines said ∙ or_second (list_any (λ (line : Line). names value (named_in line)) i.read.draft.lines) (names value (named_in said)) (ap (names value) is ∙ eq-eqb value value refl))
 
-lined_named : (block n : ℕ) (said : Line) (i : Input) → AllNamed i.draft → AllNamed (lined block n said i).draft
+lined_named : (block n : ℕ) (said : Line) (i : Input) → AllNamed i.read.draft → AllNamed (lined block n said i).read.draft
 lined_named block n (line.Value value fact) i e =
     let h = noted_same (named_in_fact fact) n i in
-    subst (λ (x : List Line). list_all (λ (w : Wanted). list_any (λ (line : Line). names w.value (named_in line)) (x ++ line.Value value fact ∷ [])) (noting (named_in_fact fact) n i).draft.wanted ≡ true) (sym h.1) (noted_named (named_in_fact fact) n i (line.Value value fact) refl e)
+    subst (λ (x : List Line). list_all (λ (w : Wanted). list_any (λ (line : Line). names w.value (named_in line)) (x ++ line.Value value fact ∷ [])) (noting (named_in_fact fact) n i).read.draft.wanted ≡ true) (sym h.1) (noted_named (named_in_fact fact) n i (line.Value value fact) refl e)
 lined_named block n (line.Slot slot nonnull holds) i e =
     let h = noted_same holds n i in
-    subst (λ (x : List Line). list_all (λ (w : Wanted). list_any (λ (line : Line). names w.value (named_in line)) (x ++ line.Slot slot nonnull holds ∷ [])) (noting holds n i).draft.wanted ≡ true) (sym h.1) (noted_named holds n i (line.Slot slot nonnull holds) refl e)
+    subst (λ (x : List Line). list_all (λ (w : Wanted). list_any (λ (line : Line). names w.value (named_in line)) (x ++ line.Slot slot nonnull holds ∷ [])) (noting holds n i).read.draft.wanted ≡ true) (sym h.1) (noted_named holds n i (line.Slot slot nonnull holds) refl e)
 
 -- ---- lines
 
@@ -150,19 +151,19 @@ pub record LinesOn (m : Module) (f : Function) (i : Input) (block : ℕ) (lines 
   pub out : Input
   pub count : List (Unit {0})
   pub read : Listed text.past_lines (line m f block).says (at i (lines_text m f lines ++ t)) count (at out t)
-  pub within : Within m f block out.draft
-  pub named_all : AllNamed out.draft
-  pub lines_are : out.draft.lines ≡ i.draft.lines ++ lines
+  pub within : Within m f block out.read.draft
+  pub named_all : AllNamed out.read.draft
+  pub lines_are : out.read.draft.lines ≡ i.read.draft.lines ++ lines
   pub rest : SameRest i out
 
 -- a block that is the next text
 pub record BlockOn (m : Module) (f : Function) (i : Input) (number : ℕ) (b : Block) (lines : List Line) (t : Text) : Type 0 where
   pub out : Input
   pub read : (text.block m f).says (at i (block_text m f b lines ++ t)) tt (at out t)
-  pub sections : i.sections ≡ out.sections
-  pub parameters : i.draft.parameters ≡ out.draft.parameters
-  pub blocks : out.draft.blocks ≡ slice_set i.draft.blocks number lines
-  pub given : out.draft.given ≡ slice_set i.draft.given number true
+  pub sections : i.read.sections ≡ out.read.sections
+  pub parameters : i.read.draft.parameters ≡ out.read.draft.parameters
+  pub blocks : out.read.draft.blocks ≡ slice_set i.read.draft.blocks number lines
+  pub given : out.read.draft.given ≡ slice_set i.read.draft.given number true
 
 -- a line and those after it
 one_text : (m : Module) (f : Function) (l : Line) (lines : List Line) (t : Text) → lines_text m f (l ∷ lines) ++ t ≡ line_text m f l ++ (10 ∷ (lines_text m f lines ++ t))
@@ -175,7 +176,7 @@ fact_stops m f (fact.Address base words) t = refl
 fact_stops m f (fact.GlobalAddress symbol) t = refl
 
 module _ (m : Module) (f : Function) (named : IsNamed m) (own : IsNamedFunction f) where
-  is_new : (block : ℕ) (said : Line) (i : Input) → Within m f block i.draft → line_fits m f said ≡ true → is_listed i.draft.lines said ≡ false → IsNew block said i
+  is_new : (block : ℕ) (said : Line) (i : Input) → Within m f block i.read.draft → line_fits m f said ≡ true → is_listed i.read.draft.lines said ≡ false → IsNew block said i
   is_new block (line.Value value fact) i within fits new = within.1.values value ∙ new
   is_new block (line.Slot slot nonnull holds) i within fits new =
       (ap (λ x. unwrap_or (slice_get x slot) false) within.0.roots ∙ and_second (is_value f slot) (unwrap_or (slice_get (root_names m f) slot) false) fits, within.1.slots slot ∙ new)
@@ -221,27 +222,27 @@ module _ (m : Module) (f : Function) (named : IsNamed m) (own : IsNamedFunction 
       ap (λ x. bytes_eq x (codes "block") || bytes_eq x (codes "end")) (word_on (codes "slot") (32 ∷ (local_text f slot ++ word_if nonnull (codes " nonnull") ++ value_text f (codes " holds ") holds ++ 10 ∷ t)) refl refl)
 
   lines_on_from : (block : ℕ) (all lines : List Line) (i : Input) (t : Text) → list_all (line_fits m f) all ≡ true → list_all (λ line. lists_named all (named_in line)) lines ≡ true → list_all (line_fits m f) lines ≡ true
-      → EndsLines t → lists_once (i.draft.lines ++ lines) ≡ true → Within m f block i.draft → AllNamed i.draft → LinesOn m f i block lines t
+      → EndsLines t → lists_once (i.read.draft.lines ++ lines) ≡ true → Within m f block i.read.draft → AllNamed i.read.draft → LinesOn m f i block lines t
   lines_on_from block all [] i t fits_all listed fits ends once within named_all = record {
     out = i;
     count = [];
     read = (ends.0, refl);
     within = within;
     named_all = named_all;
-    lines_are = sym (append-nil i.draft.lines);
+    lines_are = sym (append-nil i.read.draft.lines);
     rest = (refl, refl, refl, refl);
   }
   lines_on_from block all (l ∷ lines) i t fits_all listed fits ends once within named_all =
       let fit = and_first (line_fits m f l) (list_all (line_fits m f) lines) fits in
       let more_fit = and_second (line_fits m f l) (list_all (line_fits m f) lines) fits in
       let behind = lines_text m f lines ++ t in
-      let new = is_new block l i within fit (once_new i.draft.lines l lines once) in
+      let new = is_new block l i within fit (once_new i.read.draft.lines l lines once) in
       let value = named_value all (named_in l) fits_all (and_first (lists_named all (named_in l)) (list_all (λ line. lists_named all (named_in line)) lines) listed) in
       let one = line_on m f named own i block l behind behind fit value new (lines_begin lines t more_fit ends.1) in
       let next = lined block one.0 l i in
       let same = lined_same block one.0 l i in
       let inside = line_is m f block (at i (line_text m f l ++ 10 ∷ behind)) tt (at next behind) one.1 within in
-      let once_more : lists_once (next.draft.lines ++ lines) ≡ true = ap lists_once (ap (λ (x : List Line). x ++ lines) same.1 ∙ append_assoc i.draft.lines (l ∷ []) lines) ∙ once in
+      let once_more : lists_once (next.read.draft.lines ++ lines) ≡ true = ap lists_once (ap (λ (x : List Line). x ++ lines) same.1 ∙ append_assoc i.read.draft.lines (l ∷ []) lines) ∙ once in
       let more = lines_on_from block all lines next t fits_all (and_second (lists_named all (named_in l)) (list_all (λ line. lists_named all (named_in line)) lines) listed) more_fit ends once_more inside.0 (lined_named block one.0 l i named_all) in
       let whole = one_text m f l lines t in
       record {
@@ -250,22 +251,22 @@ module _ (m : Module) (f : Function) (named : IsNamed m) (own : IsNamedFunction 
         read = subst (λ x. Listed text.past_lines (line m f block).says (at i x) (tt ∷ more.count) (at more.out t)) (sym whole) (goes_on i l behind fit, at next behind, one.1, more.read);
         within = more.within;
         named_all = more.named_all;
-        lines_are = more.lines_are ∙ ap (λ (x : List Line). x ++ lines) same.1 ∙ append_assoc i.draft.lines (l ∷ []) lines;
+        lines_are = more.lines_are ∙ ap (λ (x : List Line). x ++ lines) same.1 ∙ append_assoc i.read.draft.lines (l ∷ []) lines;
         rest = (same.0.0 ∙ more.rest.0, same.0.1 ∙ more.rest.1, same.0.2 ∙ more.rest.2, same.0.3 ∙ more.rest.3);
       }
 
   -- ---- a block
 
-  pub block_on : (i : Input) (number : ℕ) (b : Block) (lines : List Line) (t : Text) → slice_get f.blocks number ≡ Some b → slice_get i.draft.given number ≡ Some false → Between m f i.draft → lines_fit m f lines ≡ true → EndsLines t → BlockOn m f i number b lines t
+  pub block_on : (i : Input) (number : ℕ) (b : Block) (lines : List Line) (t : Text) → slice_get f.blocks number ≡ Some b → slice_get i.read.draft.given number ≡ Some false → Between m f i.read.draft → lines_fit m f lines ≡ true → EndsLines t → BlockOn m f i number b lines t
   unfolding text.block text.lines text.all_listed new_block with_block
   block_on i number b lines t is new between fits ends =
       let others = and_first (list_all (line_fits m f) lines && lists_once lines) (all_named_listed lines) fits in
       let fit = and_first (list_all (line_fits m f) lines) (lists_once lines) others in
       let once = and_second (list_all (line_fits m f) lines) (lists_once lines) others in
       let listed = and_second (list_all (line_fits m f) lines && lists_once lines) (all_named_listed lines) fits in
-      let begun = block_begins m f number i.draft new between in
-      let none : i.draft.lines ++ lines ≡ lines = ap (λ (x : List Line). x ++ lines) between.1 in
-      let none_wanted : AllNamed i.draft = ap (list_all (λ (w : Wanted). list_any (λ (line : Line). names w.value (named_in line)) i.draft.lines)) between.2 in
+      let begun = block_begins m f number i.read.draft new between in
+      let none : i.read.draft.lines ++ lines ≡ lines = ap (λ (x : List Line). x ++ lines) between.1 in
+      let none_wanted : AllNamed i.read.draft = ap (list_all (λ (w : Wanted). list_any (λ (line : Line). names w.value (named_in line)) i.read.draft.lines)) between.2 in
       let read = lines_on_from number lines lines i t fit listed fit ends (ap lists_once none ∙ once) begun none_wanted in
       let w = local_text f b.label in
       let p = block_printed f number b own is in
@@ -276,13 +277,13 @@ module _ (m : Module) (f : Function) (named : IsNamed m) (own : IsNamedFunction 
       let name : (new_block f).says (at i (w ++ a)) number (at i a) =
       subst (λ x. (block_named x).says (at i (w ++ a)) number (at i a)) (sym (ap (block_of_word f) (word_is i w a a p.1 (refl, refl)) ∙ p.0))
       (subst (λ x. (block_by number x).says (at i (w ++ a)) number (at i a)) (sym new) (taken_on number i w a a p.1 (refl, refl))) in
-      let lines_are : read.out.draft.lines ≡ lines = read.lines_are ∙ none in
-      let unlisted : first_unlisted number read.out.draft.values read.out.draft.wanted ≡ None =
-      all_listed number read.out.draft.values read.out.draft.lines read.out.draft.wanted read.within.1.values (ap all_named_listed lines_are ∙ listed) read.named_all in
+      let lines_are : read.out.read.draft.lines ≡ lines = read.lines_are ∙ none in
+      let unlisted : first_unlisted number read.out.read.draft.values read.out.read.draft.wanted ≡ None =
+      all_listed number read.out.read.draft.values read.out.read.draft.lines read.out.read.draft.wanted read.within.1.values (ap all_named_listed lines_are ∙ listed) read.named_all in
       let ended : (text.all_listed number).says (at read.out t) tt (at read.out t) = subst (λ x. (text.listed_by x).says (at read.out t) tt (at read.out t)) (sym unlisted) (refl, refl) in
       record {
-        out = with_block number read.out;
-        read = subst (λ x. (text.block m f).says (at i x) tt (at (with_block number read.out) t)) (sym one) (
+        out = noted (with_block number) read.out;
+        read = subst (λ x. (text.block m f).says (at i x) tt (at (noted (with_block number) read.out) t)) (sym one) (
           tt,
           at i (w ++ a),
           expect_on i (codes "block") (32 ∷ (w ++ a)) (w ++ a) refl first,
@@ -300,6 +301,6 @@ module _ (m : Module) (f : Function) (named : IsNamed m) (own : IsNamedFunction 
         );
         sections = read.rest.0;
         parameters = read.rest.1;
-        blocks = ap (λ x. slice_set x number read.out.draft.lines) (sym read.rest.2) ∙ ap (slice_set i.draft.blocks number) lines_are;
+        blocks = ap (λ x. slice_set x number read.out.read.draft.lines) (sym read.rest.2) ∙ ap (slice_set i.read.draft.blocks number) lines_are;
         given = ap (λ x. slice_set x number true) (sym read.rest.3);
       }

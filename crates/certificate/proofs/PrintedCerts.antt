@@ -14,7 +14,8 @@ use Rattle.ir_ast.specs.declared.module.Module.{Module}
 use Rattle.ir_tokens.specs.Bytes.{Text}
 use Rattle.name_text.specs.Words.{past_blanks, past_lines, word_at, stops, is_word}
 use Rattle.certificate.specs.Names.{function_of_word}
-use Rattle.certificate.specs.Input.{Input, start_of, ended, with_promise, begun, with_section, kept, emptied}
+use Rattle.certificate.specs.Input.{Input, start_of, with_promise, begun, with_section, kept, emptied}
+use Rattle.name_text.specs.Reader.{noted, ended}
 use Rattle.certificate.specs.Forms.{begin, mark_of_word, marked, new_function, function_named, function_by}
 use Rattle.name_text.specs.Numbers.{is_number}
 use Rattle.certificate.specs.Text as text
@@ -30,7 +31,7 @@ use Rattle.certificate.proofs.PrintedPromises.{parameter_on, result_on}
 use Rattle.certificate.proofs.PrintedBlocks.{EndsLines, block_on}
 use Rattle.certificate.proofs.Between.{Between, at_start}
 use Rattle.certificate.proofs.ReadFits.{block_is, parameter_is}
-use Rattle.certificate.specs.declared.input.Kept.{Kept}
+use Rattle.certificate.specs.declared.progress.Kept.{Kept}
 use Rattle.certs.specs.declared.section.Line.{Line}
 use Rattle.certs.specs.declared.section.Mark.{Mark}
 use Rattle.certs.specs.declared.section.Mark.TheVariants as mark
@@ -70,22 +71,22 @@ record BlocksOn (m : Module) (f : Function) (i : Input) (bs : List Block) (lists
   pub out : Input
   pub count : List (Unit {0})
   pub read : Listed text.past_blocks (text.block m f).says (at i (blocks_text m f bs lists ++ t)) count (at out t)
-  pub between : Between m f out.draft
-  pub sections : i.sections ≡ out.sections
-  pub parameters : i.draft.parameters ≡ out.draft.parameters
-  pub blocks : out.draft.blocks ≡ done ++ lists
-  pub given : list_all (λ b. b) out.draft.given ≡ true
+  pub between : Between m f out.read.draft
+  pub sections : i.read.sections ≡ out.read.sections
+  pub parameters : i.read.draft.parameters ≡ out.read.draft.parameters
+  pub blocks : out.read.draft.blocks ≡ done ++ lists
+  pub given : list_all (λ b. b) out.read.draft.given ≡ true
 
 -- promises of parameters that are the next text
 record ParametersOn (m : Module) (f : Function) (i : Input) (ps : List Parameter) (promises done : List (Option Promise)) (t : Text) : Type 0 where
   pub out : Input
   pub count : List (Unit {0})
   pub read : Listed text.past_parameters (text.parameter m f).says (at i (parameters_text m f ps promises ++ t)) count (at out t)
-  pub between : Between m f out.draft
-  pub sections : i.sections ≡ out.sections
-  pub parameters : out.draft.parameters ≡ done ++ promises
-  pub blocks : i.draft.blocks ≡ out.draft.blocks
-  pub given : i.draft.given ≡ out.draft.given
+  pub between : Between m f out.read.draft
+  pub sections : i.read.sections ≡ out.read.sections
+  pub parameters : out.read.draft.parameters ≡ done ++ promises
+  pub blocks : i.read.draft.blocks ≡ out.read.draft.blocks
+  pub given : i.read.draft.given ≡ out.read.draft.given
 
 module _ (m : Module) (f : Function) (named : IsNamed m) (own : IsNamedFunction f) where
   -- what follows a block ends its lines
@@ -96,8 +97,8 @@ module _ (m : Module) (f : Function) (named : IsNamed m) (own : IsNamedFunction 
 
   blocks_on_from : (bs : List Block) (lists : List (List Line)) (n : ℕ) (i : Input) (t : Text) (done : List (List Line)) (given : List Bool)
       → ((k : ℕ) → slice_get f.blocks (n + k) ≡ slice_get bs k) → length lists ≡ length bs → list_all (lines_fit m f) lists ≡ true
-      → length done ≡ n → i.draft.blocks ≡ done ++ map (λ _. []) bs → length given ≡ n → list_all (λ b. b) given ≡ true → i.draft.given ≡ given ++ replicate (length bs) false
-      → Between m f i.draft → EndsBlocks t → BlocksOn m f i bs lists done t
+      → length done ≡ n → i.read.draft.blocks ≡ done ++ map (λ _. []) bs → length given ≡ n → list_all (λ b. b) given ≡ true → i.read.draft.given ≡ given ++ replicate (length bs) false
+      → Between m f i.read.draft → EndsBlocks t → BlocksOn m f i bs lists done t
   blocks_on_from [] [] n i t done given at_place len fits dn blocks gn all are between ends = record {
     out = i;
     count = [];
@@ -113,13 +114,13 @@ module _ (m : Module) (f : Function) (named : IsNamed m) (own : IsNamedFunction 
   blocks_on_from (b ∷ bs) (l ∷ lists) n i t done given at_place len fits dn blocks gn all are between ends =
       let here : n + 0 ≡ n = omega arith in
       let is : slice_get f.blocks n ≡ Some b = ap (slice_get f.blocks) (sym here) ∙ at_place 0 in
-      let new : slice_get i.draft.given n ≡ Some false = ap (λ x. slice_get x n) are ∙ get_mid given false (replicate (length bs) false) n gn in
+      let new : slice_get i.read.draft.given n ≡ Some false = ap (λ x. slice_get x n) are ∙ get_mid given false (replicate (length bs) false) n gn in
       let rest = blocks_text m f bs lists ++ t in
       let one = block_on m f named own i n b l rest is new between (and_first (lines_fit m f l) (list_all (lines_fit m f) lists) fits) (block_ends bs lists t ends) in
       let after = block_is m f (at i (block_text m f b l ++ rest)) tt (at one.out rest) one.read between in
       let places : (k : ℕ) → slice_get f.blocks (suc n + k) ≡ slice_get bs k = λ k. (let e : suc n + k ≡ n + suc k = omega arith in ap (slice_get f.blocks) e ∙ at_place (suc k)) in
-      let blocks_then : one.out.draft.blocks ≡ (done ++ l ∷ []) ++ map (λ _. []) bs = one.blocks ∙ ap (λ x. slice_set x n l) blocks ∙ set_mid done [] l (map (λ _. []) bs) n dn in
-      let given_then : one.out.draft.given ≡ (given ++ true ∷ []) ++ replicate (length bs) false = one.given ∙ ap (λ x. slice_set x n true) are ∙ set_mid given false true (replicate (length bs) false) n gn in
+      let blocks_then : one.out.read.draft.blocks ≡ (done ++ l ∷ []) ++ map (λ _. []) bs = one.blocks ∙ ap (λ x. slice_set x n l) blocks ∙ set_mid done [] l (map (λ _. []) bs) n dn in
+      let given_then : one.out.read.draft.given ≡ (given ++ true ∷ []) ++ replicate (length bs) false = one.given ∙ ap (λ x. slice_set x n true) are ∙ set_mid given false true (replicate (length bs) false) n gn in
       let more = blocks_on_from bs lists (suc n) one.out t (done ++ l ∷ []) (given ++ true ∷ []) places (omega arith) (and_second (lines_fit m f l) (list_all (lines_fit m f) lists) fits)
       (longer done l n dn) blocks_then (longer given true n gn) (all_end given all) given_then after.0 ends in
       let whole : blocks_text m f (b ∷ bs) (l ∷ lists) ++ t ≡ block_text m f b l ++ rest = append_assoc (block_text m f b l) (blocks_text m f bs lists) t in
@@ -149,7 +150,7 @@ module _ (m : Module) (f : Function) (named : IsNamed m) (own : IsNamedFunction 
 
   parameters_on_from : (ps : List Parameter) (promises : List (Option Promise)) (n : ℕ) (i : Input) (t : Text) (done : List (Option Promise))
       → ((k : ℕ) → slice_get f.parameters (n + k) ≡ slice_get ps k) → length promises ≡ length ps → list_all (λ p. parameter_fits m f p.0 p.1) (zip ps promises) ≡ true
-      → length done ≡ n → i.draft.parameters ≡ done ++ replicate (length ps) None → Between m f i.draft → NoParameter t → ParametersOn m f i ps promises done t
+      → length done ≡ n → i.read.draft.parameters ≡ done ++ replicate (length ps) None → Between m f i.read.draft → NoParameter t → ParametersOn m f i ps promises done t
   unfolding with_promise
   parameters_on_from [] [] n i t done at_place len fits dn are between ends = record {
     out = i;
@@ -165,7 +166,7 @@ module _ (m : Module) (f : Function) (named : IsNamed m) (own : IsNamedFunction 
   parameters_on_from (p ∷ ps) [] n i t done at_place len fits dn are between ends = absurd (omega arith)
   parameters_on_from (p ∷ ps) (None ∷ promises) n i t done at_place len fits dn are between ends =
       let places : (k : ℕ) → slice_get f.parameters (suc n + k) ≡ slice_get ps k = λ k. (let e : suc n + k ≡ n + suc k = omega arith in ap (slice_get f.parameters) e ∙ at_place (suc k)) in
-      let then_are : i.draft.parameters ≡ (done ++ None ∷ []) ++ replicate (length ps) None = are ∙ sym (append_assoc done (None ∷ []) (replicate (length ps) None)) in
+      let then_are : i.read.draft.parameters ≡ (done ++ None ∷ []) ++ replicate (length ps) None = are ∙ sym (append_assoc done (None ∷ []) (replicate (length ps) None)) in
       let more = parameters_on_from ps promises (suc n) i t (done ++ None ∷ []) places (omega arith) fits (longer done None n dn) then_are between ends in
       record {
         out = more.out;
@@ -180,13 +181,13 @@ module _ (m : Module) (f : Function) (named : IsNamed m) (own : IsNamedFunction 
   parameters_on_from (p ∷ ps) (Some q ∷ promises) n i t done at_place len fits dn are between ends =
       let here : n + 0 ≡ n = omega arith in
       let is : slice_get f.parameters n ≡ Some p = ap (slice_get f.parameters) (sym here) ∙ at_place 0 in
-      let free : slice_get i.draft.parameters n ≡ Some None = ap (λ x. slice_get x n) are ∙ get_mid done None (replicate (length ps) None) n dn in
+      let free : slice_get i.read.draft.parameters n ≡ Some None = ap (λ x. slice_get x n) are ∙ get_mid done None (replicate (length ps) None) n dn in
       let rest = parameters_text m f ps promises ++ t in
       let one = parameter_on m f named own i n p q rest rest is free (and_first (promise_fits m (family_of_value m f p.value) q) (list_all (λ p. parameter_fits m f p.0 p.1) (zip ps promises)) fits) (parameters_begin ps promises t ends.1) in
-      let next = with_promise n q i in
+      let next = noted (with_promise n q) i in
       let after = parameter_is m f (at i (parameter_text m f p (Some q) ++ rest)) tt (at next rest) one between in
       let places : (k : ℕ) → slice_get f.parameters (suc n + k) ≡ slice_get ps k = λ k. (let e : suc n + k ≡ n + suc k = omega arith in ap (slice_get f.parameters) e ∙ at_place (suc k)) in
-      let then_are : next.draft.parameters ≡ (done ++ Some q ∷ []) ++ replicate (length ps) None = ap (λ x. slice_set x n (Some q)) are ∙ set_mid done None (Some q) (replicate (length ps) None) n dn in
+      let then_are : next.read.draft.parameters ≡ (done ++ Some q ∷ []) ++ replicate (length ps) None = ap (λ x. slice_set x n (Some q)) are ∙ set_mid done None (Some q) (replicate (length ps) None) n dn in
       let more = parameters_on_from ps promises (suc n) next t (done ++ Some q ∷ []) places (omega arith) (and_second (promise_fits m (family_of_value m f p.value) q) (list_all (λ p. parameter_fits m f p.0 p.1) (zip ps promises)) fits) (longer done (Some q) n dn) then_are after.0 ends in
       let whole : parameters_text m f (p ∷ ps) (Some q ∷ promises) ++ t ≡ parameter_text m f p (Some q) ++ rest = append_assoc (parameter_text m f p (Some q)) (parameters_text m f ps promises) t in
       let first : text.past_parameters (at i (parameter_text m f p (Some q) ++ rest)) ≡ false = ap (λ x. not (bytes_eq x (codes "param"))) (word_on (codes "param") (32 ∷ (local_text f p.value ++ promise_text m q ++ rest)) refl refl) in
@@ -244,7 +245,7 @@ module _ (m : Module) (f : Function) (named : IsNamed m) (own : IsNamedFunction 
 
   -- the blocks of a section that begins
   all_blocks_on : (bs : List Block) (blocks : List (List Line)) (i : Input) (t : Text) → f.blocks ≡ bs → length blocks ≡ length bs → entry_is_empty blocks ≡ true → list_all (lines_fit m f) blocks ≡ true
-      → i.draft.blocks ≡ map (λ _. []) bs → i.draft.given ≡ slice_set (replicate (length bs) false) 0 true → Between m f i.draft → EndsBlocks t
+      → i.read.draft.blocks ≡ map (λ _. []) bs → i.read.draft.given ≡ slice_set (replicate (length bs) false) 0 true → Between m f i.read.draft → EndsBlocks t
       → (done : List (List Line)) × BlocksOn m f i (drop 1 bs) (drop 1 blocks) done t × (done ++ drop 1 blocks ≡ blocks)
   all_blocks_on [] [] i t are len entry fits blocks given between ends =
       ([], blocks_on_from [] [] 0 i t [] [] (λ k. (let e : 0 + k ≡ k = omega arith in ap (slice_get f.blocks) e ∙ ap (λ x. slice_get x k) are)) refl refl refl blocks refl refl given between ends, refl)
@@ -255,8 +256,8 @@ module _ (m : Module) (f : Function) (named : IsNamed m) (own : IsNamedFunction 
       ([] ∷ [], blocks_on_from bs lists 1 i t ([] ∷ []) (true ∷ []) (λ k. (let e : 1 + k ≡ suc k = omega arith in ap (slice_get f.blocks) e ∙ ap (λ x. slice_get x (suc k)) are)) (omega arith) fits refl blocks refl refl given between ends, refl)
 
   -- a section that is the next text
-  section_on : (n : ℕ) (section : Section) (i : Input) (t : Text) → slice_get m.functions n ≡ Some f → slice_get i.sections n ≡ Some None → section_fits m f section ≡ true → past_lines false t ≡ t
-      → (o : Input) × (text.section m).says (at i (section_text m f section ++ t)) tt (at o t) × (o.sections ≡ slice_set i.sections n (whole_kept section))
+  section_on : (n : ℕ) (section : Section) (i : Input) (t : Text) → slice_get m.functions n ≡ Some f → slice_get i.read.sections n ≡ Some None → section_fits m f section ≡ true → past_lines false t ≡ t
+      → (o : Input) × (text.section m).says (at i (section_text m f section ++ t)) tt (at o t) × (o.read.sections ≡ slice_set i.read.sections n (whole_kept section))
   unfolding text.section text.section_behind text.section_of text.body text.parameters text.blocks begin begun new_function marked with_section
   section_on n section i t is new fits start =
       let two = and_first (parameters_fit m f section.parameters && promised_fits m (family_of_type m f.returned) section.result) (blocks_fit m f section.blocks) fits in
@@ -284,12 +285,12 @@ module _ (m : Module) (f : Function) (named : IsNamed m) (own : IsNamedFunction 
       let after = block_ends (drop 1 f.blocks) (drop 1 section.blocks) x1 ends in
       let other = blocks_word (drop 1 f.blocks) (drop 1 section.blocks) x1 ends in
       let no_param = result_begins section.result x2 after.1 other.0 in
-      let s0 : Input = begun m f i in
+      let s0 : Input = noted (begun m f) i in
       let params = parameters_on_from f.parameters section.parameters 0 s0 x3 [] (λ k. (let z : 0 + k ≡ k = omega arith in ap (slice_get f.parameters) z)) params_len each_param refl refl (at_start m f) no_param in
       let result = result_on m f named own params.out section.result x2 x2 result_fits after.1 after.1 other.1 refl in
       let blocks = all_blocks_on f.blocks section.blocks params.out x1 refl blocks_len entry lines (sym params.blocks) (sym params.given) params.between ends in
       let out = blocks.1.out in
-      let o : Input = with_section n section.mark section.result out in
+      let o : Input = noted (with_section n section.mark section.result) out in
       let printed = function_printed m n f named is in
       let a = mk ++ (10 ∷ x4) in
       let mark_here = mark_is section.mark (10 ∷ x4) in
@@ -341,18 +342,18 @@ module _ (m : Module) (f : Function) (named : IsNamed m) (own : IsNamedFunction 
         ),
       ) in
       let by_name : (text.section_by m n (slice_get m.functions n)).says (at i (w ++ 10 ∷ x4)) tt (at o t) = subst (λ x. (text.section_by m n x).says (at i (w ++ 10 ∷ x4)) tt (at o t)) (sym is) rest in
-      let missing : position not out.draft.given ≡ None = not_missing out.draft.given blocks.1.given in
-      let sections_same : i.sections ≡ out.sections = params.sections ∙ blocks.1.sections in
-      let parameters_same : out.draft.parameters ≡ section.parameters = sym blocks.1.parameters ∙ params.parameters in
-      let blocks_same : out.draft.blocks ≡ section.blocks = blocks.1.blocks ∙ blocks.2 in
-      let kept_same : Some (kept section.mark section.result out.draft) ≡ whole_kept section =
-      ap (λ x. Some (kept_of section.mark section.result x out.draft.blocks (position not out.draft.given))) parameters_same
-      ∙ ap (λ x. Some (kept_of section.mark section.result section.parameters x (position not out.draft.given))) blocks_same
+      let missing : position not out.read.draft.given ≡ None = not_missing out.read.draft.given blocks.1.given in
+      let sections_same : i.read.sections ≡ out.read.sections = params.sections ∙ blocks.1.sections in
+      let parameters_same : out.read.draft.parameters ≡ section.parameters = sym blocks.1.parameters ∙ params.parameters in
+      let blocks_same : out.read.draft.blocks ≡ section.blocks = blocks.1.blocks ∙ blocks.2 in
+      let kept_same : Some (kept section.mark section.result out.read.draft) ≡ whole_kept section =
+      ap (λ x. Some (kept_of section.mark section.result x out.read.draft.blocks (position not out.read.draft.given))) parameters_same
+      ∙ ap (λ x. Some (kept_of section.mark section.result section.parameters x (position not out.read.draft.given))) blocks_same
       ∙ ap (λ x. Some (kept_of section.mark section.result section.parameters section.blocks x)) missing in (
         o,
         subst (λ x. (text.section m).says (at i x) tt (at o t)) (sym whole)
             (tt, at i (g ++ a), expect_on i (codes "function") (32 ∷ (g ++ a)) (g ++ a) refl first, (n, at i (w ++ 10 ∷ x4), name, by_name)),
-        ap (λ x. slice_set x n (Some (kept section.mark section.result out.draft))) (sym sections_same) ∙ ap (slice_set i.sections n) kept_same,
+        ap (λ x. slice_set x n (Some (kept section.mark section.result out.read.draft))) (sym sections_same) ∙ ap (slice_set i.read.sections n) kept_same,
       )
     where
       kept_of : Mark → Option Promise → List (Option Promise) → List (List Line) → Option ℕ → Kept
@@ -374,21 +375,21 @@ module _ (m : Module) (named : IsNamed m) where
   length_map g (x ∷ xs) = ap suc (length_map g xs)
 
   sections_on_from : (fs : List Function) (ss : List Section) (n : ℕ) (i : Input) (done : List (Option Kept)) → ((k : ℕ) → slice_get m.functions (n + k) ≡ slice_get fs k) → length ss ≡ length fs
-      → list_all (λ p. section_fits m p.0 p.1) (zip fs ss) ≡ true → length done ≡ n → i.sections ≡ done ++ map (λ _. None) fs
-      → (o : Input) × (count : List (Unit {0})) × Listed ended (text.section m).says (at i (sections_text m fs ss)) count (at o []) × (o.sections ≡ done ++ kept_whole ss)
+      → list_all (λ p. section_fits m p.0 p.1) (zip fs ss) ≡ true → length done ≡ n → i.read.sections ≡ done ++ map (λ _. None) fs
+      → (o : Input) × (count : List (Unit {0})) × Listed ended (text.section m).says (at i (sections_text m fs ss)) count (at o []) × (o.read.sections ≡ done ++ kept_whole ss)
   sections_on_from [] [] n i done at_place len fits dn are = (i, [], (refl, refl), are)
   sections_on_from [] (s ∷ ss) n i done at_place len fits dn are = absurd (omega arith)
   sections_on_from (f ∷ fs) [] n i done at_place len fits dn are = absurd (omega arith)
   sections_on_from (f ∷ fs) (s ∷ ss) n i done at_place len fits dn are =
       let here : n + 0 ≡ n = omega arith in
       let is : slice_get m.functions n ≡ Some f = ap (slice_get m.functions) (sym here) ∙ at_place 0 in
-      let new : slice_get i.sections n ≡ Some None = ap (λ x. slice_get x n) are ∙ get_mid done None (map (λ _. None) fs) n dn in
+      let new : slice_get i.read.sections n ≡ Some None = ap (λ x. slice_get x n) are ∙ get_mid done None (map (λ _. None) fs) n dn in
       let rest = sections_text m fs ss in
       let own = (named.functions n f is).2 in
       let one = section_on m f named own n s i rest is new (and_first (section_fits m f s) (list_all (λ p. section_fits m p.0 p.1) (zip fs ss)) fits) (sections_begin fs ss) in
       let places : (k : ℕ) → slice_get m.functions (suc n + k) ≡ slice_get fs k = λ k. (let e : suc n + k ≡ n + suc k = omega arith in ap (slice_get m.functions) e ∙ at_place (suc k)) in
       let kept_s : Option Kept = Some (record { section = s; missing = None }) in
-      let then_are : (one.0).sections ≡ (done ++ kept_s ∷ []) ++ map (λ _. None) fs = one.2 ∙ ap (λ x. slice_set x n kept_s) are ∙ set_mid done None kept_s (map (λ _. None) fs) n dn in
+      let then_are : (one.0).read.sections ≡ (done ++ kept_s ∷ []) ++ map (λ _. None) fs = one.2 ∙ ap (λ x. slice_set x n kept_s) are ∙ set_mid done None kept_s (map (λ _. None) fs) n dn in
       let more = sections_on_from fs ss (suc n) one.0 (done ++ kept_s ∷ []) places (omega arith) (and_second (section_fits m f s) (list_all (λ p. section_fits m p.0 p.1) (zip fs ss)) fits) (longer done kept_s n dn) then_are in
       (more.0, tt ∷ more.1, (refl, at one.0 rest, one.1, more.2), more.3 ∙ append_assoc done (kept_s ∷ []) (kept_whole ss))
 
@@ -413,8 +414,8 @@ module _ (m : Module) (named : IsNamed m) where
       let o = read.0 in
       let behind : Behind (32 ∷ (codes "1" ++ 10 ∷ rest)) (codes "1" ++ 10 ∷ rest) = (refl, refl) in
       let one = word_is i (codes "1") (10 ∷ rest) (10 ∷ rest) refl (refl, refl) in
-      let gap : text.first_gap 0 o.sections ≡ None = ap (text.first_gap 0) read.3 ∙ no_gap 0 ss in
-      let out = emptied (at o []) in
+      let gap : text.first_gap 0 o.read.sections ≡ None = ap (text.first_gap 0) read.3 ∙ no_gap 0 ss in
+      let out = noted emptied (at o []) in
       let last : text.finished.says (at o []) ss out = subst (λ x. (text.finished_by x).says (at o []) ss out) (sym gap) (ap text.sections_in read.3 ∙ all_there ss, refl) in (
         out,
         (

@@ -20,14 +20,17 @@ use Rattle.certificate.specs.Names.{value_of_word, global_of_word, layout_of_wor
 use Rattle.certs.specs.Families.{family_of_value, family_of_sort, is_reference, is_address, refers_to, same_bits}
 use Rattle.certs.specs.RootNames.{root_names}
 use Rattle.certificate.specs.Drafts.{wanting, listing, listing_slot, is_in}
-use Rattle.certificate.specs.Input.{Input, left, word, begins, after, next_line, wants, with_line, with_slot_line}
-use Rattle.certificate.specs.Forms.{skip, taken, taken_if, taken_as, expect, line_end, flag, flag_by, count, word_set, age, age_by, age_of_word, free_by, new_value, new_value_named, new_slot, root_by, slot_named, want, listed_by, listed_name, layout_by, layout_name, put_value, put_slot}
+use Rattle.certificate.specs.Input.{Input, wants, with_line, with_slot_line}
+use Rattle.name_text.specs.Reader.{noted, left, word, begins, after, next_line}
+use Rattle.certificate.specs.Forms.{taken_if, flag, flag_by, count, word_set, age, age_by, age_of_word, free_by, new_value, new_value_named, new_slot, root_by, slot_named, want, listed_by, listed_name, layout_by, layout_name, put_value, put_slot}
+use Rattle.name_text.specs.Forms.{skip, taken, taken_as, expect, line_end}
 use Rattle.certificate.specs.Lines.{number_head, head_by, below_by, below, listed_if, listed_behind, number, reference, words_of_cell, global_by, global_address, address_by, address, fact_by, fact_of, fact_end, slot_end, value_line, slot_line, line_by, line}
 use Rattle.certs.specs.Fits.{is_count, below_fits, stands_for, layout_fits, words_fit, fact_fits, is_value_sort, is_value, line_fits, named_in_fact, named_in}
 use Rattle.certificate.specs.Named.{IsNamed, IsNamedFunction}
 use Rattle.certificate.specs.Print.{word_if, below_text, value_text, age_text, words_text, fact_text, line_text, local_text, global_text, layout_text}
 use Rattle.name_text.specs.Seams.{past_word_on, word_on, blanks_on, all_bytes}
-use Rattle.certificate.proofs.PrintedWords.{same_bytes, small_is, count_read, bits_read}
+use Rattle.name_text.specs.Equal.{same_bytes}
+use Rattle.certificate.proofs.PrintedWords.{small_is, count_read, bits_read}
 use Rattle.certificate.proofs.PrintedSets.{words_read}
 use Rattle.certificate.proofs.PrintedNames.{value_printed, global_printed, layout_printed}
 use Rattle.certs.specs.declared.family.Family.{Family}
@@ -39,6 +42,7 @@ use Rattle.certs.specs.declared.section.Fact.{Fact}
 use Rattle.certs.specs.declared.section.Fact.TheVariants as fact
 use Rattle.certs.specs.declared.section.Line.{Line}
 use Rattle.certs.specs.declared.section.Line.TheVariants as line
+use Rattle.certificate.specs.declared.mistake.Mistake.{Mistake}
 
 -- ---- one word
 
@@ -50,26 +54,26 @@ at i text = record i { rest = text }
 abbrev pub Behind : (t u : Text) → Type 0
 Behind t u = (stops t ≡ true) × (past_blanks t ≡ u)
 
-pub skip_on : (i : Input) (w t u : Text) → is_word w ≡ true → Behind t u → skip.says (at i (w ++ t)) tt (at i u)
+pub skip_on : (i : Input) (w t u : Text) → is_word w ≡ true → Behind t u → (skip {M = Mistake}).says (at i (w ++ t)) tt (at i u)
 unfolding skip after
 skip_on i w t u e b = (refl, ap (λ x. at i (past_blanks x)) (past_word_on false w t (all_bytes w e) b.0) ∙ ap (at i) b.1)
 
 pub word_is : (i : Input) (w t u : Text) → is_word w ≡ true → Behind t u → word (at i (w ++ t)) ≡ w
 word_is i w t u e b = word_on w t (all_bytes w e) b.0
 
-pub taken_on : {A : Type 0} (x : A) (i : Input) (w t u : Text) → is_word w ≡ true → Behind t u → (taken x).says (at i (w ++ t)) x (at i u)
+pub taken_on : {A : Type 0} (x : A) (i : Input) (w t u : Text) → is_word w ≡ true → Behind t u → (taken {M = Mistake} x).says (at i (w ++ t)) x (at i u)
 taken_on x i w t u e b = (tt, at i u, skip_on i w t u e b, (refl, refl))
 
-pub expect_on : (i : Input) (w t u : Text) → is_word w ≡ true → Behind t u → (expect w).says (at i (w ++ t)) tt (at i u)
+pub expect_on : (i : Input) (w t u : Text) → is_word w ≡ true → Behind t u → (expect {M = Mistake} w).says (at i (w ++ t)) tt (at i u)
 unfolding expect
 expect_on i w t u e b = (tt, at i (w ++ t), (ap (λ x. bytes_eq x w) (word_is i w t u e b) ∙ same_bytes w, refl), skip_on i w t u e b)
 
-pub line_end_on : (i : Input) (t u : Text) → past_lines false t ≡ u → line_end.says (at i (10 ∷ t)) tt (at i u)
+pub line_end_on : (i : Input) (t u : Text) → past_lines false t ≡ u → (line_end {M = Mistake}).says (at i (10 ∷ t)) tt (at i u)
 unfolding line_end next_line
 line_end_on i t u e = (tt, at i (10 ∷ t), (refl, refl), (refl, ap (at i) e))
 
-pub as_on : {A : Type 0} (f : Text → Option A) (a : A) (i : Input) (w t u : Text) → is_word w ≡ true → Behind t u → f w ≡ Some a → (taken_as (f (word (at i (w ++ t))))).says (at i (w ++ t)) a (at i u)
-as_on f a i w t u e b is = subst (λ x. (taken_as x).says (at i (w ++ t)) a (at i u)) (sym (ap f (word_is i w t u e b) ∙ is)) (taken_on a i w t u e b)
+pub as_on : {A : Type 0} (f : Text → Option A) (a : A) (i : Input) (w t u : Text) → is_word w ≡ true → Behind t u → f w ≡ Some a → (taken_as {M = Mistake} (f (word (at i (w ++ t))))).says (at i (w ++ t)) a (at i u)
+as_on f a i w t u e b is = subst (λ x. (taken_as {M = Mistake} x).says (at i (w ++ t)) a (at i u)) (sym (ap f (word_is i w t u e b) ∙ is)) (taken_on a i w t u e b)
 
 pub count_on : (i : Input) (n : ℕ) (t u : Text) → is_count n ≡ true → Behind t u → count.says (at i (decimal n ++ t)) n (at i u)
 unfolding count
@@ -105,7 +109,7 @@ below_on i (Some n) t e =
 -- with a value that the block has to list, if there is one
 abbrev pub noting : Option ℕ → (left : ℕ) → Input → Input
 noting None left i = i
-noting (Some value) left i = record i { draft = wanting value left i.draft }
+noting (Some value) left i = noted (λ p. record p { draft = wanting value left p.draft }) i
 
 -- the value that a line names besides its own is a value
 abbrev pub IsValue : Function → Option ℕ → Type 0
@@ -114,13 +118,13 @@ IsValue f (Some value) = is_value f value ≡ true
 
 -- with this line of the block
 abbrev pub lined : (block left : ℕ) → Line → Input → Input
-lined block left (line.Value value fact) i = record (noting (named_in_fact fact) left i) { draft = listing block value (line.Value value fact) (noting (named_in_fact fact) left i).draft }
-lined block left (line.Slot slot nonnull holds) i = record (noting holds left i) { draft = listing_slot block slot (line.Slot slot nonnull holds) (noting holds left i).draft }
+lined block left (line.Value value fact) i = noted (λ p. record p { draft = listing block value (line.Value value fact) p.draft }) (noting (named_in_fact fact) left i)
+lined block left (line.Slot slot nonnull holds) i = noted (λ p. record p { draft = listing_slot block slot (line.Slot slot nonnull holds) p.draft }) (noting holds left i)
 
 -- the block does not list it so far
 abbrev pub IsNew : (block : ℕ) → Line → Input → Type 0
-IsNew block (line.Value value fact) i = is_in block (slice_get i.draft.values value) ≡ false
-IsNew block (line.Slot slot nonnull holds) i = (unwrap_or (slice_get i.draft.roots slot) false ≡ true) × (is_in block (slice_get i.draft.slots slot) ≡ false)
+IsNew block (line.Value value fact) i = is_in block (slice_get i.read.draft.values value) ≡ false
+IsNew block (line.Slot slot nonnull holds) i = (unwrap_or (slice_get i.read.draft.roots slot) false ≡ true) × (is_in block (slice_get i.read.draft.slots slot) ≡ false)
 
 module _ (m : Module) (f : Function) (named : IsNamed m) (own : IsNamedFunction f) where
   listed_on : (i : Input) (value : ℕ) (t u : Text) → is_value f value ≡ true → Behind t u → (listed_name f).says (at i (local_text f value ++ t)) value (at (noting (Some value) (length (local_text f value ++ t)) i) u)
@@ -385,7 +389,7 @@ module _ (m : Module) (f : Function) (named : IsNamed m) (own : IsNamedFunction 
 
   -- ---- lines
 
-  new_value_on : (i : Input) (block value : ℕ) (t u : Text) → is_value f value ≡ true → is_in block (slice_get i.draft.values value) ≡ false → Behind t u → (new_value f block).says (at i (local_text f value ++ t)) value (at i u)
+  new_value_on : (i : Input) (block value : ℕ) (t u : Text) → is_value f value ≡ true → is_in block (slice_get i.read.draft.values value) ≡ false → Behind t u → (new_value f block).says (at i (local_text f value ++ t)) value (at i u)
   unfolding new_value
   new_value_on i block value t u is new b =
       let p = value_printed f value own is in
@@ -393,7 +397,7 @@ module _ (m : Module) (f : Function) (named : IsNamed m) (own : IsNamedFunction 
       subst (λ x. (new_value_named block x).says (at i (w ++ t)) value (at i u)) (sym (ap (value_of_word f) (word_is i w t u p.1 b) ∙ p.0))
       (subst (λ x. (free_by value x).says (at i (w ++ t)) value (at i u)) (sym new) (taken_on value i w t u p.1 b))
 
-  new_slot_on : (i : Input) (block slot : ℕ) (t u : Text) → is_value f slot ≡ true → unwrap_or (slice_get i.draft.roots slot) false ≡ true → is_in block (slice_get i.draft.slots slot) ≡ false → Behind t u → (new_slot f block).says (at i (local_text f slot ++ t)) slot (at i u)
+  new_slot_on : (i : Input) (block slot : ℕ) (t u : Text) → is_value f slot ≡ true → unwrap_or (slice_get i.read.draft.roots slot) false ≡ true → is_in block (slice_get i.read.draft.slots slot) ≡ false → Behind t u → (new_slot f block).says (at i (local_text f slot ++ t)) slot (at i u)
   unfolding new_slot
   new_slot_on i block slot t u is root new b =
       let p = value_printed f slot own is in
@@ -410,7 +414,7 @@ module _ (m : Module) (f : Function) (named : IsNamed m) (own : IsNamedFunction 
   unfolding slot_end
   slot_end_on i nonnull holds t u e = (tt, at i (10 ∷ t), (refl, refl), line_end_on i t u e)
 
-  value_line_on : (i : Input) (block value : ℕ) (fact : Fact) (t u : Text) → is_value f value ≡ true → fact_fits m (family_of_value m f value) fact ≡ true → IsValue f (named_in_fact fact) → is_in block (slice_get i.draft.values value) ≡ false → past_lines false t ≡ u
+  value_line_on : (i : Input) (block value : ℕ) (fact : Fact) (t u : Text) → is_value f value ≡ true → fact_fits m (family_of_value m f value) fact ≡ true → IsValue f (named_in_fact fact) → is_in block (slice_get i.read.draft.values value) ≡ false → past_lines false t ≡ u
       → (n : ℕ) × (line m f block).says (at i (line_text m f (line.Value value fact) ++ 10 ∷ t)) tt (at (lined block n (line.Value value fact) i) u)
   unfolding line value_line put_value with_line
   value_line_on i block value fact t u is fits names new e =
@@ -452,7 +456,7 @@ module _ (m : Module) (f : Function) (named : IsNamed m) (own : IsNamedFunction 
   holds_first None t = (no_word t, refl, refl)
   holds_first (Some value) t = (word_on (codes "holds") (32 ∷ (local_text f value ++ 10 ∷ t)) refl refl, refl, refl)
 
-  slot_line_on : (i : Input) (block slot : ℕ) (nonnull : Bool) (holds : Option ℕ) (t u : Text) → is_value f slot ≡ true → unwrap_or (slice_get i.draft.roots slot) false ≡ true → IsValue f holds → is_in block (slice_get i.draft.slots slot) ≡ false → past_lines false t ≡ u
+  slot_line_on : (i : Input) (block slot : ℕ) (nonnull : Bool) (holds : Option ℕ) (t u : Text) → is_value f slot ≡ true → unwrap_or (slice_get i.read.draft.roots slot) false ≡ true → IsValue f holds → is_in block (slice_get i.read.draft.slots slot) ≡ false → past_lines false t ≡ u
       → (n : ℕ) × (line m f block).says (at i (line_text m f (line.Slot slot nonnull holds) ++ 10 ∷ t)) tt (at (lined block n (line.Slot slot nonnull holds) i) u)
   unfolding line slot_line put_slot with_slot_line
   slot_line_on i block slot nonnull holds t u is root names new e =

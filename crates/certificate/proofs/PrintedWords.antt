@@ -2,9 +2,8 @@
 use Rattle.std.proofs.Common.{◌≡◌, ℕ, ◌+◌, ◌<◌, ◌^◌, Bool, true, false, nat_lt, [], ◌∷◌, Option, Some, None, is_some, refl, ap, sym, ◌∙◌, inl, inr, ◌⊎◌, arith}
 use Rattle.std.specs.Prelude.{◌==◌, if◌then◌else◌}
 use Rattle.std.specs.List.{list_all}
-use Rattle.std.specs.Str.{bytes_eq}
 use Rattle.std.specs.Fmt.{decimal}
-use Rattle.std.proofs.lemmas.Bool.{eq-eqb, le-leb, ltb-true}
+use Rattle.std.proofs.lemmas.Bool.{le-leb, ltb-true}
 use Rattle.lemmas.specs.Bools.{and_first}
 use Rattle.ir_tokens.specs.Bytes.{Text, is_digit}
 use Rattle.ir_ast.specs.KeyNames.{name_of_key}
@@ -22,12 +21,6 @@ use Rattle.certificate.specs.Print.{name_text, key_text}
 use Rattle.name_text.specs.Readings.{IsShort}
 use Rattle.certificate.specs.Named.{IsNameKey, IsNumberKey}
 use Rattle.name_text.specs.declared.naming.Sigil.TheVariants as sigil
-
--- ---- bytes
-
-pub same_bytes : (w : Text) → bytes_eq w w ≡ true
-same_bytes [] = refl
-same_bytes (b ∷ w) = rw (eq-eqb b b refl) (same_bytes w)
 
 -- ---- names
 

@@ -18,7 +18,8 @@ use Rattle.certificate.specs.Names.{global_of_word, value_of_word}
 use Rattle.certs.specs.Families.{family_of_type, family_of_value, is_reference, is_integer, is_address, same_bits}
 use Rattle.certs.specs.RootNames.{root_names}
 use Rattle.certificate.specs.Drafts.{wanting, listing, listing_slot, block_ended, is_in, first_unlisted}
-use Rattle.certificate.specs.Input.{Input, left, ended, start_of, word, begins, line_ends, begun, with_promise, wants, with_line, with_slot_line, with_block, with_section, kept}
+use Rattle.certificate.specs.Input.{Input, start_of, begun, with_promise, wants, with_line, with_slot_line, with_block, with_section, kept}
+use Rattle.name_text.specs.Reader.{noted, left, ended, word, begins, line_ends}
 use Rattle.certificate.specs.Forms.{free_by, new_function, function_named, function_by, new_parameter, is_parameter, unpromised, parameter_by, parameter_named, new_block, block_by, block_named, new_value, new_value_named, new_slot, root_by, slot_named, want, listed_by, listed_name, begin, put_value, put_slot}
 use Rattle.certificate.specs.Lines.{no_promise, fact_if, promised_by, promise_by, promised_fact, more_by, more_facts, promise, number_head, head_by, below_by, below, listed_if, listed_behind, number, reference, words_of_cell, global_by, global_address, address_by, address, fact_by, fact_of, fact_end, slot_end, value_line, slot_line, line_by, line}
 use Rattle.certificate.specs.Text as text
@@ -30,8 +31,8 @@ use Rattle.certs.specs.declared.family.Family.{Family}
 use Rattle.certs.specs.declared.family.Family.TheVariants as family
 use Rattle.certificate.specs.declared.facts.Head.{Head}
 use Rattle.certificate.specs.declared.facts.Head.TheVariants as head
-use Rattle.certificate.specs.declared.found.Found.{Found}
-use Rattle.certificate.specs.declared.input.Kept.{Kept}
+use Rattle.certificate.specs.declared.mistake.Mistake.{Mistake}
+use Rattle.certificate.specs.declared.progress.Kept.{Kept}
 use Rattle.certificate.specs.declared.naming.Naming.{Naming}
 use Rattle.certificate.specs.declared.naming.Naming.TheVariants as naming
 use Rattle.certificate.specs.declared.promises.Promised.{Promised}
@@ -132,7 +133,7 @@ promise_is m family i p o h =
 -- a value is named that the block has to list, if one is
 abbrev Asks : Option ℕ → Input → Input → Type 0
 Asks None i o = still i ≡ still o
-Asks (Some v) i o = (n : ℕ) × (still (record i { draft = wanting v n i.draft }) ≡ still o)
+Asks (Some v) i o = (n : ℕ) × (still (noted (λ p. record p { draft = wanting v n p.draft }) i) ≡ still o)
 
 listed_name_is : (f : Function) (i : Input) (v : ℕ) (o : Input) → (listed_name f).says i v o → Asks (Some v) i o
 unfolding listed_name want wants
@@ -143,11 +144,11 @@ listed_name_is f i v o h = by (value_of_word f (word i)) h
     by naming.Unknown h = absurd h
     by (naming.Named k) h =
         let same : k ≡ v = h.3.0 in
-        (left i, ap (λ x. still (record i { draft = wanting x (left i) i.draft })) (sym same) ∙ ap still h.2.2.1 ∙ still_skip h.2.1 h.0 h.1 h.2.3 ∙ ap still h.3.1)
+        (left i, ap (λ x. still (noted (λ p. record p { draft = wanting x (left i) p.draft }) i)) (sym same) ∙ ap still h.2.2.1 ∙ still_skip h.2.1 h.0 h.1 h.2.3 ∙ ap still h.3.1)
 
 asks_before : (v : Option ℕ) (i j o : Input) → still i ≡ still j → Asks v j o → Asks v i o
 asks_before None i j o e h = e ∙ h
-asks_before (Some v) i j o e h = (h.0, ap (λ (x : Input). record x { draft = wanting v h.0 x.draft }) e ∙ h.1)
+asks_before (Some v) i j o e h = (h.0, ap (λ (x : Input). noted (λ p. record p { draft = wanting v h.0 p.draft }) x) e ∙ h.1)
 
 asks_behind : (v : Option ℕ) (i j o : Input) → Asks v i j → still j ≡ still o → Asks v i o
 asks_behind None i j o h e = h ∙ e
@@ -294,57 +295,57 @@ still_slot_end nonnull holds i a o h = ap still h.2.1 ∙ still_line_end h.1 a o
 
 -- a state whose section fits, in a block
 abbrev pub InBlock : Module → Function → (block : ℕ) → Input → Input → Type 0
-InBlock m f block i o = Within m f block i.draft → Within m f block o.draft × (i.sections ≡ o.sections) × (i.draft.given ≡ o.draft.given)
+InBlock m f block i o = Within m f block i.read.draft → Within m f block o.read.draft × (i.read.sections ≡ o.read.sections) × (i.read.draft.given ≡ o.read.draft.given)
 
 free_is : (n : ℕ) (t : Bool) (i : Input) (a : ℕ) (o : Input) → (free_by n t).says i a o → (t ≡ false) × (n ≡ a) × (still i ≡ still o)
 free_is n true i a o h = absurd h
 free_is n false i a o h = (refl, taken_is n i a o h, still_taken n i a o h)
 
-new_value_is : (f : Function) (block : ℕ) (i : Input) (v : ℕ) (o : Input) → (new_value f block).says i v o → (v < length f.locals) × (is_in block (slice_get i.draft.values v) ≡ false) × (still i ≡ still o)
+new_value_is : (f : Function) (block : ℕ) (i : Input) (v : ℕ) (o : Input) → (new_value f block).says i v o → (v < length f.locals) × (is_in block (slice_get i.read.draft.values v) ≡ false) × (still i ≡ still o)
 unfolding new_value
 new_value_is f block i v o h = by (value_of_word f (word i)) refl h
   where
-    by : (n : Naming) → value_of_word f (word i) ≡ n → (new_value_named block n).says i v o → (v < length f.locals) × (is_in block (slice_get i.draft.values v) ≡ false) × (still i ≡ still o)
+    by : (n : Naming) → value_of_word f (word i) ≡ n → (new_value_named block n).says i v o → (v < length f.locals) × (is_in block (slice_get i.read.draft.values v) ≡ false) × (still i ≡ still o)
     by naming.NoName is h = absurd h
     by naming.Unknown is h = absurd h
     by (naming.Named k) is h =
-        let p = free_is k (is_in block (slice_get i.draft.values k)) i v o h in
+        let p = free_is k (is_in block (slice_get i.read.draft.values k)) i v o h in
         let q = (value_is f (word i) k is).0 in
-        (omega (arith, q, p.1), ap (λ x. is_in block (slice_get i.draft.values x)) (sym p.1) ∙ p.0, p.2)
+        (omega (arith, q, p.1), ap (λ x. is_in block (slice_get i.read.draft.values x)) (sym p.1) ∙ p.0, p.2)
 
 new_slot_is : (f : Function) (block : ℕ) (i : Input) (s : ℕ) (o : Input) → (new_slot f block).says i s o
-    → (s < length f.locals) × (is_value f s ≡ true) × (unwrap_or (slice_get i.draft.roots s) false ≡ true) × (is_in block (slice_get i.draft.slots s) ≡ false) × (still i ≡ still o)
+    → (s < length f.locals) × (is_value f s ≡ true) × (unwrap_or (slice_get i.read.draft.roots s) false ≡ true) × (is_in block (slice_get i.read.draft.slots s) ≡ false) × (still i ≡ still o)
 unfolding new_slot
 new_slot_is f block i s o h = by (value_of_word f (word i)) refl h
   where
-    root : (k : ℕ) (t : Bool) → (root_by block k t).says i s o → (t ≡ true) × (free_by k (is_in block (slice_get i.draft.slots k))).says i s o
+    root : (k : ℕ) (t : Bool) → (root_by block k t).says i s o → (t ≡ true) × (free_by k (is_in block (slice_get i.read.draft.slots k))).says i s o
     root k false h = absurd h
     root k true h = (refl, h)
 
     by : (n : Naming) → value_of_word f (word i) ≡ n → (slot_named block n).says i s o
-        → (s < length f.locals) × (is_value f s ≡ true) × (unwrap_or (slice_get i.draft.roots s) false ≡ true) × (is_in block (slice_get i.draft.slots s) ≡ false) × (still i ≡ still o)
+        → (s < length f.locals) × (is_value f s ≡ true) × (unwrap_or (slice_get i.read.draft.roots s) false ≡ true) × (is_in block (slice_get i.read.draft.slots s) ≡ false) × (still i ≡ still o)
     by naming.NoName is h = absurd h
     by naming.Unknown is h = absurd h
     by (naming.Named k) is h =
-        let r = root k (unwrap_or (slice_get i.draft.roots k) false) h in
-        let p = free_is k (is_in block (slice_get i.draft.slots k)) i s o r.1 in
+        let r = root k (unwrap_or (slice_get i.read.draft.roots k) false) h in
+        let p = free_is k (is_in block (slice_get i.read.draft.slots k)) i s o r.1 in
         let q = value_is f (word i) k is in
-        (omega (arith, q.0, p.1), ap (λ x. is_value f x) (sym p.1) ∙ q.1, ap (λ x. unwrap_or (slice_get i.draft.roots x) false) (sym p.1) ∙ r.0, ap (λ x. is_in block (slice_get i.draft.slots x)) (sym p.1) ∙ p.0, p.2)
+        (omega (arith, q.0, p.1), ap (λ x. is_value f x) (sym p.1) ∙ q.1, ap (λ x. unwrap_or (slice_get i.read.draft.roots x) false) (sym p.1) ∙ r.0, ap (λ x. is_in block (slice_get i.read.draft.slots x)) (sym p.1) ∙ p.0, p.2)
 
 -- what is asked for is wanted, and the rest of the section is as it was
-asked : (m : Module) (f : Function) (block : ℕ) (v : Option ℕ) (i o : Input) → Asks v i o → Within m f block i.draft
-    → Within m f block o.draft × (is_wanted o.draft.wanted v ≡ true) × (i.sections ≡ o.sections) × (i.draft.given ≡ o.draft.given) × (i.draft.values ≡ o.draft.values) × (i.draft.slots ≡ o.draft.slots) × (i.draft.roots ≡ o.draft.roots)
+asked : (m : Module) (f : Function) (block : ℕ) (v : Option ℕ) (i o : Input) → Asks v i o → Within m f block i.read.draft
+    → Within m f block o.read.draft × (is_wanted o.read.draft.wanted v ≡ true) × (i.read.sections ≡ o.read.sections) × (i.read.draft.given ≡ o.read.draft.given) × (i.read.draft.values ≡ o.read.draft.values) × (i.read.draft.slots ≡ o.read.draft.slots) × (i.read.draft.roots ≡ o.read.draft.roots)
 asked m f block None i o e within =
-    (subst (λ (x : Input). Within m f block x.draft) e within, refl, ap (λ (x : Input). x.sections) e, ap (λ (x : Input). x.draft.given) e, ap (λ (x : Input). x.draft.values) e, ap (λ (x : Input). x.draft.slots) e, ap (λ (x : Input). x.draft.roots) e)
+    (subst (λ (x : Input). Within m f block x.read.draft) e within, refl, ap (λ (x : Input). x.read.sections) e, ap (λ (x : Input). x.read.draft.given) e, ap (λ (x : Input). x.read.draft.values) e, ap (λ (x : Input). x.read.draft.slots) e, ap (λ (x : Input). x.read.draft.roots) e)
 asked m f block (Some v) i o h within =
     let e = h.1 in (
-      subst (λ (x : Input). Within m f block x.draft) e (with_wanted m f block v h.0 i.draft within),
-      sym (ap (λ (x : Input). is_wanted x.draft.wanted (Some v)) e) ∙ last_wanted i.draft.wanted v h.0,
-      ap (λ (x : Input). x.sections) e,
-      ap (λ (x : Input). x.draft.given) e,
-      ap (λ (x : Input). x.draft.values) e,
-      ap (λ (x : Input). x.draft.slots) e,
-      ap (λ (x : Input). x.draft.roots) e,
+      subst (λ (x : Input). Within m f block x.read.draft) e (with_wanted m f block v h.0 i.read.draft within),
+      sym (ap (λ (x : Input). is_wanted x.read.draft.wanted (Some v)) e) ∙ last_wanted i.read.draft.wanted v h.0,
+      ap (λ (x : Input). x.read.sections) e,
+      ap (λ (x : Input). x.read.draft.given) e,
+      ap (λ (x : Input). x.read.draft.values) e,
+      ap (λ (x : Input). x.read.draft.slots) e,
+      ap (λ (x : Input). x.read.draft.roots) e,
     )
 
 value_line_is : (m : Module) (f : Function) (block : ℕ) (i : Input) (u : Unit {0}) (o : Input) → (value_line m f block).says i u o → InBlock m f block i o
@@ -358,9 +359,9 @@ value_line_is m f block i u o h within =
     let end = still_fact_end fact b.1 b.3.0 b.3.1 b.3.2 in
     let asks = asks_behind (named_in_fact fact) i b.1 b.3.1 (asks_before (named_in_fact fact) i h.1 b.1 new.2 said.1) end in
     let at = asked m f block (named_in_fact fact) i b.3.1 asks within in
-    let free : is_in block (slice_get b.3.1.draft.values v) ≡ false = ap (λ x. is_in block (slice_get x v)) (sym at.4) ∙ new.1 in
-    let put : Within m f block (listing block v (line.Value v fact) b.3.1.draft) = with_value m f block v fact b.3.1.draft new.0 free said.0 at.1 at.0 in
-    (subst (λ (x : Input). Within m f block x.draft) b.3.3.1 put, at.2 ∙ ap (λ (x : Input). x.sections) b.3.3.1, at.3 ∙ ap (λ (x : Input). x.draft.given) b.3.3.1)
+    let free : is_in block (slice_get b.3.1.read.draft.values v) ≡ false = ap (λ x. is_in block (slice_get x v)) (sym at.4) ∙ new.1 in
+    let put : Within m f block (listing block v (line.Value v fact) b.3.1.read.draft) = with_value m f block v fact b.3.1.read.draft new.0 free said.0 at.1 at.0 in
+    (subst (λ (x : Input). Within m f block x.read.draft) b.3.3.1 put, at.2 ∙ ap (λ (x : Input). x.read.sections) b.3.3.1, at.3 ∙ ap (λ (x : Input). x.read.draft.given) b.3.3.1)
 
 slot_line_is : (m : Module) (f : Function) (block : ℕ) (i : Input) (u : Unit {0}) (o : Input) → (slot_line f block).says i u o → InBlock m f block i o
 unfolding slot_line put_slot with_slot_line
@@ -377,10 +378,10 @@ slot_line_is m f block i u o h within =
     let end = still_slot_end c.0 d.0 d.1 e.0 e.1 e.2 in
     let asks = asks_behind d.0 i d.1 e.1 (asks_before d.0 i c.1 d.1 (word ∙ new.4 ∙ nonnull) holds) end in
     let at = asked m f block d.0 i e.1 asks within in
-    let rooted : unwrap_or (slice_get (root_names m f) s) false ≡ true = ap (λ (x : List Bool). unwrap_or (slice_get x s) false) (sym within.0.roots ∙ ap (λ (x : Input). x.draft.roots) word) ∙ new.2 in
-    let free : is_in block (slice_get e.1.draft.slots s) ≡ false = ap (λ x. is_in block (slice_get x s)) (sym at.5 ∙ ap (λ (x : Input). x.draft.slots) word) ∙ new.3 in
-    let put : Within m f block (listing_slot block s (line.Slot s c.0 d.0) e.1.draft) = with_slot m f block s c.0 d.0 e.1.draft new.0 free (rw (new.1, rooted) refl) at.1 at.0 in
-    (subst (λ (x : Input). Within m f block x.draft) e.3.1 put, at.2 ∙ ap (λ (x : Input). x.sections) e.3.1, at.3 ∙ ap (λ (x : Input). x.draft.given) e.3.1)
+    let rooted : unwrap_or (slice_get (root_names m f) s) false ≡ true = ap (λ (x : List Bool). unwrap_or (slice_get x s) false) (sym within.0.roots ∙ ap (λ (x : Input). x.read.draft.roots) word) ∙ new.2 in
+    let free : is_in block (slice_get e.1.read.draft.slots s) ≡ false = ap (λ x. is_in block (slice_get x s)) (sym at.5 ∙ ap (λ (x : Input). x.read.draft.slots) word) ∙ new.3 in
+    let put : Within m f block (listing_slot block s (line.Slot s c.0 d.0) e.1.read.draft) = with_slot m f block s c.0 d.0 e.1.read.draft new.0 free (rw (new.1, rooted) refl) at.1 at.0 in
+    (subst (λ (x : Input). Within m f block x.read.draft) e.3.1 put, at.2 ∙ ap (λ (x : Input). x.read.sections) e.3.1, at.3 ∙ ap (λ (x : Input). x.read.draft.given) e.3.1)
 
 pub line_is : (m : Module) (f : Function) (block : ℕ) (i : Input) (u : Unit {0}) (o : Input) → (line m f block).says i u o → InBlock m f block i o
 unfolding line
@@ -391,7 +392,7 @@ line_is m f block i u o h = by (begins (codes "slot") i) h
     by false h = value_line_is m f block i u o h
 
 lines_are : (m : Module) (f : Function) (block : ℕ) (i : Input) (xs : List (Unit {0})) (o : Input) → Listed text.past_lines (line m f block).says i xs o → InBlock m f block i o
-lines_are m f block i [] o h within = (subst (λ (x : Input). Within m f block x.draft) h.1 within, ap (λ (x : Input). x.sections) h.1, ap (λ (x : Input). x.draft.given) h.1)
+lines_are m f block i [] o h within = (subst (λ (x : Input). Within m f block x.read.draft) h.1 within, ap (λ (x : Input). x.read.sections) h.1, ap (λ (x : Input). x.read.draft.given) h.1)
 lines_are m f block i (u ∷ xs) o h within =
     let one = line_is m f block i u h.1 h.2 within in
     let more = lines_are m f block h.1 xs o h.3 one.0 in
@@ -401,27 +402,27 @@ lines_are m f block i (u ∷ xs) o h within =
 
 -- a state whose section fits, between its blocks
 abbrev pub InSection : Module → Function → Input → Input → Type 0
-InSection m f i o = Between m f i.draft → Between m f o.draft × (i.sections ≡ o.sections)
+InSection m f i o = Between m f i.read.draft → Between m f o.read.draft × (i.read.sections ≡ o.read.sections)
 
-new_block_is : (f : Function) (i : Input) (block : ℕ) (o : Input) → (new_block f).says i block o → (slice_get i.draft.given block ≡ Some false) × (still i ≡ still o)
+new_block_is : (f : Function) (i : Input) (block : ℕ) (o : Input) → (new_block f).says i block o → (slice_get i.read.draft.given block ≡ Some false) × (still i ≡ still o)
 unfolding new_block
 new_block_is f i block o h = by (names.block_of_word f (word i)) h
   where
-    by_given : (k : ℕ) (g : Option Bool) → slice_get i.draft.given k ≡ g → (block_by k g).says i block o → (slice_get i.draft.given block ≡ Some false) × (still i ≡ still o)
+    by_given : (k : ℕ) (g : Option Bool) → slice_get i.read.draft.given k ≡ g → (block_by k g).says i block o → (slice_get i.read.draft.given block ≡ Some false) × (still i ≡ still o)
     by_given k None is h = absurd h
     by_given k (Some true) is h = absurd h
-    by_given k (Some false) is h = (ap (slice_get i.draft.given) (sym (taken_is k i block o h)) ∙ is, still_taken k i block o h)
+    by_given k (Some false) is h = (ap (slice_get i.read.draft.given) (sym (taken_is k i block o h)) ∙ is, still_taken k i block o h)
 
-    by : (n : Naming) → (block_named n).says i block o → (slice_get i.draft.given block ≡ Some false) × (still i ≡ still o)
+    by : (n : Naming) → (block_named n).says i block o → (slice_get i.read.draft.given block ≡ Some false) × (still i ≡ still o)
     by naming.NoName h = absurd h
     by naming.Unknown h = absurd h
-    by (naming.Named k) h = by_given k (slice_get i.draft.given k) refl h
+    by (naming.Named k) h = by_given k (slice_get i.read.draft.given k) refl h
 
-all_listed_is : (block : ℕ) (i : Input) (u : Unit {0}) (o : Input) → (text.all_listed block).says i u o → (first_unlisted block i.draft.values i.draft.wanted ≡ None) × (i ≡ o)
+all_listed_is : (block : ℕ) (i : Input) (u : Unit {0}) (o : Input) → (text.all_listed block).says i u o → (first_unlisted block i.read.draft.values i.read.draft.wanted ≡ None) × (i ≡ o)
 unfolding text.all_listed
-all_listed_is block i u o h = by (first_unlisted block i.draft.values i.draft.wanted) refl h
+all_listed_is block i u o h = by (first_unlisted block i.read.draft.values i.read.draft.wanted) refl h
   where
-    by : (x : Option ℕ) → first_unlisted block i.draft.values i.draft.wanted ≡ x → (text.listed_by x).says i u o → (first_unlisted block i.draft.values i.draft.wanted ≡ None) × (i ≡ o)
+    by : (x : Option ℕ) → first_unlisted block i.read.draft.values i.read.draft.wanted ≡ x → (text.listed_by x).says i u o → (first_unlisted block i.read.draft.values i.read.draft.wanted ≡ None) × (i ≡ o)
     by None is h = (is, h.1)
     by (Some left) is h = absurd h
 
@@ -436,22 +437,22 @@ block_is m f i u o h between =
     let end = still_line_end b.1 c.0 c.1 c.2 in
     let d = c.3 in
     let same = word ∙ new.1 ∙ end in
-    let given : slice_get c.1.draft.given block ≡ Some false = sym (ap (λ (x : Input). slice_get x.draft.given block) (new.1 ∙ end)) ∙ new.0 in
-    let begun : Within m f block c.1.draft = block_begins m f block c.1.draft given (subst (λ (x : Input). Between m f x.draft) same between) in
+    let given : slice_get c.1.read.draft.given block ≡ Some false = sym (ap (λ (x : Input). slice_get x.read.draft.given block) (new.1 ∙ end)) ∙ new.0 in
+    let begun : Within m f block c.1.read.draft = block_begins m f block c.1.read.draft given (subst (λ (x : Input). Between m f x.read.draft) same between) in
     let read = lines_are m f block c.1 d.2.0 d.2.1 d.2.2 begun in
     let behind : d.2.1 ≡ d.1 = d.2.3.1 in
     let e = d.3 in
     let listed = all_listed_is block d.1 e.0 e.1 e.2 in
-    let here : Within m f block d.1.draft = subst (λ (x : Input). Within m f block x.draft) behind read.0 in
-    let given_here : slice_get d.1.draft.given block ≡ Some false = sym (ap (λ x. slice_get x block) (read.2 ∙ ap (λ (x : Input). x.draft.given) behind)) ∙ given in
-    let ended : Between m f (block_ended block d.1.draft) = block_ends m f block d.1.draft given_here listed.0 here in
-    let out : with_block block d.1 ≡ o = ap (with_block block) listed.1 ∙ e.3.1 in (
-      subst (λ (x : Input). Between m f x.draft) out ended,
-      ap (λ (x : Input). x.sections) same ∙ read.1 ∙ ap (λ (x : Input). x.sections) behind ∙ ap (λ (x : Input). x.sections) out,
+    let here : Within m f block d.1.read.draft = subst (λ (x : Input). Within m f block x.read.draft) behind read.0 in
+    let given_here : slice_get d.1.read.draft.given block ≡ Some false = sym (ap (λ x. slice_get x block) (read.2 ∙ ap (λ (x : Input). x.read.draft.given) behind)) ∙ given in
+    let ended : Between m f (block_ended block d.1.read.draft) = block_ends m f block d.1.read.draft given_here listed.0 here in
+    let out : noted (with_block block) d.1 ≡ o = ap (noted (with_block block)) listed.1 ∙ e.3.1 in (
+      subst (λ (x : Input). Between m f x.read.draft) out ended,
+      ap (λ (x : Input). x.read.sections) same ∙ read.1 ∙ ap (λ (x : Input). x.read.sections) behind ∙ ap (λ (x : Input). x.read.sections) out,
     )
 
 blocks_are : (m : Module) (f : Function) (i : Input) (xs : List (Unit {0})) (o : Input) → Listed text.past_blocks (text.block m f).says i xs o → InSection m f i o
-blocks_are m f i [] o h between = (subst (λ (x : Input). Between m f x.draft) h.1 between, ap (λ (x : Input). x.sections) h.1)
+blocks_are m f i [] o h between = (subst (λ (x : Input). Between m f x.read.draft) h.1 between, ap (λ (x : Input). x.read.sections) h.1)
 blocks_are m f i (u ∷ xs) o h between =
     let one = block_is m f i u h.1 h.2 between in
     let more = blocks_are m f h.1 xs o h.3 one.0 in
@@ -470,7 +471,7 @@ new_parameter_is f i place o h = by (value_of_word f (word i)) h
 
     by_parameter : (k : ℕ) (b : Bool) → is_parameter f k ≡ b → (parameter_by k b).says i place o → (is_parameter f place ≡ true) × (still i ≡ still o)
     by_parameter k false is h = absurd h
-    by_parameter k true is h = by_promise k (slice_get i.draft.parameters k) is h
+    by_parameter k true is h = by_promise k (slice_get i.read.draft.parameters k) is h
 
     by : (n : Naming) → (parameter_named f n).says i place o → (is_parameter f place ≡ true) × (still i ≡ still o)
     by naming.NoName h = absurd h
@@ -487,11 +488,11 @@ parameter_is m f i u o h between =
     let c = b.3 in
     let said = promise_is m (family_of_value m f place) b.1 c.0 c.1 c.2 in
     let same = word ∙ new.1 ∙ said.1 in
-    let put = with_parameter m f place c.0 c.1.draft new.0 said.0 (subst (λ (x : Input). Between m f x.draft) same between) in
-    (subst (λ (x : Input). Between m f x.draft) c.3.1 put, ap (λ (x : Input). x.sections) same ∙ ap (λ (x : Input). x.sections) c.3.1)
+    let put = with_parameter m f place c.0 c.1.read.draft new.0 said.0 (subst (λ (x : Input). Between m f x.read.draft) same between) in
+    (subst (λ (x : Input). Between m f x.read.draft) c.3.1 put, ap (λ (x : Input). x.read.sections) same ∙ ap (λ (x : Input). x.read.sections) c.3.1)
 
 parameters_are : (m : Module) (f : Function) (i : Input) (xs : List (Unit {0})) (o : Input) → Listed text.past_parameters (text.parameter m f).says i xs o → InSection m f i o
-parameters_are m f i [] o h between = (subst (λ (x : Input). Between m f x.draft) h.1 between, ap (λ (x : Input). x.sections) h.1)
+parameters_are m f i [] o h between = (subst (λ (x : Input). Between m f x.read.draft) h.1 between, ap (λ (x : Input). x.read.sections) h.1)
 parameters_are m f i (u ∷ xs) o h between =
     let one = parameter_is m f i u h.1 h.2 between in
     let more = parameters_are m f h.1 xs o h.3 one.0 in
@@ -509,23 +510,23 @@ result_is m f i p o h = by (begins (codes "result") i) h
 
 -- ---- sections
 
-body_is : (m : Module) (f : Function) (i : Input) (p : Option Promise) (o : Input) → (text.body m f).says i p o → Between m f o.draft × (promised_fits m (family_of_type m f.returned) p ≡ true) × (i.sections ≡ o.sections)
+body_is : (m : Module) (f : Function) (i : Input) (p : Option Promise) (o : Input) → (text.body m f).says i p o → Between m f o.read.draft × (promised_fits m (family_of_type m f.returned) p ≡ true) × (i.read.sections ≡ o.read.sections)
 unfolding text.body begin begun text.parameters text.blocks
 body_is m f i p o h =
     let begun = h.2.1 in
-    let start : Between m f h.1.draft = subst (λ (x : Input). Between m f x.draft) begun (at_start m f) in
+    let start : Between m f h.1.read.draft = subst (λ (x : Input). Between m f x.read.draft) begun (at_start m f) in
     let b = h.3 in
     let params = parameters_are m f h.1 b.2.0 b.2.1 b.2.2 start in
     let params_end : b.2.1 ≡ b.1 = b.2.3.1 in
     let c = b.3 in
     let result = result_is m f b.1 c.0 c.1 c.2 in
-    let at : Between m f c.1.draft = subst (λ (x : Input). Between m f x.draft) (ap still params_end ∙ result.1) params.0 in
+    let at : Between m f c.1.read.draft = subst (λ (x : Input). Between m f x.read.draft) (ap still params_end ∙ result.1) params.0 in
     let d = c.3 in
     let blocks = blocks_are m f c.1 d.2.0 d.2.1 d.2.2 at in
     let out : d.2.1 ≡ o = d.2.3.1 ∙ d.3.1 in (
-      subst (λ (x : Input). Between m f x.draft) out blocks.0,
+      subst (λ (x : Input). Between m f x.read.draft) out blocks.0,
       subst (λ x. promised_fits m (family_of_type m f.returned) x ≡ true) d.3.0 result.0,
-      ap (λ (x : Input). x.sections) begun ∙ params.1 ∙ ap (λ (x : Input). x.sections) params_end ∙ ap (λ (x : Input). x.sections) result.1 ∙ blocks.1 ∙ ap (λ (x : Input). x.sections) out,
+      ap (λ (x : Input). x.read.sections) begun ∙ params.1 ∙ ap (λ (x : Input). x.read.sections) params_end ∙ ap (λ (x : Input). x.read.sections) result.1 ∙ blocks.1 ∙ ap (λ (x : Input). x.read.sections) out,
     )
 
 section_fits_between : (m : Module) (f : Function) (mark : Mark) (p : Option Promise) (d : Draft) → Between m f d → promised_fits m (family_of_type m f.returned) p ≡ true → section_fits m f (kept mark p d).section ≡ true
@@ -543,7 +544,7 @@ kept_fits m p = kept_by p.0 p.1
 
 -- what is read of each function fits
 abbrev Fine : Module → Input → Type 0
-Fine m i = (length i.sections ≡ length m.functions) × (list_all (kept_fits m) (zip m.functions i.sections) ≡ true)
+Fine m i = (length i.read.sections ≡ length m.functions) × (list_all (kept_fits m) (zip m.functions i.read.sections) ≡ true)
 
 section_of_is : (m : Module) (function : ℕ) (f : Function) (i : Input) (u : Unit {0}) (o : Input) → slice_get m.functions function ≡ Some f → (text.section_of m function f).says i u o → Fine m i → Fine m o
 unfolding text.section_of with_section
@@ -556,13 +557,13 @@ section_of_is m function f i u o at h fine =
     let first = still_marked i mark h.1 h.2 ∙ still_line_end h.1 b.0 b.1 b.2 in
     let body = body_is m f b.1 c.0 c.1 c.2 in
     let last = still_expect (codes "end") c.1 d.0 d.1 d.2 ∙ still_line_end d.1 e.0 e.1 e.2 in
-    let between : Between m f e.1.draft = subst (λ (x : Input). Between m f x.draft) last body.0 in
-    let here = section_fits_between m f mark c.0 e.1.draft between body.1 in
-    let same : i.sections ≡ e.1.sections = ap (λ (x : Input). x.sections) first ∙ body.2 ∙ ap (λ (x : Input). x.sections) last in
-    let new : Option Kept = Some (kept mark c.0 e.1.draft) in
-    let put : Fine m (with_section function mark c.0 e.1) =
+    let between : Between m f e.1.read.draft = subst (λ (x : Input). Between m f x.read.draft) last body.0 in
+    let here = section_fits_between m f mark c.0 e.1.read.draft between body.1 in
+    let same : i.read.sections ≡ e.1.read.sections = ap (λ (x : Input). x.read.sections) first ∙ body.2 ∙ ap (λ (x : Input). x.read.sections) last in
+    let new : Option Kept = Some (kept mark c.0 e.1.read.draft) in
+    let put : Fine m (noted (with_section function mark c.0) e.1) =
     subst (λ x. (length (slice_set x function new) ≡ length m.functions) × (list_all (kept_fits m) (zip m.functions (slice_set x function new)) ≡ true)) same
-    (length-set i.sections function new ∙ fine.0, all_set_zip (kept_fits m) m.functions i.sections function f new at fine.1 here) in
+    (length-set i.read.sections function new ∙ fine.0, all_set_zip (kept_fits m) m.functions i.read.sections function f new at fine.1 here) in
     subst (Fine m) e.3.1 put
 
 still_new_function : (m : Module) → Still (new_function m)
@@ -577,7 +578,7 @@ still_new_function m i a o h = by (names.function_of_word m (word i)) h
     by : (n : Naming) → (function_named n).says i a o → still i ≡ still o
     by naming.NoName h = absurd h
     by naming.Unknown h = absurd h
-    by (naming.Named k) h = by_kept k (slice_get i.sections k) h
+    by (naming.Named k) h = by_kept k (slice_get i.read.sections k) h
 
 section_is : (m : Module) (i : Input) (u : Unit {0}) (o : Input) → (text.section m).says i u o → Fine m i → Fine m o
 unfolding text.section text.section_behind
@@ -631,12 +632,12 @@ still_version i a o h = ap still h.2.1 ∙ ap still h.3.2.1 ∙ still_skip h.3.1
 
 finished_is : (m : Module) (i : Input) (s : List Section) (o : Input) → text.finished.says i s o → Fine m i → fits m s ≡ true
 unfolding text.finished
-finished_is m i s o h fine = by (first_gap 0 i.sections) refl h
+finished_is m i s o h fine = by (first_gap 0 i.read.sections) refl h
   where
-    by : (x : Option Found) → first_gap 0 i.sections ≡ x → (finished_by x).says i s o → fits m s ≡ true
+    by : (x : Option Mistake) → first_gap 0 i.read.sections ≡ x → (finished_by x).says i s o → fits m s ≡ true
     by None is h =
-        let all = all_kept m 0 m.functions i.sections fine.0 is fine.1 in
-        subst (λ x. fits m x ≡ true) h.0 (and_true (length (sections_in i.sections) == length m.functions) (list_all (λ p. section_fits m p.0 p.1) (zip m.functions (sections_in i.sections))) (eq-eqb (length (sections_in i.sections)) (length m.functions) all.0) all.1)
+        let all = all_kept m 0 m.functions i.read.sections fine.0 is fine.1 in
+        subst (λ x. fits m x ≡ true) h.0 (and_true (length (sections_in i.read.sections) == length m.functions) (list_all (λ p. section_fits m p.0 p.1) (zip m.functions (sections_in i.read.sections))) (eq-eqb (length (sections_in i.read.sections)) (length m.functions) all.0) all.1)
     by (Some gap) is h = absurd h
 
 -- what a text is fits the module

@@ -20,8 +20,10 @@ use Rattle.certificate.specs.Numbers.{count_of_word, bits_of_word, words_of_word
 use Rattle.certificate.specs.Names as names
 use Rattle.certificate.specs.Names.{global_of_word, value_of_word, value_named, value_at, value_by, layout_of_word, layout_named, struct_at}
 use Rattle.certs.specs.Families.{refers_to}
-use Rattle.certificate.specs.Input.{Input, Form, word, begins, after, next_line}
-use Rattle.certificate.specs.Forms.{skip, taken, taken_if, taken_as, expect, line_end, flag, flag_by, count, word_set, mark_of_word, marked, age, age_by, age_of_word, layout_by, layout_name}
+use Rattle.certificate.specs.Input.{Input, Form}
+use Rattle.name_text.specs.Reader.{word, begins, after, next_line}
+use Rattle.certificate.specs.Forms.{taken_if, flag, flag_by, count, word_set, mark_of_word, marked, age, age_by, age_of_word, layout_by, layout_name}
+use Rattle.name_text.specs.Forms.{skip, taken, taken_as, expect, line_end}
 use Rattle.certs.specs.Fits.{is_count, stands_for, layout_fits, words_fit, is_value_sort, is_value}
 use Rattle.certificate.proofs.ReadSets.{read_words_fit}
 use Rattle.certs.specs.declared.family.Family.{Family}
@@ -29,6 +31,7 @@ use Rattle.certificate.specs.declared.naming.Naming.{Naming}
 use Rattle.certificate.specs.declared.naming.Naming.TheVariants as naming
 use Rattle.name_text.specs.declared.naming.Sigil.TheVariants as sigil
 use Rattle.certs.specs.declared.section.Age.{Age}
+use Rattle.certificate.specs.declared.mistake.Mistake.{Mistake}
 
 -- ---- forms that change nothing but what is left of the text
 
@@ -46,7 +49,7 @@ still_skip i a o h = ap still h.1
 pub still_taken : {A : Type 0} (x : A) → Still (taken x)
 still_taken x i a o h = still_skip i h.0 h.1 h.2 ∙ ap still h.3.1
 
-pub taken_is : {A : Type 0} (x : A) (i : Input) (a : A) (o : Input) → (taken x).says i a o → x ≡ a
+pub taken_is : {A : Type 0} (x : A) (i : Input) (a : A) (o : Input) → (taken {M = Mistake} x).says i a o → x ≡ a
 taken_is x i a o h = h.3.0
 
 pub still_expect : (wanted : Bytes) → Still (expect wanted)
@@ -69,7 +72,7 @@ pub still_as : {A : Type 0} (x : Option A) → Still (taken_as x)
 still_as None i a o h = absurd h
 still_as (Some x) i a o h = still_taken x i a o h
 
-pub as_is : {A : Type 0} (x : Option A) (i : Input) (a : A) (o : Input) → (taken_as x).says i a o → x ≡ Some a
+pub as_is : {A : Type 0} (x : Option A) (i : Input) (a : A) (o : Input) → (taken_as {M = Mistake} x).says i a o → x ≡ Some a
 as_is None i a o h = absurd h
 as_is (Some x) i a o h = ap (λ y. Some y) (taken_is x i a o h)
 

@@ -1,28 +1,21 @@
--- Words and lines take something from what is left.
+-- Lines take something from what is left.
 use Rattle.std.specs.Prelude.{◌≡◌, ℕ, ◌<◌, Bool, true, false, [], ◌∷◌, length, codes, slice_get}
 use Rattle.std.proofs.Common.{lit<, arith}
 use Rattle.ir_ast.specs.declared.function.Function.{Function}
 use Rattle.ir_ast.specs.declared.module.Module.{Module}
-use Rattle.grammar.specs.Grammar.{pure}
-use Rattle.grammar.specs.Takes.{Takes, TakesWhere, first_takes, first_takes_where, checked_takes, step_takes, look_takes}
+use Rattle.grammar.specs.Takes.{Takes, TakesWhere, first_takes, look_takes}
 use Rattle.ir_tokens.specs.Tokens.{lex_from, past_gap}
 use Rattle.ir_tokens.specs.Bytes.{Text as Bytes}
 use Rattle.certificate.specs.Names.{value_of_word}
 use Rattle.certificate.specs.Drafts.{is_in}
-use Rattle.certificate.specs.Input.{left, word, begins, after}
-use Rattle.certificate.specs.Falls.{after_falls, after_takes, word_takes}
-use Rattle.certificate.specs.Forms.{skip, taken, expect, free_by, new_value, new_value_named}
+use Rattle.name_text.specs.Reader.{word, begins}
+use Rattle.name_text.specs.Forms.{expect, expect_takes, taken_takes}
+use Rattle.certificate.specs.Input.{Progress}
+use Rattle.certificate.specs.Forms.{free_by, new_value, new_value_named}
 use Rattle.certificate.specs.Lines.{line, line_by, slot_line, slot_behind, value_line, value_behind}
 use Rattle.certificate.specs.declared.naming.Naming.{Naming}
 use Rattle.certificate.specs.declared.naming.Naming.TheVariants.{NoName, Unknown, Named}
-use Rattle.certificate.specs.declared.found.Found.{Found}
-use Rattle.certificate.specs.declared.found.Found.TheVariants.{Syntax}
-
--- a word that is wanted takes bytes
-pub expect_takes : (wanted : Bytes) → 0 < length wanted → Takes (expect wanted)
-unfolding expect skip
-expect_takes wanted some =
-    checked_takes (begins wanted) (λ i. Syntax (left i)) skip (step_takes Found (λ i. begins wanted i ≡ true) (λ _. tt) after after_falls (after_takes wanted some))
+use Rattle.certificate.specs.declared.mistake.Mistake.{Mistake}
 
 -- a word that names a value has bytes
 named_has_bytes : (f : Function) (w : Bytes) (value : ℕ) → value_of_word f w ≡ Named value → 0 < length w
@@ -30,19 +23,10 @@ unfolding lex_from past_gap
 named_has_bytes f [] value e = absurd cc
 named_has_bytes f (byte ∷ w) value e = omega arith
 
--- the next word takes bytes where it has some
-skip_takes : TakesWhere (λ i. 0 < length (word i)) skip
-unfolding skip
-skip_takes = step_takes Found (λ i. 0 < length (word i)) (λ _. tt) after after_falls word_takes
-
--- so it does where it means a value
-taken_takes : {A : Type 0} (a : A) → TakesWhere (λ i. 0 < length (word i)) (taken a)
-taken_takes a = first_takes_where (λ i. 0 < length (word i)) skip (λ _. pure a) skip_takes
-
 -- a name that is not listed so far takes bytes
 free_takes : (value : ℕ) (in_block : Bool) → TakesWhere (λ i. 0 < length (word i)) (free_by value in_block)
 free_takes value true i a o p h = absurd h
-free_takes value false i a o p h = taken_takes value i a o p h
+free_takes value false i a o p h = taken_takes Progress Mistake value i a o p h
 
 -- the name of a new value takes bytes
 new_value_takes : (f : Function) (block : ℕ) → Takes (new_value f block)
@@ -52,12 +36,12 @@ new_value_takes f block = look_takes (λ i. value_of_word f (word i)) (new_value
     each : (k : Naming) → TakesWhere (λ i. value_of_word f (word i) ≡ k) (new_value_named block k)
     each NoName i a o p h = absurd h
     each Unknown i a o p h = absurd h
-    each (Named value) i a o p h = free_takes value (is_in block (slice_get i.draft.values value)) i a o (named_has_bytes f (word i) value p) h
+    each (Named value) i a o p h = free_takes value (is_in block (slice_get i.read.draft.values value)) i a o (named_has_bytes f (word i) value p) h
 
 -- the line of a slot takes bytes
 slot_line_takes : (f : Function) (block : ℕ) → Takes (slot_line f block)
 unfolding slot_line
-slot_line_takes f block = first_takes (expect (codes "slot")) (λ _. slot_behind f block) (expect_takes (codes "slot") (lit< tt))
+slot_line_takes f block = first_takes (expect (codes "slot")) (λ _. slot_behind f block) (expect_takes Progress Mistake (codes "slot") (lit< tt))
 
 -- the line of a value takes bytes
 value_line_takes : (m : Module) (f : Function) (block : ℕ) → Takes (value_line m f block)

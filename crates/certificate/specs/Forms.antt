@@ -4,17 +4,18 @@ use Rattle.std.specs.Str.{bytes_eq}
 use Rattle.ir_ast.specs.declared.function.Function.{Function}
 use Rattle.ir_ast.specs.declared.function.Parameter.{Parameter}
 use Rattle.ir_ast.specs.declared.module.Module.{Module}
-use Rattle.grammar.specs.Grammar.{pure, ◌>>◌, step, checked, look, refuse}
+use Rattle.grammar.specs.Grammar.{pure, ◌>>◌, look}
 use Rattle.pools.specs.declared.word_set.WordSet.{WordSet}
 use Rattle.ir_tokens.specs.Bytes.{Text as Bytes}
 use Rattle.certificate.specs.Numbers.{count_of_word, words_of_word}
 use Rattle.certificate.specs.Names.{function_of_word, value_of_word, block_of_word, layout_of_word}
 use Rattle.certs.specs.Families.{refers_to}
 use Rattle.certificate.specs.Drafts.{is_in}
-use Rattle.certificate.specs.Input.{Form, left, word, begins, after, line_ends, next_line, begun, wants, with_line, with_slot_line}
-use Rattle.certificate.specs.Falls.{after_falls, next_line_falls, begun_falls, wants_falls, with_line_falls, with_slot_line_falls}
+use Rattle.name_text.specs.Reader.{left, word, begins}
+use Rattle.name_text.specs.Forms.{syntax, wrong, skip, taken, taken_as, note}
+use Rattle.certificate.specs.Input.{Form, begun, wants, with_line, with_slot_line}
 use Rattle.certs.specs.declared.family.Family.{Family}
-use Rattle.certificate.specs.declared.input.Kept.{Kept}
+use Rattle.certificate.specs.declared.progress.Kept.{Kept}
 use Rattle.certs.specs.declared.section.Age.{Age}
 use Rattle.certs.specs.declared.section.Age.TheVariants as ages
 use Rattle.certs.specs.declared.section.Fact.{Fact}
@@ -24,47 +25,22 @@ use Rattle.certs.specs.declared.section.Mark.TheVariants as mark
 use Rattle.certs.specs.declared.section.Promise.{Promise}
 use Rattle.certificate.specs.declared.naming.Naming.{Naming}
 use Rattle.certificate.specs.declared.naming.Naming.TheVariants.{NoName, Unknown, Named}
-use Rattle.certificate.specs.declared.found.Found.TheVariants.{Syntax, UnknownName, ListedTwice}
+use Rattle.certificate.specs.declared.mistake.Mistake.TheVariants.{UnknownName, ListedTwice}
 
 -- ---- words and lines
 
--- no form continues with the next word
-abbrev pub syntax : {A : Type 0} → Form A
-syntax = refuse (λ i. Syntax (left i))
-
 -- there is nothing of the name that is the next word
 abbrev pub unknown : {A : Type 0} → Form A
-unknown = refuse (λ i. UnknownName (left i))
+unknown = wrong UnknownName
 
 -- what the next word names or says is listed already
 abbrev pub twice : {A : Type 0} → Form A
-twice = refuse (λ i. ListedTwice (left i))
-
--- the next word, whatever it is
-unfoldable pub skip : Form (Unit {0})
-skip = step (λ _. tt) after after_falls
-
--- the next word, which means this value
-abbrev pub taken : {A : Type 0} → A → Form A
-taken a = skip >> pure a
+twice = wrong ListedTwice
 
 -- the next word, if it is allowed there
 abbrev pub taken_if : {A : Type 0} → Bool → A → Form A
 taken_if true a = taken a
 taken_if false a = syntax
-
--- the next word, if it means some value
-abbrev pub taken_as : {A : Type 0} → Option A → Form A
-taken_as None = syntax
-taken_as (Some a) = taken a
-
--- this word
-unfoldable pub expect : (wanted : Bytes) → Form (Unit {0})
-expect wanted = checked (begins wanted) (λ i. Syntax (left i)) >> skip
-
--- the end of a line or of the text, and empty lines
-unfoldable pub line_end : Form (Unit {0})
-line_end = checked line_ends (λ i. Syntax (left i)) >> step (λ _. tt) next_line next_line_falls
 
 -- the next word, if it is the one that is asked for, or nothing
 abbrev pub flag_by : Bool → Form Bool
@@ -121,7 +97,7 @@ function_by function (Some None) = taken function
 abbrev pub function_named : Naming → Form ℕ
 function_named NoName = syntax
 function_named Unknown = unknown
-function_named (Named function) = look (λ i. slice_get i.sections function) (function_by function)
+function_named (Named function) = look (λ i. slice_get i.read.sections function) (function_by function)
 
 -- the name of a defined function that has no section so far
 unfoldable pub new_function : Module → Form ℕ
@@ -145,7 +121,7 @@ unpromised value (Some None) = taken value
 -- a parameter, and no other value, of which nothing is promised so far
 abbrev pub parameter_by : (value : ℕ) → Bool → Form ℕ
 parameter_by value false = unknown
-parameter_by value true = look (λ i. slice_get i.draft.parameters value) (unpromised value)
+parameter_by value true = look (λ i. slice_get i.read.draft.parameters value) (unpromised value)
 
 -- of the parameter that is named nothing is promised so far
 abbrev pub parameter_named : Function → Naming → Form ℕ
@@ -167,7 +143,7 @@ block_by block (Some false) = taken block
 abbrev pub block_named : Naming → Form ℕ
 block_named NoName = syntax
 block_named Unknown = unknown
-block_named (Named block) = look (λ i. slice_get i.draft.given block) (block_by block)
+block_named (Named block) = look (λ i. slice_get i.read.draft.given block) (block_by block)
 
 -- the name of a block, not the entry, whose lines did not come so far
 unfoldable pub new_block : Function → Form ℕ
@@ -177,7 +153,7 @@ new_block f = look (λ i. block_of_word f (word i)) block_named
 abbrev pub new_value_named : (block : ℕ) → Naming → Form ℕ
 new_value_named block NoName = syntax
 new_value_named block Unknown = unknown
-new_value_named block (Named value) = look (λ i. is_in block (slice_get i.draft.values value)) (free_by value)
+new_value_named block (Named value) = look (λ i. is_in block (slice_get i.read.draft.values value)) (free_by value)
 
 -- the name of a value that the block does not list so far
 unfoldable pub new_value : Function → (block : ℕ) → Form ℕ
@@ -186,13 +162,13 @@ new_value f block = look (λ i. value_of_word f (word i)) (new_value_named block
 -- a root slot that is not listed so far
 abbrev pub root_by : (block slot : ℕ) → Bool → Form ℕ
 root_by block slot false = unknown
-root_by block slot true = look (λ i. is_in block (slice_get i.draft.slots slot)) (free_by slot)
+root_by block slot true = look (λ i. is_in block (slice_get i.read.draft.slots slot)) (free_by slot)
 
 -- the root slot that is named is not listed so far
 abbrev pub slot_named : (block : ℕ) → Naming → Form ℕ
 slot_named block NoName = syntax
 slot_named block Unknown = unknown
-slot_named block (Named slot) = look (λ i. unwrap_or (slice_get i.draft.roots slot) false) (root_by block slot)
+slot_named block (Named slot) = look (λ i. unwrap_or (slice_get i.read.draft.roots slot) false) (root_by block slot)
 
 -- the name of a root slot that the block does not list so far
 unfoldable pub new_slot : Function → (block : ℕ) → Form ℕ
@@ -200,7 +176,7 @@ new_slot f block = look (λ i. value_of_word f (word i)) (slot_named block)
 
 -- the block has to list this value, which the next word names
 unfoldable pub want : (value : ℕ) → Form (Unit {0})
-want value = step (λ _. tt) (wants value) (wants_falls value)
+want value = look left (λ left. note (wants value left))
 
 -- the block has to list the value that is named
 abbrev pub listed_by : Naming → Form ℕ
@@ -226,12 +202,12 @@ layout_name m family = look (λ i. layout_of_word m (word i)) (layout_by family)
 
 -- the section of this function begins
 unfoldable pub begin : Module → Function → Form (Unit {0})
-begin m f = step (λ _. tt) (begun m f) (begun_falls m f)
+begin m f = note (begun m f)
 
 -- a line of the block says this of a value
 unfoldable pub put_value : (block value : ℕ) → Fact → Form (Unit {0})
-put_value block value fact = step (λ _. tt) (with_line block value (line.Value value fact)) (with_line_falls block value (line.Value value fact))
+put_value block value fact = note (with_line block value (line.Value value fact))
 
 -- a line of the block says this of a slot
 unfoldable pub put_slot : (block slot : ℕ) → (nonnull : Bool) → (holds : Option ℕ) → Form (Unit {0})
-put_slot block slot nonnull holds = step (λ _. tt) (with_slot_line block slot (line.Slot slot nonnull holds)) (with_slot_line_falls block slot (line.Slot slot nonnull holds))
+put_slot block slot nonnull holds = note (with_slot_line block slot (line.Slot slot nonnull holds))

@@ -1,102 +1,68 @@
--- What is left of a certificate's text, and what is read so far.
-use Rattle.std.specs.Prelude.{ℕ, Bool, false, ◌||◌, List, [], Option, Some, None, length, map, slice_set}
-use Rattle.std.specs.Str.{bytes_eq}
+-- What a certificate is read from, and what is read so far.
+use Rattle.std.specs.Prelude.{ℕ, false, List, [], Option, Some, None, map, slice_set}
 use Rattle.ir_ast.specs.declared.function.Function.{Function}
 use Rattle.ir_ast.specs.declared.module.Module.{Module}
-use Rattle.grammar.specs.Grammar.{Grammar}
-use Rattle.grammar.specs.Outcome as outcome
-use Rattle.grammar.specs.Outcome.{Outcome}
-use Rattle.std.specs.Prelude.{Result}
 use Rattle.ir_tokens.specs.Bytes.{Text}
-use Rattle.name_text.specs.Numbers.{is_nil}
-use Rattle.name_text.specs.Words.{past_word, past_blanks, past_lines, word_at, ends_line}
+use Rattle.name_text.specs.Words.{past_lines}
+use Rattle.name_text.specs.Reader as reader
+use Rattle.name_text.specs.declared.reader.Reader.{Reader}
 use Rattle.certificate.specs.Drafts.{no_draft, draft_of, promised, wanting, listing, listing_slot, block_ended, first_missing}
 use Rattle.certificate.specs.declared.draft.Draft.{Draft}
-use Rattle.certificate.specs.declared.input.Kept.{Kept}
+use Rattle.certificate.specs.declared.mistake.Mistake.{Mistake}
+use Rattle.certificate.specs.declared.progress.Kept.{Kept}
 use Rattle.certs.specs.declared.section.Line.{Line}
 use Rattle.certs.specs.declared.section.Mark.{Mark}
 use Rattle.certs.specs.declared.section.Promise.{Promise}
-use Rattle.certificate.specs.declared.found.Found.{Found}
-use Rattle.certificate.specs.declared.found.Found.TheVariants.{Memory}
 
--- what is left of a text, and what was read before it
-pub record Input : Type 0 where
-  pub rest : Text
+-- what is read so far
+pub record Progress : Type 0 where
   pub sections : List (Option Kept)  -- by the numbers of the functions
   pub draft : Draft  -- of the section that is read
 
--- how many bytes are left
-abbrev pub left : Input → ℕ
-left i = length i.rest
+-- a certificate's text, and what is read of it so far
+abbrev pub Input : Type 0
+Input = Reader Progress
 
 -- a form of a certificate's text
 abbrev pub Form : Type 0 → Type 1
-Form A = Grammar Input Found left A
-
--- What a function that reads ensures: the outcome, unless memory runs out.
-abbrev pub Reads : {A : Type 0} → Outcome Input Found A → Result A Found → Input → Type 0
-Reads = outcome.Reads Memory
+Form A = reader.Form Progress Mistake A
 
 -- the state before a text: no function has a section
 abbrev pub start_of : Module → Text → Input
-start_of m bytes = record { rest = past_lines false bytes; sections = map (λ _. None) m.functions; draft = no_draft }
-
--- whether the text ends here
-abbrev pub ended : Input → Bool
-ended i = is_nil i.rest
-
--- the next word; none where a line or the text ends
-abbrev pub word : Input → Text
-word i = word_at i.rest
-
--- whether this is the next word
-abbrev pub begins : (wanted : Text) → Input → Bool
-begins wanted i = bytes_eq (word i) wanted
-
--- after the next word and the blanks that follow it
-unfoldable pub after : Input → Input
-after i = record i { rest = past_blanks (past_word false i.rest) }
-
--- whether a line ends here, or the text
-abbrev pub line_ends : Input → Bool
-line_ends i = is_nil i.rest || ends_line i.rest
-
--- after the line's end, at the next word
-unfoldable pub next_line : Input → Input
-next_line i = record i { rest = past_lines false i.rest }
+start_of m bytes = record { rest = past_lines false bytes; read = record { sections = map (λ _. None) m.functions; draft = no_draft } }
 
 -- at the beginning of this function's section
-unfoldable pub begun : Module → Function → Input → Input
-begun m f i = record i { draft = draft_of m f }
+unfoldable pub begun : Module → Function → Progress → Progress
+begun m f p = record p { draft = draft_of m f }
 
 -- with this promise of the parameter at this place
-unfoldable pub with_promise : (place : ℕ) → Promise → Input → Input
-with_promise place promise i = record i { draft = promised place promise i.draft }
+unfoldable pub with_promise : (place : ℕ) → Promise → Progress → Progress
+with_promise place promise p = record p { draft = promised place promise p.draft }
 
--- the next word names a value that the block has to list
-unfoldable pub wants : (value : ℕ) → Input → Input
-wants value i = record i { draft = wanting value (left i) i.draft }
+-- with this value that the block has to list, named where this much of the text is left
+unfoldable pub wants : (value left : ℕ) → Progress → Progress
+wants value left p = record p { draft = wanting value left p.draft }
 
 -- with this line of a value
-unfoldable pub with_line : (block value : ℕ) → Line → Input → Input
-with_line block value line i = record i { draft = listing block value line i.draft }
+unfoldable pub with_line : (block value : ℕ) → Line → Progress → Progress
+with_line block value line p = record p { draft = listing block value line p.draft }
 
 -- with this line of a slot
-unfoldable pub with_slot_line : (block slot : ℕ) → Line → Input → Input
-with_slot_line block slot line i = record i { draft = listing_slot block slot line i.draft }
+unfoldable pub with_slot_line : (block slot : ℕ) → Line → Progress → Progress
+with_slot_line block slot line p = record p { draft = listing_slot block slot line p.draft }
 
 -- after the lines of this block
-unfoldable pub with_block : (block : ℕ) → Input → Input
-with_block block i = record i { draft = block_ended block i.draft }
+unfoldable pub with_block : (block : ℕ) → Progress → Progress
+with_block block p = record p { draft = block_ended block p.draft }
 
 -- what is kept of the section that is read
 abbrev pub kept : Mark → (result : Option Promise) → Draft → Kept
 kept mark promise draft = record { section = record { mark = mark; parameters = draft.parameters; result = promise; blocks = draft.blocks }; missing = first_missing draft }
 
 -- after the section of this function
-unfoldable pub with_section : (function : ℕ) → Mark → (result : Option Promise) → Input → Input
-with_section function mark promise i = record i { sections = slice_set i.sections function (Some (kept mark promise i.draft)); draft = no_draft }
+unfoldable pub with_section : (function : ℕ) → Mark → (result : Option Promise) → Progress → Progress
+with_section function mark promise p = record p { sections = slice_set p.sections function (Some (kept mark promise p.draft)); draft = no_draft }
 
 -- with no section left
-unfoldable pub emptied : Input → Input
-emptied i = record i { sections = [] }
+unfoldable pub emptied : Progress → Progress
+emptied p = record p { sections = [] }

@@ -3,7 +3,6 @@ pub mod Names
 pub mod Drafts
 pub mod Input
 pub mod View
-pub mod Falls
 pub mod Forms
 pub mod Lines
 pub mod Ends

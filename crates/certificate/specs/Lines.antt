@@ -9,8 +9,10 @@ use Rattle.name_text.specs.Words.{begins_with}
 use Rattle.certificate.specs.Numbers.{bits_of_word}
 use Rattle.certificate.specs.Names.{global_of_word}
 use Rattle.certs.specs.Families.{family_of_value, is_reference, is_integer, is_address, same_bits}
-use Rattle.certificate.specs.Input.{Form, left, word, begins, line_ends}
-use Rattle.certificate.specs.Forms.{syntax, unknown, twice, skip, taken, expect, line_end, flag, count, word_set, age, new_value, new_slot, listed_name, layout_name, put_value, put_slot}
+use Rattle.name_text.specs.Reader.{left, word, begins, line_ends}
+use Rattle.name_text.specs.Forms.{syntax, skip, taken, expect, line_end}
+use Rattle.certificate.specs.Input.{Form}
+use Rattle.certificate.specs.Forms.{unknown, twice, flag, count, word_set, age, new_value, new_slot, listed_name, layout_name, put_value, put_slot}
 use Rattle.certs.specs.declared.family.Family.{Family}
 use Rattle.certificate.specs.declared.facts.Head.{Head}
 use Rattle.certificate.specs.declared.facts.Head.TheVariants as head
@@ -23,7 +25,8 @@ use Rattle.certs.specs.declared.section.Age.TheVariants as ages
 use Rattle.certs.specs.declared.section.Fact.{Fact}
 use Rattle.certs.specs.declared.section.Fact.TheVariants as fact
 use Rattle.certs.specs.declared.section.Promise.{Promise}
-use Rattle.certificate.specs.declared.found.Found.TheVariants.{ListedTwice}
+use Rattle.name_text.specs.declared.found.Found.TheVariants.{Wrong}
+use Rattle.certificate.specs.declared.mistake.Mistake.TheVariants.{ListedTwice}
 
 -- ---- promises
 
@@ -180,7 +183,7 @@ has_word (fact.GlobalAddress symbol) word = bytes_eq word (codes "addr")
 
 -- the end of a line with this fact, which no word of it follows once more
 unfoldable pub fact_end : Fact → Form (Unit {0})
-fact_end given = checked (λ i. line_ends i || not (has_word given (word i))) (λ i. ListedTwice (left i)) >> line_end
+fact_end given = checked (λ i. line_ends i || not (has_word given (word i))) (λ i. Wrong (ListedTwice (left i))) >> line_end
 
 -- a word of a slot's line that is given
 abbrev pub slot_has_word : (nonnull : Bool) → (holds : Option ℕ) → Bytes → Bool
@@ -188,7 +191,7 @@ slot_has_word nonnull holds word = (nonnull && bytes_eq word (codes "nonnull")) 
 
 -- the end of a slot's line, likewise
 unfoldable pub slot_end : (nonnull : Bool) → (holds : Option ℕ) → Form (Unit {0})
-slot_end nonnull holds = checked (λ i. line_ends i || not (slot_has_word nonnull holds (word i))) (λ i. ListedTwice (left i)) >> line_end
+slot_end nonnull holds = checked (λ i. line_ends i || not (slot_has_word nonnull holds (word i))) (λ i. Wrong (ListedTwice (left i))) >> line_end
 
 -- ---- lines
 

@@ -1,25 +1,27 @@
 -- The forms of sections, and a certificate's text.
-use Rattle.std.specs.Prelude.{◌≡◌, ℕ, ◌+◌, Bool, true, false, not, ◌||◌, List, [], ◌∷◌, Option, Some, None, Result, Ok, Err, slice_get, codes}
+use Rattle.std.specs.Prelude.{◌≡◌, ℕ, ◌+◌, Bool, true, false, not, ◌||◌, List, [], ◌∷◌, Option, Some, None, slice_get, codes}
 use Rattle.ir_ast.specs.declared.function.Function.{Function}
 use Rattle.ir_ast.specs.declared.module.Module.{Module}
 use Rattle.grammar.specs.Grammar.{pure, ◌>>=◌, ◌>>◌, step, checked, look, refuse}
 use Rattle.grammar.specs.Many.{many}
-use Rattle.grammar.specs.Outcome.{Outcome}
 use Rattle.grammar.specs.Takes.{Takes}
 use Rattle.ir_tokens.specs.Bytes.{Text as Bytes}
 use Rattle.name_text.specs.Numbers.{is_number}
 use Rattle.certs.specs.Families.{family_of_type, family_of_value}
 use Rattle.certificate.specs.Drafts.{first_unlisted}
-use Rattle.certificate.specs.Input.{Input, Form, left, start_of, ended, word, begins, with_promise, with_block, with_section, emptied}
-use Rattle.certificate.specs.Falls.{with_promise_falls, with_block_falls, with_section_falls, emptied_falls}
-use Rattle.certificate.specs.Forms.{unknown, skip, expect, line_end, marked, new_function, new_parameter, new_block, begin}
+use Rattle.name_text.specs.Reader.{left, ended, word, begins, noted, noted_falls}
+use Rattle.name_text.specs.Forms.{skip, expect, expect_takes, line_end, note}
+use Rattle.certificate.specs.Input.{Progress, Input, Form, start_of, with_promise, with_block, with_section, emptied}
+use Rattle.certificate.specs.Forms.{unknown, marked, new_function, new_parameter, new_block, begin}
 use Rattle.certificate.specs.Lines.{promise, line}
-use Rattle.certificate.specs.Ends.{expect_takes, line_takes}
-use Rattle.certificate.specs.declared.input.Kept.{Kept}
+use Rattle.certificate.specs.Ends.{line_takes}
+use Rattle.certificate.specs.declared.progress.Kept.{Kept}
 use Rattle.certs.specs.declared.section.Promise.{Promise}
 use Rattle.certs.specs.declared.section.Section.{Section}
-use Rattle.certificate.specs.declared.found.Found.{Found}
-use Rattle.certificate.specs.declared.found.Found.TheVariants.{Syntax, Version, UnknownName, ListedTwice, Missing, MissingBlock, Memory}
+use Rattle.name_text.specs.declared.found.Found.{Found}
+use Rattle.name_text.specs.declared.found.Found.TheVariants.{Syntax, Wrong, Memory}
+use Rattle.certificate.specs.declared.mistake.Mistake.{Mistake}
+use Rattle.certificate.specs.declared.mistake.Mistake.TheVariants.{Version, UnknownName, ListedTwice, Missing, MissingBlock}
 use Rattle.certificate.specs.declared.fault.CertFault.{CertFault}
 use Rattle.certificate.specs.declared.fault.CertFault.TheVariants as fault
 use Rattle.name_text.specs.Places.{place}
@@ -30,7 +32,7 @@ use Rattle.std.proofs.Common.{lit<}
 unfoldable pub version : Form (Unit {0})
 version = do
   checked (λ i. is_number (word i)) (λ i. Syntax (left i))
-  checked (begins (49 ∷ [])) (λ i. Version (left i))
+  checked (begins (49 ∷ [])) (λ i. Wrong (Version (left i)))
   skip
 
 -- ---- parameters and the result
@@ -40,7 +42,7 @@ abbrev pub parameter_behind : Module → Function → Form (Unit {0})
 parameter_behind m f = do
   place ← new_parameter f
   promise ← promise m (family_of_value m f place)
-  step (λ _. tt) (with_promise place promise) (with_promise_falls place promise)
+  note (with_promise place promise)
 
 -- what is promised of a parameter
 unfoldable pub parameter : Module → Function → Form (Unit {0})
@@ -53,7 +55,7 @@ past_parameters i = not (begins (codes "param") i)
 -- what is promised of a parameter takes bytes
 pub parameter_takes : (m : Module) (f : Function) → Takes (parameter m f)
 unfolding parameter
-parameter_takes m f = first_takes (expect (codes "param")) (λ _. parameter_behind m f) (expect_takes (codes "param") (lit< tt))
+parameter_takes m f = first_takes (expect (codes "param")) (λ _. parameter_behind m f) (expect_takes Progress Mistake (codes "param") (lit< tt))
 
 -- what is promised of parameters
 unfoldable pub parameters : Module → Function → Form (Unit {0})
@@ -81,11 +83,11 @@ lines m f block = many past_lines (line m f block) (line_takes m f block) >> pur
 -- the name of a value that is not listed is unknown
 abbrev pub listed_by : Option ℕ → Form (Unit {0})
 listed_by None = pure tt
-listed_by (Some left) = refuse (λ _. UnknownName left)
+listed_by (Some left) = refuse (λ _. Wrong (UnknownName left))
 
 -- the block lists each value that it has to list
 unfoldable pub all_listed : (block : ℕ) → Form (Unit {0})
-all_listed block = look (λ i. first_unlisted block i.draft.values i.draft.wanted) listed_by
+all_listed block = look (λ i. first_unlisted block i.read.draft.values i.read.draft.wanted) listed_by
 
 -- a block after its first word
 abbrev pub block_behind : Module → Function → Form (Unit {0})
@@ -94,7 +96,7 @@ block_behind m f = do
   line_end
   lines m f block
   all_listed block
-  step (λ _. tt) (with_block block) (with_block_falls block)
+  note (with_block block)
 
 -- a block and its lines
 unfoldable pub block : Module → Function → Form (Unit {0})
@@ -107,7 +109,7 @@ past_blocks i = not (begins (codes "block") i)
 -- a block takes bytes
 pub block_takes : (m : Module) (f : Function) → Takes (block m f)
 unfolding block
-block_takes m f = first_takes (expect (codes "block")) (λ _. block_behind m f) (expect_takes (codes "block") (lit< tt))
+block_takes m f = first_takes (expect (codes "block")) (λ _. block_behind m f) (expect_takes Progress Mistake (codes "block") (lit< tt))
 
 -- the blocks of a section
 unfoldable pub blocks : Module → Function → Form (Unit {0})
@@ -132,7 +134,7 @@ section_of m function f = do
   promise ← body m f
   expect (codes "end")
   line_end
-  step (λ _. tt) (with_section function mark promise) (with_section_falls function mark promise)
+  note (with_section function mark promise)
 
 -- the section of this function, if it is defined
 abbrev pub section_by : Module → (function : ℕ) → Option Function → Form (Unit {0})
@@ -150,7 +152,7 @@ section m = expect (codes "function") >> section_behind m
 -- a section takes bytes
 pub section_takes : (m : Module) → Takes (section m)
 unfolding section
-section_takes m = first_takes (expect (codes "function")) (λ _. section_behind m) (expect_takes (codes "function") (lit< tt))
+section_takes m = first_takes (expect (codes "function")) (λ _. section_behind m) (expect_takes Progress Mistake (codes "function") (lit< tt))
 
 -- ---- the whole
 
@@ -159,22 +161,22 @@ unfoldable pub sections : Module → Form (Unit {0})
 sections m = many ended (section m) (section_takes m) >> pure tt
 
 -- the block that is missing of a function, if there is one
-abbrev pub gap_in : (function : ℕ) → Option ℕ → Option Found
+abbrev pub gap_in : (function : ℕ) → Option ℕ → Option Mistake
 gap_in function None = None
 gap_in function (Some block) = Some (MissingBlock function block)
 
 -- what is missing of a function
-abbrev pub gap_of : (function : ℕ) → Option Kept → Option Found
+abbrev pub gap_of : (function : ℕ) → Option Kept → Option Mistake
 gap_of function None = Some (Missing function)
 gap_of function (Some kept) = gap_in function kept.missing
 
 -- the first of what is missing
-abbrev pub gap_or : Option Found → Option Found → Option Found
+abbrev pub gap_or : Option Mistake → Option Mistake → Option Mistake
 gap_or (Some gap) others = Some gap
 gap_or None others = others
 
 -- the first function or block without a section, from this function on
-abbrev pub first_gap : (function : ℕ) → List (Option Kept) → Option Found
+abbrev pub first_gap : (function : ℕ) → List (Option Kept) → Option Mistake
 first_gap function [] = None
 first_gap function (kept ∷ more) = gap_or (gap_of function kept) (first_gap (function + 1) more)
 
@@ -185,13 +187,13 @@ sections_in (None ∷ more) = sections_in more
 sections_in (Some kept ∷ more) = kept.section ∷ sections_in more
 
 -- the sections, if nothing is missing
-abbrev pub finished_by : Option Found → Form (List Section)
-finished_by None = step (λ i. sections_in i.sections) emptied emptied_falls
-finished_by (Some gap) = refuse (λ _. gap)
+abbrev pub finished_by : Option Mistake → Form (List Section)
+finished_by None = step (λ i. sections_in i.read.sections) (noted emptied) (noted_falls emptied)
+finished_by (Some gap) = refuse (λ _. Wrong gap)
 
 -- each function and each of its blocks has a section
 unfoldable pub finished : Form (List Section)
-finished = look (λ i. first_gap 0 i.sections) finished_by
+finished = look (λ i. first_gap 0 i.read.sections) finished_by
 
 -- a text of certificates
 unfoldable pub file : Module → Form (List Section)
@@ -202,25 +204,20 @@ file m = do
   sections m
   finished
 
--- what reading gives, without the state from which reading goes on
-abbrev pub value_of : {A : Type 0} → Outcome Input Found A → Result A Found
-value_of (Ok p) = Ok p.0
-value_of (Err e) = Err e
-
 -- the text is one of these sections, by the numbers of their functions
 abbrev pub IsCert : Bytes → Module → List Section → Type 0
 IsCert bytes m sections = (o : Input) × (file m).says (start_of m bytes) sections o
 
 -- a fault with its place
-abbrev pub placed : Bytes → Found → CertFault
+abbrev pub placed : Bytes → Found Mistake → CertFault
 placed bytes (Syntax rest) = fault.Syntax (place bytes rest)
-placed bytes (Version rest) = fault.Version (place bytes rest)
-placed bytes (UnknownName rest) = fault.UnknownName (place bytes rest)
-placed bytes (ListedTwice rest) = fault.ListedTwice (place bytes rest)
-placed bytes (Missing function) = fault.Missing function
-placed bytes (MissingBlock function block) = fault.MissingBlock function block
+placed bytes (Wrong (Version rest)) = fault.Version (place bytes rest)
+placed bytes (Wrong (UnknownName rest)) = fault.UnknownName (place bytes rest)
+placed bytes (Wrong (ListedTwice rest)) = fault.ListedTwice (place bytes rest)
+placed bytes (Wrong (Missing function)) = fault.Missing function
+placed bytes (Wrong (MissingBlock function block)) = fault.MissingBlock function block
 placed bytes Memory = fault.Memory
 
 -- the text is of the format up to a place, where it has this fault
 abbrev pub IsFault : Bytes → Module → CertFault → Type 0
-IsFault bytes m fault = (found : Found) × (file m).stuck (start_of m bytes) found × (placed bytes found ≡ fault)
+IsFault bytes m fault = (found : Found Mistake) × (file m).stuck (start_of m bytes) found × (placed bytes found ≡ fault)

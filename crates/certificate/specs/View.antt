@@ -1,7 +1,7 @@
--- What an `Input` shows.
-use Rattle.certificate.specs.declared.input.Input.TheInside.{Inside}
-use Rattle.certificate.specs.Input.{Input}
+-- What a `Progress` shows.
+use Rattle.certificate.specs.declared.progress.Progress.TheInside.{Inside}
+use Rattle.certificate.specs.Input.{Progress}
 
--- what is left, and what is read so far
-abbrev pub input_of : Inside → Input
-input_of i = record { rest = i.rest.now; sections = i.sections.items; draft = i.draft }
+-- the sections that are read, and the draft of the next one
+abbrev pub progress_of : Inside → Progress
+progress_of p = record { sections = p.sections.items; draft = p.draft }

@@ -1,12 +1,13 @@
 //! Facts, and the lines of a block.
 ghost use Rattle.std.specs.Prelude.{◌≡◌};
-ghost use Rattle.certificate.specs.Input.{Reads};
+ghost use Rattle.name_text.specs.Reader.{Reads};
 ghost use Rattle.certificate.specs.Lines as form;
 ghost use Rattle.name_text.specs.Words.{begins_with};
 ghost use Rattle.certs.specs.declared.section.Line.TheVariants.{Slot};
 
-use crate::found::Found;
-use crate::input::Input;
+use crate::forms::{age, count, flag, layout_name, listed_name, new_slot, new_value, word_set};
+use crate::input::{Found, Input};
+use crate::mistake::Mistake;
 use crate::naming::{Naming, global_of_word};
 use crate::numbers::bits_of_word;
 use certs::{Age, Fact, Family, Line, family_of_value};
@@ -46,7 +47,7 @@ fn head_by(family: Family, word: &[u8]) -> Head
     }
 }
 
-#[tactic(auto, unfolding(crate::specs::Lines::below, crate::specs::Forms::skip))]
+#[tactic(auto, unfolding(crate::specs::Lines::below, name_text::specs::Forms::skip))]
 fn below(input: &mut Input<'_>) -> Result<Option<u64>, Found>
     ensures { Reads (form.below.read input.old) result input.new }
 {
@@ -54,12 +55,12 @@ fn below(input: &mut Input<'_>) -> Result<Option<u64>, Found>
         return Ok(None);
     }
     input.skip();
-    let count = input.count()?;
+    let count = count(input)?;
     Ok(Some(count))
 }
 
 /// This word and a value that the block has to list, or nothing.
-#[tactic(auto, unfolding(crate::specs::Lines::listed_behind, crate::specs::Forms::skip))]
+#[tactic(auto, unfolding(crate::specs::Lines::listed_behind, name_text::specs::Forms::skip))]
 fn listed_behind(
     alloc: Global,
     input: &mut Input<'_>,
@@ -72,11 +73,11 @@ fn listed_behind(
         return Ok(None);
     }
     input.skip();
-    let value = input.listed_name(alloc, function)?;
+    let value = listed_name(alloc, input, function)?;
     Ok(Some(value))
 }
 
-#[tactic(auto, unfolding(crate::specs::Lines::number, crate::specs::Forms::skip))]
+#[tactic(auto, unfolding(crate::specs::Lines::number, name_text::specs::Forms::skip))]
 fn number(input: &mut Input<'_>, bits: u32) -> Result<Fact, Found>
     ensures { Reads ((form.number bits).read input.old) result input.new }
 {
@@ -85,7 +86,7 @@ fn number(input: &mut Input<'_>, bits: u32) -> Result<Fact, Found>
     Ok(Fact::Number { bits, below })
 }
 
-#[tactic(auto, unfolding(crate::specs::Lines::reference, crate::specs::Forms::skip))]
+#[tactic(auto, unfolding(crate::specs::Lines::reference, name_text::specs::Forms::skip))]
 fn reference(
     alloc: Global,
     input: &mut Input<'_>,
@@ -96,9 +97,9 @@ fn reference(
     ensures { Reads ((form.reference «module».now function.now family.now).read input.old) result input.new }
 {
     input.skip();
-    let layout = input.layout_name(alloc, module, *family)?;
-    let nonnull = input.flag(b"nonnull")?;
-    let age = input.age()?;
+    let layout = layout_name(alloc, input, module, *family)?;
+    let nonnull = flag(input, b"nonnull")?;
+    let age = age(input)?;
     let same = listed_behind(alloc, input, function, b"same")?;
     Ok(Fact::Reference {
         layout,
@@ -112,19 +113,19 @@ fn reference(
 fn words_of_cell(alloc: Global, input: &mut Input<'_>, function: &Function) -> Result<Fact, Found>
     ensures { Reads ((form.words_of_cell function.now).read input.old) result input.new }
 {
-    let base = input.listed_name(alloc, function)?;
-    let words = input.word_set()?;
+    let base = listed_name(alloc, input, function)?;
+    let words = word_set(input)?;
     Ok(Fact::Address { base, words })
 }
 
 /// The address of the global that is named.
-#[tactic(auto, unfolding(crate::specs::Lines::global_address, crate::specs::Forms::skip))]
+#[tactic(auto, unfolding(crate::specs::Lines::global_address, name_text::specs::Forms::skip))]
 fn global_address(alloc: Global, input: &mut Input<'_>, module: &Module) -> Result<Fact, Found>
     ensures { Reads ((form.global_address «module».now).read input.old) result input.new }
 {
     match global_of_word(alloc, module, input.word())? {
         Naming::NoName => Err(Found::Syntax(input.left())),
-        Naming::Unknown => Err(Found::UnknownName(input.left())),
+        Naming::Unknown => Err(Found::Wrong(Mistake::UnknownName(input.left()))),
         Naming::Named(symbol) => {
             input.skip();
             Ok(Fact::GlobalAddress(SymbolId::new(symbol)))
@@ -142,7 +143,7 @@ fn begins_global(word: &[u8]) -> bool
 }
 
 /// The address of a global where the sign of its name begins the word, and otherwise of words of a cell.
-#[tactic(auto, unfolding(crate::specs::Lines::address, crate::specs::Forms::skip))]
+#[tactic(auto, unfolding(crate::specs::Lines::address, name_text::specs::Forms::skip))]
 fn address(
     alloc: Global,
     input: &mut Input<'_>,
@@ -225,7 +226,7 @@ fn fact_end(input: &mut Input<'_>, fact: &Fact) -> Result<(), Found>
     ensures { Reads ((form.fact_end fact.now).read input.old) result input.new }
 {
     if !input.line_ends() && has_word(fact, input.word()) {
-        return Err(Found::ListedTwice(input.left()));
+        return Err(Found::Wrong(Mistake::ListedTwice(input.left())));
     }
     input.line_end()
 }
@@ -241,13 +242,13 @@ fn slot_end(input: &mut Input<'_>, nonnull: bool, holds: Option<ValueId>) -> Res
     ensures { Reads ((form.slot_end nonnull holds).read input.old) result input.new }
 {
     if !input.line_ends() && slot_has_word(nonnull, holds, input.word()) {
-        return Err(Found::ListedTwice(input.left()));
+        return Err(Found::Wrong(Mistake::ListedTwice(input.left())));
     }
     input.line_end()
 }
 
 /// A line of a value.
-#[tactic(auto, unfolding(crate::specs::Lines::value_line))]
+#[tactic(auto, unfolding(crate::specs::Lines::value_line, crate::specs::Forms::put_value))]
 fn value_line(
     alloc: Global,
     input: &mut Input<'_>,
@@ -257,11 +258,12 @@ fn value_line(
 ) -> Result<(), Found>
     ensures { Reads ((form.value_line «module».now function.now block).read input.old) result input.new }
 {
-    let value = input.new_value(alloc, function, block)?;
+    let value = new_value(alloc, input, function, block)?;
     let family = family_of_value(module, function, value);
     let fact = fact_of(alloc, input, module, function, &family)?;
     fact_end(input, &fact)?;
-    input.put_value(block, value, &fact)
+    input.read.put_value(block, value, &fact)?;
+    Ok(())
 }
 
 /// What a line says of a slot.
@@ -286,12 +288,12 @@ fn slot_line(
     ensures { Reads ((form.slot_line function.now block).read input.old) result input.new }
 {
     input.expect(b"slot")?;
-    let slot = input.new_slot(alloc, function, block)?;
-    let nonnull = input.flag(b"nonnull")?;
+    let slot = new_slot(alloc, input, function, block)?;
+    let nonnull = flag(input, b"nonnull")?;
     let holds = listed_behind(alloc, input, function, b"holds")?;
     slot_end(input, nonnull, holds)?;
     let line = slot_said(slot, nonnull, &holds);
-    input.put_slot(block, slot, &line)?;
+    input.read.put_slot(block, slot, &line)?;
     Ok(())
 }
 

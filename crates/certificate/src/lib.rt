@@ -5,12 +5,13 @@ mod draft;
 mod facts;
 mod fault;
 mod forms;
-mod found;
 mod input;
+mod mistake;
 mod naming;
 mod numbers;
 mod print;
 mod print_sections;
+mod progress;
 mod promises;
 mod reader;
 

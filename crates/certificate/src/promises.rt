@@ -1,10 +1,11 @@
 //! What is promised of a parameter or of the result.
 ghost use Rattle.std.specs.Prelude.{◌≡◌};
-ghost use Rattle.certificate.specs.Input.{Reads};
+ghost use Rattle.name_text.specs.Reader.{Reads};
 ghost use Rattle.certificate.specs.Lines as form;
 
-use crate::found::Found;
-use crate::input::Input;
+use crate::forms::{count, layout_name};
+use crate::input::{Found, Input};
+use crate::mistake::Mistake;
 use certs::{Family, Promise};
 use ir_ast::Module;
 use std::alloc::Global;
@@ -67,7 +68,7 @@ fn promised_by(family: Family, promise: &Promise, word: &[u8]) -> Promised
     }
 }
 
-#[tactic(auto, unfolding(crate::specs::Lines::promised_fact, crate::specs::Forms::skip))]
+#[tactic(auto, unfolding(crate::specs::Lines::promised_fact, name_text::specs::Forms::skip))]
 fn promised_fact(
     alloc: Global,
     input: &mut Input<'_>,
@@ -78,11 +79,11 @@ fn promised_fact(
     ensures { Reads ((form.promised_fact «module».now family.now promise.now).read input.old) result input.new }
 {
     match promised_by(*family, promise, input.word()) {
-        Promised::Again => Err(Found::ListedTwice(input.left())),
+        Promised::Again => Err(Found::Wrong(Mistake::ListedTwice(input.left()))),
         Promised::Other => Err(Found::Syntax(input.left())),
         Promised::Layout => {
             input.skip();
-            let layout = Some(input.layout_name(alloc, module, *family)?);
+            let layout = Some(layout_name(alloc, input, module, *family)?);
             Ok(Promise { layout, ..*promise })
         }
         Promised::Nonnull => {
@@ -94,7 +95,7 @@ fn promised_fact(
         }
         Promised::Below => {
             input.skip();
-            let below = Some(input.count()?);
+            let below = Some(count(input)?);
             Ok(Promise { below, ..*promise })
         }
     }

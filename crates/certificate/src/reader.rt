@@ -3,20 +3,24 @@ ghost use Rattle.std.specs.Prelude.{◌≡◌, ◌≢◌, ◌+◌, List, None, t
 ghost use Rattle.certificate.specs.Drafts as drafts;
 ghost use Rattle.certificate.specs.Drafts.{is_in};
 ghost use Rattle.certs.specs.Fits.{fits};
-ghost use Rattle.certificate.specs.Input.{Reads, start_of};
+ghost use Rattle.certificate.specs.Input.{start_of};
+ghost use Rattle.name_text.specs.Reader.{Reads};
 ghost use Rattle.certificate.specs.Text as text;
 ghost use Rattle.certificate.specs.Text.{IsCert, IsFault};
 ghost use Rattle.grammar.specs.Outcome.{Gives};
+ghost use Rattle.grammar.specs.Whole.{value_of};
 ghost use Rattle.certs.specs.declared.section.Section.{Section as ASection};
 ghost use Rattle.certificate.specs.declared.fault.CertFault.{CertFault as AFault};
 ghost use Rattle.certificate.specs.declared.fault.CertFault.TheVariants as fault;
-ghost use Rattle.certificate.specs.declared.found.Found.TheVariants.{Memory};
+ghost use Rattle.name_text.specs.declared.found.Found.TheVariants.{Memory};
 
 use crate::draft::{Draft, Wanted};
 use crate::facts::line;
 use crate::fault::CertFault;
-use crate::found::Found;
-use crate::input::{Input, Kept};
+use crate::forms::{mark, new_block, new_function, new_parameter};
+use crate::input::{Found, Input};
+use crate::mistake::Mistake;
+use crate::progress::{Kept, Progress};
 use crate::promises::promise;
 use certs::{Certs, Promise, Section, family_of_type, family_of_value};
 use ir_ast::{BlockId, FuncId, Function, Module};
@@ -25,7 +29,7 @@ use name_text::{is_number, place};
 use std::alloc::{AllocError, Global};
 
 /// The number of the format's version.
-#[tactic(auto, unfolding(crate::specs::Text::version, crate::specs::Forms::skip))]
+#[tactic(auto, unfolding(crate::specs::Text::version, name_text::specs::Forms::skip))]
 fn version(input: &mut Input<'_>) -> Result<(), Found>
     ensures { Reads (text.version.read input.old) result input.new }
 {
@@ -33,7 +37,7 @@ fn version(input: &mut Input<'_>) -> Result<(), Found>
         return Err(Found::Syntax(input.left()));
     }
     if !input.begins(b"1") {
-        return Err(Found::Version(input.left()));
+        return Err(Found::Wrong(Mistake::Version(input.left())));
     }
     input.skip();
     Ok(())
@@ -50,7 +54,7 @@ fn parameter(
     ensures { Reads ((text.parameter «module».now function.now).read input.old) result input.new }
 {
     input.expect(b"param")?;
-    let value = input.new_parameter(alloc, function)?;
+    let value = new_parameter(alloc, input, function)?;
     let family = family_of_value(module, function, value);
     let Promise {
         layout,
@@ -62,7 +66,7 @@ fn parameter(
         nonnull,
         below,
     };
-    input.promise(value.number() as usize, &promised);
+    input.read.promise(value.number() as usize, &promised);
     Ok(())
 }
 
@@ -91,7 +95,7 @@ fn parameters(
 }
 
 /// What is promised of the result, or nothing.
-#[tactic(auto, unfolding(crate::specs::Text::result_line, crate::specs::Forms::skip))]
+#[tactic(auto, unfolding(crate::specs::Text::result_line, name_text::specs::Forms::skip))]
 fn result_line(
     alloc: Global,
     input: &mut Input<'_>,
@@ -164,10 +168,10 @@ fn first_unlisted(block: BlockId, listed: &[Option<BlockId>], wanted: &[Wanted])
 fn all_listed(input: &mut Input<'_>, block: BlockId) -> Result<(), Found>
     ensures { Reads ((text.all_listed block).read input.old) result input.new }
 {
-    let draft = input.draft();
+    let draft = input.read.draft();
     match first_unlisted(block, draft.values.as_slice(), draft.wanted.as_slice()) {
         None => Ok(()),
-        Some(left) => Err(Found::UnknownName(left)),
+        Some(left) => Err(Found::Wrong(Mistake::UnknownName(left))),
     }
 }
 
@@ -182,11 +186,11 @@ fn block(
     ensures { Reads ((text.block «module».now function.now).read input.old) result input.new }
 {
     input.expect(b"block")?;
-    let block = input.new_block(alloc, function)?;
+    let block = new_block(alloc, input, function)?;
     input.line_end()?;
     lines(alloc, input, module, function, block)?;
     all_listed(input, block)?;
-    input.end_block(alloc, block);
+    input.read.end_block(alloc, block);
     Ok(())
 }
 
@@ -215,7 +219,7 @@ fn blocks(
 }
 
 /// A section between its first line and its end.
-#[tactic(auto, unfolding(crate::specs::Text::body))]
+#[tactic(auto, unfolding(crate::specs::Text::body, crate::specs::Forms::begin))]
 fn body(
     alloc: Global,
     input: &mut Input<'_>,
@@ -224,7 +228,7 @@ fn body(
 ) -> Result<Option<Promise>, Found>
     ensures { Reads ((text.body «module».now function.now).read input.old) result input.new }
 {
-    input.begin(alloc, module, function)?;
+    input.read.begin(alloc, module, function)?;
     parameters(alloc, input, module, function)?;
     let promised = result_line(alloc, input, module, function)?;
     blocks(alloc, input, module, function)?;
@@ -242,7 +246,7 @@ fn section_of(
 ) -> Result<(), Found>
     ensures { Reads ((text.section_of «module».now number function.now).read input.old) result input.new }
 {
-    let mark = input.mark()?;
+    let mark = mark(input)?;
     input.line_end()?;
     let promised = body(alloc, input, module, function)?;
     input.expect(b"end")?;
@@ -261,7 +265,7 @@ fn section_of(
             below,
         }),
     };
-    input.end_section(alloc, number, mark, &promised);
+    input.read.end_section(alloc, number, mark, &promised);
     Ok(())
 }
 
@@ -270,9 +274,9 @@ fn section_of(
 fn section_behind(alloc: Global, input: &mut Input<'_>, module: &Module) -> Result<(), Found>
     ensures { Reads ((text.section_behind «module».now).read input.old) result input.new }
 {
-    let number = input.new_function(alloc, module)?;
+    let number = new_function(alloc, input, module)?;
     match module.functions.get(number.number() as usize) {
-        None => Err(Found::UnknownName(input.left())),
+        None => Err(Found::Wrong(Mistake::UnknownName(input.left()))),
         Some(function) => section_of(alloc, input, module, number, function),
     }
 }
@@ -312,20 +316,20 @@ fn sections_in(alloc: Global, kept: Vec<Option<Kept>>) -> Result<Items<Section>,
 }
 
 /// What is missing of a function.
-fn gap_of(function: usize, kept: &Option<Kept>) -> Option<Found>
+fn gap_of(function: usize, kept: &Option<Kept>) -> Option<Mistake>
     ensures { result ≡ text.gap_of function kept.now }
 {
     match kept {
-        None => Some(Found::Missing(function)),
+        None => Some(Mistake::Missing(function)),
         Some(kept) => {
             let block = kept.missing?;
-            Some(Found::MissingBlock(function, block))
+            Some(Mistake::MissingBlock(function, block))
         }
     }
 }
 
 /// The first function or block without a section.
-fn first_gap(sections: &[Option<Kept>]) -> Option<Found>
+fn first_gap(sections: &[Option<Kept>]) -> Option<Mistake>
     ensures { result ≡ text.first_gap 0 sections.now }
 {
     for (function, kept) in sections.iter().enumerate() {
@@ -341,10 +345,10 @@ fn first_gap(sections: &[Option<Kept>]) -> Option<Found>
 fn finished(alloc: Global, input: &mut Input<'_>) -> Result<Items<Section>, Found>
     ensures { Reads (text.finished.read input.old) result input.new }
 {
-    if let Some(gap) = first_gap(input.sections()) {
-        return Err(gap);
+    if let Some(gap) = first_gap(input.read.sections()) {
+        return Err(Found::Wrong(gap));
     }
-    let kept = input.take_sections(alloc);
+    let kept = input.read.take_sections(alloc);
     Ok(sections_in(alloc, kept)?)
 }
 
@@ -371,9 +375,9 @@ fn no_sections(alloc: Global, module: &Module) -> Result<Vec<Option<Kept>>, Allo
 }
 
 fn sections_of(alloc: Global, bytes: &[u8], module: &Module) -> Result<Items<Section>, Found>
-    ensures { Gives Memory result (text.value_of ((text.file «module».now).read (start_of «module».now bytes.now))) }
+    ensures { Gives Memory result (value_of ((text.file «module».now).read (start_of «module».now bytes.now))) }
 {
-    let mut input = Input::new(alloc, bytes, no_sections(alloc, module)?);
+    let mut input = Input::new(bytes, Progress::new(alloc, no_sections(alloc, module)?));
     file(alloc, &mut input, module)
 }
 
@@ -383,11 +387,13 @@ fn placed(bytes: &[u8], found: Found) -> CertFault
 {
     match found {
         Found::Syntax(rest) => CertFault::Syntax(place(bytes, rest)),
-        Found::Version(rest) => CertFault::Version(place(bytes, rest)),
-        Found::UnknownName(rest) => CertFault::UnknownName(place(bytes, rest)),
-        Found::ListedTwice(rest) => CertFault::ListedTwice(place(bytes, rest)),
-        Found::Missing(function) => CertFault::Missing(function),
-        Found::MissingBlock(function, block) => CertFault::MissingBlock(function, block),
+        Found::Wrong(Mistake::Version(rest)) => CertFault::Version(place(bytes, rest)),
+        Found::Wrong(Mistake::UnknownName(rest)) => CertFault::UnknownName(place(bytes, rest)),
+        Found::Wrong(Mistake::ListedTwice(rest)) => CertFault::ListedTwice(place(bytes, rest)),
+        Found::Wrong(Mistake::Missing(function)) => CertFault::Missing(function),
+        Found::Wrong(Mistake::MissingBlock(function, block)) => CertFault::MissingBlock(
+            function, block,
+        ),
         Found::Memory => CertFault::Memory,
     }
 }

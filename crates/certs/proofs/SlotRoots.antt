@@ -21,6 +21,7 @@ use Rattle.ir_ast.specs.declared.runtime.Runtime.TheVariants.{GcRoot}
 use Rattle.shadow_stack.specs.declared.draft.Draft.{Draft}
 use Rattle.shadow_stack.specs.declared.draft.Origin.{Origin}
 use Rattle.shadow_stack.specs.declared.draft.Origin.TheVariants as origin
+use Rattle.shadow_stack.specs.Hops.{hops_nowhere, hops_slot}
 use Rattle.shadow_stack.specs.Slots.{slots_of, is_among, put, origin_of, noted_op, noted, noted_blocks, draft_of, origin_at, hop, hops, slot_at, names_of, is_reference_held, operand_slot, first_slot, slot_rooted, slot_rooted_by, with_root, with_roots, with_roots_of}
 use Rattle.types.specs.RuntimeCall.{runtime_called}
 use Rattle.certs.specs.RootNames.{is_among_roots, is_root, root_noted, roots_noted, roots_of_blocks, root_names}
@@ -229,14 +230,6 @@ past_end : (os : List Origin) (i : ℕ) → length os ≤ i → origin_at os i �
 past_end [] i le = refl
 past_end (o ∷ os) zero le = absurd (omega arith)
 past_end (o ∷ os) (suc i) le = past_end os i (omega arith)
-
-hops_slot : (os : List Origin) (n slot : ℕ) → hops os n (origin.Slot slot) ≡ origin.Slot slot
-hops_slot os zero slot = refl
-hops_slot os (suc n) slot = hops_slot os n slot
-
-hops_nowhere : (os : List Origin) (n : ℕ) → hops os n origin.Nowhere ≡ origin.Nowhere
-hops_nowhere os zero = refl
-hops_nowhere os (suc n) = hops_nowhere os n
 
 module _ (m : Module) (f : Function) where
   abbrev start : Draft

@@ -59,6 +59,7 @@ returned_text (value.Address place) = []
 
 -- where a thread is
 abbrev pub standing_text : ThreadEnd → List ℕ
+standing_text thread.Absent = codes " absent"
 standing_text (thread.Returned None) = codes " returned"
 standing_text (thread.Returned (Some value)) = codes " returned" ++ returned_text value
 standing_text thread.Ended = codes " ended"

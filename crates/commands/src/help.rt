@@ -63,7 +63,7 @@ pub(crate) const SOAK: CommandHelp = CommandHelp {
     after: "\
 Each seed draws who makes the next step: a thread or the collector. Prints `sound N seeds`.
 Or prints the least seed whose run is broken, the first step after which it is broken, who
-made that step, and why, as `broken seed 3 32 t 0 touch-blue 1`. N and S are decimal
+made that step, and why, as `broken seed 103 221 c reach-blue 3`. N and S are decimal
 numbers from 0 to 4294967295.
 
 Of a text that is not read, one line goes to standard error, as `error L4 23:13` (a line

@@ -80,12 +80,13 @@ fn write_returned<W: Write>(out: &mut W, value: Value) -> io::Result<()>
     }
 }
 
-/// Where a thread is: `t 0 returned`, `t 0 ended`, `t 0 running 3`.
+/// Where a thread is: `t 0 absent`, `t 0 returned`, `t 0 ended`, `t 0 running 3`.
 fn write_end<W: Write>(out: &mut W, thread: usize, end: &ThreadEnd) -> io::Result<()>
     ensures { OnOk result (Appends (W.contents out.old) (W.contents out.new) (spec.end_text (thread, end.now))) }
 {
     write!(out, "t {thread}")?;
     match *end {
+        ThreadEnd::Absent => write!(out, " absent")?,
         ThreadEnd::Returned(value) => {
             write!(out, " returned")?;
             if let Some(value) = value {
@@ -146,7 +147,7 @@ pub fn replayed<W: Write>(out: &mut W, outcome: &Outcome) -> io::Result<u8>
     }
 }
 
-/// Writes the least seed whose run is broken, with the break: `broken seed 3 32 t 0 touch-blue 1`.
+/// Writes the least seed whose run is broken, with the break: `broken seed 103 221 c reach-blue 3`.
 fn write_seed_break<W: Write>(out: &mut W, at: &SeedBreak) -> io::Result<()>
     ensures { OnOk result (Appends (W.contents out.old) (W.contents out.new) (spec.seed_text at.now)) }
 {
@@ -155,7 +156,7 @@ fn write_seed_break<W: Write>(out: &mut W, at: &SeedBreak) -> io::Result<()>
     Ok(())
 }
 
-/// The outcome of this number of seeds: `sound 20 seeds`, or the least broken one: `broken seed 3 32 t 0 touch-blue 1`.
+/// The outcome of this number of seeds: `sound 20 seeds`, or the least broken one: `broken seed 103 221 c reach-blue 3`.
 pub fn soaked<W: Write>(out: &mut W, seeds: u32, outcome: SoakOutcome) -> io::Result<u8>
     ensures { IfOk result (λ status. IsTold (W.contents out.old) (W.contents out.new) status (spec.of_soak seeds outcome)) }
 {

@@ -24,6 +24,10 @@ const FOUR: &str =
 const FULL_CYCLE: &str =
     "trace 1\npool Node 1\nstart @four\nsteps\nt 0 8\nc 1\nt 0 2\nc 2\nt 0 2\nc 3\nt 0 3\nc 10\nt 0 4\nend\n";
 
+/// The thread begins late: it leaves once, and tries again.
+const LATE_FULL_CYCLE: &str =
+    "trace 2\npool Node 1\nlate @four\nsteps\nt 0 1\nc 1\nt 0 2\nc 1\nt 0 1\nc 2\nt 0 3\nt 0 8\nc 3\nt 0 3\nc 10\nt 0 6\nend\n";
+
 /// A thread publishes a cell, loads it again after safepoints and keeps it in its slot. Another clears the global.
 const PUBLISHER_AND_CLEARER: &str =
     "define void @zero() gc \"shadow-stack\" {\nentry:\n  %s = alloca %Node*\n  %r = bitcast %Node** %s to i8**\n  call void @llvm.gcroot(i8** %r, i8* null)\n  %a = call i8* @dg_alloc(i32 0)\n  call void @llvm.gcwrite(i8* %a, i8* null, i8** bitcast (%Node** @g to i8**))\n  call void @dg_safepoint()\n  call void @dg_safepoint()\n  call void @dg_safepoint()\n  %x = load %Node*, %Node** @g\n  store %Node* %x, %Node** %s\n  call void @dg_safepoint()\n  %y = load %Node*, %Node** %s\n  ret void\n}\ndefine void @one() gc \"shadow-stack\" {\nentry:\n  call void @dg_safepoint()\n  call void @llvm.gcwrite(i8* null, i8* null, i8** bitcast (%Node** @g to i8**))\n  call void @dg_safepoint()\n  call void @dg_safepoint()\n  ret void\n}\n";
@@ -185,8 +189,9 @@ fn stops_of(alloc: Global, functions: &str, trace: &str) -> Result<Vec<String>, 
 }
 
 /// Functions with a trace of them, and its number of steps.
-const CASES: [(Case<'static>, usize); 3] = [
+const CASES: [(Case<'static>, usize); 4] = [
     ((FOUR, FULL_CYCLE), 35),
+    ((FOUR, LATE_FULL_CYCLE), 41),
     ((PUBLISHER_AND_CLEARER, IN_THE_MIDDLE), 47),
     ((CLAIMER, THIRD_CLAIM), 27),
 ];

@@ -4,3 +4,4 @@ pub mod Grammar
 pub mod Takes
 pub mod Many
 pub mod Turns
+pub mod Whole

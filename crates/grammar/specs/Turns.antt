@@ -47,3 +47,21 @@ module _ {S E A : Type 0} (stop : S → Bool) (item : Parser S E A) where
   pub no_turns : (i : S) → turns stop item 0 i ≡ Ok (tt, i)
   unfolding many_from
   no_turns i = refl
+
+  -- ---- a loop of n turns: what reading from its beginning gives is what reading from here with the turns that are left gives
+
+  -- the test holds here
+  pub loop_ends : {x : Outcome S E (Unit {0})} {n at : ℕ} {i : S} → at < n → x ≡ turns stop item (n - at) i → stop i ≡ true → x ≡ Ok (tt, i)
+  loop_ends {n = n} {at = at} {i = i} below e holds = one_more (λ k. turns stop item k i) n at below e ∙ turn_ends (n - (at + 1)) i holds
+
+  -- one more form is read
+  pub loop_goes : {x : Outcome S E (Unit {0})} {n at : ℕ} {i : S} → at < n → x ≡ turns stop item (n - at) i → stop i ≡ false → (a : A) (m : S) → item i ≡ Ok (a, m) → x ≡ turns stop item (n - (at + 1)) m
+  loop_goes {n = n} {at = at} {i = i} below e not_stop a m r = one_more (λ k. turns stop item k i) n at below e ∙ turn_goes (n - (at + 1)) i a m not_stop r
+
+  -- the next form has a fault
+  pub loop_breaks : {x : Outcome S E (Unit {0})} {n at : ℕ} {i : S} → at < n → x ≡ turns stop item (n - at) i → stop i ≡ false → (d : E) → item i ≡ Err d → x ≡ Err d
+  loop_breaks {n = n} {at = at} {i = i} below e not_stop d r = one_more (λ k. turns stop item k i) n at below e ∙ turn_breaks (n - (at + 1)) i d not_stop r
+
+  -- no turn is left
+  pub loop_done : {x : Outcome S E (Unit {0})} {n at : ℕ} {i : S} → n ≤ at → x ≡ turns stop item (n - at) i → x ≡ Ok (tt, i)
+  loop_done {n = n} {at = at} {i = i} past e = no_more (λ k. turns stop item k i) n at past e ∙ no_turns i

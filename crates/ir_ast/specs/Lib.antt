@@ -7,3 +7,4 @@ pub mod Numbers
 pub mod Keys
 pub mod Places
 pub mod TypePlaces
+pub mod RuntimeNames

@@ -1,3 +1,6 @@
+ghost use Rattle.std.specs.Prelude.{◌≡◌};
+ghost use Rattle.ir_ast.specs.RuntimeNames.{runtime_of};
+
 /// A function of the runtime or an intrinsic, known by its name.
 #[derive(Clone, Copy, PartialEq, Eq)]
 pub enum Runtime {
@@ -11,4 +14,25 @@ pub enum Runtime {
     GcRead,
     /// `llvm.gcwrite`
     GcWrite,
+}
+
+impl Runtime {
+    /// The one that has this name.
+    pub fn of(name: &[u8]) -> Option<Runtime>
+        ensures { result ≡ runtime_of name.now }
+    {
+        if name == b"dg_alloc".as_slice() {
+            Some(Runtime::Alloc)
+        } else if name == b"dg_safepoint".as_slice() {
+            Some(Runtime::Safepoint)
+        } else if name == b"llvm.gcroot".as_slice() {
+            Some(Runtime::GcRoot)
+        } else if name == b"llvm.gcread".as_slice() {
+            Some(Runtime::GcRead)
+        } else if name == b"llvm.gcwrite".as_slice() {
+            Some(Runtime::GcWrite)
+        } else {
+            None
+        }
+    }
 }

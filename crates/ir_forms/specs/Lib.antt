@@ -3,7 +3,7 @@ pub mod View
 pub mod Cursor
 pub mod Number
 pub mod Table
-pub mod RuntimeNames
+pub mod Intrinsics
 pub mod Input
 pub mod Names
 pub mod Written

@@ -19,7 +19,7 @@ use Rattle.ir_forms.specs.declared.uses.Wanted.{Wanted}
 use Rattle.ir_forms.specs.declared.uses.Wanted.TheVariants as wants
 use Rattle.ir_forms.specs.Cursor.{kind, next, start, size, spelled, local_key, left_out}
 use Rattle.ir_forms.specs.Input.{Form, left, limit, unexpected, expect, advanced, advanced_falls, sees_a, next_falls, advance_takes, keeps_takes, IsKind}
-use Rattle.ir_forms.specs.RuntimeNames.{is_intrinsic, is_left_out}
+use Rattle.ir_forms.specs.Intrinsics.{is_intrinsic, is_left_out}
 use Rattle.ir_forms.specs.declared.table.Table.{Table}
 use Rattle.ir_forms.specs.Table.{mentioned, defined}
 

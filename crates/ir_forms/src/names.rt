@@ -5,7 +5,7 @@ ghost use Rattle.ir_forms.specs.Names as form;
 
 use crate::fault::Fault;
 use crate::input::Input;
-use crate::runtime_names::{is_intrinsic, is_left_out};
+use crate::intrinsics::{is_intrinsic, is_left_out};
 use crate::table::Table;
 use crate::uses::{LocalUse, StructUse, SymbolUse, Wanted};
 use ir_ast::{

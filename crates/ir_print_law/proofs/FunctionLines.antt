@@ -14,7 +14,7 @@ use Rattle.ir_tokens.specs.declared.token.Kind.TheVariants as k
 use Rattle.ir_tokens.specs.Bytes.{Text, class_of}
 use Rattle.ir_tokens.specs.Keywords.{word_kind, keywords}
 use Rattle.ir_forms.specs.Cursor.{spelled}
-use Rattle.ir_forms.specs.RuntimeNames.{is_left_out}
+use Rattle.ir_forms.specs.Intrinsics.{is_left_out}
 use Rattle.ir_forms.specs.declared.input.Input.{Input}
 use Rattle.ir_forms.specs.Names.{with_symbol}
 use Rattle.ir_text.specs.ItemsOfText.{definition, head, function_name, function_name_by, item, item_by}

@@ -13,7 +13,7 @@ use Rattle.ir_ast.specs.declared.operand.Constant.{Constant}
 use Rattle.ir_tokens.specs.declared.token.Kind.{Kind}
 use Rattle.ir_tokens.specs.declared.token.Kind.TheVariants as k
 use Rattle.ir_forms.specs.Cursor.{kind, spelled}
-use Rattle.ir_forms.specs.RuntimeNames.{runtime_of}
+use Rattle.ir_ast.specs.RuntimeNames.{runtime_of}
 use Rattle.ir_forms.specs.declared.input.Input.{Input}
 use Rattle.ir_forms.specs.declared.written.WrittenType.{WrittenType}
 use Rattle.ir_forms.specs.Input.{Form}

@@ -28,7 +28,7 @@ use Rattle.ir_forms.specs.Names.{is_symbol, is_function, is_local, is_wanted}
 use Rattle.ir_forms.specs.Names as names
 use Rattle.ir_text.specs.Late.{is_right}
 use Rattle.ir_text.specs.Late as late
-use Rattle.ir_forms.specs.RuntimeNames.{is_left_out}
+use Rattle.ir_forms.specs.Intrinsics.{is_left_out}
 use Rattle.name_text.specs.Readings.{AreBytes}
 use Rattle.ir_print_law.specs.Readings.{IsKey}
 use Rattle.ir_print_law.specs.Definitions.{defined_structs, defined_globals}

@@ -12,7 +12,7 @@ use Rattle.ir_ast.specs.declared.operand.Operand.TheVariants.{Local, Global}
 use Rattle.ir_ast.specs.Keys.{name_again, no_number}
 use Rattle.ir_forms.specs.Cursor.{kind, next, spelled, local_key}
 use Rattle.ir_forms.specs.Place.{Place}
-use Rattle.ir_forms.specs.RuntimeNames.{is_intrinsic, is_left_out}
+use Rattle.ir_forms.specs.Intrinsics.{is_intrinsic, is_left_out}
 use Rattle.ir_forms.specs.declared.uses.Wanted.{Wanted}
 use Rattle.ir_forms.specs.declared.uses.Wanted.TheVariants as wants
 use Rattle.ir_forms.specs.declared.input.Input.{Input}

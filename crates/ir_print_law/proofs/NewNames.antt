@@ -6,7 +6,7 @@ use Rattle.ir_ast.specs.declared.items_of_module.SymbolSort.{SymbolSort}
 use Rattle.ir_ast.specs.declared.module.Module.{Module}
 use Rattle.ir_tokens.specs.Bytes.{Text}
 use Rattle.ir_forms.specs.Cursor.{spelled}
-use Rattle.ir_forms.specs.RuntimeNames.{is_left_out}
+use Rattle.ir_forms.specs.Intrinsics.{is_left_out}
 use Rattle.ir_forms.specs.declared.input.Input.{Input}
 use Rattle.ir_forms.specs.Names as names
 use Rattle.name_text.specs.Names.{name_text}

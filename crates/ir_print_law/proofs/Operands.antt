@@ -17,7 +17,7 @@ use Rattle.ir_tokens.specs.declared.token.Kind.TheVariants as k
 use Rattle.ir_tokens.specs.Bytes.{Text}
 use Rattle.ir_forms.specs.Cursor.{kind, spelled, spelling, start, local_key}
 use Rattle.ir_forms.specs.Number as numbers
-use Rattle.ir_forms.specs.RuntimeNames.{is_intrinsic}
+use Rattle.ir_forms.specs.Intrinsics.{is_intrinsic}
 use Rattle.ir_forms.specs.declared.fault.Fault.TheVariants.{OutOfRange}
 use Rattle.ir_forms.specs.declared.uses.Wanted.{Wanted}
 use Rattle.ir_forms.specs.declared.uses.Wanted.TheVariants as wants

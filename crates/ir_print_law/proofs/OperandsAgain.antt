@@ -15,7 +15,7 @@ use Rattle.ir_tokens.specs.declared.token.Kind.TheVariants as k
 use Rattle.ir_tokens.specs.Bytes.{Text, class_of}
 use Rattle.ir_tokens.specs.Keywords.{word_kind, keywords}
 use Rattle.ir_forms.specs.Cursor.{kind, spelled, local_key}
-use Rattle.ir_forms.specs.RuntimeNames.{is_intrinsic}
+use Rattle.ir_forms.specs.Intrinsics.{is_intrinsic}
 use Rattle.ir_forms.specs.declared.uses.Wanted.{Wanted}
 use Rattle.ir_forms.specs.declared.uses.Wanted.TheVariants as wants
 use Rattle.ir_forms.specs.declared.input.Input.{Input}

@@ -6,7 +6,7 @@ use Rattle.ir_ast.specs.declared.function.Function.{Function}
 use Rattle.ir_ast.specs.declared.module.Module.{Module}
 use Rattle.ir_tokens.specs.Bytes.{Text}
 use Rattle.ir_tokens.specs.Tokens.{lexed_of}
-use Rattle.ir_forms.specs.RuntimeNames.{is_left_out}
+use Rattle.ir_forms.specs.Intrinsics.{is_left_out}
 use Rattle.ir_forms.specs.declared.uses.Wanted.{Wanted}
 use Rattle.ir_forms.specs.declared.uses.Wanted.TheVariants as wants
 use Rattle.ir_text.specs.Read.{start}

@@ -12,7 +12,7 @@ use Rattle.ir_forms.specs.declared.input.Input.{Input}
 use Rattle.ir_forms.specs.Input.{Form, advanced}
 use Rattle.ir_forms.specs.Names.{is_function, with_struct_use, with_symbol_use, with_local_use}
 use Rattle.ir_forms.specs.Written.{with_type_interned}
-use Rattle.ir_forms.specs.RuntimeNames.{is_left_out}
+use Rattle.ir_forms.specs.Intrinsics.{is_left_out}
 use Rattle.name_text.specs.Readings.{AreBytes}
 use Rattle.ir_print_law.specs.Readings.{IsKey}
 use Rattle.ir_print.specs.Standing.{Stands}

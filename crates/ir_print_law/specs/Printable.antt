@@ -21,7 +21,7 @@ use Rattle.ir_ast.specs.declared.operand.Constant.TheVariants as constant
 use Rattle.ir_ast.specs.declared.operand.Operand.{Operand}
 use Rattle.ir_ast.specs.declared.operand.Operand.TheVariants as operand
 use Rattle.ir_tokens.specs.Bytes.{Text}
-use Rattle.ir_forms.specs.RuntimeNames.{is_intrinsic, is_left_out}
+use Rattle.ir_forms.specs.Intrinsics.{is_intrinsic, is_left_out}
 use Rattle.ir_forms.specs.CaseValues.{value_of, is_among, with_value}
 use Rattle.ir_forms.specs.Sites.{is_phi}
 use Rattle.ir_forms.specs.declared.case_values.CaseValue.{CaseValue}

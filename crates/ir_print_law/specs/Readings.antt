@@ -9,7 +9,7 @@ use Rattle.ir_tokens.specs.declared.token.Kind.TheVariants as k
 use Rattle.std.specs.Fmt.{decimal}
 use Rattle.ir_forms.specs.Cursor.{kind, next, local_key, spelled}
 use Rattle.ir_forms.specs.Written.{integer}
-use Rattle.ir_forms.specs.RuntimeNames.{is_intrinsic, is_left_out}
+use Rattle.ir_forms.specs.Intrinsics.{is_intrinsic, is_left_out}
 use Rattle.ir_forms.specs.declared.uses.Wanted.{Wanted}
 use Rattle.ir_forms.specs.declared.uses.Wanted.TheVariants as wants
 use Rattle.ir_forms.specs.declared.input.Input.{Input}

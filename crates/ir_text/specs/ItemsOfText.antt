@@ -20,7 +20,7 @@ use Rattle.ir_ast.specs.declared.items_of_module.Declare.{Declare}
 use Rattle.ir_forms.specs.declared.input.Input.{Input}
 use Rattle.ir_forms.specs.Cursor.{kind, sees, spelled, left_out, at_end}
 use Rattle.ir_forms.specs.Input.{Form, left, limit, unexpected, unread, skip, expect, IsKind, skip_takes}
-use Rattle.ir_forms.specs.RuntimeNames.{runtime_of}
+use Rattle.ir_ast.specs.RuntimeNames.{runtime_of}
 use Rattle.ir_forms.specs.Names.{new_struct, new_struct_takes, new_symbol, new_symbol_takes, quoted, first_missing}
 use Rattle.ir_forms.specs.Table.{empty}
 use Rattle.ir_forms.specs.Written.{any_type, held_type, passed_type, intern, no_parameters, struct_body, bits_of}

@@ -9,12 +9,12 @@ use crate::parameters::{DeclaredParameters, DefinedParameters};
 use crate::starts::{begins_unread_item, is_external};
 use ir_ast as ast;
 use ir_ast::{
-    Block, Constant, Declare, DeclareId, FuncId, Function, GlobalId, IrType, Parameter, StructType,
-    SymbolId, SymbolSort, TypeId,
+    Block, Constant, Declare, DeclareId, FuncId, Function, GlobalId, IrType, Parameter, Runtime,
+    StructType, SymbolId, SymbolSort, TypeId,
 };
 use ir_forms::{
     Fault, Input, Listed, Spot, Table, Trail, begins_unread_operand, bits_of, decorations,
-    first_missing, many, runtime_of, trailing,
+    first_missing, many, trailing,
 };
 use ir_tokens::Kind;
 use items::Items;
@@ -176,7 +176,7 @@ fn declaration(alloc: Global, input: &mut Input<'_>) -> Result<(), Fault>
     input.skip();
     let returned = declared_result(alloc, input)?;
     let name = input.cursor.spelled(alloc)?;
-    let runtime = runtime_of(name.as_slice());
+    let runtime = Runtime::of(name.as_slice());
     let symbol = function_name(alloc, input, SymbolSort::Declared(number))?;
     input.expect(Kind::OpenRound)?;
     let parameters = many::<DeclaredParameters>(alloc, input)?;

@@ -6,3 +6,4 @@ pub mod Ring
 pub mod Globals
 pub mod Rings
 pub mod Steps
+pub mod AsMany

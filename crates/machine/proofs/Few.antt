@@ -4,20 +4,14 @@ use Rattle.ir_ast.specs.declared.items_of_module.StructType.{StructType}
 use Rattle.ir_ast.specs.declared.module.Module.{Module}
 use Rattle.pools.specs.declared.word_kind.WordKind.{WordKind}
 use Rattle.pools.specs.Layouts.{words_of}
-use Rattle.layout.specs.Words.{AreWords}
+use Rattle.layout.specs.AsMany.{one_word_each}
 use Rattle.layout.specs.Layouts.{AreLayouts, AreLayoutsOf}
-
-as_many : (m : Module) (fields : List ℕ) (words : List WordKind) → AreWords m fields words → length words ≡ length fields
-as_many m [] [] are = refl
-as_many m [] (word ∷ words) are = absurd are
-as_many m (field ∷ fields) [] are = absurd are
-as_many m (field ∷ fields) (word ∷ words) are = omega (arith, as_many m fields words are.1)
 
 few_of : (m : Module) (structs : List StructType) (layouts : List (List WordKind)) (layout : ℕ) → AreLayoutsOf m structs layouts → length (words_of layouts layout) ≤ 64
 few_of m [] [] layout are = omega arith
 few_of m [] (words ∷ layouts) layout are = absurd are
 few_of m (struct ∷ structs) [] layout are = absurd are
-few_of m (struct ∷ structs) (words ∷ layouts) zero are = let few = are.0.few in omega (arith, as_many m are.0.fields words are.0.words_are)
+few_of m (struct ∷ structs) (words ∷ layouts) zero are = let few = are.0.few in omega (arith, one_word_each m are.0.fields words are.0.words_are)
 few_of m (struct ∷ structs) (words ∷ layouts) (suc n) are = few_of m structs layouts n are.1
 
 -- a word of a layout has a small number

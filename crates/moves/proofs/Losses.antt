@@ -78,6 +78,10 @@ lost-first s pools c roots stage at cell e not lost = rw (← e) (go at not lost
     same (call.Alloc layout) (stance.Writing c w o n) not h = h
     same (call.Alloc layout) (stance.Answering p m) not h = h
     same (call.Alloc layout) stance.Ended not h = h
+    same (call.Alloc layout) stance.Absent not h = h
+    same (call.Alloc layout) (stance.Arriving p) not h = h
+    same (call.Alloc layout) stance.Entering not h = h
+    same (call.Alloc layout) stance.Leaving not h = h
     same call.Local at not h = absurd h
     same (call.Read base word) at not h = absurd h
     same (call.StorePlain base word value) at not h = absurd h
@@ -94,6 +98,10 @@ lost-first s pools c roots stage at cell e not lost = rw (← e) (go at not lost
     go (stance.Writing x w o n) not h = tried c (same c (stance.Writing x w o n) not h)
     go (stance.Answering p m) not h = tried c (same c (stance.Answering p m) not h)
     go stance.Ended not h = tried c (same c stance.Ended not h)
+    go stance.Absent not h = tried c (same c stance.Absent not h)
+    go (stance.Arriving p) not h = tried c (same c (stance.Arriving p) not h)
+    go stance.Entering not h = tried c (same c stance.Entering not h)
+    go stance.Leaving not h = tried c (same c stance.Leaving not h)
 
 -- no cell is left
 pub none-left : (pools : List ℕ) (layout first tried count : ℕ) → count ≡ unwrap_or (slice_get pools layout) 0 → count ≤ tried → order.Ready ≡ phase_left pools (Alloc layout) first tried

@@ -107,3 +107,9 @@ first_cause s m starts run t roots shared (made.Answers stage) cause b x =
     subst (λ (c : Option Cause). IsStepCause s m starts (OfThread t (moves.StoresStage stage roots) ∷ run) c) (sym x) (by_none s m starts run t (moves.StoresStage stage roots) refl (λ w. w))
 first_cause s m starts run t roots shared made.Ends cause b x =
     subst (λ (c : Option Cause). IsStepCause s m starts (OfThread t (moves.StoresStage done []) ∷ run) c) (sym x) (by_none s m starts run t (moves.StoresStage done []) refl (λ w. w))
+first_cause s m starts run t roots shared (made.ReadsPostedFirst stage) cause b x =
+    subst (λ (c : Option Cause). IsStepCause s m starts (OfThread t (moves.ReadsPostedFirst stage) ∷ run) c) (sym x) (by_none s m starts run t (moves.ReadsPostedFirst stage) refl (λ w. w))
+first_cause s m starts run t roots shared (made.EntersStage stage) cause b x =
+    subst (λ (c : Option Cause). IsStepCause s m starts (OfThread t (moves.EntersStage stage) ∷ run) c) (sym x) (by_none s m starts run t (moves.EntersStage stage) refl (λ w. w))
+first_cause s m starts run t roots shared (made.ReadsPostedAgain stage) cause b x =
+    subst (λ (c : Option Cause). IsStepCause s m starts (OfThread t (moves.ReadsPostedAgain stage) ∷ run) c) (sym x) (by_none s m starts run t (moves.ReadsPostedAgain stage) refl (λ w. w))

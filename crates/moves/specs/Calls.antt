@@ -10,7 +10,7 @@ use Rattle.moves.specs.declared.call.Call.TheVariants.{Local, Read, StorePlain, 
 use Rattle.moves.specs.declared.call.Answer.{Answer}
 use Rattle.moves.specs.declared.call.Answer.TheVariants.{Done, Got, Answered}
 use Rattle.moves.specs.declared.moves.Move.{Move}
-use Rattle.moves.specs.declared.moves.Move.TheVariants.{Works, GoesWrong, ReadsWord, ReadsOldValue, Marks, StoresBehindBarrier, StoresPlain, Claims, ReadsPosted, Answers, Ends}
+use Rattle.moves.specs.declared.moves.Move.TheVariants.{Works, GoesWrong, ReadsWord, ReadsOldValue, Marks, StoresBehindBarrier, StoresPlain, Claims, ReadsPosted, Answers, Ends, ReadsPostedFirst, EntersStage, ReadsPostedAgain}
 
 -- a call as a machine's action
 abbrev pub action_of : Call → machine.Action
@@ -42,6 +42,9 @@ move_in roots (Claims r won) = moves.Claims r won
 move_in roots (ReadsPosted stage) = moves.ReadsPosted stage
 move_in roots (Answers stage) = moves.StoresStage stage roots
 move_in roots Ends = moves.StoresStage done []
+move_in roots (ReadsPostedFirst stage) = moves.ReadsPostedFirst stage
+move_in roots (EntersStage stage) = moves.EntersStage stage
+move_in roots (ReadsPostedAgain stage) = moves.ReadsPostedAgain stage
 
 -- if there is one
 abbrev pub made_by : (roots : List Reference) → Option Move → Option moves.Move

@@ -26,20 +26,21 @@ use Rattle.moves.specs.Runs.{found_in, collector_behind, turn_for, by_thread, by
 
 -- the number that a step's entry records leads to the same place
 pub moved-found : (c : Collecting) (found : ℕ) → moved c (found_in (turn_of c found)) ≡ moved c found
-moved-found c found = go c.heap c.posted c.at
+moved-found c found = go c.heap c.posted c.listed c.at
   where
-    go : (s : Setup) (stage : ℕ) (at : Collection) → moved (record { heap = s; posted = stage; at = at }) (found_in (turn_of (record { heap = s; posted = stage; at = at }) found)) ≡ moved (record { heap = s; posted = stage; at = at }) found
-    go s stage Posting = refl
-    go s stage (Waiting thread) = refl
-    go s stage ShadingGlobals = refl
-    go s stage (Passing p) = refl
-    go s stage (Scanning cell word p) = elim (yes_or_no (nat_lt (reference_from s cell word) (length (words_of_cell s cell)))) [
+    go : (s : Setup) (stage : ℕ) (listed : List ℕ) (at : Collection) → moved (record { heap = s; posted = stage; at = at; listed = listed }) (found_in (turn_of (record { heap = s; posted = stage; at = at; listed = listed }) found))
+        ≡ moved (record { heap = s; posted = stage; at = at; listed = listed }) found
+    go s stage listed Posting = refl
+    go s stage listed (Waiting thread) = refl
+    go s stage listed ShadingGlobals = refl
+    go s stage listed (Passing p) = refl
+    go s stage listed (Scanning cell word p) = elim (yes_or_no (nat_lt (reference_from s cell word) (length (words_of_cell s cell)))) [
       | inl is ↦ rw is refl
       | inr n ↦ rw n refl
     ]
-    go s stage (Shading value cell word p) = refl
-    go s stage (Sweeping cell) = refl
-    go s stage (Clearing cell word) = elim (yes_or_no (nat_lt word (length (words_of_cell s cell)))) [
+    go s stage listed (Shading value cell word p) = refl
+    go s stage listed (Sweeping cell) = refl
+    go s stage listed (Clearing cell word) = elim (yes_or_no (nat_lt word (length (words_of_cell s cell)))) [
       | inl is ↦ rw is refl
       | inr n ↦ rw n refl
     ]
@@ -61,7 +62,7 @@ unfolding collector_behind
 drawn-none s m starts = record {
   is_run = tt;
   tries = λ t lt. tt;
-  stands = record { heap = refl; posted = refl; place = Posting; at = refl; collects = refl };
+  stands = record { heap = refl; posted = refl; place = Posting; at = refl; listed = tt; collects = refl };
 }
 
 -- what a thread sees of a run

@@ -6,6 +6,7 @@ use Rattle.colours.specs.Mutator.{Phase}
 use Rattle.runs.specs.Machine as machine
 use Rattle.runs.specs.Machine.{Reference, Action, Answer, Machine}
 use Rattle.runs.specs.Moves.{step_of, phase_behind, ends_call, answer_of}
+use Rattle.runs.specs.Moves as moves
 use Rattle.runs.specs.Ends.{moved, stage_behind, old_by}
 use Rattle.moves.specs.declared.call.Call.{Call}
 use Rattle.moves.specs.declared.call.Call.TheVariants as call
@@ -44,19 +45,21 @@ call_of-action_of call.Wrong = refl
 pub same-call : (a b : Call) → action_of a ≡ action_of b → a ≡ b
 same-call a b e = sym (call_of-action_of a) ∙ ap call_of e ∙ call_of-action_of b
 
--- a call is over where none is under way
-pub ends-between : (roots : List Reference) (m : Move) (phase : Phase) → ends_call (move_in roots m) phase ≡ order.is_between phase
-ends-between roots made.Works phase = refl
-ends-between roots made.GoesWrong phase = refl
-ends-between roots (made.ReadsWord base word value) phase = refl
-ends-between roots (made.ReadsOldValue base word value) phase = refl
-ends-between roots (made.Marks r) phase = refl
-ends-between roots (made.StoresBehindBarrier base word value) phase = refl
-ends-between roots (made.StoresPlain base word value) phase = refl
-ends-between roots (made.Claims r won) phase = refl
-ends-between roots (made.ReadsPosted stage) phase = refl
-ends-between roots (made.Answers stage) phase = refl
-ends-between roots made.Ends phase = refl
+-- a call is over only where none is under way
+pub ends-between : (m : moves.Move) (phase : Phase) → ends_call m phase ≡ true → order.is_between phase ≡ true
+ends-between (moves.ReadsPostedAgain stage) phase e = absurd cc
+ends-between moves.Works phase e = e
+ends-between moves.GoesWrong phase e = e
+ends-between (moves.ReadsWord base word value) phase e = e
+ends-between (moves.ReadsOldValue base word value) phase e = e
+ends-between (moves.Marks r) phase e = e
+ends-between (moves.StoresBehindBarrier base word value) phase e = e
+ends-between (moves.StoresPlain base word value) phase e = e
+ends-between (moves.Claims r won) phase e = e
+ends-between (moves.ReadsPosted stage) phase e = e
+ends-between (moves.StoresStage stage roots) phase e = e
+ends-between (moves.ReadsPostedFirst stage) phase e = e
+ends-between (moves.EntersStage stage) phase e = e
 
 -- between two calls the roots do not matter
 pub between-phase : (roots others : List Reference) (at : Stance) → order.is_between (phase_at roots at) ≡ true → phase_at others at ≡ phase_at roots at
@@ -67,25 +70,29 @@ between-phase roots others (stance.MarkingNew c w o) e = absurd cc
 between-phase roots others (stance.Writing c w o n) e = absurd cc
 between-phase roots others (stance.Trying f n) e = absurd cc
 between-phase roots others (stance.Answering p n) e = absurd cc
+between-phase roots others stance.Absent e = absurd cc
+between-phase roots others (stance.Arriving p) e = absurd cc
+between-phase roots others stance.Entering e = absurd cc
+between-phase roots others stance.Leaving e = absurd cc
 
 -- the thread after a move, where its call ends ..
 pub moved-between : (s : Setup) (m : Machine) (stand : Stand m.State) (move : Move) (state : m.State) (stage : ℕ) (at : Stance) (replaced : Reference) (answer : Answer)
     → phase_at (m.roots stand.state) at ≡ phase_behind s stand.stage (phase_at (m.roots stand.state) stand.stance) (step_of (move_in (m.roots stand.state) move))
-    → order.is_between (phase_at (m.roots stand.state) at) ≡ true
+    → ends_call (move_in (m.roots stand.state) move) (phase_at (m.roots stand.state) at) ≡ true
     → state ≡ m.after_answer stand.state answer → answer ≡ answer_of (m.action stand.state) (move_in (m.roots stand.state) move)
     → stage ≡ stage_behind stand.stage (move_in (m.roots stand.state) move) → replaced ≡ old_by (move_in (m.roots stand.state) move)
     → standing m.roots (record { state = state; stage = stage; stance = at; replaced = replaced }) ≡ moved s m (standing m.roots stand) (move_in (m.roots stand.state) move)
 moved-between s m stand move state stage at replaced answer phase between after given is_stage is_old =
-    let ends = ends-between (m.roots stand.state) move (phase_behind s stand.stage (phase_at (m.roots stand.state) stand.stance) (step_of (move_in (m.roots stand.state) move))) ∙ ap order.is_between (sym phase) ∙ between in
-    let same = between-phase (m.roots stand.state) (m.roots state) at between ∙ phase in
+    let ends = ap (ends_call (move_in (m.roots stand.state) move)) (sym phase) ∙ between in
+    let same = between-phase (m.roots stand.state) (m.roots state) at (ends-between (move_in (m.roots stand.state) move) (phase_at (m.roots stand.state) at) between) ∙ phase in
     rw (ends, same, after, given, is_stage, is_old) refl
 
 -- .. and where it does not
 pub moved-within : (s : Setup) (m : Machine) (stand : Stand m.State) (move : Move) (stage : ℕ) (at : Stance) (replaced : Reference)
     → phase_at (m.roots stand.state) at ≡ phase_behind s stand.stage (phase_at (m.roots stand.state) stand.stance) (step_of (move_in (m.roots stand.state) move))
-    → order.is_between (phase_at (m.roots stand.state) at) ≡ false
+    → ends_call (move_in (m.roots stand.state) move) (phase_at (m.roots stand.state) at) ≡ false
     → stage ≡ stage_behind stand.stage (move_in (m.roots stand.state) move) → replaced ≡ old_by (move_in (m.roots stand.state) move)
     → standing m.roots (record { state = stand.state; stage = stage; stance = at; replaced = replaced }) ≡ moved s m (standing m.roots stand) (move_in (m.roots stand.state) move)
 moved-within s m stand move stage at replaced phase within is_stage is_old =
-    let ends = ends-between (m.roots stand.state) move (phase_behind s stand.stage (phase_at (m.roots stand.state) stand.stance) (step_of (move_in (m.roots stand.state) move))) ∙ ap order.is_between (sym phase) ∙ within in
+    let ends = ap (ends_call (move_in (m.roots stand.state) move)) (sym phase) ∙ within in
     rw (ends, phase, is_stage, is_old) refl

@@ -36,6 +36,9 @@ counted stance try mark (made.StoresPlain base word value) = tt
 counted stance try mark (made.ReadsPosted stage) = tt
 counted stance try mark (made.Answers stage) = tt
 counted stance try mark made.Ends = tt
+counted stance try mark (made.ReadsPostedFirst stage) = tt
+counted stance try mark (made.EntersStage stage) = tt
+counted stance try mark (made.ReadsPostedAgain stage) = tt
 
 -- so may each next move of a thread that is there
 pub counts-none : (at stance : Stance) → at ≡ stance → CountsTry stance → CountsMark stance → (next : Option Move) → HasRoomForNext at next

@@ -1,5 +1,5 @@
 -- The run that a list of actors makes, each by its one next step on the words as the steps before left them. Cells of a pool
--- are tried from the lowest number up, and the collector looks at no cell out of turn.
+-- are tried from the lowest number up. The collector looks only at those cells out of turn that its list asks for.
 use Rattle.std.specs.Prelude.{ℕ, ◌<◌, Option, Some, None, List, [], ◌∷◌}
 use Rattle.pools.specs.Heap.{Setup}
 use Rattle.colours.specs.declared.place.Place.{Place}

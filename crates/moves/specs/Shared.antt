@@ -8,7 +8,7 @@ use Rattle.colours.specs.Colours.{mark_at, claim_at, done}
 use Rattle.colours.specs.Runs.{word_after}
 use Rattle.runs.specs.ModuleRuns.{Happening, heap_of, birth_of, birth_in}
 use Rattle.moves.specs.declared.moves.Move.{Move}
-use Rattle.moves.specs.declared.moves.Move.TheVariants.{Marks, StoresBehindBarrier, StoresPlain, Claims, Answers, Ends}
+use Rattle.moves.specs.declared.moves.Move.TheVariants.{Marks, StoresBehindBarrier, StoresPlain, Claims, Answers, Ends, EntersStage}
 use Rattle.moves.specs.declared.shared.Shared.{Shared}
 use Rattle.moves.specs.Kinds.{MayHold}
 use Rattle.moves.specs.Rows.{word_at, with_word}
@@ -64,6 +64,7 @@ CanTake h thread stage (Marks r) = CanHold h (Colour r.cell) × (stage < 2 ^ 62)
 CanTake h thread stage (Claims r won) = CanHold h (Colour r.cell) × (r.cell < length h.births) × (stage < 2 ^ 62)
 CanTake h thread stage (Answers next) = CanHold h (Stage thread)
 CanTake h thread stage Ends = CanHold h (Stage thread)
+CanTake h thread stage (EntersStage next) = CanHold h (Stage thread)
 CanTake h thread stage made = Unit {0}
 
 -- the words and births after it
@@ -74,4 +75,5 @@ with_move h thread stage (Marks r) = record h { colours = slice_set h.colours r.
 with_move h thread stage (Claims r true) = record h { colours = slice_set h.colours r.cell (claim_at stage); births = slice_set h.births r.cell r.birth }
 with_move h thread stage (Answers next) = record h { stages = slice_set h.stages thread next }
 with_move h thread stage Ends = record h { stages = slice_set h.stages thread done }
+with_move h thread stage (EntersStage next) = record h { stages = slice_set h.stages thread next }
 with_move h thread stage made = h

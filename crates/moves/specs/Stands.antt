@@ -10,7 +10,7 @@ use Rattle.runs.specs.Ends.{Standing}
 use Rattle.runs.specs.Tries.{lowest}
 use Rattle.moves.specs.declared.shared.Shared.{Shared}
 use Rattle.moves.specs.declared.stand.Stance.{Stance}
-use Rattle.moves.specs.declared.stand.Stance.TheVariants.{Ready, MarkingOld, MarkingNew, Writing, Trying, Answering, Ended}
+use Rattle.moves.specs.declared.stand.Stance.TheVariants.{Ready, MarkingOld, MarkingNew, Writing, Trying, Answering, Ended, Absent, Arriving, Entering, Leaving}
 use Rattle.moves.specs.declared.stand.Stand.{Stand}
 use Rattle.moves.specs.Rows.{word_at}
 
@@ -32,6 +32,10 @@ phase_at roots (Writing cell word old new) = order.Writing cell word old new
 phase_at roots (Trying first tried) = order.Trying (falling first tried)
 phase_at roots (Answering stage marked) = order.Answering stage (marked_of roots marked)
 phase_at roots Ended = order.Ended
+phase_at roots Absent = order.Absent
+phase_at roots (Arriving stage) = order.Arriving stage
+phase_at roots Entering = order.Entering
+phase_at roots Leaving = order.Leaving
 
 -- there is a pool of the layout that is asked for, and fewer than 2^32 cells were tried
 abbrev pub MayTryMore : (pools : List ℕ) → Action → (tried : ℕ) → Type 0

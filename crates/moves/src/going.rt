@@ -11,7 +11,7 @@ ghost use Rattle.moves.specs.Stands.{standing};
 
 use crate::call::Answer;
 use crate::moves::Move;
-use crate::moving::{answer_of, is_between, stance_behind};
+use crate::moving::{answer_of, ends_call, stance_behind};
 use crate::reference::{NULL, Reference};
 use crate::runner::Runner;
 use crate::stand::Stand;
@@ -34,7 +34,7 @@ pub fn go_on<M: Runner>(
 {
     let call = stand.state.call();
     let stance = stance_behind(pools, &call, stand.stage, stand.stance, made);
-    let roots_change = if is_between(stance) {
+    let roots_change = if ends_call(made, stance) {
         end_call(&mut stand.state, answer_of(&call, made))?
     } else {
         false
@@ -65,7 +65,7 @@ fn stage_behind(stage: u64, made: &Move) -> u64
     ensures { (roots : List AReference) → result ≡ stage_behind stage (move_in roots made.now) }
 {
     match made {
-        Move::Answers(next) => *next,
+        Move::Answers(next) | Move::EntersStage(next) => *next,
         Move::Ends => DONE,
         _ => stage,
     }

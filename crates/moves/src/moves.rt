@@ -37,6 +37,12 @@ pub enum Move {
     ReadsPosted(u64),
     /// Stores the posted stage as its own, with the roots of its frames.
     Answers(u64),
-    /// Stores that it has ended.
+    /// Stores that it has ended, or that it has not begun after all.
     Ends,
+    /// A late thread reads the posted stage, to begin at it.
+    ReadsPostedFirst(u64),
+    /// A late thread stores that stage as its own.
+    EntersStage(u64),
+    /// A late thread reads the posted stage again.
+    ReadsPostedAgain(u64),
 }

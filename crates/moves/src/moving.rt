@@ -2,7 +2,7 @@ ghost use Rattle.std.specs.Prelude.{ℕ, ◌≡◌, false, Some, List};
 ghost use Rattle.pools.specs.Heap.{Setup};
 ghost use Rattle.colours.specs.Mutator as order;
 ghost use Rattle.runs.specs.Machine.{Reference as AReference};
-ghost use Rattle.runs.specs.Moves.{step_of, phase_behind};
+ghost use Rattle.runs.specs.Moves.{step_of, phase_behind, cells_of};
 ghost use Rattle.runs.specs.Moves as moves;
 ghost use Rattle.moves.specs.Calls.{action_of, answer_in, move_in};
 ghost use Rattle.colours.specs.Steps as steps;
@@ -47,8 +47,22 @@ pub(crate) fn stance_behind(
             stage: *posted,
             marked: 0,
         },
-        Move::Ends => Stance::Ended,
-        Move::Answers(answered) if *answered == DONE => Stance::Ended,
+        Move::Ends => behind_stage(stance, DONE),
+        Move::Answers(answered) => behind_stage(stance, *answered),
+        Move::ReadsPostedFirst(posted) => Stance::Arriving { stage: *posted },
+        Move::EntersStage(_) => Stance::Entering,
+        Move::ReadsPostedAgain(posted) if *posted != stage => Stance::Leaving,
+        _ => Stance::Ready,
+    }
+}
+
+/// After a store of this stage. A late thread that leaves has not begun.
+fn behind_stage(stance: Stance, stored: u64) -> Stance
+    ensures { (s : Setup) (stage : ℕ) (roots named : List AReference) → phase_at roots result ≡ phase_behind s stage (phase_at roots stance) (Some (steps.StoreStage stored (cells_of named))) }
+{
+    match stance {
+        Stance::Leaving => Stance::Absent,
+        _ if stored == DONE => Stance::Ended,
         _ => Stance::Ready,
     }
 }
@@ -104,8 +118,15 @@ fn tries_left(pools: &Pools, call: &Call, first: u64, tried: u64) -> Stance
     }
 }
 
+/// Whether a call is over with this move, after which the thread is here. That a late thread begins is no call.
+pub(crate) fn ends_call(made: &Move, stance: Stance) -> bool
+    ensures { (roots : List AReference) → result ≡ moves.ends_call (move_in roots made.now) (phase_at roots stance) }
+{
+    !matches!(made, Move::ReadsPostedAgain(_)) && is_between(stance)
+}
+
 /// Whether no call is under way.
-pub(crate) fn is_between(stance: Stance) -> bool
+fn is_between(stance: Stance) -> bool
     ensures { (roots : List AReference) → result ≡ order.is_between (phase_at roots stance) }
 {
     matches!(stance, Stance::Ready | Stance::Ended)

@@ -47,6 +47,10 @@ pub fn next_move<M: Runner>(
         Stance::Writing { .. } => Ok(store_of_new(&call)),
         Stance::Trying { tried, .. } => Ok(next_try(shared, pools, &call, tried)),
         Stance::Ended => Ok(None),
+        Stance::Absent => Ok(Some(Move::ReadsPostedFirst(shared.posted))),
+        Stance::Arriving { stage } => Ok(Some(Move::EntersStage(stage))),
+        Stance::Entering => Ok(Some(Move::ReadsPostedAgain(shared.posted))),
+        Stance::Leaving => Ok(Some(Move::Ends)),
     }
 }
 

@@ -99,7 +99,7 @@ impl Shared {
                 self.colours.set(claimed.cell as usize, claim_at(stage));
                 self.births.set(claimed.cell as usize, claimed.birth);
             }
-            Move::Answers(posted) => {
+            Move::Answers(posted) | Move::EntersStage(posted) => {
                 self.stages.set(thread, *posted);
             }
             Move::Ends => {

@@ -35,6 +35,16 @@ pub enum Stance {
         marked: usize,
     },
     Ended,
+    /// A late thread has not begun.
+    Absent,
+    /// A late thread has read that this stage is posted.
+    Arriving {
+        stage: u64,
+    },
+    /// A late thread has stored that stage as its own.
+    Entering,
+    /// A late thread has found that another stage was posted meanwhile.
+    Leaving,
 }
 
 /// A thread: the state of its machine, the stage that it stored last, where it is, and what a write under way has read.

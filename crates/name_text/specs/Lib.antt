@@ -9,3 +9,6 @@ pub mod Seams
 pub mod Reading
 pub mod Spelled
 pub mod NameWords
+pub mod Reader
+pub mod Forms
+pub mod Equal

@@ -13,10 +13,6 @@ pub record Setup : Type 0 where
   pub globals : List WordKind  -- the words of cell 0
   pub values : List ℕ  -- and what they hold at the start
 
--- the heap's cells have these layouts, in pools of these sizes
-abbrev pub IsHeapOf : Setup → (layouts : List (List WordKind)) → (pools : List ℕ) → Type 0
-IsHeapOf s layouts pools = (s.layouts ≡ layouts) × (s.pools ≡ pools)
-
 -- the thread is absent at the start
 unfoldable pub is_late : Setup → ℕ → Bool
 is_late s t = slice_index_or s.late t false

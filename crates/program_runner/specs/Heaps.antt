@@ -1,5 +1,5 @@
 -- The heap with which a setup of a program begins.
-use Rattle.std.specs.Prelude.{ℕ, [], length, map, Option, Some}
+use Rattle.std.specs.Prelude.{ℕ, length, map, Option, Some}
 use Rattle.ir_ast.specs.declared.items_of_module.Global.{Global}
 use Rattle.ir_ast.specs.declared.module.Module.{Module}
 use Rattle.ir_ast.specs.declared.operand.Constant.{Constant}
@@ -11,6 +11,7 @@ use Rattle.layout.specs.Globals.{globals_of}
 use Rattle.layout.specs.Layouts.{LaidOut}
 use Rattle.layout.specs.Words.{word_of}
 use Rattle.machine.specs.Kinds.{wrapped}
+use Rattle.trace_text.specs.Arrivals.{is_late}
 use Rattle.trace_text.specs.declared.trace.Setup.{Setup}
 
 -- a number as a word of this kind holds it at the start; a reference is null
@@ -26,7 +27,7 @@ value_of_global m global = value_at_start (word_of m global.held) global.initial
 abbrev pub heap_of : LaidOut → Setup → heap.Setup
 heap_of p setup = record {
   threads = length setup.starts;
-  late = [];
+  late = map (λ start. is_late start.arrival) setup.starts;
   layouts = p.layouts;
   pools = setup.pools;
   globals = globals_of p.of_module;

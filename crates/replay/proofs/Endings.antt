@@ -1,5 +1,5 @@
 -- How the threads of a run have ended, kept from step to step.
-use Rattle.std.proofs.Common.{◌≡◌, ◌≢◌, ◌<◌, ◌⊎◌, inl, inr, ◌==◌, Bool, true, false, ℕ, zero, suc, Option, Some, None, List, [], ◌∷◌, length, slice_get, slice_set, unwrap_or, refl, sym, ap, ◌∙◌, subst, arith}
+use Rattle.std.proofs.Common.{◌≡◌, ◌≢◌, ◌<◌, ◌⊎◌, inl, inr, ◌==◌, Bool, true, false, if◌then◌else◌, ℕ, zero, suc, Option, Some, None, List, [], ◌∷◌, length, slice_get, slice_set, unwrap_or, refl, sym, ap, ◌∙◌, subst, arith}
 use Rattle.std.proofs.lemmas.List.{length-set}
 use Rattle.lemmas.specs.Lists.{get_some}
 use Rattle.lemmas.specs.Numbers.{test_true, test_yes, test_false}
@@ -17,7 +17,7 @@ use Rattle.moves.specs.declared.actor.Actor.{Actor}
 use Rattle.moves.specs.declared.actor.Actor.TheVariants.{Thread, Collector}
 use Rattle.moves.specs.declared.shared.Shared.{Shared}
 use Rattle.moves.specs.declared.stand.Stance.{Stance}
-use Rattle.moves.specs.declared.stand.Stance.TheVariants.{Ready, MarkingOld, MarkingNew, Writing, Trying, Answering, Ended}
+use Rattle.moves.specs.declared.stand.Stance.TheVariants.{Ready, MarkingOld, MarkingNew, Writing, Trying, Answering, Ended, Absent, Arriving, Entering, Leaving}
 use Rattle.moves.specs.declared.stand.Stand.{Stand}
 use Rattle.moves.specs.Runs.{run_by, by_thread, by_collector, next_by, next_turn, collector_behind, with_next}
 use Rattle.moves.specs.Stands.{standing, phase_at, sight_in}
@@ -64,6 +64,10 @@ by_stance roots (Writing cell word old new) t kept = inr (refl, λ e. absurd cc)
 by_stance roots (Trying first tried) t kept = inr (refl, λ e. absurd cc)
 by_stance roots (Answering stage marked) t kept = inr (refl, λ e. absurd cc)
 by_stance roots Ended t kept = inl (refl, refl)
+by_stance roots Absent t kept = inr (refl, λ e. absurd cc)
+by_stance roots (Arriving posted) t kept = inr (refl, λ e. absurd cc)
+by_stance roots Entering t kept = inr (refl, λ e. absurd cc)
+by_stance roots Leaving t kept = inr (refl, λ e. absurd cc)
 
 -- one that has ended has no next move
 none_next : (s : Setup) (h : Sight) (stage : ℕ) (roots : List Reference) (old : Reference) (action : machine.Action) (phase : order.Phase) → phase ≡ order.Ended
@@ -171,8 +175,11 @@ kept_by_collector p setup before endings are = go (next_by (heaps.heap_of p setu
 
 -- a thread that has made no step has not ended
 not_at_once : (p : LaidOut) (setup : traced.Setup) (t : ℕ) → phase_of (heaps.heap_of p setup) t [] ≢ order.Ended
-unfolding is_late
-not_at_once p setup t e = let q : order.Ready ≡ order.Ended = e in absurd cc
+not_at_once p setup t e = either_way (is_late (heaps.heap_of p setup) t) e
+  where
+    either_way : (late : Bool) → (if late then order.Absent else order.Ready) ≢ order.Ended
+    either_way true q = absurd cc
+    either_way false q = absurd cc
 
 -- before the first step no thread has ended
 pub none_ended : (p : LaidOut) (setup : traced.Setup) (endings : List ThreadEnd) → length endings ≡ length setup.starts → AreEndings p setup (run_of p setup []) endings

@@ -11,7 +11,8 @@ use Rattle.pools.specs.declared.word_kind.WordKind.TheVariants.{Integer, Referen
 use Rattle.pools.specs.Heap.{kind_of, IsStartOf, IsSetup}
 use Rattle.layout.specs.Globals.{kind_of_global}
 use Rattle.layout.specs.Layouts.{LaidOut, AreLayouts, AreLayoutsOf}
-use Rattle.layout.specs.Words.{AreWords, word_of}
+use Rattle.layout.specs.AsMany.{one_word_each}
+use Rattle.layout.specs.Words.{word_of}
 use Rattle.machine.specs.WrappedFits.{wrapped_fits}
 use Rattle.program_runner.specs.Heaps.{heap_of, value_at_start, value_of_global}
 use Rattle.trace_text.specs.declared.trace.Setup.{Setup}
@@ -35,14 +36,7 @@ pub is_setup : (p : LaidOut) (setup : Setup) → IsSetup (heap_of p setup)
 unfolding kind_of
 is_setup p setup word = fits_each p.of_module p.of_module.globals word
 
--- there is a word for each scalar field
-one_word_each : (m : Module) (fields : List ℕ) (words : List WordKind) → AreWords m fields words → length words ≡ length fields
-one_word_each m [] [] are = refl
-one_word_each m [] (word ∷ words) are = absurd are
-one_word_each m (field ∷ fields) [] are = absurd are
-one_word_each m (field ∷ fields) (word ∷ words) are = omega (arith, one_word_each m fields words are.1)
-
--- so each layout has few words
+-- each layout has few words
 few_words_of : (m : Module) (structs : List StructType) (layouts : List (List WordKind)) → AreLayoutsOf m structs layouts → (k : ℕ) (d : List WordKind) → k < length layouts → length (slice_index_or layouts k d) < 2 ^ 32
 few_words_of m [] [] are k d within = absurd (omega arith)
 few_words_of m [] (words ∷ layouts) are k d within = absurd are

@@ -66,6 +66,9 @@ move-claims t roots (move.Claims r won) = refl
 move-claims t roots (move.ReadsPosted stage) = refl
 move-claims t roots (move.Answers stage) = refl
 move-claims t roots move.Ends = refl
+move-claims t roots (move.ReadsPostedFirst stage) = refl
+move-claims t roots (move.EntersStage stage) = refl
+move-claims t roots (move.ReadsPostedAgain stage) = refl
 
 -- a step of the collector frees a cell where it is made as one
 turn-frees : (turn : Turn) → frees (OfCollector turn) ≡ frees_made (Collector turn)

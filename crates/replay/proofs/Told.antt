@@ -8,7 +8,7 @@ use Rattle.runs.specs.Moves.{steps_of}
 use Rattle.runs.specs.ModuleRuns.{share_of}
 use Rattle.moves.specs.declared.actor.Actor as run
 use Rattle.moves.specs.declared.stand.Stance.{Stance}
-use Rattle.moves.specs.declared.stand.Stance.TheVariants.{Ready, MarkingOld, MarkingNew, Writing, Trying, Answering, Ended}
+use Rattle.moves.specs.declared.stand.Stance.TheVariants.{Ready, MarkingOld, MarkingNew, Writing, Trying, Answering, Ended, Absent, Arriving, Entering, Leaving}
 use Rattle.moves.specs.declared.stand.Stand.{Stand}
 use Rattle.moves.specs.Stands.{phase_at}
 use Rattle.program_runner.specs.Threads.{ProgramThread, names}
@@ -70,6 +70,10 @@ by_phase roots (Writing cell word old new) stage kept ending same = refl
 by_phase roots (Trying first tried) stage kept ending same = refl
 by_phase roots (Answering stage' marked) stage kept ending same = refl
 by_phase roots Ended stage kept ending same = same refl
+by_phase roots Absent stage kept ending same = refl
+by_phase roots (Arriving posted) stage kept ending same = refl
+by_phase roots Entering stage kept ending same = refl
+by_phase roots Leaving stage kept ending same = refl
 
 -- what is told of a thread of a world is where it is
 told_is : (w : World) (before : List run.Actor) → IsBehind w before → (t : ℕ) → t < length w.setup.starts → end_told (slice_get w.threads t) (slice_get w.endings t) ≡ end_of w.program w.setup (run_of w.program w.setup before) t

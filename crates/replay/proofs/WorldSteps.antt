@@ -1,5 +1,5 @@
 -- A world after one more step.
-use Rattle.std.proofs.Common.{◌≡◌, ◌<◌, ℕ, Option, Some, List, [], ◌∷◌, length, slice_get, refl, sym, ap, ◌∙◌, subst}
+use Rattle.std.proofs.Common.{◌≡◌, ◌<◌, ℕ, Bool, Option, Some, List, [], ◌∷◌, length, map, slice_get, refl, sym, ap, ◌∙◌, subst}
 use Rattle.layout.specs.Layouts.{LaidOut}
 use Rattle.certs.specs.declared.section.Section.{Section}
 use Rattle.replay.specs.declared.thread_end.ThreadEnd.{ThreadEnd}
@@ -8,11 +8,13 @@ use Rattle.machine.specs.Start.{argument_values, StartsByReference, StartsWrongl
 use Rattle.moves.specs.declared.actor.Actor as run
 use Rattle.moves.specs.Runs.{IsActor}
 use Rattle.stepping.specs.declared.acting.Actors.{Actors}
+use Rattle.stepping.specs.declared.beginning.NewThread.{NewThread}
 use Rattle.stepping.specs.declared.happening.Step.{Step}
 use Rattle.stepping.specs.Ends as stepping
 use Rattle.program_runner.specs.Threads.{CertifiedIsSafe, ProgramThread, program_machine}
 use Rattle.program_runner.specs.Heaps.{heap_of}
 use Rattle.program_runner.specs.Kinds.{FitsThread}
+use Rattle.trace_text.specs.Arrivals.{is_late}
 use Rattle.trace_text.specs.Traces.{IsActorOf}
 use Rattle.trace_text.specs.declared.trace.Actor.{Actor}
 use Rattle.trace_text.specs.declared.trace.Actor.TheVariants.{Thread, Collector}
@@ -20,7 +22,7 @@ use Rattle.trace_text.specs.declared.trace.Setup.{Setup}
 use Rattle.trace_text.specs.declared.trace.Start.{Start}
 use Rattle.replay.specs.declared.world.World.TheInside.{Inside}
 use Rattle.replay.specs.Keeping.{endings_behind}
-use Rattle.replay.specs.Setups.{HasNoFault, IsCertifiedSetup, AreBegun, begun_at, starts_of}
+use Rattle.replay.specs.Setups.{HasNoFault, IsCertifiedSetup, AreBegun, begun_at, new_thread, starts_of}
 use Rattle.replay.specs.Worlds.{World, AreEndings, IsBehind, IsStepBehind, IsBrokenWorld, actor_in, run_of}
 use Rattle.replay.specs.WorldView.{world_seen, IsKept}
 use Rattle.replay.proofs.Endings.{kept, kept_by_collector, none_ended}
@@ -135,16 +137,26 @@ BegunFits = (p : LaidOut) (setup : Setup) (function : ℕ) (arguments : List ℕ
     → FitsThread (heap_of p setup) (record { heap = heap_of p setup; program = p; state = start p.of_module (slice_get p.of_module.functions function) function (argument_values arguments) })
 
 -- the threads of a setup are as they begin, and fit its heap
-pub each_begun : BegunFits → (p : LaidOut) (setup : Setup) (threads : List ProgramThread) → HasNoFault p setup → AreBegun p setup threads → (t : ℕ) (thread : ProgramThread) → slice_get threads t ≡ Some thread
-    → (starts_of p setup t ≡ thread) × FitsThread (heap_of p setup) thread
-each_begun law p setup threads none are t thread at =
-    let found = from_map (λ (begun : Start). begun_at p setup (Some begun)) setup.starts t thread (subst (λ (all : List ProgramThread). slice_get all t ≡ Some thread) are at) in
+pub each_begun : BegunFits → (p : LaidOut) (setup : Setup) (threads : List (NewThread ProgramThread)) → HasNoFault p setup → AreBegun p setup threads → (t : ℕ) (new : NewThread ProgramThread) → slice_get threads t ≡ Some new
+    → (starts_of p setup t ≡ new.machine) × FitsThread (heap_of p setup) new.machine
+each_begun law p setup threads none are t new at =
+    let found = from_map (new_thread p setup) setup.starts t new (subst (λ (all : List (NewThread ProgramThread)). slice_get all t ≡ Some new) are at) in
     let may = each_may_begin p setup none t found.0 found.1 in
-    (ap (begun_at p setup) found.1 ∙ found.2, subst (FitsThread (heap_of p setup)) found.2 (law p setup found.0.function found.0.arguments may.takes_integers may.takes_these))
+    let same : begun_at p setup (Some found.0) ≡ new.machine = ap (λ (x : NewThread ProgramThread). x.machine) found.2 in
+    (ap (begun_at p setup) found.1 ∙ same, subst (FitsThread (heap_of p setup)) same (law p setup found.0.function found.0.arguments may.takes_integers may.takes_these))
 
 -- so there is one for each start
-pub as_many : (p : LaidOut) (setup : Setup) (threads : List ProgramThread) → AreBegun p setup threads → length threads ≡ length setup.starts
-as_many p setup threads are = ap length are ∙ length_of_map (λ (begun : Start). begun_at p setup (Some begun)) setup.starts
+pub as_many : (p : LaidOut) (setup : Setup) (threads : List (NewThread ProgramThread)) → AreBegun p setup threads → length threads ≡ length setup.starts
+as_many p setup threads are = ap length are ∙ length_of_map (new_thread p setup) setup.starts
+
+-- whether each of these is late
+lateness : (p : LaidOut) (setup : Setup) (starts : List Start) → map (λ (start : Start). is_late start.arrival) starts ≡ map (λ (new : NewThread ProgramThread). new.is_late) (map (new_thread p setup) starts)
+lateness p setup [] = refl
+lateness p setup (start ∷ starts) = ap (λ (others : List Bool). is_late start.arrival ∷ others) (lateness p setup starts)
+
+-- so the heap's late threads are these
+pub late_threads : (p : LaidOut) (setup : Setup) (threads : List (NewThread ProgramThread)) → AreBegun p setup threads → (heap_of p setup).late ≡ map (λ (new : NewThread ProgramThread). new.is_late) threads
+late_threads p setup threads are = lateness p setup setup.starts ∙ ap (map (λ (new : NewThread ProgramThread). new.is_late)) (sym are)
 
 -- the world before its first step
 pub is_first : (i : Inside) → stepping.AreBehindSteps (heap_of i.program.now i.setup.now) program_machine (FitsThread (heap_of i.program.now i.setup.now)) (starts_of i.program.now i.setup.now) [] i.actors

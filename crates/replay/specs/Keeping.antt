@@ -4,7 +4,7 @@ use Rattle.program_runner.specs.Threads.{ProgramThread}
 use Rattle.trace_text.specs.declared.trace.Actor.{Actor}
 use Rattle.trace_text.specs.declared.trace.Actor.TheVariants.{Thread, Collector}
 use Rattle.moves.specs.declared.stand.Stance.{Stance}
-use Rattle.moves.specs.declared.stand.Stance.TheVariants.{Ended}
+use Rattle.moves.specs.declared.stand.Stance.TheVariants.{Ended, Absent, Arriving, Entering, Leaving}
 use Rattle.moves.specs.declared.stand.Stand.{Stand}
 use Rattle.replay.specs.declared.thread_end.ThreadEnd.{ThreadEnd}
 use Rattle.replay.specs.declared.thread_end.ThreadEnd.TheVariants as thread
@@ -28,6 +28,10 @@ endings_behind Collector threads endings = endings
 -- where a thread in this stance is, at this stage, and how it ended if it has
 abbrev pub end_at : Stance → (stage : ℕ) → (ending : ThreadEnd) → ThreadEnd
 end_at Ended stage ending = ending
+end_at Absent stage ending = thread.Absent
+end_at (Arriving posted) stage ending = thread.Absent
+end_at Entering stage ending = thread.Absent
+end_at Leaving stage ending = thread.Absent
 end_at stance stage ending = thread.Running stage
 
 -- so of a thread of a list, if it is there

@@ -11,9 +11,11 @@ use Rattle.machine.specs.declared.thread.StartFault.TheVariants as start_fault
 use Rattle.program_runner.specs.Threads.{AreCertified, MeetPromises, ProgramThread, program_machine, ended}
 use Rattle.runs.specs.Promises.{IsSafe}
 use Rattle.program_runner.specs.Heaps.{heap_of}
+use Rattle.trace_text.specs.Arrivals.{is_late}
 use Rattle.trace_text.specs.Traces.{IsStartOf}
 use Rattle.trace_text.specs.declared.trace.Setup.{Setup}
 use Rattle.trace_text.specs.declared.trace.Start.{Start}
+use Rattle.stepping.specs.declared.beginning.NewThread.{NewThread}
 use Rattle.replay.specs.declared.setup_fault.SetupFault.{SetupFault}
 use Rattle.replay.specs.declared.setup_fault.SetupFault.TheVariants.{WrongArguments, ReferenceParameter, Memory}
 
@@ -70,9 +72,13 @@ fault_of t start_fault.ReferenceParameter = ReferenceParameter t
 fault_of t start_fault.WrongArguments = WrongArguments t
 fault_of t (start_fault.Memory refused) = Memory
 
+-- a thread at the beginning of its function, and whether it is late
+abbrev pub new_thread : LaidOut → Setup → Start → NewThread ProgramThread
+new_thread p setup begun = record { machine = begun_at p setup (Some begun); is_late = is_late begun.arrival }
+
 -- these are the threads of the setup, as they begin
-abbrev pub AreBegun : LaidOut → Setup → List ProgramThread → Type 0
-AreBegun p setup threads = threads ≡ map (λ (begun : Start). begun_at p setup (Some begun)) setup.starts
+abbrev pub AreBegun : LaidOut → Setup → List (NewThread ProgramThread) → Type 0
+AreBegun p setup threads = threads ≡ map (new_thread p setup) setup.starts
 
 -- ---- certified programs
 

@@ -1,6 +1,6 @@
 -- Where the threads of a run are.
 use Rattle.std.specs.Prelude.{ℕ, ◌≡◌, ◌<◌, Some, List, length, slice_get}
-use Rattle.colours.specs.Mutator.{Phase, Ended, stage_of, phase_of}
+use Rattle.colours.specs.Mutator.{Phase, Ended, Absent, Arriving, Entering, Leaving, stage_of, phase_of}
 use Rattle.runs.specs.Moves.{steps_of}
 use Rattle.runs.specs.ModuleRuns.{Happening, share_of}
 use Rattle.layout.specs.Layouts.{LaidOut}
@@ -15,6 +15,10 @@ use Rattle.replay.specs.Worlds.{World, run_of, ending_of}
 -- where a thread in this phase is, at this stage, and how it ended if it has
 abbrev pub end_in : Phase → (stage : ℕ) → (ending : ThreadEnd) → ThreadEnd
 end_in Ended stage ending = ending
+end_in Absent stage ending = thread.Absent
+end_in (Arriving posted) stage ending = thread.Absent
+end_in Entering stage ending = thread.Absent
+end_in Leaving stage ending = thread.Absent
 end_in phase stage ending = thread.Running stage
 
 -- where a thread is after a run

@@ -8,14 +8,15 @@ use layout::Program;
 use machine::{StartFault, Thread};
 use program_runner::ProgramThread;
 use std::alloc::Global;
+use stepping::NewThread;
 use trace_text::{Setup, Start};
 
-/// The threads of a setup, each at the beginning of its function; or the first fault.
+/// The threads of a setup, each at the beginning of its function, with whether it is late; or the first fault.
 pub fn begun_threads<'a>(
     alloc: Global,
     program: &'a Program,
     setup: &'a Setup,
-) -> Result<Vec<ProgramThread<'a>>, SetupFault>
+) -> Result<Vec<NewThread<ProgramThread<'a>>>, SetupFault>
     requires { IsSetupOf program.now setup.now }
     ensures ok { IfOk result (λ threads. AreBegun program.now setup.now threads.items) }
     ensures no_fault { IfOk result (λ _. HasNoFault program.now setup.now) }
@@ -23,8 +24,9 @@ pub fn begun_threads<'a>(
 {
     let mut threads = Vec::new(alloc);
     for (number, begun) in setup.starts.as_slice().iter().enumerate() {
-        let thread = begun_thread(alloc, program, setup, number as u32, begun)?;
-        threads.push(thread)?;
+        let machine = begun_thread(alloc, program, setup, number as u32, begun)?;
+        let is_late = begun.arrival.is_late();
+        threads.push(NewThread { machine, is_late })?;
     }
     Ok(threads)
 }

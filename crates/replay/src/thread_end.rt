@@ -3,6 +3,8 @@ use machine::Value;
 /// Where a thread is after a run.
 #[derive(Clone, Copy, PartialEq, Eq)]
 pub enum ThreadEnd {
+    /// It begins late, and has not begun.
+    Absent,
     /// Its first function returned, with this result if it has one.
     Returned(Option<Value>),
     /// It ended otherwise.

@@ -189,6 +189,9 @@ fn end_told(
     match actors.thread(thread) {
         Some(stand) => match stand.stance {
             Stance::Ended => kept_end(endings, thread),
+            Stance::Absent | Stance::Arriving { .. } | Stance::Entering | Stance::Leaving => {
+                ThreadEnd::Absent
+            }
             _ => ThreadEnd::Running(stand.stage),
         },
         None => ThreadEnd::Ended,

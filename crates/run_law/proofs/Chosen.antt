@@ -7,6 +7,7 @@ use Rattle.pools.specs.declared.word_kind.WordKind.TheVariants as kind
 use Rattle.pools.specs.Layouts.{is_reference_kind}
 use Rattle.pools.specs.Pools.{first_cell}
 use Rattle.colours.specs.Colours.{is_async}
+use Rattle.colours.specs.Mutator.{HasBegun}
 use Rattle.runs.specs.Machine.{Reference, Action, Read, StorePlain, Write, Alloc, Safepoint}
 use Rattle.runs.specs.Moves.{Move, Works, ReadsWord, ReadsOldValue, Marks, StoresBehindBarrier, StoresPlain, Claims, StoresStage, IsIn, next_root}
 use Rattle.runs.specs.NextMoves.{next_move, try_of, mark_or_answer}
@@ -28,11 +29,11 @@ use Rattle.run_law.proofs.Tries.{of-place, TriesFrom, TriedFrom}
 abbrev pub IsChosen : Setup → Shared → (roots : List Reference) → Action → Stance → Move → Type 0
 IsChosen s h roots action at (ReadsWord base word value) = (action ≡ Read base word) × (value ≡ word_at h.words base.cell word)
 IsChosen s h roots action at (ReadsOldValue base word value) = (next : Reference) × (action ≡ Write base word next) × (value ≡ word_at h.words base.cell word)
-IsChosen s h roots action at (Marks r) = (r.cell < cells s) × MarksNext roots at r.cell
+IsChosen s h roots action at (Marks r) = (r.cell < cells s) × MarksNext roots at r.cell × HasBegun (phase_at roots at)
 IsChosen s h roots action at (StoresBehindBarrier base word value) = action ≡ Write base word value
 IsChosen s h roots action at (StoresPlain base word value) = action ≡ StorePlain base word value
 IsChosen s h roots action at (Claims r won) =
-    (layout : ℕ) × (action ≡ Alloc layout) × IsOfLayout s layout r.cell × (won ≡ (slice_index h.colours r.cell == 0)) × (r.birth ≡ suc (slice_index h.births r.cell)) × LosesNext s (call.Alloc layout) at r.cell
+    (layout : ℕ) × (action ≡ Alloc layout) × IsOfLayout s layout r.cell × (won ≡ (slice_index h.colours r.cell == 0)) × (r.birth ≡ suc (slice_index h.births r.cell)) × LosesNext s (call.Alloc layout) at r.cell × HasBegun (phase_at roots at)
 IsChosen s h roots action at move = Unit {0}
 
 -- ---- references
@@ -79,15 +80,19 @@ chosen : (s : Setup) (h : Shared) (stage : ℕ) (roots : List Reference) (old : 
     → old.cell < cells s → TriesFrom s action (phase_at roots at)
     → MatchOption (next_move s (sight_in s h) stage roots old action (phase_at roots at)) (Unit {0}) (IsChosen s h roots action at)
 chosen s h stage roots old action stance.Ended a r o f = tt
+chosen s h stage roots old action stance.Absent a r o f = tt
+chosen s h stage roots old action (stance.Arriving posted) a r o f = tt
+chosen s h stage roots old action stance.Entering a r o f = tt
+chosen s h stage roots old action stance.Leaving a r o f = tt
 chosen s h stage roots old (Read base word) stance.Ready a r o f = (refl, refl)
 chosen s h stage roots old (StorePlain base word value) stance.Ready a r o f = refl
 chosen s h stage roots old (Write base word value) stance.Ready a r o f = (value, refl, refl)
-chosen s h stage roots old (Write base word value) (stance.MarkingOld c i x) a r o f = (o, tt)
+chosen s h stage roots old (Write base word value) (stance.MarkingOld c i x) a r o f = (o, tt, tt)
 chosen s h stage roots old (Write base word value) (stance.MarkingNew c i x) a r o f = go (is_async stage || (value.cell == 0))
   where
     go : (b : Bool) → IsChosen s h roots (Write base word value) (stance.MarkingNew c i x) (if b then StoresBehindBarrier base word value else Marks value)
     go true = refl
-    go false = (cell-held s (kind_of s base.cell word) value a.1 a.2, tt)
+    go false = (cell-held s (kind_of s base.cell word) value a.1 a.2, tt, tt)
 chosen s h stage roots old (Write base word value) (stance.Writing c i x n) a r o f = refl
 chosen s h stage roots old (Alloc layout) stance.Ready a r o f = go (slice_index s.pools layout == 0) refl
   where
@@ -97,9 +102,9 @@ chosen s h stage roots old (Alloc layout) stance.Ready a r o f = go (slice_index
         let some = test_false (slice_index s.pools layout) 0 e in
         let left : 0 < slice_index s.pools layout = omega (arith, some) in
         let place = of-place s layout 0 left in
-        (layout, refl, place, refl, refl, record { is_next = omega arith; of_layout = place.2; left = left })
+        (layout, refl, place, refl, refl, record { is_next = omega arith; of_layout = place.2; left = left }, tt)
 chosen s h stage roots old (Alloc layout) (stance.Trying first tried) a r o f =
-    (layout, refl, of-place s layout (length (falling first tried)) f.few, refl, refl, try-next s layout first tried f)
+    (layout, refl, of-place s layout (length (falling first tried)) f.few, refl, refl, try-next s layout first tried f, tt)
 chosen s h stage roots old Safepoint (stance.Answering next marked) a r o f = go (is_async next)
   where
     go : (b : Bool) → IsChosen s h roots Safepoint (stance.Answering next marked) (if b then mark_or_answer next roots (next_root roots (marked_of roots marked)) else StoresStage next roots)
@@ -110,7 +115,7 @@ chosen s h stage roots old Safepoint (stance.Answering next marked) a r o f = go
         of-root None e = tt
         of-root (Some q) e =
             let p : Reference → Bool = λ x. not (x.cell == 0) in
-            (r q (in-filter p roots q (get_in (filter p roots) (length (marked_of roots marked)) q e)), (q, sym (next_root-marked roots marked) ∙ e, refl))
+            (r q (in-filter p roots q (get_in (filter p roots) (length (marked_of roots marked)) q e)), (q, sym (next_root-marked roots marked) ∙ e, refl), tt)
 chosen s h stage roots old action at a r o f = tt
 
 -- the same for the move that is made

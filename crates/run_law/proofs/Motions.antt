@@ -23,12 +23,12 @@ use Rattle.moves.specs.declared.shared.Shared.{Shared}
 use Rattle.moves.specs.Kinds.{MayHold}
 use Rattle.moves.specs.Rows.{word_at}
 use Rattle.moves.specs.Shared.{held_at, HasShape, CanHold, with_number}
-use Rattle.run_law.specs.Growth.{IsInHeap, with_stored, CollectorIsBehind, MotionGrows}
+use Rattle.run_law.specs.Growth.{IsPlaceInHeap, IsInHeap, with_stored, CollectorIsBehind, MotionGrows}
 use Rattle.run_law.proofs.Rows.{word-set}
 use Rattle.run_law.proofs.Places.{held-number}
 use Rattle.run_law.proofs.Shapes.{shape-colours, shape-posted, shape-word}
 use Rattle.run_law.proofs.Words.{birth-stored}
-use Rattle.run_law.proofs.Turns.{names-cells, place-there, in-heap-behind}
+use Rattle.run_law.proofs.Turns.{names-cells, place-there, in-heap-behind, listed-below}
 
 -- ---- what a step stores
 
@@ -119,9 +119,11 @@ motion-grows : (s : Setup) (run : List Happening) (c : Collecting) (h : Shared) 
 motion-grows s run c h b motion next step = record {
   can_hold = can;
   stands = goes s (turns_of (heap_of run)) b.stands;
-  in_heap = subst (λ (d : Collecting). IsInHeap s d.at) (sym step.moves)
-      (subst (λ (plan : Setup). IsInHeap s (in_order (behind plan c.posted c.at found))) (sym b.stands.heap)
-      (in-heap-behind s h c.posted c.at found b.words.shape b.in_heap (ap (held_at h) place)));
+  in_heap = subst (λ (d : Collecting). IsInHeap s d) (sym step.moves) (
+    subst (λ (plan : Setup). IsPlaceInHeap s (in_order (behind plan c.posted c.listed c.at found))) (sym b.stands.heap)
+        (in-heap-behind s h c.posted c.listed c.at found b.words.shape b.in_heap.0 b.in_heap.1 (ap (held_at h) place)),
+    listed-below s c.posted c.listed c.at (in_order (behind c.heap c.posted c.listed c.at found)) found b.in_heap.0 b.in_heap.1,
+  );
   words = record {
     shape = subst (λ (k : Shared). HasShape s k) left (shape-turn s h (cycle_of c.posted) found motion.turn b.words.shape there);
     behind = record {
@@ -137,14 +139,14 @@ motion-grows s run c h b motion next step = record {
     found : ℕ
     found = held_at h motion.place
 
-    turn : motion.turn ≡ turn_in (plan_of s) c.posted c.at found
-    turn = step.turn ∙ ap (λ (plan : Setup). turn_in plan c.posted c.at found) b.stands.heap
+    turn : motion.turn ≡ turn_in (plan_of s) c.posted c.listed c.at found
+    turn = step.turn ∙ ap (λ (plan : Setup). turn_in plan c.posted c.listed c.at found) b.stands.heap
 
-    place : motion.place ≡ place_of (turn_of (cycle_of c.posted) (turn_in (plan_of s) c.posted c.at found))
+    place : motion.place ≡ place_of (turn_of (cycle_of c.posted) (turn_in (plan_of s) c.posted c.listed c.at found))
     place = step.place ∙ ap (λ (t : Turn). place_of (turn_of (cycle_of c.posted) t)) turn
 
     can : CanHold h motion.place
-    can = subst (λ (p : Place). CanHold h p) (sym place) (place-there s h c.posted c.at found b.words.shape b.in_heap)
+    can = subst (λ (p : Place). CanHold h p) (sym place) (place-there s h c.posted c.listed c.at found b.words.shape b.in_heap.0 b.in_heap.1)
 
     there : CanHold h (place_of (turn_of (cycle_of c.posted) motion.turn))
     there = subst (λ (p : Place). CanHold h p) step.place can
@@ -167,4 +169,4 @@ motion-grows s run c h b motion next step = record {
 pub collector-grows : (s : Setup) (run : List Happening) (c : Collecting) (h : Shared) → CollectorIsBehind s run c h
     → NamesCells c.heap (held_at h) × ((motion : Motion) (next : Collecting) → IsStepOn (held_at h) c motion next → MotionGrows s run h motion next)
 collector-grows s run c h b =
-    (subst (λ (plan : Setup). NamesCells plan (held_at h)) (sym b.stands.heap) (names-cells s h b.few_cells b.words.shape), motion-grows s run c h b)
+    (subst (λ (plan : Setup). NamesCells plan (held_at h)) (sym b.stands.heap) (names-cells s h b.words.shape), motion-grows s run c h b)

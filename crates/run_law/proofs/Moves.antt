@@ -5,6 +5,7 @@ use Rattle.pools.specs.Heap.{Setup, cells, kind_of, words_of_cell}
 use Rattle.pools.specs.declared.word_kind.WordKind.{WordKind}
 use Rattle.pools.specs.Layouts.{is_reference_kind}
 use Rattle.colours.specs.declared.place.Place.TheVariants.{Word}
+use Rattle.colours.specs.Mutator.{HasBegun}
 use Rattle.runs.specs.Machine.{Reference, Action, Local, Read, StorePlain, Write, Alloc, Safepoint, End, Wrong, Got, Machine}
 use Rattle.runs.specs.Moves.{answer_of}
 use Rattle.runs.specs.Ends.{moved, old_by}
@@ -20,7 +21,7 @@ use Rattle.moves.specs.Kinds.{MayHold, AsksByKind, AnswersByKind, KeepsKinds}
 use Rattle.moves.specs.Moving.{MayMake, LosesNext}
 use Rattle.moves.specs.Rows.{word_at}
 use Rattle.moves.specs.Shared.{HasShape, CanHold, CanTake}
-use Rattle.moves.specs.Stands.{standing}
+use Rattle.moves.specs.Stands.{standing, phase_at}
 use Rattle.moves.specs.GoesOn.{same-call}
 use Rattle.run_law.proofs.Places.{SeesCell}
 use Rattle.run_law.proofs.Shapes.{PutsByKind}
@@ -76,6 +77,9 @@ puts s h roots action at (made.Claims r won) a c = tt
 puts s h roots action at (made.ReadsPosted stage) a c = tt
 puts s h roots action at (made.Answers stage) a c = tt
 puts s h roots action at made.Ends a c = tt
+puts s h roots action at (made.ReadsPostedFirst posted) a c = tt
+puts s h roots action at (made.EntersStage next) a c = tt
+puts s h roots action at (made.ReadsPostedAgain posted) a c = tt
 
 -- a claim agrees with the state of its cell
 pub sees : (s : Setup) (h : Shared) (roots : List Reference) (action : Action) (at : Stance) (move : Move) → IsChosen s h roots action at (move_in roots move) → SeesCell h move
@@ -90,9 +94,12 @@ sees s h roots action at (made.StoresPlain base word value) c = tt
 sees s h roots action at (made.ReadsPosted stage) c = tt
 sees s h roots action at (made.Answers stage) c = tt
 sees s h roots action at made.Ends c = tt
+sees s h roots action at (made.ReadsPostedFirst posted) c = tt
+sees s h roots action at (made.EntersStage next) c = tt
+sees s h roots action at (made.ReadsPostedAgain posted) c = tt
 
 -- its places are there
-pub takes : (s : Setup) (h : Shared) (roots : List Reference) (action : Action) (at : Stance) (t stage : ℕ) (move : Move) → HasShape s h → AsksByKind s action → t < s.threads → stage < 2 ^ 62
+pub takes : (s : Setup) (h : Shared) (roots : List Reference) (action : Action) (at : Stance) (t stage : ℕ) (move : Move) → HasShape s h → AsksByKind s action → t < s.threads → (HasBegun (phase_at roots at) → stage < 2 ^ 62)
     → IsChosen s h roots action at (move_in roots move) → CanTake h t stage move
 takes s h roots action at t stage (made.StoresBehindBarrier base word value) shape a lt few c =
     let asks : AsksByKind s (Write base word value) = subst (λ (x : Action). AsksByKind s x) c a in
@@ -100,14 +107,17 @@ takes s h roots action at t stage (made.StoresBehindBarrier base word value) sha
 takes s h roots action at t stage (made.StoresPlain base word value) shape a lt few c =
     let asks : AsksByKind s (StorePlain base word value) = subst (λ (x : Action). AsksByKind s x) c a in
     holds-there s h base.cell word value shape asks.0 asks.1
-takes s h roots action at t stage (made.Marks r) shape a lt few c = let is_cell = c.0 in let count = shape.colours in (omega (arith, is_cell, count), few)
+takes s h roots action at t stage (made.Marks r) shape a lt few c = let is_cell = c.0 in let count = shape.colours in (omega (arith, is_cell, count), few c.2)
 takes s h roots action at t stage (made.Claims r won) shape a lt few c =
     let is_cell : r.cell < cells s = c.2.1 in
     let colours = shape.colours in
     let births = shape.births in
-    (omega (arith, is_cell, colours), omega (arith, is_cell, births), few)
+    (omega (arith, is_cell, colours), omega (arith, is_cell, births), few c.6)
 takes s h roots action at t stage (made.Answers next) shape a lt few c = let count = shape.stages in omega (arith, lt, count)
 takes s h roots action at t stage made.Ends shape a lt few c = let count = shape.stages in omega (arith, lt, count)
+takes s h roots action at t stage (made.ReadsPostedFirst posted) shape a lt few c = tt
+takes s h roots action at t stage (made.EntersStage next) shape a lt few c = let count = shape.stages in omega (arith, lt, count)
+takes s h roots action at t stage (made.ReadsPostedAgain posted) shape a lt few c = tt
 takes s h roots action at t stage made.Works shape a lt few c = tt
 takes s h roots action at t stage made.GoesWrong shape a lt few c = tt
 takes s h roots action at t stage (made.ReadsWord base word value) shape a lt few c = tt
@@ -130,6 +140,9 @@ may-make s h roots action at (made.StoresPlain base word value) asked e c = tt
 may-make s h roots action at (made.ReadsPosted stage) asked e c = tt
 may-make s h roots action at (made.Answers stage) asked e c = tt
 may-make s h roots action at made.Ends asked e c = tt
+may-make s h roots action at (made.ReadsPostedFirst posted) asked e c = tt
+may-make s h roots action at (made.EntersStage next) asked e c = tt
+may-make s h roots action at (made.ReadsPostedAgain posted) asked e c = tt
 
 -- ---- the thread after it
 
@@ -158,6 +171,9 @@ nothing-fits s roots (Read base word) (made.StoresPlain b w v) q = tt
 nothing-fits s roots (Read base word) (made.ReadsPosted stage) q = tt
 nothing-fits s roots (Read base word) (made.Answers stage) q = tt
 nothing-fits s roots (Read base word) made.Ends q = tt
+nothing-fits s roots (Read base word) (made.ReadsPostedFirst posted) q = tt
+nothing-fits s roots (Read base word) (made.EntersStage next) q = tt
+nothing-fits s roots (Read base word) (made.ReadsPostedAgain posted) q = tt
 nothing-fits s roots (Alloc layout) made.Works q = inl refl
 nothing-fits s roots (Alloc layout) made.GoesWrong q = tt
 nothing-fits s roots (Alloc layout) (made.ReadsOldValue b w v) q = tt
@@ -167,6 +183,9 @@ nothing-fits s roots (Alloc layout) (made.StoresPlain b w v) q = tt
 nothing-fits s roots (Alloc layout) (made.ReadsPosted stage) q = tt
 nothing-fits s roots (Alloc layout) (made.Answers stage) q = tt
 nothing-fits s roots (Alloc layout) made.Ends q = tt
+nothing-fits s roots (Alloc layout) (made.ReadsPostedFirst posted) q = tt
+nothing-fits s roots (Alloc layout) (made.EntersStage next) q = tt
+nothing-fits s roots (Alloc layout) (made.ReadsPostedAgain posted) q = tt
 
 -- the answer fits what was asked for
 pub answers : (s : Setup) (h : Shared) (roots : List Reference) (action : Action) (at : Stance) (move : Move) → HasShape s h → AsksByKind s action → IsChosen s h roots action at (move_in roots move)
@@ -189,6 +208,9 @@ answers s h roots action at (made.StoresPlain base word value) shape a c = nothi
 answers s h roots action at (made.ReadsPosted stage) shape a c = nothing-fits s roots action (made.ReadsPosted stage) tt
 answers s h roots action at (made.Answers stage) shape a c = nothing-fits s roots action (made.Answers stage) tt
 answers s h roots action at made.Ends shape a c = nothing-fits s roots action made.Ends tt
+answers s h roots action at (made.ReadsPostedFirst posted) shape a c = nothing-fits s roots action (made.ReadsPostedFirst posted) tt
+answers s h roots action at (made.EntersStage next) shape a c = nothing-fits s roots action (made.EntersStage next) tt
+answers s h roots action at (made.ReadsPostedAgain posted) shape a c = nothing-fits s roots action (made.ReadsPostedAgain posted) tt
 
 -- one of two states that fit
 either-fits : {State : Type 0} (Fits : State → Type 0) (b : Bool) (x y : State) → Fits x → Fits y → Fits (if b then x else y)
@@ -221,3 +243,6 @@ replaced-cell s h roots action at (made.Claims r won) shape a c = omega arith
 replaced-cell s h roots action at (made.ReadsPosted stage) shape a c = omega arith
 replaced-cell s h roots action at (made.Answers stage) shape a c = omega arith
 replaced-cell s h roots action at made.Ends shape a c = omega arith
+replaced-cell s h roots action at (made.ReadsPostedFirst posted) shape a c = omega arith
+replaced-cell s h roots action at (made.EntersStage next) shape a c = omega arith
+replaced-cell s h roots action at (made.ReadsPostedAgain posted) shape a c = omega arith

@@ -94,6 +94,9 @@ held-left h t stage roots (made.Marks r) p can sees =
     held-number h (Colour r.cell) (max (slice_index h.colours r.cell) (mark_at stage)) p can.0 ∙ held-made h (Colour r.cell) (λ m. max m (mark_at stage)) p
 held-left h t stage roots (made.Answers next) p can sees = held-number h (Stage t) next p can
 held-left h t stage roots made.Ends p can sees = held-number h (Stage t) done p can
+held-left h t stage roots (made.ReadsPostedFirst posted) p can sees = refl
+held-left h t stage roots (made.EntersStage next) p can sees = held-number h (Stage t) next p can
+held-left h t stage roots (made.ReadsPostedAgain posted) p can sees = refl
 held-left h t stage roots (made.Claims r true) p can sees =
     held-births (record h { colours = slice_set h.colours r.cell (claim_at stage) }) (slice_set h.births r.cell r.birth) p
     ∙ held-number h (Colour r.cell) (claim_at stage) p can.0

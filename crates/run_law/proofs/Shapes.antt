@@ -94,5 +94,8 @@ shape-move s h t stage (made.StoresPlain base word value) shape can puts = shape
 shape-move s h t stage (made.Marks r) shape can puts = shape-colours s h r.cell _ shape
 shape-move s h t stage (made.Answers next) shape can puts = shape-stages s h t next shape
 shape-move s h t stage made.Ends shape can puts = shape-stages s h t _ shape
+shape-move s h t stage (made.ReadsPostedFirst posted) shape can puts = shape
+shape-move s h t stage (made.EntersStage next) shape can puts = shape-stages s h t next shape
+shape-move s h t stage (made.ReadsPostedAgain posted) shape can puts = shape
 shape-move s h t stage (made.Claims r true) shape can puts = shape-births s (record h { colours = slice_set h.colours r.cell _ }) r.cell r.birth (shape-colours s h r.cell _ shape)
 shape-move s h t stage (made.Claims r false) shape can puts = shape

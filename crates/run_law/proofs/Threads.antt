@@ -44,22 +44,16 @@ try-left s action roots (stance.MarkingNew c i o) few f = tt
 try-left s action roots (stance.Writing c i o n) few f = tt
 try-left s action roots (stance.Answering next marked) few f = tt
 try-left s action roots stance.Ended few f = tt
+try-left s action roots stance.Absent few f = tt
+try-left s action roots (stance.Arriving posted) few f = tt
+try-left s action roots stance.Entering few f = tt
+try-left s action roots stance.Leaving few f = tt
 try-left s (Alloc layout) roots (stance.Trying first tried) few f =
     let some = f.few in
     (within s.pools layout (λ z. omega (arith, some, z)), few-tried s layout first tried few f)
 try-left s action roots (stance.Trying first tried) few f = absurd f
 
 -- ---- each next move
-
--- a thread of the code has begun
-begun-at : (roots : List Reference) (at : Stance) → HasBegun (phase_at roots at)
-begun-at roots stance.Ready = tt
-begun-at roots (stance.MarkingOld c i o) = tt
-begun-at roots (stance.MarkingNew c i o) = tt
-begun-at roots (stance.Writing c i o n) = tt
-begun-at roots (stance.Trying first tried) = tt
-begun-at roots (stance.Answering next marked) = tt
-begun-at roots stance.Ended = tt
 
 -- a thread that has a next move has not ended
 not-ended : (s : Setup) (h : Sight) (stage : ℕ) (roots : List Reference) (old : Reference) (action : Action) (phase : Phase) (move : moves.Move) → next_move s h stage roots old action phase ≡ Some move → phase ≢ Ended
@@ -109,11 +103,8 @@ thread-grows s m Fits keeps_kinds starts run t stand h bounded b = record {
         goes : phase_of s t (steps_of (share_of t run)) ≢ Ended
         goes = λ ended. not-ended s (sight_in s h) stand.stage roots stand.replaced action (phase_at roots stand.stance) (move_in roots made) e (b.stands.phase ∙ ended)
 
-        begun : HasBegun (phase_of s t (steps_of (share_of t run)))
-        begun = subst (λ (p : Phase). HasBegun p) b.stands.phase (begun-at roots stand.stance)
-
-        few : stand.stage < 2 ^ 62
-        few = subst (λ n. n < 2 ^ 62) (sym b.stands.stage) (bounded.stages t b.is_thread begun goes)
+        few : HasBegun (phase_at roots stand.stance) → stand.stage < 2 ^ 62
+        few begun = subst (λ n. n < 2 ^ 62) (sym b.stands.stage) (bounded.stages t b.is_thread (subst (λ (p : Phase). HasBegun p) b.stands.phase begun) goes)
 
         can : CanTake h t stand.stage made
         can = takes s h roots action stand.stance t stand.stage made b.words.shape keeps.asks b.is_thread few is

@@ -3,6 +3,7 @@ use Rattle.std.specs.Prelude.{ℕ, ◌≡◌, ◌<◌, ◌≤◌, ◌^◌, Optio
 use Rattle.pools.specs.Heap.{Setup, cells}
 use Rattle.colours.specs.Collector.{Collection, Posting, Waiting, ShadingGlobals, Passing, Scanning, Shading, Sweeping, Clearing}
 use Rattle.colours.specs.Runs.{turns_of}
+use Rattle.trace_sweep.specs.Below.{AreBelow}
 use Rattle.trace_sweep.specs.Collecting.{Collecting, NamesCells}
 use Rattle.trace_sweep.specs.Stands as collector
 use Rattle.trace_sweep.specs.Stands.{IsStepOn}
@@ -57,16 +58,20 @@ ThreadsGrow s {State} action after_answer roots Fits = (starts : ℕ → State) 
 
 -- ---- the collector
 
--- a collector is at a thread or at a cell of the heap, and what it has in hand is a cell
-abbrev pub IsInHeap : Setup → Collection → Type 0
-IsInHeap s Posting = Unit {0}
-IsInHeap s (Waiting thread) = thread < s.threads
-IsInHeap s ShadingGlobals = Unit {0}
-IsInHeap s (Passing p) = p.next < cells s
-IsInHeap s (Scanning cell word p) = cell < cells s
-IsInHeap s (Shading value cell word p) = (value < cells s) × (cell < cells s)
-IsInHeap s (Sweeping cell) = cell < cells s
-IsInHeap s (Clearing cell word) = cell < cells s
+-- a place of a collector is at a thread or at a cell of the heap, and what it has in hand is a cell
+abbrev pub IsPlaceInHeap : Setup → Collection → Type 0
+IsPlaceInHeap s Posting = Unit {0}
+IsPlaceInHeap s (Waiting thread) = thread < s.threads
+IsPlaceInHeap s ShadingGlobals = Unit {0}
+IsPlaceInHeap s (Passing p) = p.next < cells s
+IsPlaceInHeap s (Scanning cell word p) = cell < cells s
+IsPlaceInHeap s (Shading value cell word p) = (value < cells s) × (cell < cells s)
+IsPlaceInHeap s (Sweeping cell) = cell < cells s
+IsPlaceInHeap s (Clearing cell word) = cell < cells s
+
+-- a collector is at such a place, and lists only cells of the heap
+abbrev pub IsInHeap : Setup → Collecting → Type 0
+IsInHeap s c = IsPlaceInHeap s c.at × AreBelow (cells s) c.listed
 
 -- the words after a step of the collector: another number in its word, if it stores one
 abbrev pub with_stored : Shared → Motion → Option ℕ → Shared
@@ -75,16 +80,15 @@ with_stored h motion (Some n) = with_number h motion.place n
 
 -- where the collector of a run is, and the words and births after the run
 pub record CollectorIsBehind (s : Setup) (run : List Happening) (c : Collecting) (h : Shared) : Type 0 where
-  pub few_cells : cells s ≤ 2 ^ 32
   pub stands : collector.StandsBehind s (turns_of (heap_of run)) c
-  pub in_heap : IsInHeap s c.at
+  pub in_heap : IsInHeap s c
   pub words : StandBehind s run h
 
 -- its next step may be made, and leaves the words and births after the longer run
 pub record MotionGrows (s : Setup) (run : List Happening) (h : Shared) (motion : Motion) (behind : Collecting) : Type 0 where
   pub can_hold : CanHold h motion.place
   pub stands : collector.StandsBehind s (turns_of (heap_of (OfCollector motion.turn ∷ run))) behind
-  pub in_heap : IsInHeap s behind.at
+  pub in_heap : IsInHeap s behind
   pub words : StandBehind s (OfCollector motion.turn ∷ run) (with_stored h motion motion.stored)
 
 -- the same after each run

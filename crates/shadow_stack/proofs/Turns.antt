@@ -5,16 +5,8 @@ use Rattle.std.specs.Prelude.{map, Option, Some, None, is_some, slice_get, unwra
 use Rattle.lemmas.specs.Bools.{yes_or_no}
 use Rattle.shadow_stack.specs.declared.draft.Origin.{Origin}
 use Rattle.shadow_stack.specs.declared.draft.Origin.TheVariants.{Nowhere, Slot, Same}
+use Rattle.shadow_stack.specs.Hops.{hops_nowhere, hops_slot}
 use Rattle.shadow_stack.specs.Slots.{origin_at, NamesSlot, Given, Renamed, hop, hops, slot_at, names_of, NamesAreExact}
-
--- what isn't a bitcast stays as it is
-hops_nowhere : (origins : List Origin) (n : ℕ) → hops origins n Nowhere ≡ Nowhere
-hops_nowhere origins zero = refl
-hops_nowhere origins (suc n) = hops_nowhere origins n
-
-hops_slot : (origins : List Origin) (n s : ℕ) → hops origins n (Slot s) ≡ Slot s
-hops_slot origins zero s = refl
-hops_slot origins (suc n) s = hops_slot origins n s
 
 -- some turns, and then more
 hops_add : (origins : List Origin) (m n : ℕ) (o : Origin) → hops origins (m + n) o ≡ hops origins n (hops origins m o)

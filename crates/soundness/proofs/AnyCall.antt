@@ -16,7 +16,7 @@ use Rattle.facts.specs.Facts.{FactSet}
 use Rattle.block_rules.specs.declared.callee.Callee.{Callee}
 use Rattle.block_rules.specs.declared.callee.Callee.TheVariants.{OfRuntime, OfModule, NoFunction}
 use Rattle.block_rules.specs.declared.standing.Standing.{Standing}
-use Rattle.block_rules.specs.Calls.{call_conditions, unknown_conditions, after_call}
+use Rattle.block_rules.specs.Calls.{call_conditions, refused_conditions, after_call}
 use Rattle.block_rules.specs.FirstFailing.{first_failing}
 use Rattle.block_rules.specs.Signature.{callee_of}
 use Rattle.machine.specs.declared.action.Action.{Action}
@@ -44,9 +44,9 @@ module _ (heap : Setup) (p : LaidOut) (certs : List Section) (reaches : Bool) (f
   behind arguments called given = mc.after_call p f table result arguments called given frame
 
   -- no other call is allowed
-  never : (arguments : List Argument) → first_failing (unknown_conditions p.of_module f table here facts arguments) ≡ None → ⊥
-  never arguments e =
-      let all = rules_hold (unknown_conditions p.of_module f table here facts arguments) e in
+  never : (named : Option Runtime) (arguments : List Argument) → first_failing (refused_conditions p.of_module f table here facts named arguments) ≡ None → ⊥
+  never named arguments e =
+      let all = rules_hold (refused_conditions p.of_module f table here facts named arguments) e in
       let k18 = all K18 in
       cc
 
@@ -81,7 +81,7 @@ module _ (heap : Setup) (p : LaidOut) (certs : List Section) (reaches : Bool) (f
     by : (called : Callee) → callee_of p.of_module callee (length arguments) ≡ called → first_failing (call_conditions p certs f table here facts returned arguments called) ≡ None
         → Goes heap p table frame.slots reaches guarded log (after_call p certs table result returned arguments (callee_of p.of_module callee (length arguments)) facts) (asked arguments callee (a.declare_of p.of_module callee) (runtime_called p.of_module callee))
         (behind arguments (runtime_called p.of_module callee))
-    by NoFunction is e = absurd (never arguments e)
+    by (NoFunction named) is e = absurd (never named arguments e)
     by (OfModule number) is e = absurd (let d = defined_is p.of_module callee (length arguments) number is in let x : mc.Into number ≡ mc.Next = sym (ap mc.onward_of_call d.named) ∙ onward in cc)
     by (OfRuntime called) is e =
         subst (λ x. Goes heap p table frame.slots reaches guarded log (after_call p certs table result returned arguments x facts) (asked arguments callee (a.declare_of p.of_module callee) (runtime_called p.of_module callee)) (behind arguments (runtime_called p.of_module callee))) (sym is)

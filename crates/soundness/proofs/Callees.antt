@@ -1,6 +1,6 @@
 -- Which function a call is of, and the types of the runtime's functions.
 use Rattle.std.proofs.Common.{◌≡◌, ℕ, List, [], ◌∷◌, length, refl, sym, ap, ◌∙◌, subst, arith, true, false, Bool, Option, Some, None, slice_get}
-use Rattle.std.specs.Prelude.{◌==◌, ◌&&◌, if◌then◌else◌, not}
+use Rattle.std.specs.Prelude.{◌==◌, ◌&&◌, if◌then◌else◌, is_none}
 use Rattle.std.specs.List.{list_all, zip}
 use Rattle.lemmas.specs.Numbers.{test_true}
 use Rattle.lemmas.specs.Bools.{and_parts}
@@ -15,7 +15,7 @@ use Rattle.types.specs.RuntimeCall.{runtime_called, runtime_of_declare, runtime_
 use Rattle.block_rules.specs.declared.callee.Callee.TheVariants.{OfRuntime, OfModule, NoFunction}
 use Rattle.block_rules.specs.declared.signature.RuntimeType.TheVariants as types
 use Rattle.block_rules.specs.Signature.{signature_of, is_runtime_type, is_of_type, is_declared_as, callable, callable_declare, callable_function, callable_sort, callee_of}
-use Rattle.block_rules.specs.RuntimeNames.{names_runtime}
+use Rattle.block_rules.specs.RuntimeNames.{runtime_named}
 use Rattle.machine.specs.Asks as a
 use Rattle.soundness.proofs.KindLemmas.{bits_same, void_same, bytes_same, place_bytes_same}
 
@@ -33,7 +33,7 @@ module _ (m : Module) (callee count : ℕ) (called : Runtime) where
   of_runtime : (declared : Declare) (t : Option Runtime) → declared.runtime ≡ t → callable m count declared t ≡ OfRuntime called → IsCallee m callee count called (Some declared) × (declared.runtime ≡ Some called)
   of_runtime declared None is e = absurd cc
   of_runtime declared (Some own) is e = pick (is_declared_as m declared own && (count == length (signature_of own).parameters)) refl e where
-    pick : (b : Bool) → (is_declared_as m declared own && (count == length (signature_of own).parameters)) ≡ b → (if b then OfRuntime own else NoFunction) ≡ OfRuntime called → IsCallee m callee count called (Some declared) × (declared.runtime ≡ Some called)
+    pick : (b : Bool) → (is_declared_as m declared own && (count == length (signature_of own).parameters)) ≡ b → (if b then OfRuntime own else NoFunction (Some own)) ≡ OfRuntime called → IsCallee m callee count called (Some declared) × (declared.runtime ≡ Some called)
     pick false t e = absurd cc
     pick true t e =
         let same : own ≡ called = cc in
@@ -55,8 +55,8 @@ module _ (m : Module) (callee count : ℕ) (called : Runtime) where
   of_sort (Some (symbol.Defined d)) e = by (slice_get m.functions d) e where
     by : (q : Option Function) → callable_function m callee count d q ≡ OfRuntime called → IsCallee m callee count called None × (◌≡◌ {A = Option Runtime} None (Some called))
     by None e = absurd cc
-    by (Some function) e = pick ((count == length function.parameters) && not (names_runtime (slice_get m.symbols callee))) e where
-      pick : (b : Bool) → (if b then OfModule d else NoFunction) ≡ OfRuntime called → IsCallee m callee count called None × (◌≡◌ {A = Option Runtime} None (Some called))
+    by (Some function) e = pick ((count == length function.parameters) && is_none (runtime_named (slice_get m.symbols callee))) e where
+      pick : (b : Bool) → (if b then OfModule d else NoFunction (runtime_named (slice_get m.symbols callee))) ≡ OfRuntime called → IsCallee m callee count called None × (◌≡◌ {A = Option Runtime} None (Some called))
       pick true e = absurd cc
       pick false e = absurd cc
   of_sort (Some (symbol.Declared d)) e = of_declare (slice_get m.declares d) e
@@ -80,7 +80,7 @@ module _ (m : Module) (callee count number : ℕ) where
     by : (t : Option Runtime) → callable m count declared t ≡ OfModule number → ⊥
     by None e = absurd cc
     by (Some own) e = pick (is_declared_as m declared own && (count == length (signature_of own).parameters)) e where
-      pick : (b : Bool) → (if b then OfRuntime own else NoFunction) ≡ OfModule number → ⊥
+      pick : (b : Bool) → (if b then OfRuntime own else NoFunction (Some own)) ≡ OfModule number → ⊥
       pick true e = absurd cc
       pick false e = absurd cc
 
@@ -94,8 +94,8 @@ module _ (m : Module) (callee count number : ℕ) where
     by (Some (symbol.Defined d)) is e = of_function (slice_get m.functions d) refl e where
       of_function : (q : Option Function) → slice_get m.functions d ≡ q → callable_function m callee count d q ≡ OfModule number → IsDefined m callee count number
       of_function None at e = absurd cc
-      of_function (Some function) at e = pick ((count == length function.parameters) && not (names_runtime (slice_get m.symbols callee))) refl e where
-        pick : (b : Bool) → ((count == length function.parameters) && not (names_runtime (slice_get m.symbols callee))) ≡ b → (if b then OfModule d else NoFunction) ≡ OfModule number → IsDefined m callee count number
+      of_function (Some function) at e = pick ((count == length function.parameters) && is_none (runtime_named (slice_get m.symbols callee))) refl e where
+        pick : (b : Bool) → ((count == length function.parameters) && is_none (runtime_named (slice_get m.symbols callee))) ≡ b → (if b then OfModule d else NoFunction (runtime_named (slice_get m.symbols callee))) ≡ OfModule number → IsDefined m callee count number
         pick false t e = absurd cc
         pick true t e =
             let same : d ≡ number = cc in
@@ -104,7 +104,7 @@ module _ (m : Module) (callee count number : ℕ) where
               there = subst (λ n. slice_get m.functions n ≡ Some function) same at;
               named = ap a.number_of_sort is ∙ ap Some same;
               no_runtime = ap (runtime_of_sort m) is;
-              arity = (and_parts (count == length function.parameters) (not (names_runtime (slice_get m.symbols callee))) t).0;
+              arity = (and_parts (count == length function.parameters) (is_none (runtime_named (slice_get m.symbols callee))) t).0;
             }
 
 -- ---- the types of the runtime's functions

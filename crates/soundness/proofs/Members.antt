@@ -479,7 +479,7 @@ module _ (facts : FactSet) (members : HaveMembers facts) where
 
   -- after any call
   call_members : (p : LaidOut) (certs : List Section) (table : SlotTable) (result : Option ℕ) (returned : ℕ) (arguments : List Argument) (callee : Callee) → HaveMembers (after_call p certs table result returned arguments callee facts)
-  call_members p certs table result returned arguments NoFunction = members
+  call_members p certs table result returned arguments (NoFunction named) = members
   call_members p certs table result returned arguments (OfModule called) = defined_members p.of_module result returned arguments (slice_get certs called) facts members
   call_members p certs table result returned arguments (OfRuntime runtime.Alloc) = alloc_members result arguments
   call_members p certs table result returned arguments (OfRuntime runtime.Safepoint) = stale_members facts members

@@ -39,7 +39,7 @@ use Rattle.block_rules.specs.Signature.{callee_of}
 use Rattle.block_rules.specs.TypeKinds.{kind_of, is_void}
 use Rattle.block_rules.specs.Standing.{block_instructions, instructions_of}
 use Rattle.block_rules.specs.Promises.{given_by, promises_in, promised_in, own_mark, callee_mark}
-use Rattle.block_rules.specs.Calls.{all_values, is_written_with, is_written_for, defined_conditions, unknown_conditions, call_conditions, drop_arguments, receive_result, after_call}
+use Rattle.block_rules.specs.Calls.{all_values, is_written_with, is_written_for, defined_conditions, refused_conditions, call_conditions, drop_arguments, receive_result, after_call}
 use Rattle.block_rules.specs.Rules.{op_conditions, after, after_op, may_hold}
 use Rattle.block_rules.specs.Certified.{Follows, IsCertified, IsCertifiedIn, scene_of, stands}
 use Rattle.block_rules.specs.Ways.{Scene, given_at, line_facts, lines_in, parameters_given, entry_facts}
@@ -417,7 +417,7 @@ module _ (heap : Setup) (program : LaidOut) (heap_is : IsHeapFor heap program) (
         → first_failing (op_conditions program certs f table here facts instr.result (Call returned callee arguments)) ≡ None → callee_of program.of_module callee (length arguments) ≡ OfModule n
     is_called returned callee arguments n into allowed = by (callee_of program.of_module callee (length arguments)) refl allowed where
       by : (called : Callee) → callee_of program.of_module callee (length arguments) ≡ called → first_failing (call_conditions program certs f table here facts returned arguments called) ≡ None → callee_of program.of_module callee (length arguments) ≡ OfModule n
-      by NoFunction e allowed = let k18 = rules_hold (unknown_conditions program.of_module f table here facts arguments) allowed K18 in absurd cc
+      by (NoFunction named) e allowed = let k18 = rules_hold (refused_conditions program.of_module f table here facts named arguments) allowed K18 in absurd cc
       by (OfRuntime called) e allowed =
           absurd (one_sort program.of_module (slice_get program.of_module.sorts callee) n called (into_called (a.number_called program.of_module callee) n into) (callee_is program.of_module callee (length arguments) called e).1)
       by (OfModule number) e allowed =

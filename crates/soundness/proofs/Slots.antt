@@ -16,6 +16,7 @@ use Rattle.types.specs.References.{referenced_layout}
 use Rattle.shadow_stack.specs.declared.draft.Draft.{Draft}
 use Rattle.shadow_stack.specs.declared.draft.Origin.{Origin}
 use Rattle.shadow_stack.specs.declared.draft.Origin.TheVariants.{Nowhere, Slot, Same}
+use Rattle.shadow_stack.specs.Hops.{hops_slot}
 use Rattle.shadow_stack.specs.Slots.{SlotTable, slots_of, slot_of, held_type, is_among, is_reference_held, origin_of, origin_at, hops, slot_at, noted_op, noted, noted_blocks, draft_of}
 use Rattle.block_rules.specs.Rules.{may_hold, names_root}
 use Rattle.block_rules.specs.TypeKinds.{kind_of, is_integer}
@@ -95,10 +96,6 @@ module _ (P : (name held : ℕ) → Type 0) where
   comes_of f all = comes_blocks f.blocks _ all (λ w s e. absurd (let z : Nowhere ≡ Slot s = sym (replicated (length f.locals) w Nowhere) ∙ e in cc))
 
 -- ---- the slots that have names
-
-hops_slot : (origins : List Origin) (n s : ℕ) → hops origins n (Slot s) ≡ Slot s
-hops_slot origins zero s = refl
-hops_slot origins (suc n) s = hops_slot origins n s
 
 -- bitcasts lead back to a name that was defined as the slot
 hops_from : (origins : List Origin) (n w : ℕ) (o : Origin) (s : ℕ) → origin_at origins w ≡ o → hops origins n o ≡ Slot s → (v : ℕ) × (origin_at origins v ≡ Slot s)

@@ -1,5 +1,5 @@
 -- The words and births before the first step.
-use Rattle.std.proofs.Common.{◌≡◌, Bool, false, ◌<◌, ◌≤◌, ◌^◌, inl, inr, ℕ, zero, suc, ◌+◌, Option, Some, List, [], ◌∷◌, ◌++◌, length, slice_get, slice_set, slice_index, slice_index_or, map, length-append, length-set, refl, sym, ap, ◌∙◌, subst, arith, if◌then◌else◌}
+use Rattle.std.proofs.Common.{◌≡◌, Bool, true, false, ◌<◌, ◌≤◌, ◌^◌, inl, inr, ℕ, zero, suc, ◌+◌, Option, Some, List, [], ◌∷◌, ◌++◌, length, slice_get, slice_set, slice_index, slice_index_or, map, length-append, length-set, refl, sym, ap, ◌∙◌, subst, arith, if◌then◌else◌}
 use Rattle.std.proofs.Math.Seq.{get_or-append_seam}
 use Rattle.std.proofs.lemmas.Bool.{cases_lt}
 use Rattle.std.proofs.lemmas.List.{length-map, get_or_append_left, get_or-set_same, get_or-set_other, get_or_past}
@@ -9,6 +9,7 @@ use Rattle.pools.specs.declared.word_kind.WordKind.TheVariants as kind
 use Rattle.pools.specs.Heap.{Setup, IsSetup, IsStartOf, cells, is_late, kind_of, words_of_cell}
 use Rattle.colours.specs.declared.place.Place.{Place}
 use Rattle.colours.specs.declared.place.Place.TheVariants.{Posted, Stage, Colour, Word}
+use Rattle.colours.specs.Colours.{done}
 use Rattle.colours.specs.Mutator.{Absent, Ready}
 use Rattle.colours.specs.Runs.{word_at_start, word_after, births_after}
 use Rattle.trace_sweep.specs.Collecting.{Collecting, plan, plan_of, begun}
@@ -22,12 +23,39 @@ use Rattle.moves.specs.Kinds.{MayHold}
 use Rattle.moves.specs.Rows.{word_at}
 use Rattle.moves.specs.Runs.{collector_behind, run_by}
 use Rattle.moves.specs.Shared.{held_at, StandBehind}
-use Rattle.moves.specs.Stands.{standing}
+use Rattle.moves.specs.Stands.{phase_at, standing}
 use Rattle.stepping.specs.Reach.{IsPlanOf}
 use Rattle.run_law.specs.Growth.{IsInHeap}
 use Rattle.stepping.specs.declared.acting.Actors.{Actors}
-use Rattle.stepping.specs.Starts.{value_at_start, IsRowAtStart, AreRowsAtStart, stand_at_start}
+use Rattle.stepping.specs.declared.beginning.NewThread.{NewThread}
+use Rattle.stepping.specs.Starts.{value_at_start, IsRowAtStart, AreRowsAtStart, stage_at_start, stance_at_start, stand_at_start}
 use Rattle.stepping.specs.Ends.{AreBehindSteps}
+
+-- ---- late threads
+
+-- the stage word of a thread is that of the setup
+late-stage : (lates : List Bool) (t : ℕ) → slice_index (map stage_at_start lates) t ≡ (if slice_index_or lates t false then done else 0)
+late-stage [] t = refl
+late-stage (late ∷ lates) zero = refl
+late-stage (late ∷ lates) (suc t) = late-stage lates t
+
+-- so of a list of threads
+stages-of : {State : Type 0} (threads : List (NewThread State)) → map (λ (thread : NewThread State). stage_at_start thread.is_late) threads ≡ map stage_at_start (map (λ (thread : NewThread State). thread.is_late) threads)
+stages-of [] = refl
+stages-of (thread ∷ threads) = ap (λ (xs : List ℕ). stage_at_start thread.is_late ∷ xs) (stages-of threads)
+
+-- so each of their stage words
+pub stage-of : {State : Type 0} (s : Setup) (threads : List (NewThread State)) (stages : List ℕ) → s.late ≡ map (λ (thread : NewThread State). thread.is_late) threads
+    → stages ≡ map (λ (thread : NewThread State). stage_at_start thread.is_late) threads → (t : ℕ) → slice_index stages t ≡ (if is_late s t then done else 0)
+unfolding is_late
+stage-of {State} s threads stages late are t =
+    ap (λ (xs : List ℕ). slice_index xs t) (are ∙ stages-of threads ∙ ap (map stage_at_start) (sym late)) ∙ late-stage s.late t
+
+-- whether a thread is late
+lateness : {State : Type 0} (threads : List (NewThread State)) (t : ℕ) (thread : NewThread State) → slice_get threads t ≡ Some thread → slice_index_or (map (λ (x : NewThread State). x.is_late) threads) t false ≡ thread.is_late
+lateness [] t thread is = absurd cc
+lateness (x ∷ threads) zero thread is = cc
+lateness {State} (x ∷ threads) (suc t) thread is = lateness threads t thread is
 
 -- ---- zeros
 
@@ -108,11 +136,11 @@ rows-more s n rows row are is = record {
 -- ---- all words
 
 -- they are the words after no step
-pub stand-behind-none : (s : Setup) → IsSetup s → s.late ≡ [] → (stages zeros births : List ℕ) (rows : List (List Reference)) → length stages ≡ s.threads → length zeros ≡ cells s → length births ≡ cells s
-    → ((k : ℕ) → slice_index stages k ≡ 0) → ((k : ℕ) → slice_index zeros k ≡ 0) → ((k : ℕ) → slice_index births k ≡ 0) → AreRowsAtStart s (cells s) rows
+pub stand-behind-none : (s : Setup) → IsSetup s → (stages zeros births : List ℕ) (rows : List (List Reference)) → length stages ≡ s.threads → length zeros ≡ cells s → length births ≡ cells s
+    → ((k : ℕ) → slice_index stages k ≡ (if is_late s k then done else 0)) → ((k : ℕ) → slice_index zeros k ≡ 0) → ((k : ℕ) → slice_index births k ≡ 0) → AreRowsAtStart s (cells s) rows
     → StandBehind s [] (record { posted = 0; stages = stages; colours = slice_set zeros 0 1; births = births; words = rows })
-unfolding births_after word_after is_late
-stand-behind-none s setup late stages zeros births rows stages_count colours_count births_count no_stages no_colours no_births are = record {
+unfolding births_after word_after
+stand-behind-none s setup stages zeros births rows stages_count colours_count births_count no_stages no_colours no_births are = record {
   shape = record {
     stages = stages_count;
     colours = length-set zeros 0 1 ∙ colours_count;
@@ -152,7 +180,7 @@ stand-behind-none s setup late stages zeros births rows stages_count colours_cou
 
     words : (p : Place) → held_at h p ≡ word_after s [] p
     words Posted = refl
-    words (Stage t) = no_stages t ∙ sym (rw late refl)
+    words (Stage t) = no_stages t
     words (Colour zero) = get_or-set_same zeros 0 1 0 (subst (λ n. 0 < n) (sym colours_count) (omega arith))
     words (Colour (suc cell)) = get_or-set_other zeros 0 (suc cell) 1 0 (λ q. absurd cc) ∙ no_colours (suc cell)
     words (Word cell i) = word cell i
@@ -160,20 +188,24 @@ stand-behind-none s setup late stages zeros births rows stages_count colours_cou
 -- ---- all actors
 
 -- a list of threads before their first move
-pub got-start : {State : Type 0} (states : List State) (t : ℕ) (stand : Stand State) → slice_get (map stand_at_start states) t ≡ Some stand → (state : State) × (slice_get states t ≡ Some state) × (stand ≡ stand_at_start state)
+pub got-start : {State : Type 0} (states : List (NewThread State)) (t : ℕ) (stand : Stand State) → slice_get (map stand_at_start states) t ≡ Some stand → (thread : NewThread State) × (slice_get states t ≡ Some thread) × (stand ≡ stand_at_start thread)
 got-start [] t stand e = absurd cc
 got-start (x ∷ xs) zero stand e = (x, refl, cc)
 got-start (x ∷ xs) (suc t) stand e = got-start xs t stand e
 
--- a thread that was not late is in this state before its first move
-stands-first : (s : Setup) (m : Machine) (starts : ℕ → m.State) → s.late ≡ [] → (t : ℕ) (state : m.State) → starts t ≡ state → StandsBehind s m starts [] t (standing m.roots (stand_at_start state))
-unfolding is_late
-stands-first s m starts late t state e =
+-- where a thread is, late or not
+phase-first : (roots : List Reference) (late : Bool) → phase_at roots (stance_at_start late) ≡ (if late then Absent else Ready)
+phase-first roots true = refl
+phase-first roots false = refl
+
+-- a thread is in this state before its first move
+stands-first : (s : Setup) (m : Machine) (starts : ℕ → m.State) (t : ℕ) (thread : NewThread m.State) → is_late s t ≡ thread.is_late → starts t ≡ thread.machine → StandsBehind s m starts [] t (standing m.roots (stand_at_start thread))
+stands-first s m starts t thread late e =
     let first = begins s m starts t in
     record {
       state = sym e;
       stage = first.stage;
-      phase = sym (ap (λ (l : List Bool). if slice_index_or l t false then Absent else Ready) late) ∙ first.phase;
+      phase = phase-first (m.roots thread.machine) thread.is_late ∙ sym (ap (λ (b : Bool). if b then Absent else Ready) late) ∙ first.phase;
       old = first.old;
     }
 
@@ -183,22 +215,21 @@ pub begun-of : (s : Setup) (threads : ℕ) (layouts : List (List WordKind)) (poo
 begun-of s threads layouts pools globals a b c d = rw (a, b, c, d) refl
 
 -- the actors before their first step
-pub actors-first : (s : Setup) (m : Machine) (Fits : m.State → Type 0) (starts : ℕ → m.State) (a : Actors m.State) (states : List m.State) → IsPlanOf s a.plan → IsSetup s → s.late ≡ [] → cells s ≤ 2 ^ 32
-    → s.threads ≡ length states → ((t : ℕ) (state : m.State) → slice_get states t ≡ Some state → (starts t ≡ state) × Fits state)
+pub actors-first : (s : Setup) (m : Machine) (Fits : m.State → Type 0) (starts : ℕ → m.State) (a : Actors m.State) (states : List (NewThread m.State)) → IsPlanOf s a.plan → IsSetup s → s.late ≡ map (λ (thread : NewThread m.State). thread.is_late) states → cells s ≤ 2 ^ 32
+    → s.threads ≡ length states → ((t : ℕ) (thread : NewThread m.State) → slice_get states t ≡ Some thread → (starts t ≡ thread.machine) × Fits thread.machine)
     → a.threads.items ≡ map stand_at_start states → StandBehind s [] a.shared → a.collector ≡ begun (plan_of s) → AreBehindSteps s m Fits starts [] a
-unfolding collector_behind run_by
+unfolding collector_behind run_by is_late
 actors-first s m Fits starts a states is_plan setup late few count begin threads words collects = record {
   plan = is_plan;
   setup = setup;
   is_behind = record {
     are_actors = tt;
     is_end = record {
-      none_late = late;
       few_cells = few;
       count = ap length threads ∙ length-map states stand_at_start ∙ sym count;
       stands = λ t stand is.
           let o = got-start states t stand (sym (ap (λ (v : List (Stand m.State)). slice_get v t) threads) ∙ is) in
-          subst (λ (v : Stand m.State). StandsBehind s m starts [] t (standing m.roots v)) (sym o.2) (stands-first s m starts late t o.0 (begin t o.0 o.1).0);
+          subst (λ (v : Stand m.State). StandsBehind s m starts [] t (standing m.roots v)) (sym o.2) (stands-first s m starts t o.0 (ap (λ (l : List Bool). slice_index_or l t false) late ∙ lateness states t o.0 o.1) (begin t o.0 o.1).0);
       fits = λ t stand is.
           let o = got-start states t stand (sym (ap (λ (v : List (Stand m.State)). slice_get v t) threads) ∙ is) in
           subst (λ (v : Stand m.State). Fits v.state) (sym o.2) (begin t o.0 o.1).1;
@@ -206,7 +237,7 @@ actors-first s m Fits starts a states is_plan setup late few count begin threads
           let o = got-start states t stand (sym (ap (λ (v : List (Stand m.State)). slice_get v t) threads) ∙ is) in
           subst (λ (v : Stand m.State). v.replaced.cell < cells s) (sym o.2) (omega arith);
       collects = collects;
-      in_heap = subst (λ (c : Collecting). IsInHeap s c.at) (sym collects) tt;
+      in_heap = subst (λ (c : Collecting). IsInHeap s c) (sym collects) (tt, tt);
       words = words;
     };
   };

@@ -39,7 +39,6 @@ collector_is_behind s m Fits starts before a b =
     let end = b.is_behind.is_end in
     let d = drawn s m starts before b.is_behind.are_actors in
     record {
-      few_cells = end.few_cells;
       stands = subst (λ (c : Collecting). StandsBehind s (turns_of (heap_of (run_by s m starts before))) c) (sym end.collects) d.stands;
       in_heap = end.in_heap;
       words = end.words;
@@ -51,7 +50,7 @@ none-at-limit c e = rw e refl
 
 -- before it, for the operation of its step
 ask-of-step : (c : Collecting) (found : ℕ) → is_at_limit c.posted c.at ≡ false → ask_of c ≡ Some (steps.turn_of (cycle_of c.posted) (turn_of c found))
-ask-of-step c found e = rw e (ap (λ (a : Ask). Some a) (turn_of-turn_in (cycle_of c.posted) c.heap c.posted c.at 0 found))
+ask-of-step c found e = rw e (ap (λ (a : Ask). Some a) (turn_of-turn_in (cycle_of c.posted) c.heap c.posted c.listed c.at 0 found))
 
 -- so the next step of the run is the step made
 next-turn : (word_at : Place → ℕ) (c : Collecting) (motion : Motion) (behind : Collecting) → IsStepOn word_at c motion behind → turn_for c word_at (ask_of c) ≡ Some motion.turn
@@ -112,7 +111,6 @@ collected s m Fits starts before a b motion behind x grows keeps may_lose loses 
     let run = run_by s m starts before in
     let next : next_by s m starts run Collector ≡ Some (OfCollector motion.turn) = next-by-collector s m Fits starts before a b ∙ ap by_collector (next-turn (held_at a.shared) a.collector motion behind x) in
     let ends : IsEnd s m Fits starts (OfCollector motion.turn ∷ run) a.threads.items (with_stored a.shared motion motion.stored) behind = record {
-      none_late = end.none_late;
       few_cells = end.few_cells;
       count = end.count;
       stands = λ t stand is. (goes_on s m starts run t (standing m.roots stand) (end.stands t stand is)).collector motion.turn;

@@ -17,7 +17,7 @@ use Rattle.moves.specs.Stands.{phase_at}
 use Rattle.stepping.specs.Reach.{AreRoots}
 use Rattle.stepping.specs.declared.acting.Actors.{Actors}
 use Rattle.stepping.specs.Ends.{AreBehindSteps, IsEnd}
-use Rattle.stepping.specs.Roots.{unless_ended, own_roots, roots_of}
+use Rattle.stepping.specs.Roots.{under_way, own_roots, roots_of}
 
 -- ---- lists
 
@@ -75,7 +75,7 @@ own-is-root {State} roots (x ∷ xs) r zero stand e own = in-left r (own_roots r
 own-is-root {State} roots (x ∷ xs) r (suc t) stand e own = in-right r (own_roots roots x) (roots_of roots xs) (own-is-root roots xs r t stand e own)
 
 -- a thread with roots is under way
-own-is-under-way : (rs others : List Reference) (at : Stance) (r : Reference) → IsIn r (unless_ended at rs) → IsUnderWay (phase_at others at) × IsIn r rs
+own-is-under-way : (rs others : List Reference) (at : Stance) (r : Reference) → IsIn r (under_way at rs) → IsUnderWay (phase_at others at) × IsIn r rs
 own-is-under-way rs others stance.Ready r e = (tt, e)
 own-is-under-way rs others (stance.MarkingOld c w o) r e = (tt, e)
 own-is-under-way rs others (stance.MarkingNew c w o) r e = (tt, e)
@@ -83,9 +83,13 @@ own-is-under-way rs others (stance.Writing c w o n) r e = (tt, e)
 own-is-under-way rs others (stance.Trying f n) r e = (tt, e)
 own-is-under-way rs others (stance.Answering p n) r e = (tt, e)
 own-is-under-way rs others stance.Ended r e = absurd e
+own-is-under-way rs others stance.Absent r e = absurd e
+own-is-under-way rs others (stance.Arriving p) r e = absurd e
+own-is-under-way rs others stance.Entering r e = absurd e
+own-is-under-way rs others stance.Leaving r e = absurd e
 
 -- and one under way has its roots
-under-way-is-own : (rs others : List Reference) (at : Stance) (r : Reference) → IsUnderWay (phase_at others at) → IsIn r rs → IsIn r (unless_ended at rs)
+under-way-is-own : (rs others : List Reference) (at : Stance) (r : Reference) → IsUnderWay (phase_at others at) → IsIn r rs → IsIn r (under_way at rs)
 under-way-is-own rs others stance.Ready r way e = e
 under-way-is-own rs others (stance.MarkingOld c w o) r way e = e
 under-way-is-own rs others (stance.MarkingNew c w o) r way e = e
@@ -93,6 +97,10 @@ under-way-is-own rs others (stance.Writing c w o n) r way e = e
 under-way-is-own rs others (stance.Trying f n) r way e = e
 under-way-is-own rs others (stance.Answering p n) r way e = e
 under-way-is-own rs others stance.Ended r way e = absurd way
+under-way-is-own rs others stance.Absent r way e = absurd way
+under-way-is-own rs others (stance.Arriving p) r way e = absurd way
+under-way-is-own rs others stance.Entering r way e = absurd way
+under-way-is-own rs others stance.Leaving r way e = absurd way
 
 -- ---- the run's
 

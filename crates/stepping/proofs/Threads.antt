@@ -138,7 +138,6 @@ moves-on : (s : Setup) (m : Machine) (Fits : m.State → Type 0) (starts : ℕ �
     → (behind : Stand m.State) → standing m.roots behind ≡ moved s m (standing m.roots stand) (move_in (m.roots stand.state) made)
     → IsEnd s m Fits starts (OfThread t (move_in (m.roots stand.state) made) ∷ run) (slice_set a.threads.items t behind) (with_move a.shared t stand.stage made) a.collector
 moves-on s m Fits starts run a end t stand is made grows behind behind_is = record {
-  none_late = end.none_late;
   few_cells = end.few_cells;
   count = length-set a.threads.items t behind ∙ end.count;
   stands = λ u other got. elim (got-set a.threads.items t u behind other got) [

@@ -25,7 +25,6 @@ use Rattle.stepping.specs.declared.happening.Step.{Step}
 
 -- the threads, the shared words and the collector at the end of this run
 pub record IsEnd (s : Setup) (m : Machine) (Fits : m.State → Type 0) (starts : ℕ → m.State) (run : List runs.Happening) (threads : List (Stand m.State)) (shared : Shared) (collector : Collecting) : Type 0 where
-  pub none_late : s.late ≡ []
   pub few_cells : cells s ≤ 2 ^ 32
   pub count : length threads ≡ s.threads
   pub stands : (t : ℕ) (stand : Stand m.State) → slice_get threads t ≡ Some stand → StandsBehind s m starts run t (standing m.roots stand)
@@ -33,7 +32,7 @@ pub record IsEnd (s : Setup) (m : Machine) (Fits : m.State → Type 0) (starts :
   -- what a write under way has read is a cell
   pub replaced : (t : ℕ) (stand : Stand m.State) → slice_get threads t ≡ Some stand → stand.replaced.cell < cells s
   pub collects : collector ≡ collector_behind s (turns_of (heap_of run))
-  pub in_heap : IsInHeap s collector.at
+  pub in_heap : IsInHeap s collector
   pub words : StandBehind s run shared
 
 -- they are what these actors, the newest first, make of their starts

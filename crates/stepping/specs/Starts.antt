@@ -1,14 +1,17 @@
 -- The words of a heap and the threads before the first step.
-use Rattle.std.specs.Prelude.{ℕ, zero, suc, ◌≡◌, ◌<◌, Some, List, [], length, slice_index, slice_index_or}
+use Rattle.std.specs.Prelude.{Bool, if◌then◌else◌, ℕ, zero, suc, ◌≡◌, ◌<◌, Some, List, [], length, slice_index, slice_index_or}
 use Rattle.pools.specs.declared.word_kind.WordKind.{WordKind}
 use Rattle.pools.specs.Heap.{Setup, kind_of, words_of_cell}
 use Rattle.colours.specs.declared.place.Place.TheVariants.{Word}
+use Rattle.colours.specs.Colours.{done}
 use Rattle.colours.specs.Runs.{word_at_start}
 use Rattle.runs.specs.Machine.{Reference}
 use Rattle.runs.specs.Moves.{null}
-use Rattle.moves.specs.declared.stand.Stance.TheVariants.{Ready}
+use Rattle.moves.specs.declared.stand.Stance.{Stance}
+use Rattle.moves.specs.declared.stand.Stance.TheVariants.{Ready, Absent}
 use Rattle.moves.specs.declared.stand.Stand.{Stand}
 use Rattle.moves.specs.Kinds.{MayHold}
+use Rattle.stepping.specs.declared.beginning.NewThread.{NewThread}
 
 -- what a word of a cell holds, where these are the values of the globals
 abbrev pub value_at_start : (values : List ℕ) → (cell word : ℕ) → ℕ
@@ -27,6 +30,14 @@ pub record AreRowsAtStart (s : Setup) (count : ℕ) (rows : List (List Reference
   pub count_is : length rows ≡ count
   pub rows_are : (cell : ℕ) → cell < count → IsRowAtStart s cell (slice_index_or rows cell [])
 
--- a thread that begins in this state
-abbrev pub stand_at_start : {State : Type 0} → State → Stand State
-stand_at_start state = record { state = state; stage = 0; stance = Ready; replaced = null }
+-- the stage word of a thread, which may be late
+abbrev pub stage_at_start : (late : Bool) → ℕ
+stage_at_start late = if late then done else 0
+
+-- where it is
+abbrev pub stance_at_start : (late : Bool) → Stance
+stance_at_start late = if late then Absent else Ready
+
+-- a thread before its first move
+abbrev pub stand_at_start : {State : Type 0} → NewThread State → Stand State
+stand_at_start thread = record { state = thread.machine; stage = 0; stance = stance_at_start thread.is_late; replaced = null }

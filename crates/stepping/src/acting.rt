@@ -1,4 +1,4 @@
-ghost use Rattle.std.specs.Prelude.{ℕ, ◌≡◌, ◌<◌, ◌^◌, Some, List, [], ◌∷◌, length, slice_get, true, false, All, IfOk, OnErr};
+ghost use Rattle.std.specs.Prelude.{ℕ, ◌≡◌, ◌<◌, ◌^◌, Some, List, [], ◌∷◌, length, map, slice_get, true, false, All, IfOk, OnErr};
 ghost use Rattle.std.specs.Option.{option_copied};
 ghost use Rattle.pools.specs.Heap.{Setup, IsSetup};
 ghost use Rattle.runs.specs.Machine.{Reference as AReference, machine_of};
@@ -9,7 +9,7 @@ ghost use Rattle.moves.specs.Runs.{run_by, IsActor};
 ghost use Rattle.stepping.specs.Reach.{IsPlanOf, IsFirstGone, AddsNothing};
 ghost use Rattle.stepping.specs.Ends.{AreBehindSteps, IsOneStep};
 
-use crate::beginning::{shared_at_start, stands_at_start};
+use crate::beginning::{NewThread, shared_at_start, stands_at_start};
 use crate::gone::{Gone, Plan, first_gone};
 use crate::happening::{Happening, Step};
 use crate::laws::loss_law;
@@ -35,17 +35,17 @@ impl<'a, M: Runner + Drop> Actors<'a, M> {
         alloc: Global,
         plan: Plan<'a>,
         values: &[u64],
-        machines: Vec<M>,
+        threads: Vec<NewThread<M>>,
     ) -> Result<Self, AllocError>
         requires globals { length plan.globals.now < 2 ^ 32 }
         requires words { All (λ words. length words < 2 ^ 32) plan.layouts.now }
-        ensures { (s : Setup) (starts : ℕ → M) → IsPlanOf s plan.entry → IsSetup s → s.late ≡ [] → s.threads ≡ length machines.items → s.values ≡ values.now
-            → ((t : ℕ) (state : M) → slice_get machines.items t ≡ Some state → (starts t ≡ state) × M.fits s state)
+        ensures { (s : Setup) (starts : ℕ → M) → IsPlanOf s plan.entry → IsSetup s → s.late ≡ map (λ (thread : NewThread M). thread.is_late) threads.items → s.threads ≡ length threads.items → s.values ≡ values.now
+            → ((t : ℕ) (thread : NewThread M) → slice_get threads.items t ≡ Some thread → (starts t ≡ thread.machine) × M.fits s thread.machine)
             → IfOk result (AreBehindSteps s (machine_of M.action M.after_answer M.roots) (M.fits s) starts []) }
     {
-        let shared = shared_at_start(alloc, plan, values, machines.len())?;
-        let collector = Collector::new(plan.pools, plan.layouts, plan.globals, machines.len());
-        let threads = stands_at_start(alloc, machines)?;
+        let shared = shared_at_start(alloc, plan, values, threads.as_slice())?;
+        let collector = Collector::new(plan.pools, plan.layouts, plan.globals, threads.len());
+        let threads = stands_at_start(alloc, threads)?;
         Ok(Actors {
             plan,
             threads,
@@ -130,7 +130,7 @@ impl<'a, M: Runner + Drop> Actors<'a, M> {
         Ok(Some(Step {
             happening: Happening::Thread(thread, made),
             broke,
-            may_lose: roots_change || stores_reference(&made),
+            may_lose: roots_change || may_lose(&made),
         }))
     }
 
@@ -144,13 +144,14 @@ impl<'a, M: Runner + Drop> Actors<'a, M> {
     }
 }
 
-/// Whether a move puts a reference, or a number other than 0, into a word.
-fn stores_reference(made: &Move) -> bool
+/// Whether a move puts a reference, or a number other than 0, into a word, or may be the one after which a late thread has begun.
+fn may_lose(made: &Move) -> bool
     ensures { (roots : List AReference) → result ≡ false → AddsNothing (move_in roots made.now) }
 {
     match made {
         Move::StoresBehindBarrier { value, .. } | Move::StoresPlain { value, .. } => value.cell
             != 0,
+        Move::ReadsPostedAgain(_) => true,
         _ => false,
     }
 }

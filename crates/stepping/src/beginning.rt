@@ -6,18 +6,28 @@ ghost use Rattle.stepping.specs.Starts as starts;
 ghost use Rattle.stepping.specs.Starts.{IsRowAtStart, AreRowsAtStart};
 
 use crate::gone::Plan;
+use colours::DONE;
 use items::Items;
 use moves::{NULL, Reference, Rows, Shared, Stance, Stand};
 use std::alloc::{AllocError, Global};
 
+/// A thread before the first step.
+#[derive(Drop)]
+pub struct NewThread<M> {
+    /// Its machine, at the beginning.
+    pub machine: M,
+    /// It begins while others run.
+    pub is_late: bool,
+}
+
 /// The shared words before the first step: all cells are free but that of the globals, and hold null or 0.
-pub(crate) fn shared_at_start(
+pub(crate) fn shared_at_start<M>(
     alloc: Global,
     plan: Plan<'_>,
     values: &[u64],
-    threads: usize,
+    threads: &[NewThread<M>],
 ) -> Result<Shared, AllocError>
-    ensures behind { (s : Setup) → IsPlanOf s plan.entry → IsSetup s → s.late ≡ [] → s.threads ≡ threads → s.values ≡ values.now → IfOk result (StandBehind s []) }
+    ensures behind { (s : Setup) → IsPlanOf s plan.entry → IsSetup s → s.late ≡ map (λ (thread : NewThread M). thread.is_late) threads.now → s.threads ≡ length threads.now → s.values ≡ values.now → IfOk result (StandBehind s []) }
     ensures limit { cells_in plan.entry.pools.now ≤ 2 ^ 20 }
 {
     let cells = plan.pools.cells();
@@ -25,11 +35,22 @@ pub(crate) fn shared_at_start(
     colours.set(0, 1);
     Ok(Shared {
         posted: 0,
-        stages: zeros(alloc, threads)?,
+        stages: stages_at_start(alloc, threads)?,
         colours,
         births: zeros(alloc, cells as usize)?,
         words: rows_at_start(alloc, plan, values)?,
     })
+}
+
+/// The stage words before the first step.
+fn stages_at_start<M>(alloc: Global, threads: &[NewThread<M>]) -> Result<Items<u64>, AllocError>
+    ensures { IfOk result (λ stages. stages ≡ map (λ (thread : NewThread M). starts.stage_at_start thread.is_late) threads.now) }
+{
+    let stages: Vec<u64> = threads
+        .iter()
+        .map(|thread| if thread.is_late { DONE } else { 0 })
+        .collect(alloc)?;
+    Ok(Items::from_vec(stages))
 }
 
 /// This number of zeros.
@@ -90,16 +111,20 @@ fn value_at_start(values: &[u64], cell: u32, word: usize) -> u64
 /// The threads before the first step.
 pub(crate) fn stands_at_start<M: Drop>(
     alloc: Global,
-    machines: Vec<M>,
+    threads: Vec<NewThread<M>>,
 ) -> Result<Vec<Stand<M>>, AllocError>
-    ensures { IfOk result (λ stands. stands.items ≡ map starts.stand_at_start machines.items) }
+    ensures { IfOk result (λ stands. stands.items ≡ map starts.stand_at_start threads.items) }
 {
-    machines
+    threads
         .into_iter()
-        .map(|state| Stand {
-            state,
+        .map(|NewThread { machine, is_late }| Stand {
+            state: machine,
             stage: 0,
-            stance: Stance::Ready,
+            stance: if is_late {
+                Stance::Absent
+            } else {
+                Stance::Ready
+            },
             replaced: NULL,
         })
         .collect(alloc)

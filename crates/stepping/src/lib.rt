@@ -10,6 +10,7 @@ mod roots;
 mod walk;
 
 pub use acting::Actors;
+pub use beginning::NewThread;
 pub use gone::{Gone, Plan, first_gone};
 pub use happening::{Happening, Step};
 pub use laws::loss_law;

@@ -18,12 +18,16 @@ pub(crate) fn roots_under_way<M: Runner>(
     Ok(found)
 }
 
-/// The roots of a thread; none where it has ended.
+/// The roots of a thread; none where it has ended or not begun.
 fn own_roots<M: Runner>(alloc: Global, stand: &Stand<M>) -> Result<Vec<Reference>, AllocError>
     ensures { IfOk result (λ found. found.items ≡ roots.own_roots M.roots stand.now) }
 {
     match stand.stance {
-        Stance::Ended => Ok(Vec::new(alloc)),
+        Stance::Ended
+        | Stance::Absent
+        | Stance::Arriving { .. }
+        | Stance::Entering
+        | Stance::Leaving => Ok(Vec::new(alloc)),
         _ => stand.state.root_references(),
     }
 }

@@ -1,1 +1,3 @@
 pub mod WordPlaces
+pub mod Newest
+mod ChainTurns

@@ -1,5 +1,7 @@
 pub mod Words
 pub mod Turns
+pub mod Newest
+pub mod Below
 pub mod Collecting
 pub mod Positions
 pub mod View

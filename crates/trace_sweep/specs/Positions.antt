@@ -37,6 +37,11 @@ word_of (Marking value cell word p) = word
 word_of (Clearing cell word) = word
 word_of position = 0
 
+-- the value in hand, or 0
+abbrev pub hand_of : Position → ℕ
+hand_of (Marking value cell word p) = value
+hand_of position = 0
+
 -- the number of threads that a wait has reached, or 0
 abbrev pub thread_of : Position → ℕ
 thread_of (Waiting thread) = thread + 1

@@ -8,7 +8,7 @@ use Rattle.colours.specs.Steps as steps
 use Rattle.colours.specs.Collector.{Collection, posted_of, Collects}
 use Rattle.colours.specs.Runs.{Event, ByCollector, turns_of, word_after, MayHappen}
 use Rattle.trace_sweep.specs.declared.motion.Motion.{Motion}
-use Rattle.trace_sweep.specs.Turns.{is_at_limit}
+use Rattle.trace_sweep.specs.Turns.{is_at_limit, IsPartOf, shaded_at}
 use Rattle.trace_sweep.specs.Collecting.{Collecting, plan_of, in_order, turn_of, moved, stored_by}
 
 -- the collector of this heap is where the order of the steps is after this log
@@ -17,6 +17,7 @@ pub record StandsBehind (s : Setup) (log : List Turn) (c : Collecting) : Type 0 
   pub posted : c.posted ≡ posted_of log
   pub place : Collection
   pub at : c.at ≡ in_order place
+  pub listed : IsPartOf c.listed (shaded_at place)
   pub collects : Collects s log place
 
 -- the step is the next one of the order after each log that led here

@@ -1,19 +1,22 @@
-ghost use Rattle.std.specs.Prelude.{◌≡◌, List, [], ◌∷◌, ◌+◌, ◌<◌, ◌≤◌, ◌^◌, ◌↔◌, length, nat_lt, if◌then◌else◌, IsTrue, IsSome, IsNone, IfSome, IfNone, Some, None, slice_get, All};
+ghost use Rattle.std.specs.Prelude.{◌≡◌, ℕ, List, [], ◌∷◌, ◌+◌, ◌<◌, ◌≤◌, ◌^◌, ◌↔◌, length, nat_lt, if◌then◌else◌, IsTrue, IsSome, IsNone, IfSome, IfNone, Some, None, slice_get, All};
 ghost use Rattle.pools.specs.Heap.{Setup, cells, words_of_cell};
 ghost use Rattle.pools.specs.Layouts.{is_reference_kind};
 ghost use Rattle.colours.specs.Collector.{looked, in_turn, wait_from, pass_from, sweep_from};
 ghost use Rattle.colours.specs.Steps as steps;
-ghost use Rattle.trace_sweep.specs.Turns.{is_at_limit, next_reference, behind};
+ghost use Rattle.trace_sweep.specs.Turns.{is_at_limit, next_reference, next_cell, pass_after_look, list_after, kept_list, behind};
 ghost use Rattle.trace_sweep.specs.Collecting.{plan, in_order, plan_of, begun, ask_of, turn_of, posted_by, moved, FitsNext, NamesCells, stored_by};
 ghost use Rattle.trace_sweep.specs.Stands.{StandsBehind, IsStepOn, ExtendsLogs, ExtendsRuns};
 ghost use Rattle.colours.specs.Runs.{Event, turns_of, word_after};
 ghost use Rattle.colours.specs.declared.place.Place.{Place};
 ghost use Rattle.trace_sweep.specs.Words.{reference_in};
 ghost use Rattle.colours.specs.declared.turn.Turn.{Turn};
-ghost use Rattle.trace_sweep.specs.Positions.{pass_of, collection_of, IsPlacedAt};
+ghost use Rattle.trace_sweep.specs.Positions.{pass_of, collection_of, hand_of, IsPlacedAt};
+ghost use Rattle.trace_sweep.specs.Below.{AreBelow};
+ghost use Rattle.colours.specs.Colours.{cycle_of, grey};
 
 use crate::motion::Motion;
 use crate::position::{Pass, Position};
+use crate::shades::Shades;
 use crate::words::Words;
 use colours::{Ask, Place, Turn, cycle_of, mark_value};
 use handshake::has_answered;
@@ -33,6 +36,8 @@ pub struct Collector<'a> {
     cells: u32,
     posted: u64,
     position: Position,
+    /// The grey cells that are looked at out of turn.
+    shades: Shades,
 }
 
 impl<'a> Model for Collector<'a> {
@@ -70,6 +75,7 @@ impl<'a> Collector<'a> {
             cells: pools.cells(),
             posted: 0,
             position: Position::Posting,
+            shades: Shades::new(),
         }
     }
 
@@ -130,6 +136,8 @@ impl<'a> Collector<'a> {
     {
         let turn = self.turn(answer);
         let position = self.behind(answer);
+        let grey = mark_value(cycle_of(self.posted));
+        keep_shades(&mut self.shades, self.position, grey, answer, position);
         if let Turn::PostStage(stage) = turn {
             self.posted = stage;
         }
@@ -152,7 +160,7 @@ impl<'a> Collector<'a> {
             Position::Posting => Turn::PostStage(self.posted + 1),
             Position::Waiting(thread) => Turn::ReadStage(thread, found),
             Position::MarkingGlobals => Turn::MarkFound(0, found),
-            Position::Passing(pass) => Turn::ReadColour(pass.next, found),
+            Position::Passing(pass) => Turn::ReadColour(self.next_cell(pass), found),
             Position::Scanning(cell, word, _) => match self.reference_from(cell, word) {
                 Some(word) => Turn::ScanWord(cell, word, found),
                 None => Turn::Blacken(cell),
@@ -169,9 +177,11 @@ impl<'a> Collector<'a> {
     fn behind(&self, found: u64) -> Position
         requires asked { IsSome (ask_of self.now) }
         requires fits { FitsNext self.now found }
-        ensures place { collection_of result ≡ in_order (behind self.now.heap self.now.posted self.now.at found) }
+        ensures place { collection_of result ≡ in_order (behind self.now.heap self.now.posted self.now.listed self.now.at found) }
         ensures placed { IsPlacedAt self.now.heap result }
+        ensures hand { hand_of result < cells self.now.heap }
     {
+        let _threads = self.threads;
         match self.position {
             Position::Posting => self.wait_from(self.posted + 1, 0),
             Position::Waiting(thread) if has_answered(self.posted, found) => self.wait_from(
@@ -196,18 +206,32 @@ impl<'a> Collector<'a> {
         }
     }
 
-    /// After a look at the cell in turn: a grey one is scanned.
+    /// The cell that a pass looks at: its first cell in turn; after that the newest of the list, or where there is none the next in turn.
+    fn next_cell(&self, pass: Pass) -> u32
+        requires { pass.next < cells self.now.heap }
+        ensures cell { result ≡ next_cell pass.next self.now.listed }
+        ensures is_cell { result < cells self.now.heap }
+    {
+        match self.shades.newest() {
+            Some(cell) if pass.next > 0 => cell,
+            _ => pass.next,
+        }
+    }
+
+    /// After a look of a pass: a grey cell is scanned.
     fn behind_look(&self, pass: Pass, colour: u64) -> Position
         requires { pass.next < cells self.now.heap }
         ensures place { collection_of result
-            ≡ in_order (looked self.now.heap self.now.posted (in_turn (pass_of pass)) pass.next colour) }
+            ≡ in_order (looked self.now.heap self.now.posted (pass_after_look (pass_of pass) pass.next self.now.listed) (next_cell pass.next self.now.listed) colour) }
         ensures placed { IsPlacedAt self.now.heap result }
+        ensures hand { hand_of result ≡ 0 }
     {
         let grey = mark_value(cycle_of(self.posted));
-        let next = pass.next + 1;
+        let cell = self.next_cell(pass);
+        let next = self.next_after_look(pass);
         if colour == grey {
             return Position::Scanning(
-                pass.next,
+                cell,
                 0,
                 Pass {
                     next,
@@ -221,11 +245,23 @@ impl<'a> Collector<'a> {
         })
     }
 
+    /// The next cell in turn after a look of a pass.
+    fn next_after_look(&self, pass: Pass) -> u32
+        requires { pass.next < cells self.now.heap }
+        ensures { result ≡ (pass_after_look (pass_of pass) pass.next self.now.listed).next }
+    {
+        match self.shades.newest() {
+            Some(_) if pass.next > 0 => pass.next,
+            _ => pass.next + 1,
+        }
+    }
+
     /// The next thread of a wait, or what comes after the last one's answer.
     fn wait_from(&self, stage: u64, thread: usize) -> Position
         requires { thread ≤ self.now.heap.threads }
         ensures place { collection_of result ≡ in_order (wait_from self.now.heap stage thread) }
         ensures placed { IsPlacedAt self.now.heap result }
+        ensures hand { hand_of result ≡ 0 }
     {
         if thread < self.threads {
             return Position::Waiting(thread);
@@ -242,6 +278,7 @@ impl<'a> Collector<'a> {
         requires { pass.next ≤ cells self.now.heap }
         ensures place { collection_of result ≡ in_order (pass_from self.now.heap (pass_of pass)) }
         ensures placed { IsPlacedAt self.now.heap result }
+        ensures hand { hand_of result ≡ 0 }
     {
         if pass.next < self.cells {
             return Position::Passing(pass);
@@ -256,6 +293,7 @@ impl<'a> Collector<'a> {
     fn sweep_from(&self, cell: u32) -> Position
         ensures place { collection_of result ≡ in_order (sweep_from self.now.heap cell) }
         ensures placed { IsPlacedAt self.now.heap result }
+        ensures hand { hand_of result ≡ 0 }
     {
         if cell < self.cells {
             return Position::Sweeping(cell);
@@ -283,6 +321,32 @@ impl<'a> Collector<'a> {
         }
         self.layouts.words(self.pools.pool_of(cell))
     }
+}
+
+/// The list after a step whose word held this number: a cell that was looked at is taken off, one that was made grey is put on.
+fn keep_shades(shades: &mut Shades, at: Position, grey_value: u64, found: u64, after: Position)
+    ensures list { (stage : ℕ) → grey_value ≡ grey (cycle_of stage)
+        → shades.new ≡ kept_list (collection_of after) (list_after stage shades.old (collection_of at) found) }
+    ensures cells { (count : ℕ) → hand_of at < count → AreBelow count shades.old → AreBelow count shades.new }
+{
+    match at {
+        Position::Passing(pass) if pass.next > 0 => shades.take_off(),
+        Position::Marking(value, _, _, _) if found < grey_value => shades.add(value),
+        _ => {}
+    }
+    if !is_in_trace(after) {
+        shades.clear();
+    }
+}
+
+/// Whether the collector traces there.
+fn is_in_trace(position: Position) -> bool
+    ensures { (listed : List ℕ) → kept_list (collection_of position) listed ≡ (if result then listed else []) }
+{
+    matches!(
+        position,
+        Position::Passing(_) | Position::Scanning(_, _, _) | Position::Marking(_, _, _, _)
+    )
 }
 
 const FIRST_PASS: Pass = Pass {

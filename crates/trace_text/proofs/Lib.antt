@@ -1,4 +1,3 @@
-pub mod Laws
 pub mod Collected
 pub mod Ranges
 pub mod Seams

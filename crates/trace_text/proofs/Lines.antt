@@ -11,18 +11,24 @@ use Rattle.ir_tokens.specs.Tokens.{lex_from, past_gap}
 use Rattle.grammar.specs.Many.{Listed}
 use Rattle.ir_tokens.specs.Bytes.{Text}
 use Rattle.name_text.specs.Words.{past_blanks, stops}
+use Rattle.name_text.specs.Reader.{noted}
 use Rattle.trace_text.specs.Names.{function_of_word, layout_of_word}
-use Rattle.trace_text.specs.Input.{Input, line_ends, begins, with_pool, with_start, with_steps}
+use Rattle.trace_text.specs.Arrivals.{arrival_of_word, start_word}
+use Rattle.trace_text.specs.Input.{Input, with_pool, with_start, with_steps}
+use Rattle.name_text.specs.Reader.{line_ends, word, begins}
 use Rattle.trace_text.specs.Forms.{argument, put_pool, put_start}
 use Rattle.trace_text.specs.Text.{pool, arguments, start, steps_of, steps_by, steps_line}
 use Rattle.trace_text.specs.Print.{name_text, name_at, struct_name, layout_text, name_of_function, function_text, arguments_text}
 use Rattle.trace_text.specs.declared.trace.Actor.{Actor}
 use Rattle.trace_text.specs.declared.trace.Actor.TheVariants as actor
+use Rattle.trace_text.specs.declared.trace.Arrival.{Arrival}
+use Rattle.trace_text.specs.declared.trace.Arrival.TheVariants.{AtStart, Late}
 use Rattle.trace_text.specs.declared.trace.Start.{Start}
+use Rattle.trace_text.specs.declared.versions.Version.{Version}
 use Rattle.name_text.specs.Spelled.{number_is_inner, number_has_bytes}
 use Rattle.trace_text.proofs.Seams.{IsWord, inner_word, inner_stays, inner_goes_on}
 use Rattle.trace_text.proofs.NameSeams.{name_word, name_stays, signed_word}
-use Rattle.trace_text.proofs.Reading.{at, looked, IsFresh, skipped, expected, function_says, layout_says, argument_says, cells_say, thread_says, steps_say, line_ended, begins_so}
+use Rattle.trace_text.proofs.Reading.{at, looked, IsFresh, word_is, skipped, expected, arrival_says, function_says, layout_says, argument_says, cells_say, thread_says, steps_say, line_ended, begins_so}
 
 abbrev Arguments : List ℕ → Type 0
 Arguments = AllByRecursion (λ argument. argument < 2 ^ 64)
@@ -53,11 +59,22 @@ arguments_listed (a ∷ others) more i all = (
   arguments_listed others more i all.1,
 )
 
+-- ---- threads
+
+-- the first words of threads' lines are words
+pub start_is_word : (begun : Arrival) → IsWord (start_word begun)
+start_is_word AtStart = inner_word (codes "start") refl
+start_is_word Late = inner_word (codes "late") refl
+
+-- in a text of this version a line may begin a thread so
+abbrev pub Allows : Version → Arrival → Type 0
+Allows v begun = arrival_of_word v (start_word begun) ≡ Some begun
+
 -- ---- lines
 
 module _ (m : Module) (more : Text) (fresh : IsFresh more) (i : Input) where
-  pub pool_says : (layout count : ℕ) → layout_of_word m (layout_text m layout) ≡ Some layout → count < 2 ^ 32 → slice_get i.counts layout ≡ Some None
-      → (pool m).says (at (codes "pool " ++ (layout_text m layout ++ 32 ∷ (decimal count ++ 10 ∷ more))) i) tt (at more (with_pool layout count i))
+  pub pool_says : (layout count : ℕ) → layout_of_word m (layout_text m layout) ≡ Some layout → count < 2 ^ 32 → slice_get i.read.counts layout ≡ Some None
+      → (pool m).says (at (codes "pool " ++ (layout_text m layout ++ 32 ∷ (decimal count ++ 10 ∷ more))) i) tt (at more (noted (with_pool layout count) i))
   unfolding pool put_pool with_pool
   pool_says layout count named small free =
       let name = struct_name m (slice_get m.structs layout) in
@@ -86,21 +103,21 @@ module _ (m : Module) (more : Text) (fresh : IsFresh more) (i : Input) where
   function_by None function e = absurd cc
   function_by (Some f) function e = (signed_word 64 (name_text (name_at m.symbols f.symbol)) refl refl (name_word (name_at m.symbols f.symbol)), λ rest. refl)
 
-  pub start_says : (s : Start) → function_of_word m (function_text m s.function) ≡ Some s.function → Arguments s.arguments → length i.starts < 64
-      → (start m).says (at (codes "start " ++ (function_text m s.function ++ (arguments_text s.arguments ++ 10 ∷ more))) i) tt (at more (with_start s.function s.arguments i))
+  pub start_says : (v : Version) (s : Start) → Allows v s.arrival → function_of_word m (function_text m s.function) ≡ Some s.function → Arguments s.arguments → length i.read.starts < 64
+      → (start m v).says (at (start_word s.arrival ++ 32 ∷ (function_text m s.function ++ (arguments_text s.arguments ++ 10 ∷ more))) i) tt (at more (noted (with_start s.arrival s.function s.arguments) i))
   unfolding start put_start with_start arguments
-  start_says s named all room =
+  start_says v s allowed named all room =
       let is_word = function_by (slice_get m.functions s.function) s.function named in
       let behind = arguments_text s.arguments ++ 10 ∷ more in
       let name = function_text m s.function in
-      let has : nat_lt (length i.starts) 64 ≡ true = grind (arith, nat_tests) in (
+      let has : nat_lt (length i.read.starts) 64 ≡ true = grind (arith, nat_tests) in (
         tt,
-        at (codes "start " ++ (name ++ behind)) i,
+        at (start_word s.arrival ++ 32 ∷ (name ++ behind)) i,
         (has, refl),
         (
-          tt,
+          s.arrival,
           at (name ++ behind) i,
-          expected (codes "start") (32 ∷ (name ++ behind)) (name ++ behind) (inner_word (codes "start") refl) refl (is_word.1 behind) i,
+          arrival_says (start_word s.arrival) (32 ∷ (name ++ behind)) (name ++ behind) (start_is_word s.arrival) refl (is_word.1 behind) i v s.arrival allowed,
           (
             s.function,
             at (at_argument s.arguments more) i,
@@ -115,28 +132,28 @@ module _ (m : Module) (more : Text) (fresh : IsFresh more) (i : Input) where
         ),
       )
 
-  -- a thread's line does not end the list of starts
-  pub start_begins : (s : Start) → function_of_word m (function_text m s.function) ≡ Some s.function → (wanted : Text)
-      → begins wanted (at (codes "start " ++ (function_text m s.function ++ (arguments_text s.arguments ++ 10 ∷ more))) i) ≡ bytes_eq (codes "start") wanted
-  start_begins s named wanted =
+  -- the first word of a thread's line
+  pub start_begins : (s : Start) → function_of_word m (function_text m s.function) ≡ Some s.function
+      → word (at (start_word s.arrival ++ 32 ∷ (function_text m s.function ++ (arguments_text s.arguments ++ 10 ∷ more))) i) ≡ start_word s.arrival
+  start_begins s named =
       let behind = arguments_text s.arguments ++ 10 ∷ more in
       let name = function_text m s.function in
       let is_word = function_by (slice_get m.functions s.function) s.function named in
-      begins_so (codes "start") (32 ∷ (name ++ behind)) (name ++ behind) (inner_word (codes "start") refl) refl (is_word.1 behind) i wanted
+      word_is (start_word s.arrival) (32 ∷ (name ++ behind)) (name ++ behind) (start_is_word s.arrival) refl (is_word.1 behind) i
 
 module _ (more : Text) (fresh : IsFresh more) (i : Input) where
-  count_says : (actor : Actor) (count : ℕ) → i.made + count ≤ 10000000
-      → (steps_of actor).says (at (decimal count ++ 10 ∷ more) i) tt (at more (with_steps actor count i))
+  count_says : (actor : Actor) (count : ℕ) → i.read.made + count ≤ 10000000
+      → (steps_of actor).says (at (decimal count ++ 10 ∷ more) i) tt (at more (noted (with_steps actor count) i))
   count_says actor count few =
       let narrow : count < 2 ^ 32 = omega (arith, few) in
       let wide : count < 2 ^ 64 = omega (arith, few) in
-      (tt, at (10 ∷ more) (with_steps actor count i), steps_say count (10 ∷ more) (10 ∷ more) wide refl refl i narrow actor few, line_ended more (with_steps actor count i) fresh)
+      (tt, at (10 ∷ more) (noted (with_steps actor count) i), steps_say count (10 ∷ more) (10 ∷ more) wide refl refl i narrow actor few, line_ended more (noted (with_steps actor count) i) fresh)
 
-  stands : (count : ℕ) → i.made + count ≤ 10000000 → past_blanks (decimal count ++ 10 ∷ more) ≡ decimal count ++ 10 ∷ more
+  stands : (count : ℕ) → i.read.made + count ≤ 10000000 → past_blanks (decimal count ++ 10 ∷ more) ≡ decimal count ++ 10 ∷ more
   stands count few = let wide : count < 2 ^ 64 = omega (arith, few) in inner_stays (decimal count) (10 ∷ more) (number_has_bytes count wide) (number_is_inner count wide)
 
-  pub thread_steps_say : (thread count : ℕ) → thread < length i.starts → length i.starts ≤ 64 → i.made + count ≤ 10000000
-      → steps_line.says (at (codes "t " ++ (decimal thread ++ 32 ∷ (decimal count ++ 10 ∷ more))) i) tt (at more (with_steps (actor.Thread thread) count i))
+  pub thread_steps_say : (thread count : ℕ) → thread < length i.read.starts → length i.read.starts ≤ 64 → i.read.made + count ≤ 10000000
+      → steps_line.says (at (codes "t " ++ (decimal thread ++ 32 ∷ (decimal count ++ 10 ∷ more))) i) tt (at more (noted (with_steps (actor.Thread thread) count) i))
   unfolding steps_line
   thread_steps_say thread count begun few_threads few =
       let narrow : thread < 2 ^ 32 = omega (arith, begun, few_threads) in
@@ -145,7 +162,7 @@ module _ (more : Text) (fresh : IsFresh more) (i : Input) where
       let text = codes "t " ++ (decimal thread ++ behind) in
       let here = inner_stays (decimal thread) behind (number_has_bytes thread wide) (number_is_inner thread wide) in
       let word = inner_word (codes "t") refl in
-      looked (begins (codes "t")) steps_by (at text i) true tt (at more (with_steps (actor.Thread thread) count i))
+      looked (begins (codes "t")) steps_by (at text i) true tt (at more (noted (with_steps (actor.Thread thread) count) i))
       (begins_so (codes "t") (32 ∷ (decimal thread ++ behind)) (decimal thread ++ behind) word refl here i (codes "t")) (
         tt,
         at (decimal thread ++ behind) i,
@@ -158,25 +175,25 @@ module _ (more : Text) (fresh : IsFresh more) (i : Input) where
         ),
       )
 
-  pub collector_steps_say : (count : ℕ) → i.made + count ≤ 10000000
-      → steps_line.says (at (codes "c " ++ (decimal count ++ 10 ∷ more)) i) tt (at more (with_steps actor.Collector count i))
+  pub collector_steps_say : (count : ℕ) → i.read.made + count ≤ 10000000
+      → steps_line.says (at (codes "c " ++ (decimal count ++ 10 ∷ more)) i) tt (at more (noted (with_steps actor.Collector count) i))
   unfolding steps_line
   collector_steps_say count few =
       let next = decimal count ++ 10 ∷ more in
       let word = inner_word (codes "c") refl in
-      looked (begins (codes "t")) steps_by (at (codes "c " ++ next) i) false tt (at more (with_steps actor.Collector count i))
+      looked (begins (codes "t")) steps_by (at (codes "c " ++ next) i) false tt (at more (noted (with_steps actor.Collector count) i))
       (begins_so (codes "c") (32 ∷ next) next word refl (stands count few) i (codes "t"))
       (tt, at next i, expected (codes "c") (32 ∷ next) next word refl (stands count few) i, count_says actor.Collector count few)
 
   -- nor do lines of steps end the list of steps
-  pub thread_begins : (thread count : ℕ) → thread < length i.starts → length i.starts ≤ 64 → (wanted : Text)
+  pub thread_begins : (thread count : ℕ) → thread < length i.read.starts → length i.read.starts ≤ 64 → (wanted : Text)
       → begins wanted (at (codes "t " ++ (decimal thread ++ 32 ∷ (decimal count ++ 10 ∷ more))) i) ≡ bytes_eq (codes "t") wanted
   thread_begins thread count begun few_threads wanted =
       let wide : thread < 2 ^ 64 = omega (arith, begun, few_threads) in
       let behind = 32 ∷ (decimal count ++ 10 ∷ more) in
       begins_so (codes "t") (32 ∷ (decimal thread ++ behind)) (decimal thread ++ behind) (inner_word (codes "t") refl) refl (inner_stays (decimal thread) behind (number_has_bytes thread wide) (number_is_inner thread wide)) i wanted
 
-  pub collector_begins : (count : ℕ) → i.made + count ≤ 10000000 → (wanted : Text) → begins wanted (at (codes "c " ++ (decimal count ++ 10 ∷ more)) i) ≡ bytes_eq (codes "c") wanted
+  pub collector_begins : (count : ℕ) → i.read.made + count ≤ 10000000 → (wanted : Text) → begins wanted (at (codes "c " ++ (decimal count ++ 10 ∷ more)) i) ≡ bytes_eq (codes "c") wanted
   collector_begins count few wanted =
       let next = decimal count ++ 10 ∷ more in
       begins_so (codes "c") (32 ∷ next) next (inner_word (codes "c") refl) refl (stands count few) i wanted

@@ -1,6 +1,6 @@
 -- Printed lists of lines are read as their elements.
 use Rattle.std.proofs.Common.{◌≡◌, ℕ, suc, ◌+◌, ◌<◌, ◌≤◌, ◌^◌, Bool, true, false, not, if◌then◌else◌, List, [], ◌∷◌, ◌++◌, length, map, Option, Some, None, refl, ap, sym, subst, ◌∙◌, arith, append_assoc, length-append}
-use Rattle.std.specs.Prelude.{codes, slice_get, slice_set, sum, unwrap_or, ◌==◌}
+use Rattle.std.specs.Prelude.{codes, is_none, slice_get, slice_set, sum, unwrap_or, ◌==◌}
 use Rattle.std.specs.List.{AllByRecursion, flat_map, range_with_len}
 use Rattle.std.specs.Fmt.{decimal}
 use Rattle.std.proofs.Math.Seq.{set-append_seam}
@@ -10,21 +10,26 @@ use Rattle.ir_ast.specs.declared.module.Module.{Module}
 use Rattle.grammar.specs.Many.{Listed}
 use Rattle.layout.specs.Layouts.{LaidOut}
 use Rattle.ir_tokens.specs.Bytes.{Text}
+use Rattle.name_text.specs.Reader.{noted}
 use Rattle.trace_text.specs.Names.{layout_of_word}
 use Rattle.trace_text.specs.Input.{Input, with_pool, with_start, with_steps}
-use Rattle.trace_text.specs.Text.{pool, past_pools, start, past_starts, steps_line, past_steps}
+use Rattle.trace_text.specs.Arrivals.{arrival_of_word, start_word, past_starts}
+use Rattle.trace_text.specs.Text.{pool, past_pools, start, steps_line, past_steps}
 use Rattle.trace_text.specs.Print.{pool_line, pool_text, layout_text, name_text, struct_name, function_text, arguments_text, start_text, actor_text}
 use Rattle.trace_text.specs.Print as print
 use Rattle.trace_text.specs.Traces.{IsStartOf, IsActorOf, step_sum}
 use Rattle.trace_text.specs.declared.trace.Actor.{Actor}
 use Rattle.trace_text.specs.declared.trace.Actor.TheVariants as actor
+use Rattle.trace_text.specs.declared.trace.Arrival.{Arrival}
+use Rattle.trace_text.specs.declared.trace.Arrival.TheVariants.{AtStart, Late}
 use Rattle.trace_text.specs.declared.trace.Start.{Start}
 use Rattle.trace_text.specs.declared.trace.Steps.{Steps}
+use Rattle.trace_text.specs.declared.versions.Version.{Version}
 use Rattle.trace_text.proofs.Named.{AreRead}
 use Rattle.trace_text.proofs.Seams.{inner_word}
 use Rattle.trace_text.proofs.NameSeams.{name_stays}
 use Rattle.trace_text.proofs.Reading.{at, IsFresh, begins_so}
-use Rattle.trace_text.proofs.Lines.{pool_says, start_says, start_begins, thread_steps_say, thread_begins, collector_steps_say, collector_begins}
+use Rattle.trace_text.proofs.Lines.{Allows, pool_says, start_says, start_begins, thread_steps_say, thread_begins, collector_steps_say, collector_begins}
 
 -- ---- pools
 
@@ -43,7 +48,7 @@ pools_from m layout (count ∷ counts) = pool_line m layout count ++ pools_from 
 
 -- what is left, and the counts that are listed so far
 abbrev pub with_counts : Text → List (Option ℕ) → Input → Input
-with_counts text counts i = record i { rest = text; counts = counts }
+with_counts text counts i = at text (noted (λ p. record p { counts = counts }) i)
 
 abbrev line_of : Module → (layout count : ℕ) → Text
 line_of m layout count = codes "pool " ++ layout_text m layout ++ 32 ∷ (decimal count ++ 10 ∷ [])
@@ -131,41 +136,47 @@ pools_are m pools (count ∷ counts) layout same =
 
 -- what is left, and how the threads begin so far
 abbrev pub with_starts : Text → List Start → Input → Input
-with_starts text starts i = record i { rest = text; starts = starts }
+with_starts text starts i = at text (noted (λ p. record p { starts = starts }) i)
 
 pub start_seam : (m : Module) (s : Start) (others tail : Text)
-    → (start_text m s ++ others) ++ tail ≡ codes "start " ++ (function_text m s.function ++ (arguments_text s.arguments ++ 10 ∷ (others ++ tail)))
+    → (start_text m s ++ others) ++ tail ≡ start_word s.arrival ++ 32 ∷ (function_text m s.function ++ (arguments_text s.arguments ++ 10 ∷ (others ++ tail)))
 start_seam m s others tail =
     let name = function_text m s.function in
     let given = arguments_text s.arguments in
     append_assoc (start_text m s) others tail
-    ∙ ap (λ (text : Text). codes "start " ++ text) (append_assoc (name ++ given) (10 ∷ []) (others ++ tail) ∙ append_assoc name given (10 ∷ (others ++ tail)))
+    ∙ append_assoc (start_word s.arrival ++ 32 ∷ name ++ given) (10 ∷ []) (others ++ tail)
+    ∙ append_assoc (start_word s.arrival ++ 32 ∷ name) given (10 ∷ (others ++ tail))
+    ∙ append_assoc (start_word s.arrival) (32 ∷ name) (given ++ 10 ∷ (others ++ tail))
 
 pub fresh_starts : (m : Module) (starts : List Start) (tail : Text) → IsFresh tail → IsFresh (flat_map (start_text m) starts ++ tail)
 fresh_starts m [] tail fresh = fresh
-fresh_starts m (s ∷ starts) tail fresh = refl
+fresh_starts m (s ∷ starts) tail fresh = by s.arrival
+  where
+    by : (begun : Arrival) → IsFresh (((start_word begun ++ 32 ∷ function_text m s.function ++ arguments_text s.arguments ++ 10 ∷ []) ++ flat_map (start_text m) starts) ++ tail)
+    by AtStart = refl
+    by Late = refl
 
-module _ (p : LaidOut) (named : AreRead p) (tail : Text) (past : (i : Input) → past_starts (at tail i) ≡ true) (fresh : IsFresh tail) (i : Input) where
-  pub starts_listed : (starts done : List Start) → AllByRecursion (IsStartOf p) starts → length done + length starts ≤ 64
-      → (units : List (Unit {0})) × Listed past_starts (start p.of_module).says (with_starts (flat_map (start_text p.of_module) starts ++ tail) done i) units (with_starts tail (done ++ starts) i)
+module _ (p : LaidOut) (named : AreRead p) (v : Version) (tail : Text) (past : (i : Input) → past_starts v (at tail i) ≡ true) (fresh : IsFresh tail) (i : Input) where
+  pub starts_listed : (starts done : List Start) → AllByRecursion (IsStartOf p) starts → AllByRecursion (λ (s : Start). Allows v s.arrival) starts → length done + length starts ≤ 64
+      → (units : List (Unit {0})) × Listed (past_starts v) (start p.of_module v).says (with_starts (flat_map (start_text p.of_module) starts ++ tail) done i) units (with_starts tail (done ++ starts) i)
   unfolding with_start
-  starts_listed [] done all few = ([], (past (with_starts tail done i), ap (λ (starts : List Start). with_starts tail starts i) (sym (append-nil done))))
-  starts_listed (s ∷ starts) done all few =
+  starts_listed [] done all allowed few = ([], (past (with_starts tail done i), ap (λ (starts : List Start). with_starts tail starts i) (sym (append-nil done))))
+  starts_listed (s ∷ starts) done all allowed few =
       let m = p.of_module in
       let others = flat_map (start_text m) starts ++ tail in
       let before = with_starts others done i in
       let behind = function_text m s.function ++ (arguments_text s.arguments ++ 10 ∷ others) in
       let is_named = named.functions s.function all.0.0 in
-      let said = start_says m others (fresh_starts m starts tail fresh) before s is_named all.0.1 (omega (arith, few)) in
-      let here = start_begins m others (fresh_starts m starts tail fresh) before s is_named (codes "start") in
-      let r = starts_listed starts (done ++ s ∷ []) all.1 (omega (arith, few, length-append done (s ∷ []))) in (
+      let said = start_says m others (fresh_starts m starts tail fresh) before v s allowed.0 is_named all.0.1 (omega (arith, few)) in
+      let here = ap (arrival_of_word v) (start_begins m others (fresh_starts m starts tail fresh) before s is_named) ∙ allowed.0 in
+      let r = starts_listed starts (done ++ s ∷ []) all.1 allowed.1 (omega (arith, few, length-append done (s ∷ []))) in (
         tt ∷ r.0,
-        subst (λ (text : Text). Listed past_starts (start m).says (with_starts text done i) (tt ∷ r.0) (with_starts tail (done ++ s ∷ starts) i))
+        subst (λ (text : Text). Listed (past_starts v) (start m v).says (with_starts text done i) (tt ∷ r.0) (with_starts tail (done ++ s ∷ starts) i))
             (sym (start_seam m s (flat_map (start_text m) starts) tail)) (
-              ap not here,
+              ap is_none here,
               with_starts others (done ++ s ∷ []) i,
               said,
-              subst (λ (all_starts : List Start). Listed past_starts (start m).says (with_starts others (done ++ s ∷ []) i) r.0 (with_starts tail all_starts i)) (append_assoc done (s ∷ []) starts) r.1,
+              subst (λ (all_starts : List Start). Listed (past_starts v) (start m v).says (with_starts others (done ++ s ∷ []) i) r.0 (with_starts tail all_starts i)) (append_assoc done (s ∷ []) starts) r.1,
             ),
       )
 
@@ -173,7 +184,7 @@ module _ (p : LaidOut) (named : AreRead p) (tail : Text) (past : (i : Input) →
 
 -- what is left, and the steps so far, with their number
 abbrev pub with_all : Text → List Steps → (made : ℕ) → Input → Input
-with_all text steps made i = record i { rest = text; steps = steps; made = made }
+with_all text steps made i = at text (noted (λ p. record p { steps = steps; made = made }) i)
 
 pub fresh_steps : (steps : List Steps) (tail : Text) → IsFresh tail → IsFresh (flat_map print.steps_line steps ++ tail)
 fresh_steps [] tail fresh = fresh
@@ -197,17 +208,17 @@ collector_seam count more = ap (λ (text : Text). codes "c " ++ text) (append_as
 abbrev IsRead : Actor → (count : ℕ) → (more : Text) → Input → Type 0
 IsRead a count more i =
     (past_steps (at ((actor_text a ++ decimal count ++ 10 ∷ []) ++ more) i) ≡ false)
-    × steps_line.says (at ((actor_text a ++ decimal count ++ 10 ∷ []) ++ more) i) tt (at more (with_steps a count i))
+    × steps_line.says (at ((actor_text a ++ decimal count ++ 10 ∷ []) ++ more) i) tt (at more (noted (with_steps a count) i))
 
-line_is_read : (a : Actor) (count : ℕ) (more : Text) (i : Input) → IsFresh more → IsActorOf (length i.starts) a → length i.starts ≤ 64 → i.made + count ≤ 10000000 → IsRead a count more i
+line_is_read : (a : Actor) (count : ℕ) (more : Text) (i : Input) → IsFresh more → IsActorOf (length i.read.starts) a → length i.read.starts ≤ 64 → i.read.made + count ≤ 10000000 → IsRead a count more i
 line_is_read (actor.Thread thread) count more i fresh begun few_threads few =
-    subst (λ (text : Text). (past_steps (at text i) ≡ false) × steps_line.says (at text i) tt (at more (with_steps (actor.Thread thread) count i))) (sym (thread_seam thread count more))
+    subst (λ (text : Text). (past_steps (at text i) ≡ false) × steps_line.says (at text i) tt (at more (noted (with_steps (actor.Thread thread) count) i))) (sym (thread_seam thread count more))
     (thread_begins more fresh i thread count begun few_threads (codes "end"), thread_steps_say more fresh i thread count begun few_threads few)
 line_is_read actor.Collector count more i fresh begun few_threads few =
-    subst (λ (text : Text). (past_steps (at text i) ≡ false) × steps_line.says (at text i) tt (at more (with_steps actor.Collector count i))) (sym (collector_seam count more))
+    subst (λ (text : Text). (past_steps (at text i) ≡ false) × steps_line.says (at text i) tt (at more (noted (with_steps actor.Collector count) i))) (sym (collector_seam count more))
     (collector_begins more fresh i count few (codes "end"), collector_steps_say more fresh i count few)
 
-module _ (threads : ℕ) (few_threads : threads ≤ 64) (tail : Text) (past : (i : Input) → past_steps (at tail i) ≡ true) (fresh : IsFresh tail) (i : Input) (begun : length i.starts ≡ threads) where
+module _ (threads : ℕ) (few_threads : threads ≤ 64) (tail : Text) (past : (i : Input) → past_steps (at tail i) ≡ true) (fresh : IsFresh tail) (i : Input) (begun : length i.read.starts ≡ threads) where
   pub steps_listed : (steps done : List Steps) (made : ℕ) → AllByRecursion (λ (s : Steps). IsActorOf threads s.actor) steps → made + step_sum steps ≤ 10000000
       → (units : List (Unit {0})) × Listed past_steps steps_line.says (with_all (flat_map print.steps_line steps ++ tail) done made i) units (with_all tail (done ++ steps) (made + step_sum steps) i)
   unfolding with_steps

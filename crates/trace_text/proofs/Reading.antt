@@ -9,13 +9,21 @@ use Rattle.grammar.specs.Grammar.{look}
 use Rattle.ir_tokens.specs.Bytes.{Text}
 use Rattle.name_text.specs.Words.{past_blanks, past_lines, stops}
 use Rattle.name_text.specs.Numbers.{number_of_word}
+use Rattle.name_text.specs.Reader.{noted}
 use Rattle.trace_text.specs.Numbers.{count_of_word}
 use Rattle.trace_text.specs.Names.{function_of_word, layout_of_word}
-use Rattle.trace_text.specs.Input.{Input, Form, word, begins, after, next_line, with_steps}
-use Rattle.trace_text.specs.Forms.{skip, taken, taken_as, expect, line_end, function_name, new_layout, layout_named, layout_by, cell_count, argument, thread, thread_numbered, thread_by, step_count, steps_counted, steps_by, put_steps}
+use Rattle.trace_text.specs.Input.{Input, Form, with_steps}
+use Rattle.name_text.specs.Reader.{word, begins, after, next_line}
+use Rattle.trace_text.specs.Arrivals.{arrival, arrival_of_word, version, version_of_word}
+use Rattle.trace_text.specs.Forms.{function_name, new_layout, layout_named, layout_by, cell_count, argument, thread, thread_numbered, thread_by, step_count, steps_counted, steps_by, put_steps}
+use Rattle.name_text.specs.Forms.{skip, taken, taken_as, expect, line_end}
 use Rattle.trace_text.specs.declared.trace.Actor.{Actor}
+use Rattle.trace_text.specs.declared.trace.Arrival.{Arrival}
+use Rattle.trace_text.specs.declared.versions.Version.{Version}
 use Rattle.name_text.specs.Spelled.{number_read, number_is_inner}
-use Rattle.trace_text.proofs.Seams.{IsWord, word_before, same_bytes, count_read, inner_word}
+use Rattle.name_text.specs.Equal.{same_bytes}
+use Rattle.trace_text.proofs.Seams.{IsWord, word_before, count_read, inner_word}
+use Rattle.trace_text.specs.declared.mistake.Mistake.{Mistake}
 
 -- with this text left
 abbrev pub at : Text → Input → Input
@@ -37,17 +45,17 @@ module _ (w rest next : Text) (is_word : IsWord w) (ends : stops rest ≡ true) 
   pub word_is : word (at (w ++ rest) i) ≡ w
   word_is = word_before w rest is_word ends
 
-  pub skipped : skip.says (at (w ++ rest) i) tt (at next i)
+  pub skipped : (skip {M = Mistake}).says (at (w ++ rest) i) tt (at next i)
   unfolding skip
   skipped = (refl, behind)
 
-  pub taken_says : {A : Type 0} (a : A) → (taken a).says (at (w ++ rest) i) a (at next i)
+  pub taken_says : {A : Type 0} (a : A) → (taken {M = Mistake} a).says (at (w ++ rest) i) a (at next i)
   taken_says a = (tt, at next i, skipped, (refl, refl))
 
   pub begins_so : (wanted : Text) → begins wanted (at (w ++ rest) i) ≡ bytes_eq w wanted
   begins_so wanted = ap (λ (text : Text). bytes_eq text wanted) word_is
 
-  pub expected : (expect w).says (at (w ++ rest) i) tt (at next i)
+  pub expected : (expect {M = Mistake} w).says (at (w ++ rest) i) tt (at next i)
   unfolding expect
   expected = (tt, at (w ++ rest) i, (begins_so w ∙ same_bytes w, refl), skipped)
 
@@ -56,11 +64,19 @@ module _ (w rest next : Text) (is_word : IsWord w) (ends : stops rest ≡ true) 
   function_says m function named =
       looked (λ i. function_of_word m (word i)) taken_as (at (w ++ rest) i) (Some function) function (at next i) (ap (function_of_word m) word_is ∙ named) (taken_says function)
 
-  pub layout_says : (m : Module) (layout : ℕ) → layout_of_word m w ≡ Some layout → slice_get i.counts layout ≡ Some None → (new_layout m).says (at (w ++ rest) i) layout (at next i)
+  pub version_says : (v : Version) → version_of_word w ≡ Some v → version.says (at (w ++ rest) i) v (at next i)
+  unfolding version
+  version_says v is = looked (λ i. version_of_word (word i)) taken_as (at (w ++ rest) i) (Some v) v (at next i) (ap version_of_word word_is ∙ is) (taken_says v)
+
+  pub arrival_says : (v : Version) (begun : Arrival) → arrival_of_word v w ≡ Some begun → (arrival v).says (at (w ++ rest) i) begun (at next i)
+  unfolding arrival
+  arrival_says v begun is = looked (λ i. arrival_of_word v (word i)) taken_as (at (w ++ rest) i) (Some begun) begun (at next i) (ap (arrival_of_word v) word_is ∙ is) (taken_says begun)
+
+  pub layout_says : (m : Module) (layout : ℕ) → layout_of_word m w ≡ Some layout → slice_get i.read.counts layout ≡ Some None → (new_layout m).says (at (w ++ rest) i) layout (at next i)
   unfolding new_layout
   layout_says m layout named free =
       looked (λ i. layout_of_word m (word i)) layout_named (at (w ++ rest) i) (Some layout) layout (at next i) (ap (layout_of_word m) word_is ∙ named)
-      (looked (λ i. slice_get i.counts layout) (layout_by layout) (at (w ++ rest) i) (Some None) layout (at next i) free (taken_says layout))
+      (looked (λ i. slice_get i.read.counts layout) (layout_by layout) (at (w ++ rest) i) (Some None) layout (at next i) free (taken_says layout))
 
 module _ (n : ℕ) (rest next : Text) (less : n < 2 ^ 64) (ends : stops rest ≡ true) (blanks : past_blanks rest ≡ next) (i : Input) where
   number_word : IsWord (decimal n)
@@ -69,7 +85,7 @@ module _ (n : ℕ) (rest next : Text) (less : n < 2 ^ 64) (ends : stops rest ≡
   digits_are : word (at (decimal n ++ rest) i) ≡ decimal n
   digits_are = word_is (decimal n) rest next number_word ends blanks i
 
-  number_taken : (taken n).says (at (decimal n ++ rest) i) n (at next i)
+  number_taken : (taken {M = Mistake} n).says (at (decimal n ++ rest) i) n (at next i)
   number_taken = taken_says (decimal n) rest next number_word ends blanks i n
 
   pub argument_says : argument.says (at (decimal n ++ rest) i) n (at next i)
@@ -83,22 +99,22 @@ module _ (n : ℕ) (rest next : Text) (less : n < 2 ^ 64) (ends : stops rest ≡
   unfolding cell_count
   cells_say narrow = looked (λ i. count_of_word (word i)) taken_as (at (decimal n ++ rest) i) (Some n) n (at next i) (count_is narrow) number_taken
 
-  pub thread_says : n < 2 ^ 32 → n < length i.starts → thread.says (at (decimal n ++ rest) i) n (at next i)
+  pub thread_says : n < 2 ^ 32 → n < length i.read.starts → thread.says (at (decimal n ++ rest) i) n (at next i)
   unfolding thread
   thread_says narrow begun =
-      let is_thread : nat_lt n (length i.starts) ≡ true = grind (arith, nat_tests) in
+      let is_thread : nat_lt n (length i.read.starts) ≡ true = grind (arith, nat_tests) in
       looked (λ i. count_of_word (word i)) thread_numbered (at (decimal n ++ rest) i) (Some n) n (at next i) (count_is narrow)
-      (looked (λ i. nat_lt n (length i.starts)) (thread_by n) (at (decimal n ++ rest) i) true n (at next i) is_thread number_taken)
+      (looked (λ i. nat_lt n (length i.read.starts)) (thread_by n) (at (decimal n ++ rest) i) true n (at next i) is_thread number_taken)
 
-  pub steps_say : n < 2 ^ 32 → (actor : Actor) → i.made + n ≤ 10000000 → (step_count actor).says (at (decimal n ++ rest) i) tt (at next (with_steps actor n i))
+  pub steps_say : n < 2 ^ 32 → (actor : Actor) → i.read.made + n ≤ 10000000 → (step_count actor).says (at (decimal n ++ rest) i) tt (at next (noted (with_steps actor n) i))
   unfolding step_count put_steps with_steps
   steps_say narrow actor few =
-      let fits : nat_le (i.made + n) 10000000 ≡ true = grind (arith, nat_tests) in
-      looked (λ i. count_of_word (word i)) (steps_counted actor) (at (decimal n ++ rest) i) (Some n) tt (at next (with_steps actor n i)) (count_is narrow)
-      (looked (λ i. nat_le (i.made + n) 10000000) (steps_by actor n) (at (decimal n ++ rest) i) true tt (at next (with_steps actor n i)) fits
-      (tt, at (decimal n ++ rest) (with_steps actor n i), (refl, refl), skipped (decimal n) rest next number_word ends blanks (with_steps actor n i)))
+      let fits : nat_le (i.read.made + n) 10000000 ≡ true = grind (arith, nat_tests) in
+      looked (λ i. count_of_word (word i)) (steps_counted actor) (at (decimal n ++ rest) i) (Some n) tt (at next (noted (with_steps actor n) i)) (count_is narrow)
+      (looked (λ i. nat_le (i.read.made + n) 10000000) (steps_by actor n) (at (decimal n ++ rest) i) true tt (at next (noted (with_steps actor n) i)) fits
+      (tt, at (decimal n ++ rest) (noted (with_steps actor n) i), (refl, refl), skipped (decimal n) rest next number_word ends blanks (noted (with_steps actor n) i)))
 
 -- the end of a line before such a text
-pub line_ended : (more : Text) (i : Input) → IsFresh more → line_end.says (at (10 ∷ more) i) tt (at more i)
+pub line_ended : (more : Text) (i : Input) → IsFresh more → (line_end {M = Mistake}).says (at (10 ∷ more) i) tt (at more i)
 unfolding line_end next_line
 line_ended more i fresh = (tt, at (10 ∷ more) i, (refl, refl), (refl, ap (λ (text : Text). at text i) fresh))

@@ -1,25 +1,33 @@
 -- What is printed of a trace is a text of it.
 use Rattle.std.proofs.Common.{◌≡◌, ℕ, zero, suc, ◌+◌, ◌<◌, ◌≤◌, ◌^◌, Bool, true, false, not, if◌then◌else◌, List, [], ◌∷◌, ◌++◌, length, map, Option, Some, None, refl, ap, sym, subst, ◌∙◌, arith, append_assoc, get_or}
-use Rattle.std.specs.Prelude.{codes, replicate, slice_get, sum, nat_le, ◌==◌}
-use Rattle.std.specs.List.{AllByRecursion, flat_map}
+use Rattle.std.specs.Prelude.{codes, is_none, replicate, slice_get, sum, nat_le, ◌==◌}
+use Rattle.std.specs.List.{AllByRecursion, flat_map, list_any}
+use Rattle.std.specs.Str.{bytes_eq}
 use Rattle.std.proofs.lemmas.Bool.{eqb-true}
 use Rattle.std.proofs.lemmas.Bool.Decides.{nat_tests}
 use Rattle.std.proofs.lemmas.List.FromFn.{fill_by_all}
+use Rattle.lemmas.specs.Bools.{or_neither}
 use Rattle.layout.specs.Layouts.{LaidOut}
 use Rattle.pools.specs.Heap.{cells_in}
 use Rattle.ir_tokens.specs.Bytes.{Text}
+use Rattle.name_text.specs.Reader.{noted}
 use Rattle.trace_text.specs.Input.{Input, emptied}
+use Rattle.trace_text.specs.Arrivals.{is_late, start_word, arrival_of_word, past_starts, version_of}
 use Rattle.trace_text.specs.Text.{count_or_none, counts_of, if_fitting, pools_of, finished_by, finished, heading, pools, past_pools, starts, setup, all_steps, steps, file, IsTrace}
-use Rattle.trace_text.specs.Print.{pools_text, start_text, trace_shown}
+use Rattle.trace_text.specs.Print.{pools_text, start_text, heading_text, trace_shown}
 use Rattle.trace_text.specs.Print as print
 use Rattle.trace_text.specs.Traces.{IsStartOf, IsTraceOf, step_sum}
+use Rattle.trace_text.specs.declared.trace.Arrival.{Arrival}
+use Rattle.trace_text.specs.declared.trace.Arrival.TheVariants.{AtStart, Late}
 use Rattle.trace_text.specs.declared.trace.Start.{Start}
 use Rattle.trace_text.specs.declared.trace.Steps.{Steps}
 use Rattle.trace_text.specs.declared.trace.Trace.{Trace}
+use Rattle.trace_text.specs.declared.versions.Version.{Version}
+use Rattle.trace_text.specs.declared.versions.Version.TheVariants.{One, Two}
 use Rattle.trace_text.proofs.Named.{AreRead}
 use Rattle.trace_text.proofs.Seams.{inner_word}
-use Rattle.trace_text.proofs.Reading.{at, looked, IsFresh, expected, begins_so, line_ended}
-use Rattle.trace_text.proofs.Lines.{start_begins}
+use Rattle.trace_text.proofs.Reading.{at, looked, IsFresh, word_is, expected, version_says, begins_so, line_ended}
+use Rattle.trace_text.proofs.Lines.{Allows, start_begins}
 use Rattle.trace_text.proofs.Lists.{start_seam, listed_count, no_counts, pools_from, fresh_pools, pools_listed, pools_are, fresh_starts, starts_listed, fresh_steps, steps_listed}
 
 -- ---- the pools that are listed
@@ -45,11 +53,48 @@ no_counts_are : (counts : List ℕ) → replicate (length counts) None ≡ no_co
 no_counts_are [] = refl
 no_counts_are (count ∷ counts) = ap (λ (others : List (Option ℕ)). None ∷ others) (no_counts_are counts)
 
+-- ---- when threads begin
+
+by_any : (v : Version) → Allows v AtStart
+by_any One = refl
+by_any Two = refl
+
+by_second : (begun : Arrival) → Allows Two begun
+by_second AtStart = refl
+by_second Late = refl
+
+all_by_second : (starts : List Start) → AllByRecursion (λ (s : Start). Allows Two s.arrival) starts
+all_by_second [] = tt
+all_by_second (s ∷ starts) = (by_second s.arrival, all_by_second starts)
+
+not_late : (begun : Arrival) → is_late begun ≡ false → Allows One begun
+not_late AtStart e = refl
+not_late Late e = absurd cc
+
+all_by_first : (starts : List Start) → list_any (λ (s : Start). is_late s.arrival) starts ≡ false → AllByRecursion (λ (s : Start). Allows One s.arrival) starts
+all_by_first [] e = tt
+all_by_first (s ∷ starts) e =
+    let parts = or_neither (is_late s.arrival) (list_any (λ (s : Start). is_late s.arrival) starts) e in
+    (not_late s.arrival parts.0, all_by_first starts parts.1)
+
+-- the version in which threads are written allows each of them
+all_allowed : (starts : List Start) → AllByRecursion (λ (s : Start). Allows (version_of starts) s.arrival) starts
+all_allowed starts = by (list_any (λ (s : Start). is_late s.arrival) starts) refl
+  where
+    by : (t : Bool) → list_any (λ (s : Start). is_late s.arrival) starts ≡ t → AllByRecursion (λ (s : Start). Allows (if t then Two else One) s.arrival) starts
+    by true e = all_by_second starts
+    by false e = all_by_first starts e
+
 -- ---- the parts of the text
 
 -- what is left, with all that is read so far
 abbrev state : Text → List (Option ℕ) → List Start → List Steps → (made : ℕ) → Input
-state text counts starts steps made = record { rest = text; counts = counts; starts = starts; steps = steps; made = made }
+state text counts starts steps made = record { rest = text; read = record { counts = counts; starts = starts; steps = steps; made = made } }
+
+-- no thread's line begins as a pool's does
+no_pool : (begun : Arrival) → bytes_eq (start_word begun) (codes "pool") ≡ false
+no_pool AtStart = refl
+no_pool Late = refl
 
 -- no pool comes where threads begin, or after them
 past_all_pools : (p : LaidOut) → AreRead p → (all : List Start) → AllByRecursion (IsStartOf p) all → (behind : Text) → IsFresh (codes "steps" ++ 10 ∷ behind) → (i : Input)
@@ -58,10 +103,50 @@ past_all_pools p named [] own behind fresh i = ap not (begins_so (codes "steps")
 past_all_pools p named (s ∷ all) own behind fresh i =
     let m = p.of_module in
     let tail = codes "steps" ++ 10 ∷ behind in
-    let here = start_begins m (flat_map (start_text m) all ++ tail) (fresh_starts m all tail fresh) i s (named.functions s.function own.0.0) (codes "pool") in
-    ap (λ (text : Text). past_pools (at text i)) (start_seam m s (flat_map (start_text m) all) tail) ∙ ap not here
+    let here = start_begins m (flat_map (start_text m) all ++ tail) (fresh_starts m all tail fresh) i s (named.functions s.function own.0.0) in
+    ap (λ (text : Text). past_pools (at text i)) (start_seam m s (flat_map (start_text m) all) tail)
+    ∙ ap (λ (word : Text). not (bytes_eq word (codes "pool"))) here
+    ∙ ap not (no_pool s.arrival)
+
+-- no thread begins after the others
+past_all_starts : (v : Version) (behind : Text) (i : Input) → past_starts v (at (codes "steps" ++ 10 ∷ behind) i) ≡ true
+past_all_starts v behind i =
+    ap (λ (word : Text). is_none (arrival_of_word v word)) (word_is (codes "steps") (10 ∷ behind) (10 ∷ behind) (inner_word (codes "steps") refl) refl refl i)
+
+-- the first line
+fresh_heading : (v : Version) (behind : Text) → IsFresh (heading_text v ++ behind)
+fresh_heading One behind = refl
+fresh_heading Two behind = refl
+
+heading_by : (v : Version) (behind : Text) (i : Input) → IsFresh behind → heading.says (at (heading_text v ++ behind) i) v (at behind i)
+unfolding heading
+heading_by One behind i fresh = (
+  tt,
+  at (codes "1" ++ 10 ∷ behind) i,
+  expected (codes "trace") (32 ∷ (codes "1" ++ 10 ∷ behind)) (codes "1" ++ 10 ∷ behind) (inner_word (codes "trace") refl) refl refl i,
+  (
+    One,
+    at (10 ∷ behind) i,
+    version_says (codes "1") (10 ∷ behind) (10 ∷ behind) (inner_word (codes "1") refl) refl refl i One refl,
+    (tt, at behind i, line_ended behind i fresh, (refl, refl)),
+  ),
+)
+heading_by Two behind i fresh = (
+  tt,
+  at (codes "2" ++ 10 ∷ behind) i,
+  expected (codes "trace") (32 ∷ (codes "2" ++ 10 ∷ behind)) (codes "2" ++ 10 ∷ behind) (inner_word (codes "trace") refl) refl refl i,
+  (
+    Two,
+    at (10 ∷ behind) i,
+    version_says (codes "2") (10 ∷ behind) (10 ∷ behind) (inner_word (codes "2") refl) refl refl i Two refl,
+    (tt, at behind i, line_ended behind i fresh, (refl, refl)),
+  ),
+)
 
 module _ (p : LaidOut) (trace : Trace) (named : AreRead p) (own : IsTraceOf p trace) where
+  abbrev written_in : Version
+  written_in = version_of trace.setup.starts
+
   abbrev last : Text
   last = codes "end" ++ 10 ∷ []
 
@@ -78,7 +163,7 @@ module _ (p : LaidOut) (trace : Trace) (named : AreRead p) (own : IsTraceOf p tr
   behind_heading = pools_from p.of_module 0 trace.setup.pools ++ behind_pools
 
   abbrev whole : Text
-  whole = codes "trace 1" ++ 10 ∷ behind_heading
+  whole = heading_text written_in ++ behind_heading
 
   all_shown : trace_shown p trace ≡ whole
   all_shown =
@@ -86,10 +171,10 @@ module _ (p : LaidOut) (trace : Trace) (named : AreRead p) (own : IsTraceOf p tr
       let lines : pools_text p.of_module (length p.layouts) counts ≡ pools_from p.of_module 0 counts =
       ap (λ (n : ℕ). pools_text p.of_module n counts) (sym own.one_each) ∙ pools_are p.of_module counts counts 0 (λ n. (let same : 0 + n ≡ n = omega arith in ap (slice_get counts) same)) in
       let of_starts = flat_map (start_text p.of_module) trace.setup.starts in
-      ap (λ (text : Text). codes "trace 1" ++ 10 ∷ text)
-      (append_assoc (pools_text p.of_module (length p.layouts) counts ++ of_starts) (codes "steps" ++ 10 ∷ flat_map print.steps_line trace.steps) last
-      ∙ append_assoc (pools_text p.of_module (length p.layouts) counts) of_starts behind_starts
-      ∙ ap (λ (text : Text). text ++ behind_pools) lines)
+      append_assoc ((heading_text written_in ++ pools_text p.of_module (length p.layouts) counts) ++ of_starts) (codes "steps" ++ 10 ∷ flat_map print.steps_line trace.steps) last
+      ∙ append_assoc (heading_text written_in ++ pools_text p.of_module (length p.layouts) counts) of_starts behind_starts
+      ∙ append_assoc (heading_text written_in) (pools_text p.of_module (length p.layouts) counts) behind_pools
+      ∙ ap (λ (text : Text). heading_text written_in ++ (text ++ behind_pools)) lines
 
   abbrev counts_read : List (Option ℕ)
   counts_read = map listed_count trace.setup.pools
@@ -97,21 +182,10 @@ module _ (p : LaidOut) (trace : Trace) (named : AreRead p) (own : IsTraceOf p tr
   fresh_behind : IsFresh behind_pools
   fresh_behind = fresh_starts p.of_module trace.setup.starts behind_starts refl
 
-  heading_says : (i : Input) → heading.says (at whole i) tt (at behind_heading i)
-  unfolding heading
-  heading_says i = (
-    tt,
-    at (codes "1" ++ 10 ∷ behind_heading) i,
-    expected (codes "trace") (32 ∷ (codes "1" ++ 10 ∷ behind_heading)) (codes "1" ++ 10 ∷ behind_heading) (inner_word (codes "trace") refl) refl refl i,
-    (
-      tt,
-      at (10 ∷ behind_heading) i,
-      expected (codes "1") (10 ∷ behind_heading) (10 ∷ behind_heading) (inner_word (codes "1") refl) refl refl i,
-      line_ended behind_heading i (fresh_pools p.of_module 0 trace.setup.pools behind_pools fresh_behind),
-    ),
-  )
+  heading_says : (i : Input) → heading.says (at whole i) written_in (at behind_heading i)
+  heading_says i = heading_by written_in behind_heading i (fresh_pools p.of_module 0 trace.setup.pools behind_pools fresh_behind)
 
-  setup_says : (setup p.of_module).says (state behind_heading (no_counts trace.setup.pools) [] [] 0) tt (state behind_starts counts_read trace.setup.starts [] 0)
+  setup_says : (setup p.of_module written_in).says (state behind_heading (no_counts trace.setup.pools) [] [] 0) tt (state behind_starts counts_read trace.setup.starts [] 0)
   unfolding setup pools starts
   setup_says =
       let before = state behind_heading (no_counts trace.setup.pools) [] [] 0 in
@@ -120,8 +194,7 @@ module _ (p : LaidOut) (trace : Trace) (named : AreRead p) (own : IsTraceOf p tr
       let all_pools =
       pools_listed p.of_module (length p.layouts) named.layouts behind_pools (past_all_pools p named trace.setup.starts own.starts of_steps refl) fresh_behind before trace.setup.pools 0 [] refl
       (omega (arith, own.one_each)) small in
-      let past_them = λ (i : Input). ap not (begins_so (codes "steps") (10 ∷ of_steps) (10 ∷ of_steps) (inner_word (codes "steps") refl) refl refl i (codes "start")) in
-      let all_starts = starts_listed p named behind_starts past_them refl between trace.setup.starts [] own.starts (omega (arith, own.threads)) in
+      let all_starts = starts_listed p named written_in behind_starts (past_all_starts written_in of_steps) refl between trace.setup.starts [] own.starts (all_allowed trace.setup.starts) (omega (arith, own.threads)) in
       (tt, between, (all_pools.0, between, all_pools.1, (refl, refl)), (all_starts.0, state behind_starts counts_read trace.setup.starts [] 0, all_starts.1, (refl, refl)))
 
   steps_are_said : steps.says (state behind_starts counts_read trace.setup.starts [] 0) tt (state [] counts_read trace.setup.starts trace.steps (0 + step_sum trace.steps))
@@ -154,19 +227,19 @@ module _ (p : LaidOut) (trace : Trace) (named : AreRead p) (own : IsTraceOf p tr
         ),
       )
 
-  finished_says : (i : Input) → i.counts ≡ counts_read → i.starts ≡ trace.setup.starts → i.steps ≡ trace.steps → (finished p).says i trace (emptied i)
+  finished_says : (i : Input) → i.read.counts ≡ counts_read → i.read.starts ≡ trace.setup.starts → i.read.steps ≡ trace.steps → (finished p).says i trace (noted emptied i)
   unfolding finished
   finished_says i same_counts same_starts same_steps =
-      looked (λ i. pools_of p i.counts) finished_by i (Some trace.setup.pools) trace (emptied i)
+      looked (λ i. pools_of p i.read.counts) finished_by i (Some trace.setup.pools) trace (noted emptied i)
       (ap (pools_of p) same_counts ∙ pools_fit p trace.setup.pools own.one_each own.cells)
       (rw (same_starts, same_steps) refl, refl)
 
-  file_says : (file p).says (state whole (no_counts trace.setup.pools) [] [] 0) trace (emptied (state [] counts_read trace.setup.starts trace.steps (0 + step_sum trace.steps)))
+  file_says : (file p).says (state whole (no_counts trace.setup.pools) [] [] 0) trace (noted emptied (state [] counts_read trace.setup.starts trace.steps (0 + step_sum trace.steps)))
   unfolding file
   file_says =
       let before = state whole (no_counts trace.setup.pools) [] [] 0 in
       let behind = state [] counts_read trace.setup.starts trace.steps (0 + step_sum trace.steps) in (
-        tt,
+        written_in,
         at behind_heading before,
         heading_says before,
         (
@@ -179,7 +252,10 @@ module _ (p : LaidOut) (trace : Trace) (named : AreRead p) (own : IsTraceOf p tr
 
   pub round_trip : IsTrace (trace_shown p trace) p trace
   round_trip =
-      let behind = emptied (state [] counts_read trace.setup.starts trace.steps (0 + step_sum trace.steps)) in
+      let behind = noted emptied (state [] counts_read trace.setup.starts trace.steps (0 + step_sum trace.steps)) in
       let none : replicate (length p.layouts) None ≡ no_counts trace.setup.pools = ap (λ (n : ℕ). replicate n None) (sym own.one_each) ∙ no_counts_are trace.setup.pools in
-      subst (λ (text : Text). IsTrace text p trace) (sym all_shown)
-      (behind, subst (λ (counts : List (Option ℕ)). (file p).says (state whole counts [] [] 0) trace behind) (sym none) file_says)
+      subst (λ (text : Text). IsTrace text p trace) (sym all_shown) (
+        behind,
+        subst (λ (text : Text). (file p).says (state text (replicate (length p.layouts) None) [] [] 0) trace behind) (sym (fresh_heading written_in behind_heading))
+            (subst (λ (counts : List (Option ℕ)). (file p).says (state whole counts [] [] 0) trace behind) (sym none) file_says),
+      )

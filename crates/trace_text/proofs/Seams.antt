@@ -1,11 +1,9 @@
 -- Where printed words end, and what follows them.
 use Rattle.std.proofs.Common.{◌≡◌, ℕ, ◌-◌, ◌<◌, ◌^◌, true, false, not, [], ◌∷◌, ◌++◌, length, take, Some, refl, ap, ◌∙◌, arith, length-append}
-use Rattle.std.specs.Prelude.{◌==◌, ◌||◌, nat_eq}
+use Rattle.std.specs.Prelude.{◌==◌, ◌||◌}
 use Rattle.std.specs.List.{list_all}
-use Rattle.std.specs.Str.{bytes_eq}
 use Rattle.std.specs.Fmt.{decimal}
 use Rattle.std.proofs.Math.Seq.{take-append_seam}
-use Rattle.std.proofs.lemmas.Bool.Decides.{nat_tests}
 use Rattle.lemmas.specs.Bools.{and_parts, not_true, or_neither}
 use Rattle.ir_tokens.specs.Bytes.{Text}
 use Rattle.name_text.specs.Words.{ends_word, past_word, word_at, past_blanks, ends_line, stops}
@@ -27,10 +25,6 @@ pub word_before : (w rest : Text) → IsWord w → stops rest ≡ true → word_
 word_before w rest word ends =
     let long : length (w ++ rest) - length (past_word false (w ++ rest)) ≡ length w = let same = ap length (word rest ends) in omega (arith, same, length-append w rest) in
     ap (λ (n : ℕ). take n (w ++ rest)) long ∙ take-append_seam w rest
-
-pub same_bytes : (w : Text) → bytes_eq w w ≡ true
-same_bytes [] = refl
-same_bytes (byte ∷ w) = let here : nat_eq byte byte ≡ true = grind (arith, nat_tests) in rw (here, same_bytes w) refl
 
 -- what is no blank and no comment stays
 pub inner_stays : (w rest : Text) → 0 < length w → list_all is_word_byte w ≡ true → past_blanks (w ++ rest) ≡ w ++ rest

@@ -1,10 +1,9 @@
 pub mod Numbers
 pub mod Names
 pub mod Input
-pub mod View
-pub mod Falls
 pub mod Forms
 pub mod Ends
+pub mod Arrivals
 pub mod Text
 pub mod Print
 pub mod Traces

@@ -10,11 +10,14 @@ use Rattle.ir_tokens.specs.Bytes.{Text}
 use Rattle.layout.specs.Layouts.{LaidOut}
 use Rattle.name_text.specs.Names as names
 use Rattle.name_text.specs.declared.blank.Blank.TheVariants as blank
+use Rattle.trace_text.specs.Arrivals.{start_word, version_of}
 use Rattle.trace_text.specs.declared.trace.Actor.{Actor}
 use Rattle.trace_text.specs.declared.trace.Actor.TheVariants as actor
 use Rattle.trace_text.specs.declared.trace.Start.{Start}
 use Rattle.trace_text.specs.declared.trace.Steps.{Steps}
 use Rattle.trace_text.specs.declared.trace.Trace.{Trace}
+use Rattle.trace_text.specs.declared.versions.Version.{Version}
+use Rattle.trace_text.specs.declared.versions.Version.TheVariants.{One, Two}
 
 -- ---- names
 
@@ -55,7 +58,7 @@ arguments_text = flat_map (λ argument. 32 ∷ decimal argument)
 
 -- the line of a thread
 abbrev pub start_text : Module → Start → Text
-start_text m start = codes "start " ++ function_text m start.function ++ arguments_text start.arguments ++ 10 ∷ []
+start_text m start = start_word start.arrival ++ 32 ∷ function_text m start.function ++ arguments_text start.arguments ++ 10 ∷ []
 
 -- who makes steps
 abbrev pub actor_text : Actor → Text
@@ -66,10 +69,16 @@ actor_text actor.Collector = codes "c "
 abbrev pub steps_line : Steps → Text
 steps_line steps = actor_text steps.actor ++ decimal steps.count ++ 10 ∷ []
 
+-- the first line
+abbrev pub heading_text : Version → Text
+heading_text One = codes "trace 1" ++ 10 ∷ []
+heading_text Two = codes "trace 2" ++ 10 ∷ []
+
 -- the lines of a trace, for this number of layouts
 abbrev pub trace_lines : Module → (layouts : ℕ) → Trace → Text
 trace_lines m layouts trace =
-    codes "trace 1" ++ 10 ∷ pools_text m layouts trace.setup.pools
+    heading_text (version_of trace.setup.starts)
+    ++ pools_text m layouts trace.setup.pools
     ++ flat_map (start_text m) trace.setup.starts
     ++ (codes "steps" ++ 10 ∷ flat_map steps_line trace.steps)
     ++ (codes "end" ++ 10 ∷ [])

@@ -1,25 +1,31 @@
 -- The lines of a trace, and a trace's text.
-use Rattle.std.specs.Prelude.{◌≡◌, ℕ, Bool, true, false, not, nat_le, nat_lt, if◌then◌else◌, List, length, map, Option, Some, None, Result, Ok, Err, slice_get, codes}
+use Rattle.std.specs.Prelude.{◌≡◌, ℕ, Bool, true, false, not, nat_le, nat_lt, if◌then◌else◌, List, length, map, Option, Some, None, slice_get, codes}
 use Rattle.std.specs.List.{range_with_len}
 use Rattle.std.proofs.Common.{lit<}
 use Rattle.ir_ast.specs.declared.module.Module.{Module}
 use Rattle.grammar.specs.Grammar.{pure, ◌>>=◌, ◌>>◌, step, checked, look, refuse}
 use Rattle.grammar.specs.Many.{many}
-use Rattle.grammar.specs.Outcome.{Outcome}
 use Rattle.grammar.specs.Takes.{Takes, TakesWhere, first_takes, first_takes_where, second_takes, look_takes}
 use Rattle.name_text.specs.Places.{place}
 use Rattle.layout.specs.Layouts.{LaidOut}
 use Rattle.pools.specs.Heap.{cells_in}
 use Rattle.ir_tokens.specs.Bytes.{Text as Bytes}
-use Rattle.trace_text.specs.Input.{Input, Form, left, start_of, ended, begins, line_ends, emptied}
-use Rattle.trace_text.specs.Falls.{emptied_falls}
-use Rattle.trace_text.specs.Forms.{skip, expect, line_end, function_name, new_layout, cell_count, argument, thread, put_pool, put_start, step_count}
-use Rattle.trace_text.specs.Ends.{expect_takes, word_taken, argument_takes}
+use Rattle.name_text.specs.Reader.{left, ended, begins, line_ends, noted, noted_falls}
+use Rattle.name_text.specs.Forms.{skip, expect, line_end, word_taken, expect_takes}
+use Rattle.trace_text.specs.Input.{Input, Form, start_of, emptied}
+use Rattle.trace_text.specs.Forms.{function_name, new_layout, cell_count, argument, thread, put_pool, put_start, step_count}
+use Rattle.trace_text.specs.Ends.{argument_takes}
+use Rattle.trace_text.specs.Arrivals.{version, arrival, past_starts, arrival_takes}
 use Rattle.trace_text.specs.declared.trace.Actor.{Actor}
 use Rattle.trace_text.specs.declared.trace.Actor.TheVariants as actor
+use Rattle.trace_text.specs.declared.trace.Arrival.{Arrival}
 use Rattle.trace_text.specs.declared.trace.Trace.{Trace}
-use Rattle.trace_text.specs.declared.fault.Found.{Found}
-use Rattle.trace_text.specs.declared.fault.Found.TheVariants.{Syntax, NoThread, TooManySteps, TooManyCells, Memory}
+use Rattle.trace_text.specs.declared.versions.Version.{Version}
+use Rattle.name_text.specs.declared.found.Found.{Found}
+use Rattle.name_text.specs.declared.found.Found.TheVariants.{Syntax, Wrong, Memory}
+use Rattle.trace_text.specs.declared.mistake.Mistake.{Mistake}
+use Rattle.trace_text.specs.declared.mistake.Mistake.TheVariants.{NoThread, TooManySteps, TooManyCells}
+use Rattle.trace_text.specs.declared.progress.Progress.{Progress}
 use Rattle.trace_text.specs.declared.fault.TraceFault.{TraceFault}
 use Rattle.trace_text.specs.declared.fault.TraceFault.TheVariants as fault
 
@@ -40,7 +46,7 @@ pool m = expect (codes "pool") >> pool_behind m
 -- a pool takes bytes
 pub pool_takes : (m : Module) → Takes (pool m)
 unfolding pool
-pool_takes m = first_takes (expect (codes "pool")) (λ _. pool_behind m) (expect_takes (codes "pool") (lit< tt))
+pool_takes m = first_takes (expect (codes "pool")) (λ _. pool_behind m) (expect_takes Progress Mistake (codes "pool") (lit< tt))
 
 -- no pool comes here
 abbrev pub past_pools : Input → Bool
@@ -58,34 +64,30 @@ arguments = many line_ends argument argument_takes
 
 -- whether fewer than 64 threads begin so far
 abbrev pub has_room : Input → Bool
-has_room i = nat_lt (length i.starts) 64
+has_room i = nat_lt (length i.read.starts) 64
 
 -- a start after its first word
-abbrev pub start_behind : Module → Form (Unit {0})
-start_behind m = do
+abbrev pub start_behind : Module → Arrival → Form (Unit {0})
+start_behind m begun = do
   function ← function_name m
   arguments ← arguments
   line_end
-  put_start function arguments
+  put_start begun function arguments
 
 -- how a thread begins, if there are not 64 of them
-unfoldable pub start : Module → Form (Unit {0})
-start m = checked has_room (λ i. Syntax (left i)) >> (expect (codes "start") >> start_behind m)
+unfoldable pub start : Module → Version → Form (Unit {0})
+start m v = checked has_room (λ i. Syntax (left i)) >> (arrival v >>= start_behind m)
 
 -- a start takes bytes
-pub start_takes : (m : Module) → Takes (start m)
+pub start_takes : (m : Module) (v : Version) → Takes (start m v)
 unfolding start
-start_takes m =
-    second_takes (checked has_room (λ i. Syntax (left i))) (λ _. expect (codes "start") >> start_behind m)
-    (λ _. first_takes (expect (codes "start")) (λ _. start_behind m) (expect_takes (codes "start") (lit< tt)))
-
--- no start comes here
-abbrev pub past_starts : Input → Bool
-past_starts i = not (begins (codes "start") i)
+start_takes m v =
+    second_takes (checked has_room (λ i. Syntax (left i))) (λ _. arrival v >>= start_behind m)
+    (λ _. first_takes (arrival v) (start_behind m) (arrival_takes v))
 
 -- how the threads begin
-unfoldable pub starts : Module → Form (Unit {0})
-starts m = many past_starts (start m) (start_takes m) >> pure tt
+unfoldable pub starts : Module → Version → Form (Unit {0})
+starts m v = many (past_starts v) (start m v) (start_takes m v) >> pure tt
 
 -- ---- steps
 
@@ -112,8 +114,8 @@ unfolding steps_line
 steps_line_takes = look_takes (begins (codes "t")) steps_by each
   where
     each : (k : Bool) → TakesWhere (λ i. begins (codes "t") i ≡ k) (steps_by k)
-    each true i a o p h = first_takes_where (λ i. begins (codes "t") i ≡ true) skip (λ _. thread_steps) (word_taken (codes "t") (lit< tt)) i a o p h
-    each false i a o p h = first_takes (expect (codes "c")) (λ _. steps_of actor.Collector) (expect_takes (codes "c") (lit< tt)) i a o h
+    each true i a o p h = first_takes_where (λ i. begins (codes "t") i ≡ true) skip (λ _. thread_steps) (word_taken Progress Mistake (codes "t") (lit< tt)) i a o p h
+    each false i a o p h = first_takes (expect (codes "c")) (λ _. steps_of actor.Collector) (expect_takes Progress Mistake (codes "c") (lit< tt)) i a o h
 
 -- the steps end here
 abbrev pub past_steps : Input → Bool
@@ -144,27 +146,28 @@ pools_of p counts = if_fitting (counts_of (length p.layouts) counts)
 
 -- what is read, with these pools
 abbrev pub trace_with : (pools : List ℕ) → Input → Trace
-trace_with pools i = record { setup = record { pools = pools; starts = i.starts }; steps = i.steps }
+trace_with pools i = record { setup = record { pools = pools; starts = i.read.starts }; steps = i.read.steps }
 
 -- the trace with these pools, if they are within the limit
 abbrev pub finished_by : Option (List ℕ) → Form Trace
-finished_by None = refuse (λ _. TooManyCells)
-finished_by (Some pools) = step (trace_with pools) emptied emptied_falls
+finished_by None = refuse (λ _. Wrong TooManyCells)
+finished_by (Some pools) = step (trace_with pools) (noted emptied) (noted_falls emptied)
 
 -- the trace, if its cells are within the limit
 unfoldable pub finished : LaidOut → Form Trace
-finished p = look (λ i. pools_of p i.counts) finished_by
+finished p = look (λ i. pools_of p i.read.counts) finished_by
 
 -- the first line
-unfoldable pub heading : Form (Unit {0})
+unfoldable pub heading : Form Version
 heading = do
   expect (codes "trace")
-  expect (codes "1")
+  v ← version
   line_end
+  pure v
 
 -- pools and threads
-unfoldable pub setup : Module → Form (Unit {0})
-setup m = pools m >> starts m
+unfoldable pub setup : Module → Version → Form (Unit {0})
+setup m v = pools m >> starts m v
 
 -- steps between their first line and the text's end
 unfoldable pub steps : Form (Unit {0})
@@ -179,28 +182,23 @@ steps = do
 -- a text of a trace
 unfoldable pub file : LaidOut → Form Trace
 file p = do
-  heading
-  setup p.of_module
+  v ← heading
+  setup p.of_module v
   steps
   finished p
-
--- what reading gives, without the state from which reading goes on
-abbrev pub value_of : {A : Type 0} → Outcome Input Found A → Result A Found
-value_of (Ok p) = Ok p.0
-value_of (Err e) = Err e
 
 -- the text is one of this trace, for this program
 abbrev pub IsTrace : Bytes → LaidOut → Trace → Type 0
 IsTrace bytes p trace = (o : Input) × (file p).says (start_of p bytes) trace o
 
 -- a fault with its place
-abbrev pub placed : Bytes → Found → TraceFault
+abbrev pub placed : Bytes → Found Mistake → TraceFault
 placed bytes (Syntax rest) = fault.Syntax (place bytes rest)
-placed bytes (NoThread rest) = fault.NoThread (place bytes rest)
-placed bytes (TooManySteps rest) = fault.TooManySteps (place bytes rest)
-placed bytes TooManyCells = fault.TooManyCells
+placed bytes (Wrong (NoThread rest)) = fault.NoThread (place bytes rest)
+placed bytes (Wrong (TooManySteps rest)) = fault.TooManySteps (place bytes rest)
+placed bytes (Wrong TooManyCells) = fault.TooManyCells
 placed bytes Memory = fault.Memory
 
 -- the text is of the format up to a place, where it has this fault
 abbrev pub IsFault : Bytes → LaidOut → TraceFault → Type 0
-IsFault bytes p fault = (found : Found) × (file p).stuck (start_of p bytes) found × (placed bytes found ≡ fault)
+IsFault bytes p fault = (found : Found Mistake) × (file p).stuck (start_of p bytes) found × (placed bytes found ≡ fault)

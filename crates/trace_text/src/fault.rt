@@ -1,5 +1,4 @@
 use ir_tokens::Position;
-use std::alloc::AllocError;
 use thiserror::Error;
 
 /// The first fault of a trace's text, with its place.
@@ -20,25 +19,4 @@ pub enum TraceFault {
     TooManyCells,
     #[error("out of memory")]
     Memory,
-}
-
-/// A fault, with how much of the text is left where it is found.
-#[derive(Clone, Copy, PartialEq, Eq)]
-pub enum Found {
-    Syntax(usize),
-    NoThread(usize),
-    TooManySteps(usize),
-    TooManyCells,
-    Memory,
-}
-
-impl From<AllocError> for Found {
-    ghost use Rattle.std.specs.Prelude.{◌≡◌};
-    ghost use Rattle.trace_text.specs.declared.fault.Found.TheVariants.{Memory};
-
-    ghost from_gives = { λ _ e. e ≡ Memory };
-
-    fn from(_refused: AllocError) -> Found {
-        Found::Memory
-    }
 }

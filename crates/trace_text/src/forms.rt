@@ -1,109 +1,137 @@
 //! Names and numbers of a trace's text.
+ghost use Rattle.trace_text.specs.Arrivals as arrivals;
 ghost use Rattle.trace_text.specs.Forms as form;
-ghost use Rattle.trace_text.specs.Input.{Reads};
+ghost use Rattle.name_text.specs.Reader.{Reads};
 
-use crate::fault::Found;
-use crate::input::Input;
+use crate::input::{Found, Input};
+use crate::mistake::Mistake;
 use crate::naming::{function_of_word, layout_of_word};
 use crate::numbers::count_of_word;
-use crate::trace::{Actor, STEP_LIMIT};
+use crate::trace::{Actor, Arrival, STEP_LIMIT};
+use crate::versions::{Version, arrival_of_word, version_of_word};
 use ir_ast::{FuncId, Module};
 use name_text::number_of_word;
 use pools::LayoutId;
 use std::alloc::Global;
 
-impl<'a> Input<'a> {
-    /// The name of a defined function.
-    #[tactic(auto, unfolding(crate::specs::Forms::function_name, crate::specs::Forms::skip))]
-    pub fn function_name(&mut self, alloc: Global, module: &Module) -> Result<FuncId, Found>
-        ensures { Reads ((form.function_name «module».now).read self.old) result self.new }
-    {
-        match function_of_word(alloc, module, self.word())? {
-            None => Err(Found::Syntax(self.left())),
-            Some(function) => {
-                self.skip();
-                Ok(FuncId::new(function))
-            }
+/// The name of a defined function.
+#[tactic(auto, unfolding(crate::specs::Forms::function_name, name_text::specs::Forms::skip))]
+pub fn function_name(alloc: Global, input: &mut Input<'_>, module: &Module) -> Result<FuncId, Found>
+    ensures { Reads ((form.function_name «module».now).read input.old) result input.new }
+{
+    match function_of_word(alloc, module, input.word())? {
+        None => Err(Found::Syntax(input.left())),
+        Some(function) => {
+            input.skip();
+            Ok(FuncId::new(function))
         }
     }
+}
 
-    /// The name of a layout whose pool is not listed so far.
-    #[tactic(auto, unfolding(crate::specs::Forms::new_layout, crate::specs::Forms::skip))]
-    pub fn new_layout(&mut self, alloc: Global, module: &Module) -> Result<LayoutId, Found>
-        ensures { Reads ((form.new_layout «module».now).read self.old) result self.new }
-    {
-        match layout_of_word(alloc, module, self.word())? {
-            None => Err(Found::Syntax(self.left())),
-            Some(layout) => match self.counts().get(layout as usize) {
-                Some(None) => {
-                    self.skip();
-                    Ok(LayoutId::new(layout))
-                }
-                _ => Err(Found::Syntax(self.left())),
-            },
+/// The name of a layout whose pool is not listed so far.
+#[tactic(auto, unfolding(crate::specs::Forms::new_layout, name_text::specs::Forms::skip))]
+pub fn new_layout(alloc: Global, input: &mut Input<'_>, module: &Module) -> Result<LayoutId, Found>
+    ensures { Reads ((form.new_layout «module».now).read input.old) result input.new }
+{
+    match layout_of_word(alloc, module, input.word())? {
+        None => Err(Found::Syntax(input.left())),
+        Some(layout) => match input.read.counts().get(layout as usize) {
+            Some(None) => {
+                input.skip();
+                Ok(LayoutId::new(layout))
+            }
+            _ => Err(Found::Syntax(input.left())),
+        },
+    }
+}
+
+/// How many cells a pool has.
+#[tactic(auto, unfolding(crate::specs::Forms::cell_count, name_text::specs::Forms::skip))]
+pub fn cell_count(input: &mut Input<'_>) -> Result<u32, Found>
+    ensures { Reads (form.cell_count.read input.old) result input.new }
+{
+    match count_of_word(input.word()) {
+        None => Err(Found::Syntax(input.left())),
+        Some(count) => {
+            input.skip();
+            Ok(count)
         }
     }
+}
 
-    /// How many cells a pool has.
-    #[tactic(auto, unfolding(crate::specs::Forms::cell_count, crate::specs::Forms::skip))]
-    pub fn cell_count(&mut self) -> Result<u32, Found>
-        ensures { Reads (form.cell_count.read self.old) result self.new }
-    {
-        match count_of_word(self.word()) {
-            None => Err(Found::Syntax(self.left())),
-            Some(count) => {
-                self.skip();
-                Ok(count)
-            }
+/// An argument.
+#[tactic(auto, unfolding(crate::specs::Forms::argument, name_text::specs::Forms::skip))]
+pub fn argument(input: &mut Input<'_>) -> Result<u64, Found>
+    ensures { Reads (form.argument.read input.old) result input.new }
+{
+    match number_of_word(input.word()) {
+        None => Err(Found::Syntax(input.left())),
+        Some(number) => {
+            input.skip();
+            Ok(number)
         }
     }
+}
 
-    /// An argument.
-    #[tactic(auto, unfolding(crate::specs::Forms::argument, crate::specs::Forms::skip))]
-    pub fn argument(&mut self) -> Result<u64, Found>
-        ensures { Reads (form.argument.read self.old) result self.new }
-    {
-        match number_of_word(self.word()) {
-            None => Err(Found::Syntax(self.left())),
-            Some(number) => {
-                self.skip();
-                Ok(number)
+/// The number of a thread.
+#[tactic(auto, unfolding(crate::specs::Forms::thread, name_text::specs::Forms::skip))]
+pub fn thread(input: &mut Input<'_>) -> Result<u32, Found>
+    ensures { Reads (form.thread.read input.old) result input.new }
+{
+    match count_of_word(input.word()) {
+        None => Err(Found::Syntax(input.left())),
+        Some(thread) => {
+            if thread as usize >= input.read.threads() {
+                return Err(Found::Wrong(Mistake::NoThread(input.left())));
             }
+            input.skip();
+            Ok(thread)
         }
     }
+}
 
-    /// The number of a thread.
-    #[tactic(auto, unfolding(crate::specs::Forms::thread, crate::specs::Forms::skip))]
-    pub fn thread(&mut self) -> Result<u32, Found>
-        ensures { Reads (form.thread.read self.old) result self.new }
-    {
-        match count_of_word(self.word()) {
-            None => Err(Found::Syntax(self.left())),
-            Some(thread) => {
-                if thread as usize >= self.threads() {
-                    return Err(Found::NoThread(self.left()));
-                }
-                self.skip();
-                Ok(thread)
+/// How many steps an actor makes.
+#[tactic(auto, unfolding(crate::specs::Forms::step_count, crate::specs::Forms::put_steps, name_text::specs::Forms::skip))]
+pub fn step_count(input: &mut Input<'_>, actor: Actor) -> Result<(), Found>
+    ensures { Reads ((form.step_count actor).read input.old) result input.new }
+{
+    match count_of_word(input.word()) {
+        None => Err(Found::Syntax(input.left())),
+        Some(count) => {
+            if input.read.made_with(count) > STEP_LIMIT {
+                return Err(Found::Wrong(Mistake::TooManySteps(input.left())));
             }
+            input.read.put_steps(actor, count)?;
+            input.skip();
+            Ok(())
         }
     }
+}
 
-    /// How many steps an actor makes.
-    #[tactic(auto, unfolding(crate::specs::Forms::step_count, crate::specs::Forms::skip))]
-    pub fn step_count(&mut self, actor: Actor) -> Result<(), Found>
-        ensures { Reads ((form.step_count actor).read self.old) result self.new }
-    {
-        match count_of_word(self.word()) {
-            None => Err(Found::Syntax(self.left())),
-            Some(count) => {
-                if self.made_with(count) > STEP_LIMIT {
-                    return Err(Found::TooManySteps(self.left()));
-                }
-                self.put_steps(actor, count)?;
-                self.skip();
-                Ok(())
-            }
+/// The version of the text.
+#[tactic(auto, unfolding(crate::specs::Arrivals::version, name_text::specs::Forms::skip))]
+pub fn version(input: &mut Input<'_>) -> Result<Version, Found>
+    ensures { Reads (arrivals.version.read input.old) result input.new }
+{
+    match version_of_word(input.word()) {
+        None => Err(Found::Syntax(input.left())),
+        Some(version) => {
+            input.skip();
+            Ok(version)
+        }
+    }
+}
+
+/// The first word of a thread's line.
+#[tactic(auto, unfolding(crate::specs::Arrivals::arrival, name_text::specs::Forms::skip))]
+pub fn arrival(input: &mut Input<'_>, version: Version) -> Result<Arrival, Found>
+    ensures { Reads ((arrivals.arrival version).read input.old) result input.new }
+{
+    match arrival_of_word(version, input.word()) {
+        None => Err(Found::Syntax(input.left())),
+        Some(arrival) => {
+            input.skip();
+            Ok(arrival)
         }
     }
 }

@@ -4,13 +4,16 @@
 mod fault;
 mod forms;
 mod input;
+mod mistake;
 mod naming;
 mod numbers;
 mod print;
+mod progress;
 mod reader;
 mod trace;
+mod versions;
 
 pub use fault::TraceFault;
 pub use print::print_trace;
 pub use reader::read_trace;
-pub use trace::{Actor, STEP_LIMIT, Setup, Start, Steps, THREAD_LIMIT, Trace};
+pub use trace::{Actor, Arrival, STEP_LIMIT, Setup, Start, Steps, THREAD_LIMIT, Trace};

@@ -1,11 +1,13 @@
 //! The text of traces.
 ghost use Rattle.std.specs.Prelude.{◌≡◌, ◌++◌, OnOk, IfOk};
 ghost use Rattle.std.specs.List.{flat_map};
+ghost use Rattle.trace_text.specs.Arrivals.{start_word, version_of};
 ghost use Rattle.trace_text.specs.Print as spec;
 ghost use Rattle.trace_text.specs.Text.{IsTrace};
 ghost use Rattle.trace_text.specs.Traces.{AreNamed, IsTraceOf};
 
 use crate::trace::{Actor, Start, Steps, Trace};
+use crate::versions::{Version, start_word, version_of};
 use ir_ast::{FuncId, Module};
 use layout::Program;
 use name_text::{Blank, put_global, put_layout, put_number};
@@ -79,7 +81,8 @@ fn put_start(
 ) -> Result<(), AllocError>
     ensures { OnOk result (out.new.items ≡ out.old.items ++ spec.start_text «module».now start.now) }
 {
-    out.extend_from_slice(b"start ")?;
+    out.extend_from_slice(start_word(start.arrival))?;
+    out.push(b' ')?;
     put_function(out, module, start.function)?;
     put_arguments(alloc, out, start.arguments.as_slice())?;
     out.extend_from_slice(b"\n")
@@ -132,6 +135,16 @@ fn put_all_steps(alloc: Global, out: &mut Vec<u8>, steps: &[Steps]) -> Result<()
     Ok(())
 }
 
+/// The first line.
+fn put_heading(out: &mut Vec<u8>, version: Version) -> Result<(), AllocError>
+    ensures { OnOk result (out.new.items ≡ out.old.items ++ spec.heading_text version) }
+{
+    match version {
+        Version::One => out.extend_from_slice(b"trace 1\n"),
+        Version::Two => out.extend_from_slice(b"trace 2\n"),
+    }
+}
+
 fn put_trace(
     alloc: Global,
     out: &mut Vec<u8>,
@@ -141,7 +154,7 @@ fn put_trace(
 ) -> Result<(), AllocError>
     ensures { OnOk result (out.new.items ≡ out.old.items ++ spec.trace_lines «module».now layouts trace.now) }
 {
-    out.extend_from_slice(b"trace 1\n")?;
+    put_heading(out, version_of(trace.setup.starts.as_slice()))?;
     put_pools(alloc, out, module, layouts, &trace.setup.pools)?;
     put_starts(alloc, out, module, trace.setup.starts.as_slice())?;
     out.extend_from_slice(b"steps\n")?;

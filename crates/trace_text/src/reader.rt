@@ -1,18 +1,27 @@
 //! The reader of traces.
 ghost use Rattle.std.specs.Prelude.{◌≡◌, ◌≢◌, slice_get, IfOk, IfErr, Ok, Err};
-ghost use Rattle.trace_text.specs.Input.{Reads, start_of};
+ghost use Rattle.name_text.specs.Reader.{Reads};
+ghost use Rattle.trace_text.specs.Input.{start_of};
+ghost use Rattle.trace_text.specs.Arrivals.{past_starts};
 ghost use Rattle.trace_text.specs.Text as text;
 ghost use Rattle.trace_text.specs.Text.{IsTrace, IsFault, counts_of, count_or_none};
 ghost use Rattle.trace_text.specs.Traces.{IsTraceOf};
 ghost use Rattle.grammar.specs.Outcome.{Gives};
+ghost use Rattle.grammar.specs.Whole.{value_of};
 ghost use Rattle.trace_text.specs.declared.trace.Trace.{Trace as ATrace};
 ghost use Rattle.trace_text.specs.declared.fault.TraceFault.{TraceFault as AFault};
 ghost use Rattle.trace_text.specs.declared.fault.TraceFault.TheVariants as fault;
-ghost use Rattle.trace_text.specs.declared.fault.Found.TheVariants.{Memory};
+ghost use Rattle.name_text.specs.declared.found.Found.TheVariants.{Memory};
 
-use crate::fault::{Found, TraceFault};
-use crate::input::Input;
+use crate::fault::TraceFault;
+use crate::forms::{
+    argument, arrival, cell_count, function_name, new_layout, step_count, thread, version,
+};
+use crate::input::{Found, Input};
+use crate::mistake::Mistake;
+use crate::progress::Progress;
 use crate::trace::{Actor, Setup, THREAD_LIMIT, Trace};
+use crate::versions::{Version, arrival_of_word};
 use ir_ast::Module;
 use items::Items;
 use layout::Program;
@@ -26,10 +35,10 @@ fn pool(alloc: Global, input: &mut Input<'_>, module: &Module) -> Result<(), Fou
     ensures { Reads ((text.pool «module».now).read input.old) result input.new }
 {
     input.expect(b"pool")?;
-    let layout = input.new_layout(alloc, module)?;
-    let count = input.cell_count()?;
+    let layout = new_layout(alloc, input, module)?;
+    let count = cell_count(input)?;
     input.line_end()?;
-    input.put_pool(layout, count);
+    input.read.put_pool(layout, count);
     Ok(())
 }
 
@@ -62,57 +71,68 @@ fn arguments(alloc: Global, input: &mut Input<'_>) -> Result<Items<u64>, Found>
         if input.line_ends() {
             return Ok(arguments);
         }
-        arguments.push(input.argument()?)?;
+        arguments.push(argument(input)?)?;
     }
     Ok(arguments)
 }
 
 /// How a thread begins.
-#[tactic(auto, unfolding(crate::specs::Text::start))]
-fn start(alloc: Global, input: &mut Input<'_>, module: &Module) -> Result<(), Found>
-    ensures { Reads ((text.start «module».now).read input.old) result input.new }
+#[tactic(auto, unfolding(crate::specs::Text::start, crate::specs::Forms::put_start))]
+fn start(
+    alloc: Global,
+    input: &mut Input<'_>,
+    module: &Module,
+    version: Version,
+) -> Result<(), Found>
+    ensures { Reads ((text.start «module».now version).read input.old) result input.new }
 {
-    if input.threads() >= THREAD_LIMIT {
+    if input.read.threads() >= THREAD_LIMIT {
         return Err(Found::Syntax(input.left()));
     }
-    input.expect(b"start")?;
-    let function = input.function_name(alloc, module)?;
+    let arrival = arrival(input, version)?;
+    let function = function_name(alloc, input, module)?;
     let arguments = arguments(alloc, input)?;
     input.line_end()?;
-    input.put_start(function, arguments)
+    input.read.put_start(arrival, function, arguments)?;
+    Ok(())
 }
 
-fn past_starts(input: &Input<'_>) -> bool
-    ensures { result ≡ text.past_starts input.now }
+fn past_starts(input: &Input<'_>, version: Version) -> bool
+    ensures { result ≡ past_starts version input.now }
 {
-    !input.begins(b"start")
+    arrival_of_word(version, input.word()).is_none()
 }
 
 #[tactic(auto, unfolding(crate::specs::Text::starts))]
-fn starts(alloc: Global, input: &mut Input<'_>, module: &Module) -> Result<(), Found>
-    ensures { Reads ((text.starts «module».now).read input.old) result input.new }
+fn starts(
+    alloc: Global,
+    input: &mut Input<'_>,
+    module: &Module,
+    version: Version,
+) -> Result<(), Found>
+    ensures { Reads ((text.starts «module».now version).read input.old) result input.new }
 {
     for _turn in 0..input.left() + 1 {
-        if past_starts(input) {
+        if past_starts(input, version) {
             return Ok(());
         }
-        start(alloc, input, module)?;
+        start(alloc, input, module, version)?;
     }
     Ok(())
 }
 
 /// A line of steps.
-#[tactic(auto, unfolding(crate::specs::Text::steps_line, crate::specs::Forms::skip))]
+#[tactic(auto, unfolding(crate::specs::Text::steps_line, name_text::specs::Forms::skip))]
 fn steps_line(input: &mut Input<'_>) -> Result<(), Found>
     ensures { Reads (text.steps_line.read input.old) result input.new }
 {
     if input.begins(b"t") {
         input.skip();
-        let thread = input.thread()?;
-        input.step_count(Actor::Thread(thread))?;
+        let thread = thread(input)?;
+        step_count(input, Actor::Thread(thread))?;
     } else {
         input.expect(b"c")?;
-        input.step_count(Actor::Collector)?;
+        step_count(input, Actor::Collector)?;
     }
     input.line_end()
 }
@@ -186,10 +206,10 @@ fn pools_of(
 fn finished(alloc: Global, input: &mut Input<'_>, program: &Program) -> Result<Trace, Found>
     ensures { Reads ((text.finished program.now).read input.old) result input.new }
 {
-    let Some(pools) = pools_of(alloc, program, input.counts())? else {
-        return Err(Found::TooManyCells);
+    let Some(pools) = pools_of(alloc, program, input.read.counts())? else {
+        return Err(Found::Wrong(Mistake::TooManyCells));
     };
-    let (starts, steps) = input.take_all(alloc);
+    let (starts, steps) = input.read.take_all(alloc);
     Ok(Trace {
         setup: Setup { pools, starts },
         steps,
@@ -198,21 +218,27 @@ fn finished(alloc: Global, input: &mut Input<'_>, program: &Program) -> Result<T
 
 /// The first line.
 #[tactic(auto, unfolding(crate::specs::Text::heading))]
-fn heading(input: &mut Input<'_>) -> Result<(), Found>
+fn heading(input: &mut Input<'_>) -> Result<Version, Found>
     ensures { Reads (text.heading.read input.old) result input.new }
 {
     input.expect(b"trace")?;
-    input.expect(b"1")?;
-    input.line_end()
+    let version = version(input)?;
+    input.line_end()?;
+    Ok(version)
 }
 
 /// Pools and threads.
 #[tactic(auto, unfolding(crate::specs::Text::setup))]
-fn setup(alloc: Global, input: &mut Input<'_>, module: &Module) -> Result<(), Found>
-    ensures { Reads ((text.setup «module».now).read input.old) result input.new }
+fn setup(
+    alloc: Global,
+    input: &mut Input<'_>,
+    module: &Module,
+    version: Version,
+) -> Result<(), Found>
+    ensures { Reads ((text.setup «module».now version).read input.old) result input.new }
 {
     pools(alloc, input, module)?;
-    starts(alloc, input, module)
+    starts(alloc, input, module, version)
 }
 
 /// Steps up to the text's end.
@@ -235,16 +261,16 @@ fn steps(input: &mut Input<'_>) -> Result<(), Found>
 fn file(alloc: Global, input: &mut Input<'_>, program: &Program) -> Result<Trace, Found>
     ensures { Reads ((text.file program.now).read input.old) result input.new }
 {
-    heading(input)?;
-    setup(alloc, input, program.module())?;
+    let version = heading(input)?;
+    setup(alloc, input, program.module(), version)?;
     steps(input)?;
     finished(alloc, input, program)
 }
 
 fn trace_of(alloc: Global, bytes: &[u8], program: &Program) -> Result<Trace, Found>
-    ensures { Gives Memory result (text.value_of ((text.file program.now).read (start_of program.now bytes.now))) }
+    ensures { Gives Memory result (value_of ((text.file program.now).read (start_of program.now bytes.now))) }
 {
-    let mut input = Input::new(alloc, bytes, program.layouts().count())?;
+    let mut input = Input::new(bytes, Progress::new(alloc, program.layouts().count())?);
     file(alloc, &mut input, program)
 }
 
@@ -254,9 +280,9 @@ fn placed(bytes: &[u8], found: Found) -> TraceFault
 {
     match found {
         Found::Syntax(rest) => TraceFault::Syntax(place(bytes, rest)),
-        Found::NoThread(rest) => TraceFault::NoThread(place(bytes, rest)),
-        Found::TooManySteps(rest) => TraceFault::TooManySteps(place(bytes, rest)),
-        Found::TooManyCells => TraceFault::TooManyCells,
+        Found::Wrong(Mistake::NoThread(rest)) => TraceFault::NoThread(place(bytes, rest)),
+        Found::Wrong(Mistake::TooManySteps(rest)) => TraceFault::TooManySteps(place(bytes, rest)),
+        Found::Wrong(Mistake::TooManyCells) => TraceFault::TooManyCells,
         Found::Memory => TraceFault::Memory,
     }
 }

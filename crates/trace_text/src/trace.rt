@@ -23,9 +23,19 @@ pub struct Steps {
     pub count: u32,
 }
 
+/// When a thread begins.
+#[derive(Clone, Copy, PartialEq, Eq)]
+pub enum Arrival {
+    /// It is there from the first step on.
+    AtStart,
+    /// It begins while others run.
+    Late,
+}
+
 /// How a thread begins.
 #[derive(Drop)]
 pub struct Start {
+    pub arrival: Arrival,
     pub function: FuncId,
     pub arguments: Items<u64>,
 }

@@ -1,5 +1,5 @@
 use Rattle.std.proofs.Common.{◌≡◌, ◌-◌, suc}
-use Rattle.certificate.specs.Input.{left}
+use Rattle.name_text.specs.Reader.{left}
 use Rattle.certificate.specs.Text.{past_lines}
 use Rattle.certificate.specs.Lines.{line}
 use Rattle.grammar.specs.Turns.{turns}

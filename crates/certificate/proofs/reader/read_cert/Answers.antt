@@ -1,24 +1,48 @@
-use Rattle.certificate.proofs.Laws.{found, only, no_fault, no_cert, is_fault, only_fault}
+use Rattle.grammar.specs.Whole.{found, only, no_fault, no_value, has_fault, only_fault}
+use Rattle.name_text.specs.declared.found.Found.TheVariants.{Memory}
+use Rattle.certificate.specs.Input.{start_of}
+use Rattle.certificate.specs.Text.{file, placed}
 use Rattle.certificate.proofs.ReadFits.{cert_fits}
 use Rattle.certificate.proofs.reader.read_cert.Goals as goal
 
 pub returns-in-Ok-clause-found : goal.returns-in-Ok-clause-found
-returns-in-Ok-clause-found c = rw c.new.ensures (found c.args.bytes.now c.args.module.now c.in-Ok.sections c.in-Ok.ensures)
+returns-in-Ok-clause-found c =
+    let m = c.args.module.now in
+    let bytes = c.args.bytes.now in
+    rw c.new.ensures (found (file m) (start_of m bytes) (placed bytes) c.in-Ok.sections c.in-Ok.ensures)
 
 pub returns-in-Ok-clause-fits : goal.returns-in-Ok-clause-fits
-returns-in-Ok-clause-fits c = rw c.new.ensures (cert_fits c.args.bytes.now c.args.module.now c.in-Ok.sections (found c.args.bytes.now c.args.module.now c.in-Ok.sections c.in-Ok.ensures))
+returns-in-Ok-clause-fits c =
+    let m = c.args.module.now in
+    let bytes = c.args.bytes.now in
+    rw c.new.ensures (cert_fits bytes m c.in-Ok.sections (found (file m) (start_of m bytes) (placed bytes) c.in-Ok.sections c.in-Ok.ensures))
 
 pub returns-in-Ok-clause-only : goal.returns-in-Ok-clause-only
-returns-in-Ok-clause-only c = rw c.new.ensures (λ certs. only c.args.bytes.now c.args.module.now c.in-Ok.sections certs c.in-Ok.ensures)
+returns-in-Ok-clause-only c =
+    let m = c.args.module.now in
+    let bytes = c.args.bytes.now in
+    rw c.new.ensures (λ certs. only (file m) (start_of m bytes) (placed bytes) c.in-Ok.sections certs c.in-Ok.ensures)
 
 pub returns-in-Ok-clause-only_fault : goal.returns-in-Ok-clause-only_fault
-returns-in-Ok-clause-only_fault c = rw c.new.ensures (no_fault c.args.bytes.now c.args.module.now c.in-Ok.sections c.in-Ok.ensures)
+returns-in-Ok-clause-only_fault c =
+    let m = c.args.module.now in
+    let bytes = c.args.bytes.now in
+    rw c.new.ensures (no_fault (file m) (start_of m bytes) (placed bytes) c.in-Ok.sections c.in-Ok.ensures)
 
 pub returns-in-Err-clause-only : goal.returns-in-Err-clause-only
-returns-in-Err-clause-only c = rw c.placed.ensures (no_cert c.args.bytes.now c.args.module.now c.in-Err.found c.in-Err.ensures)
+returns-in-Err-clause-only c =
+    let m = c.args.module.now in
+    let bytes = c.args.bytes.now in
+    rw c.placed.ensures (no_value (file m) (start_of m bytes) (placed bytes) Memory c.in-Err.found c.in-Err.ensures)
 
 pub returns-in-Err-clause-fault : goal.returns-in-Err-clause-fault
-returns-in-Err-clause-fault c = rw c.placed.ensures (is_fault c.args.bytes.now c.args.module.now c.in-Err.found c.in-Err.ensures)
+returns-in-Err-clause-fault c =
+    let m = c.args.module.now in
+    let bytes = c.args.bytes.now in
+    rw c.placed.ensures (has_fault (file m) (start_of m bytes) (placed bytes) Memory c.in-Err.found c.in-Err.ensures)
 
 pub returns-in-Err-clause-only_fault : goal.returns-in-Err-clause-only_fault
-returns-in-Err-clause-only_fault c = rw c.placed.ensures (only_fault c.args.bytes.now c.args.module.now c.in-Err.found c.in-Err.ensures)
+returns-in-Err-clause-only_fault c =
+    let m = c.args.module.now in
+    let bytes = c.args.bytes.now in
+    rw c.placed.ensures (only_fault (file m) (start_of m bytes) (placed bytes) Memory c.in-Err.found c.in-Err.ensures)

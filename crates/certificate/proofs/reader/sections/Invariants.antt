@@ -1,5 +1,5 @@
 use Rattle.std.proofs.Common.{◌≡◌, ◌-◌, suc}
-use Rattle.certificate.specs.Input.{left, ended}
+use Rattle.name_text.specs.Reader.{left, ended}
 use Rattle.certificate.specs.Text.{section}
 use Rattle.grammar.specs.Turns.{turns}
 use Rattle.certificate.proofs.reader.sections.Given as goal

@@ -9,7 +9,7 @@ use Rattle.moves.specs.Calls.{answer_in, move_in}
 use Rattle.moves.specs.Moving.{MayMake}
 use Rattle.moves.specs.GoesOn.{same-call, moved-between, moved-within}
 use Rattle.moves.proofs.going.go_on.Goals as goal
-use Rattle.moves.proofs.going.go_on.Goals.{then-is_between+in_ok-roots_change, else-is_between}
+use Rattle.moves.proofs.going.go_on.Goals.{then-ends_call+in_ok-roots_change, else-ends_call}
 
 pub returns-clause-ok : goal.returns-clause-ok
 returns-clause-ok g c s call e asked may =
@@ -17,14 +17,14 @@ returns-clause-ok g c s call e asked may =
     let roots = g.M.Machine.roots c.args.stand.now.state in
     let here = subst (λ (v : Call). MayMake s roots v c.args.stand.now.stance c.args.made.now) (same-call call c.call-call.result (asked ∙ sym c.call-call.ensures)) may in
     let phase = c.stance_behind-stance.ensures s roots e here in
-    elim c.if-is_between.branch [
-      | then-is_between+in_ok-roots_change w ↦
+    elim c.if-ends_call.branch [
+      | then-ends_call+in_ok-roots_change w ↦
           rw w.stand-is
           (moved-between s m c.args.stand.now c.args.made.now w.end_call.new.state c.stage_behind-stand.result c.stance_behind-stance.result c.old_by-stand.result (answer_in w.answer_of.result)
-          phase (sym (c.is_between.ensures roots) ∙ w.if-is_between.true) w.in_ok-roots_change.ensures.ok
+          phase (sym (c.ends_call.ensures roots) ∙ w.if-ends_call.true) w.in_ok-roots_change.ensures.ok
           (w.answer_of.ensures roots ∙ ap (λ a. answer_of a (move_in roots c.args.made.now)) c.call-call.ensures) (c.stage_behind-stand.ensures roots ∙ ap (λ (v : Stand g.row.M.Denot). stage_behind v.stage (move_in roots c.args.made.now)) w.stand-is) (c.old_by-stand.ensures roots))
-      | else-is_between w ↦
+      | else-ends_call w ↦
           rw w.stand-is
           (moved-within s m c.args.stand.now c.args.made.now c.stage_behind-stand.result c.stance_behind-stance.result c.old_by-stand.result
-          phase (sym (c.is_between.ensures roots) ∙ w.if-is_between.false) (c.stage_behind-stand.ensures roots ∙ ap (λ (v : Stand g.row.M.Denot). stage_behind v.stage (move_in roots c.args.made.now)) w.stand-is) (c.old_by-stand.ensures roots))
+          phase (sym (c.ends_call.ensures roots) ∙ w.if-ends_call.false) (c.stage_behind-stand.ensures roots ∙ ap (λ (v : Stand g.row.M.Denot). stage_behind v.stage (move_in roots c.args.made.now)) w.stand-is) (c.old_by-stand.ensures roots))
     ]

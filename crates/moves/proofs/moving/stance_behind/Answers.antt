@@ -1,5 +1,5 @@
 -- A mark and a lost try go by where the thread is.
-use Rattle.std.proofs.Common.{◌≡◌, Bool, false, Some, rules, subst, sym, ap, ◌∙◌}
+use Rattle.std.proofs.Common.{◌≡◌, Bool, false, [], Some, rules, subst, sym, ap, ◌∙◌}
 use Rattle.colours.specs.Steps as steps
 use Rattle.runs.specs.Machine.{Reference}
 use Rattle.runs.specs.Moves.{phase_behind}
@@ -26,3 +26,9 @@ returns-in-Claims c s roots e may =
     rw is
     (subst (λ n. phase_at roots c.behind_loss.result ≡ phase_behind s c.args.stage (phase_at roots c.args.stance) (Some (steps.Claim n false))) same
     (c.behind_loss.ensures s c.args.stage roots e (subst (λ n. LosesNext s c.args.call.now c.args.stance n) (sym same) here)))
+
+pub returns-in-Ends : goal.returns-in-Ends
+returns-in-Ends c s roots e may = rw c.in-Ends.is (c.behind_stage.ensures s c.args.stage roots [])
+
+pub returns-in-Answers : goal.returns-in-Answers
+returns-in-Answers c s roots e may = rw c.in-Answers.is (c.behind_stage-in-Answers.ensures s c.args.stage roots roots)

@@ -1,5 +1,5 @@
 use Rattle.std.proofs.Common.{◌≡◌, ◌-◌, suc}
-use Rattle.trace_text.specs.Input.{left}
+use Rattle.name_text.specs.Reader.{left}
 use Rattle.trace_text.specs.Text.{steps_line, past_steps}
 use Rattle.grammar.specs.Turns.{turns}
 use Rattle.trace_text.proofs.reader.all_steps.Given as goal

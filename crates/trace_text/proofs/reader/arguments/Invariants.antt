@@ -1,6 +1,6 @@
 use Rattle.std.proofs.Common.{◌≡◌, ◌-◌, suc, []}
 use Rattle.grammar.specs.Many.{many_from}
-use Rattle.trace_text.specs.Input.{left, line_ends}
+use Rattle.name_text.specs.Reader.{left, line_ends}
 use Rattle.trace_text.specs.Forms.{argument}
 use Rattle.trace_text.proofs.reader.arguments.Given as goal
 

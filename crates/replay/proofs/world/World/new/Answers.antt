@@ -3,7 +3,7 @@ use Rattle.ir_ast.specs.declared.module.Module.{Module}
 use Rattle.program_runner.specs.Heaps.{heap_of, value_of_global}
 use Rattle.replay.specs.Setups.{starts_of}
 use Rattle.replay.proofs.Setups.{few_words, is_setup}
-use Rattle.replay.proofs.WorldSteps.{as_many, each_begun, is_first}
+use Rattle.replay.proofs.WorldSteps.{as_many, late_threads, each_begun, is_first}
 use Rattle.replay.proofs.world.World.new.Goals as goal
 
 pub new-requires-clause-words : goal.new-requires-clause-words
@@ -15,7 +15,7 @@ invariant_of-result c =
     let setup = c.args.setup.now in
     let threads = c.in_ok-threads.threads.items in
     let values = ap (λ (m : Module). map (value_of_global m) m.globals) c.module.ensures.of_module in
-    let b = c.in_ok-actors.ensures (heap_of p setup) (starts_of p setup) (record { pools = refl; layouts = sym c.layouts.ensures.layouts; globals = sym c.globals-globals.ensures }) (is_setup p setup) refl
+    let b = c.in_ok-actors.ensures (heap_of p setup) (starts_of p setup) (record { pools = refl; layouts = sym c.layouts.ensures.layouts; globals = sym c.globals-globals.ensures }) (is_setup p setup) (late_threads p setup threads c.in_ok-threads.ensures.ok)
     (sym (as_many p setup threads c.in_ok-threads.ensures.ok)) (sym (c.as_slice.ensures.value ∙ c.in_ok-values.ensures ∙ values))
     (each_begun c.begun_law.ensures p setup threads c.in_ok-threads.ensures.no_fault c.in_ok-threads.ensures.ok) in
     let many = c.in_ok-endings.ensures ∙ c.len.ensures in
@@ -32,7 +32,7 @@ returns-clause-ok c =
     let setup = c.args.setup.now in
     let threads = c.in_ok-threads.threads.items in
     let values = ap (λ (m : Module). map (value_of_global m) m.globals) c.module.ensures.of_module in
-    let b = c.in_ok-actors.ensures (heap_of p setup) (starts_of p setup) (record { pools = refl; layouts = sym c.layouts.ensures.layouts; globals = sym c.globals-globals.ensures }) (is_setup p setup) refl
+    let b = c.in_ok-actors.ensures (heap_of p setup) (starts_of p setup) (record { pools = refl; layouts = sym c.layouts.ensures.layouts; globals = sym c.globals-globals.ensures }) (is_setup p setup) (late_threads p setup threads c.in_ok-threads.ensures.ok)
     (sym (as_many p setup threads c.in_ok-threads.ensures.ok)) (sym (c.as_slice.ensures.value ∙ c.in_ok-values.ensures ∙ values))
     (each_begun c.begun_law.ensures p setup threads c.in_ok-threads.ensures.no_fault c.in_ok-threads.ensures.ok) in
     let many = c.in_ok-endings.ensures ∙ c.len.ensures in

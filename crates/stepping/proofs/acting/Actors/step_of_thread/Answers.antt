@@ -117,7 +117,7 @@ returns-clause-ok g c s starts before b lt =
     (subst (λ (v : Stand g.row.M.Denot). MayMake s (m.roots v.state) (call-of (m.action v.state)) v.stance move) same (moves.may_make (call-of (m.action stand.state)) (asks-for (m.action stand.state))))) in
     let loses : c.if-roots_change.result ≡ false → AddsNothing (move_in (m.roots stand.state) move) × (m.roots c.go_on.new.stand.state ≡ m.roots stand.state) = elim c.if-roots_change.branch [
       | then-roots_change w ↦ λ lossless. absurd (true-is-not-false (sym w.if-roots_change.true ∙ sym w.result-is ∙ lossless))
-      | else-roots_change w ↦ λ lossless. (w.stores_reference.ensures (m.roots stand.state) (sym w.result-is ∙ lossless), c.in_ok-roots_change.ensures.roots w.if-roots_change.false ∙ ap (λ (v : Stand g.row.M.Denot). m.roots v.state) (sym same))
+      | else-roots_change w ↦ λ lossless. (w.may_lose.ensures (m.roots stand.state) (sym w.result-is ∙ lossless), c.in_ok-roots_change.ensures.roots w.if-roots_change.false ∙ ap (λ (v : Stand g.row.M.Denot). m.roots v.state) (sym same))
     ] in
     let done = moved-on s m (g.M.Runner.fits s) starts before a b c.args.thread lt stand is move asked moves c.go_on.new.stand behind c.broken_by-broke.result c.broken_by-broke.ensures
     (c.loss_law.ensures s starts) c.if-roots_change.result loses in

@@ -1,0 +1,156 @@
+#!/usr/bin/env python3
+"""Measures how the time of `dgc check` and `dgc replay` grows with the number of each kind of thing in their texts.
+
+    growth.py DGC [--only WORD ..] [--least N] [--runs R] [--seconds S] [--beside OPT] [--keep FOLDER] [--all]
+
+For each kind (growth_modules.py, growth_bodies.py, growth_pairs.py, growth_traces.py) it writes texts with 1,000 things,
+then about three times as many, up to 100,000 or the limit of the program, and runs the command on each. Prints the
+processor time of the largest, and the exponent: how the time grows with the size of the texts, where twice the text takes
+2^exponent the time. The size is in bytes, and in steps or things where a kind's text does not grow. It is measured from the last size to the one that is about ten times smaller, less the time that an
+empty module takes. A kind ends early at the first run of more than S seconds. A time under 5 ms says nothing: then the
+exponent is `-`. A kind whose exponent is over 1.1 is marked. With `--beside opt-14` the last column says how many times longer
+the check takes than that program's reader and verifier on the same module, `-` where that refuses the module. With --all the time of
+each size is printed. FOLDER keeps the texts. For use by hand.
+"""
+import argparse
+import math
+import os
+import resource
+import signal
+import subprocess
+import sys
+import tempfile
+
+import growth_bodies
+import growth_modules
+import growth_pairs
+import growth_traces
+from growth_kinds import KINDS
+
+MOST_BYTES = 16777216
+STEP = math.sqrt(10)
+SMALL = 0.005
+BOUND = 1.1
+assert all([growth_modules, growth_bodies, growth_pairs, growth_traces])
+
+
+def processor_time():
+    """What the programs that have ended took, in seconds of a processor."""
+    used = resource.getrusage(resource.RUSAGE_CHILDREN)
+    return used.ru_utime + used.ru_stime
+
+
+def run(command, runs, limit):
+    """The least processor time of some runs, and what was printed; None for a run that takes too long."""
+    best, said = None, ""
+    bound = (math.ceil(limit), math.ceil(limit) + 1)
+    for _ in range(runs):
+        before = processor_time()
+        ended = subprocess.run(command, capture_output=True, text=True,
+                               preexec_fn=lambda: resource.setrlimit(resource.RLIMIT_CPU, bound))
+        took = processor_time() - before
+        if ended.returncode in (-signal.SIGXCPU, -signal.SIGKILL):
+            return None, "too long"
+        said = (ended.stdout + ended.stderr).strip() or f"status {ended.returncode}"
+        best = took if best is None else min(best, took)
+    return best, said
+
+
+def sizes(least, most):
+    """Numbers of things, each about three times the one before."""
+    count = float(min(least, max(most // 10, 1)))
+    while round(count) < most:
+        yield round(count)
+        count *= STEP
+    yield most
+
+
+def measure(dgc, it, options, folder):
+    """The rows of a kind: how many things, how many bytes, and how long. And what is wrong, if it was refused."""
+    rows = []
+    for count in sizes(options.least, it.most):
+        module, other, *given = it.make(count)
+        size = given[0] if given else len(module) + len(other)
+        if max(len(module), len(other)) > MOST_BYTES:
+            break
+        base = os.path.join(folder, it.name.replace(" ", "_").replace(",", "") + f"_{count}")
+        paths = [base + ".ll", base + (".trace" if it.command == "replay" else ".cert")]
+        for path, text in zip(paths, (module, other)):
+            with open(path, "w") as out:
+                out.write(text)
+        took, said = run([dgc, it.command, *paths], options.runs, 4 * options.seconds)
+        other_took = beside(options, it, paths[0])
+        if not options.keep:
+            for path in paths:
+                os.remove(path)
+        if took is None:
+            return rows, f"more than {4 * options.seconds:.0f} s at {count:,}"
+        if not said.startswith(it.says):
+            return rows, f"at {count:,}: {said.splitlines()[0][:60]}"
+        rows.append((count, size, took, other_took))
+        if took > options.seconds:
+            break
+    return rows, ""
+
+
+def beside(options, it, module):
+    """The time that LLVM's reader and verifier take for a module; None where they refuse it, or are not asked."""
+    if not options.beside or it.command != "check":
+        return None
+    took, said = run([options.beside, "-passes=verify", "-disable-output", module], options.runs, 4 * options.seconds)
+    return took if said == "status 0" else None
+
+
+def exponent(rows, empty):
+    """How the time grows with the size, over the last decade of sizes that can be measured; None if none can."""
+    able = [(size, took - empty) for _, size, took, _ in rows if took - empty > SMALL]
+    if len(able) < 2:
+        return None
+    last = able[-1]
+    first = max((row for row in able[:-1] if row[0] * 8 <= last[0]), default=able[0])
+    if last[0] < 2 * first[0]:
+        return None
+    return math.log(last[1] / first[1]) / math.log(last[0] / first[0])
+
+
+def main():
+    parser = argparse.ArgumentParser(description=__doc__.split("\n")[0])
+    parser.add_argument("dgc")
+    parser.add_argument("--only", nargs="+", default=None, help="kinds whose names have one of these words")
+    parser.add_argument("--least", type=int, default=1000)
+    parser.add_argument("--runs", type=int, default=3)
+    parser.add_argument("--seconds", type=float, default=10)
+    parser.add_argument("--beside", default=None, help="a program `opt` of LLVM 14 or older")
+    parser.add_argument("--keep", default=None)
+    parser.add_argument("--all", action="store_true", help="also prints the time of each size")
+    options = parser.parse_args()
+    with tempfile.TemporaryDirectory() as scratch:
+        folder = options.keep or scratch
+        os.makedirs(folder, exist_ok=True)
+        empty_module, empty_cert = os.path.join(folder, "empty.ll"), os.path.join(folder, "empty.cert")
+        with open(empty_module, "w"), open(empty_cert, "w") as out:
+            out.write("cert 1\n")
+        empty, _ = run([options.dgc, "check", empty_module, empty_cert], 10, 10)
+        names = ["Kind".ljust(50), "Things".rjust(9), "Size".rjust(10), "Seconds".rjust(8), "Exponent"]
+        names += ["By LLVM's"] if options.beside else []
+        print("| " + " | ".join(names) + " |\n|" + "|".join("-" * (len(it) + 1) + ("-" if n == 0 else ":") for n, it in enumerate(names)) + "|")
+        over = 0
+        for it in KINDS:
+            if options.only and not any(word in it.name for word in options.only):
+                continue
+            rows, wrong = measure(options.dgc, it, options, folder)
+            if options.all:
+                for row in rows:
+                    print(f"#   {row[0]:9,} {row[1]:11,} {row[2]:9.4f} s")
+            count, size, took, other = rows[-1] if rows else (0, 0, 0.0, None)
+            grows = exponent(rows, empty)
+            mark = " !" if grows and grows > BOUND else ""
+            over += bool(mark)
+            shown = "-" if grows is None else f"{grows:.2f}"
+            ratio = f" {took / other:8.2f} |" if other else " " * 8 + "- |" if options.beside else ""
+            print(f"| {it.name:50} | {count:9,} | {size:10,} | {took:8.3f} | {shown + mark:>8} |{ratio}{' ' + wrong if wrong else ''}", flush=True)
+        print(f"{over} kinds grow faster than the size to the power of {BOUND}", file=sys.stderr)
+
+
+if __name__ == "__main__":
+    main()

@@ -1,0 +1,199 @@
+//! What is read so far of a certificate.
+ghost use Rattle.std.specs.Prelude.{◌≡◌, OnOk};
+ghost use Rattle.certificate.specs.Input as spec;
+ghost use Rattle.certificate.specs.Drafts.{no_draft, first_missing};
+ghost use Rattle.certs.specs.declared.section.Line.TheVariants as a_line;
+
+use crate::draft::{Draft, Wanted};
+use certs::{Fact, Line, Mark, Promise, Section};
+use ir_ast::{BlockId, FuncId, Function, Module, ValueId};
+use items::Items;
+use std::alloc::{AllocError, Global};
+use std::marker::Model;
+use std::mem;
+
+/// A section that is read.
+#[derive(Drop)]
+pub struct Kept {
+    pub section: Section,
+    /// The first block that it leaves out.
+    pub missing: Option<usize>,
+}
+
+/// The sections that are read, and the draft of the next one.
+#[derive(Drop)]
+pub struct Progress {
+    sections: Vec<Option<Kept>>,
+    draft: Draft,
+}
+
+impl Model for Progress {
+    ghost use Rattle.certificate.specs.Input.{Progress};
+
+    ghost Value = { Progress };
+
+    ghost use Rattle.certificate.specs.View.{progress_of};
+
+    ghost view = { progress_of };
+}
+
+impl Progress {
+    /// No section is begun.
+    pub fn new(alloc: Global, sections: Vec<Option<Kept>>) -> Progress
+        ensures { result ≡ record { sections = sections.items; draft = no_draft } }
+    {
+        Progress {
+            sections,
+            draft: Draft::none(alloc),
+        }
+    }
+
+    /// The sections of the functions, by their numbers.
+    pub fn sections(&self) -> &[Option<Kept>]
+        ensures { result.now ≡ self.now.sections }
+    {
+        self.sections.as_slice()
+    }
+
+    /// What is read so far of the section.
+    pub fn draft(&self) -> &Draft
+        ensures { result.now ≡ self.now.draft }
+    {
+        &self.draft
+    }
+
+    /// Begins the section of a function.
+    #[tactic(auto, unfolding(crate::specs::Input::begun))]
+    pub fn begin(
+        &mut self,
+        alloc: Global,
+        module: &Module,
+        function: &Function,
+    ) -> Result<(), AllocError>
+        ensures { OnOk result (self.new ≡ spec.begun «module».now function.now self.old) }
+    {
+        self.draft = Draft::of(alloc, module, function)?;
+        Ok(())
+    }
+
+    /// Promises this of the parameter at this place; where there is none it is ignored.
+    #[tactic(auto, unfolding(crate::specs::Input::with_promise))]
+    pub fn promise(&mut self, place: usize, promise: &Promise)
+        ensures { self.new ≡ spec.with_promise place promise.now self.old }
+    {
+        if place < self.draft.parameters.len() {
+            self.draft.parameters.set(place, Some(*promise));
+        }
+    }
+
+    /// A value is named that the block has to list, where this much of the text is left.
+    #[tactic(auto, unfolding(crate::specs::Input::wants))]
+    pub fn want(&mut self, value: ValueId, left: usize) -> Result<(), AllocError>
+        ensures { OnOk result (self.new ≡ spec.wants value left self.old) }
+    {
+        self.draft.wanted.push(Wanted { value, left })?;
+        Ok(())
+    }
+
+    /// Adds a line of a value to the lines of the block.
+    #[tactic(auto, unfolding(crate::specs::Input::with_line))]
+    pub fn put_value(
+        &mut self,
+        block: BlockId,
+        value: ValueId,
+        fact: &Fact,
+    ) -> Result<(), AllocError>
+        ensures { OnOk result (self.new ≡ spec.with_line block value (a_line.Value value fact.now) self.old) }
+    {
+        let fact = *fact;
+        self.draft.lines.push(Line::Value { value, fact })?;
+        let at = value.number() as usize;
+        if at < self.draft.values.len() {
+            self.draft.values.set(at, Some(block));
+        }
+        Ok(())
+    }
+
+    /// Adds a line of a slot to the lines of the block.
+    #[tactic(auto, unfolding(crate::specs::Input::with_slot_line))]
+    pub fn put_slot(&mut self, block: BlockId, slot: ValueId, line: &Line) -> Result<(), AllocError>
+        ensures { OnOk result (self.new ≡ spec.with_slot_line block slot line.now self.old) }
+    {
+        match *line {
+            Line::Value { value, fact } => self.draft.lines.push(Line::Value { value, fact })?,
+            Line::Slot {
+                slot,
+                nonnull,
+                holds,
+            } => self.draft.lines.push(Line::Slot {
+                slot,
+                nonnull,
+                holds,
+            })?,
+        }
+        let at = slot.number() as usize;
+        if at < self.draft.slots.len() {
+            self.draft.slots.set(at, Some(block));
+        }
+        Ok(())
+    }
+
+    /// Ends the lines of a block.
+    #[tactic(auto, unfolding(crate::specs::Input::with_block))]
+    pub fn end_block(&mut self, alloc: Global, block: BlockId)
+        ensures { self.new ≡ spec.with_block block self.old }
+    {
+        let lines = mem::replace(&mut self.draft.lines, Items::new(alloc));
+        self.draft.wanted.clear();
+        let at = block.number() as usize;
+        if at < self.draft.blocks.len() {
+            self.draft.blocks.set(at, lines);
+        }
+        if at < self.draft.given.len() {
+            self.draft.given.set(at, true);
+        }
+    }
+
+    /// The first block that has not had its lines.
+    fn first_missing(&self) -> Option<usize>
+        ensures { result ≡ first_missing self.now.draft }
+    {
+        self.draft.given.as_slice().iter().position(|given| !*given)
+    }
+
+    /// Ends the section of a function.
+    #[tactic(auto, unfolding(crate::specs::Input::with_section))]
+    pub fn end_section(
+        &mut self,
+        alloc: Global,
+        function: FuncId,
+        mark: Mark,
+        promise: &Option<Promise>,
+    )
+        ensures { self.new ≡ spec.with_section function mark promise.now self.old }
+    {
+        let missing = self.first_missing();
+        let draft = mem::replace(&mut self.draft, Draft::none(alloc));
+        let at = function.number() as usize;
+        if at < self.sections.len() {
+            self.sections[at] = Some(Kept {
+                section: Section {
+                    mark,
+                    parameters: draft.parameters,
+                    result: *promise,
+                    blocks: draft.blocks,
+                },
+                missing,
+            });
+        }
+    }
+
+    /// Takes the sections out.
+    #[tactic(auto, unfolding(crate::specs::Input::emptied))]
+    pub fn take_sections(&mut self, alloc: Global) -> Vec<Option<Kept>>
+        ensures sections { result.items ≡ self.old.sections }
+        ensures rest { self.new ≡ spec.emptied self.old }
+    {
+        mem::replace(&mut self.sections, Vec::new(alloc))
+    }
+}

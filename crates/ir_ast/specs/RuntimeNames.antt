@@ -1,0 +1,15 @@
+-- The names of the runtime's functions.
+use Rattle.std.specs.Prelude.{ℕ, if◌then◌else◌, List, Option, Some, None, codes}
+use Rattle.std.specs.Str.{bytes_eq}
+use Rattle.ir_ast.specs.declared.runtime.Runtime.{Runtime}
+use Rattle.ir_ast.specs.declared.runtime.Runtime.TheVariants.{Alloc, Safepoint, GcRoot, GcRead, GcWrite}
+
+-- the function of the runtime that has this name
+abbrev pub runtime_of : List ℕ → Option Runtime
+runtime_of name =
+    if bytes_eq name (codes "dg_alloc") then Some Alloc
+    else (if bytes_eq name (codes "dg_safepoint") then Some Safepoint
+    else (if bytes_eq name (codes "llvm.gcroot") then Some GcRoot
+    else (if bytes_eq name (codes "llvm.gcread") then Some GcRead
+    else (if bytes_eq name (codes "llvm.gcwrite") then Some GcWrite
+    else None))))
