@@ -5,17 +5,22 @@ use pools::{LayoutId, Layouts, Pools, WordKind};
 use std::test::Fail;
 use trace_sweep::{Collector, Motion, Words};
 
-/// Words that all hold the same number.
+/// Words of which each colour holds the same number, and each other word is null.
 #[derive(Drop)]
-struct Everywhere {
+struct Coloured {
     number: u32,
 }
 
-impl Words for Everywhere {
-    ghost word_at = { λ words place. words.number };
+impl Words for Coloured {
+    ghost use Rattle.dgc_tests.specs.Coloured.{coloured};
 
-    fn look(&self, _place: Place) -> u64 {
-        u64::from(self.number)
+    ghost word_at = { λ words place. coloured words.number place };
+
+    fn look(&self, place: Place) -> u64 {
+        match place {
+            Place::Colour(_) => u64::from(self.number),
+            _ => 0,
+        }
     }
 }
 
@@ -55,7 +60,7 @@ fn first_turns_over_one_blue_cell(rt: HostRuntime) -> Result<(), Fail> {
     let mut colours = [1, 0];
     for turn in FIRST_TURNS {
         let number = next_word(collector.ask(), &colours);
-        let motion = collector.next(&Everywhere { number });
+        let motion = collector.next(&Coloured { number });
         assert_eq!(rt; motion.map(|motion| motion.turn), Some(turn));
         if let Some(
             Motion {
