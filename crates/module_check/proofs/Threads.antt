@@ -1,10 +1,10 @@
--- What a certified module promises: its threads obey the discipline, and all their runs are safe.
+-- What a certified module promises: its threads obey the discipline, in whole calls and at each step, and all their runs are safe.
 use Rattle.std.proofs.Common.{◌<◌, List, length, sym, subst}
 use Rattle.std.specs.Option.{option_map_or}
 use Rattle.layout.specs.Steps.{get_inside}
 use Rattle.layout.specs.Layouts.{LaidOut}
 use Rattle.certs.specs.declared.section.Section.{Section}
-use Rattle.program_safety.specs.Safety.{AreCertified, CertifiedIsNeverWrong, CertifiedIsSafe, IsSafeProgram}
+use Rattle.program_safety.specs.Safety.{AreCertified, CertifiedIsNeverWrong}
 use Rattle.module_check.specs.Accepted.{IsModuleCertified}
 use Rattle.module_check.specs.Discipline.{AreDisciplined}
 
@@ -17,5 +17,6 @@ pub disciplined : CertifiedIsNeverWrong → (program : LaidOut) (certs : List Se
 disciplined law program certs all func f heap arguments answers there for begins =
     law program certs func f heap arguments answers there for (all_certified program certs all) begins
 
-pub safe : CertifiedIsSafe → (program : LaidOut) (certs : List Section) → IsModuleCertified program certs (length program.of_module.functions) → IsSafeProgram program certs
-safe law program certs all = law program certs (all_certified program certs all)
+-- what every certified program has
+pub promised : {Promise : LaidOut → List Section → Type 0} → ((program : LaidOut) (certs : List Section) → AreCertified program certs → Promise program certs) → (program : LaidOut) (certs : List Section) → IsModuleCertified program certs (length program.of_module.functions) → Promise program certs
+promised law program certs all = law program certs (all_certified program certs all)

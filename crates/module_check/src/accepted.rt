@@ -1,7 +1,7 @@
 ghost use Rattle.std.specs.Prelude.{◌≡◌, length};
 ghost use Rattle.module_check.specs.Accepted.{IsModuleCertified};
 ghost use Rattle.module_check.specs.Discipline.{AreDisciplined};
-ghost use Rattle.program_safety.specs.Safety.{IsSafeProgram};
+ghost use Rattle.program_safety.specs.Safety.{IsCarefulProgram, IsSafeProgram};
 
 use certs::Certs;
 use layout::Program;
@@ -40,6 +40,7 @@ impl Accepted {
         ensures program { result.now ≡ self.now.program }
         ensures certified { IsModuleCertified result.now self.now.certs (length result.now.of_module.functions) }
         ensures disciplined { AreDisciplined result.now self.now.certs }
+        ensures careful { IsCarefulProgram result.now self.now.certs }
         ensures safe { IsSafeProgram result.now self.now.certs }
     {
         discipline_law();
