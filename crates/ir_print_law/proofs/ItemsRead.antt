@@ -7,6 +7,7 @@ use Rattle.ir_ast.specs.declared.function.Function.{Function}
 use Rattle.ir_ast.specs.declared.items_of_module.Declare.{Declare}
 use Rattle.ir_ast.specs.declared.items_of_module.Global.{Global}
 use Rattle.ir_ast.specs.declared.items_of_module.StructType.{StructType}
+use Rattle.ir_ast.specs.declared.items_of_module.SymbolSort.{SymbolSort}
 use Rattle.ir_ast.specs.declared.items_of_module.SymbolSort.TheVariants as symbol
 use Rattle.ir_ast.specs.declared.module.Module.{Module}
 use Rattle.ir_ast.specs.declared.operand.Constant.{Constant}
@@ -23,6 +24,7 @@ use Rattle.ir_forms.specs.declared.decorating.Spot.TheVariants as spot
 use Rattle.ir_forms.specs.declared.decorating.Trail.TheVariants as trail
 use Rattle.ir_text.specs.ItemsOfText.{struct_type, with_struct_type, global, with_global, function_name_by, function_name, declaration, with_declare}
 use Rattle.ir_text.specs.Read.{module_of}
+use Rattle.ir_print.specs.Names.{name_at}
 use Rattle.ir_print_law.specs.Definitions.{defined_structs}
 use Rattle.ir_print_law.specs.Printable.{IsStructType, IsGlobal, IsDeclare, IsInitial}
 use Rattle.ir_print_law.proofs.Arguments.{bits_written}
@@ -32,7 +34,7 @@ use Rattle.ir_print_law.proofs.FunctionsRead.{head_end_keeps}
 use Rattle.ir_print_law.proofs.ItemTypes.{IsFirst, body_keeps, initial_keeps, declared_result_keeps}
 use Rattle.ir_print_law.proofs.LinesRead.{is_constant_passes, declared_parameters_keep}
 use Rattle.ir_print_law.proofs.Looks.{bits_are, held_is}
-use Rattle.ir_print_law.proofs.ModuleItems.{struct_pending, global_pending, declare_pending, new_struct_keeps, new_global_keeps, new_declare_keeps, struct_added, global_added, declare_added}
+use Rattle.ir_print_law.proofs.ModuleItems.{struct_pending, global_pending, declare_pending, new_struct_keeps, named_at_end, new_global_keeps, new_declare_keeps, struct_added, global_added, declare_added}
 use Rattle.ir_print_law.proofs.ModuleState.{Pending, no_one, Stands, Kept, kept_of, Leads, leads_kept, reading_of, Made, between}
 use Rattle.ir_print_law.proofs.Operands.{AreBits}
 use Rattle.ir_print_law.proofs.Passes.{skip_passes, expect_passes}
@@ -207,6 +209,15 @@ module _ (e : Input) (Good : Function → Type 0) where
   unfolding function_name
   declare_name_keeps made number i same few n o h f = named_by made number (kind i.cursor) i same few n o h f
 
+  -- the name has its number where reading ends
+  named_by_kind : (sort : SymbolSort) (x : Kind) (i : Input) (n : ℕ) (o : Input) → (function_name_by sort x).says i n o → Leads e o → name_at e.symbols.names n ≡ spelled i.cursor
+  named_by_kind sort k.GlobalName i n o h back = named_at_end e i sort n o h back
+  named_by_kind sort _ i n o h back = absurd h
+
+  function_named : (sort : SymbolSort) (i : Input) (n : ℕ) (o : Input) → (function_name sort).says i n o → Leads e o → name_at e.symbols.names n ≡ spelled i.cursor
+  unfolding function_name
+  function_named sort i n o h back = named_by_kind sort (kind i.cursor) i n o h back
+
   pub declaration_goes : Goes e Good declaration
   unfolding declaration
   declaration_goes i made a o h f =
@@ -241,13 +252,15 @@ module _ (e : Input) (Good : Function → Type 0) where
         λ back.
             let c7 = b7.1 (leads_kept e s7.1 (kept_of (with_declare d s7.1)) (subst (Leads e) (sym s7.3.1) back)) in
             let c5 = b5.1 (b6.1 c7.0).0 in
-            let c2 = b2.1 (b3.1 (b4.1 c5.0).0).0 in
-            let c1 = b1.1 c2.0 in (
+            let c3 = (b4.1 c5.0).0 in
+            let c2 = b2.1 (b3.1 c3).0 in
+            let c1 = b1.1 c2.0 in
+            let runtime = ap runtime_of (sym (function_named (symbol.Declared number) s2.1 s3.0 s3.1 s3.2 c3)) in (
               subst (Leads e) (sym same) c1.0,
               record {
                 structs = grows_not (IsStructType m) made.structs;
                 globals = grows_not (IsGlobal m) made.globals;
-                declares = grows_by (IsDeclare m) made.declares d (c2.1, c5.1);
+                declares = grows_by (IsDeclare m) made.declares d (c2.1, c5.1, runtime);
                 functions = grows_not Good made.functions;
               },
             ),

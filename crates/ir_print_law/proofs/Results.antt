@@ -26,17 +26,18 @@ use Rattle.ir_print.specs.Types.{type_text}
 use Rattle.ir_print.specs.Types as printed
 use Rattle.ir_print_law.proofs.NamesRead.{collectors_are_read}
 use Rattle.ir_print_law.proofs.Words.{sign_comes, word_comes, global_comes, seen}
+use Rattle.ir_print_law.specs.Again.{IsResultAgain}
 use Rattle.ir_print_law.specs.Printable.{IsVoid, IsPassed, IsAnyType, IsCollector}
 use Rattle.ir_print_law.proofs.Tables.{stays}
 use Rattle.ir_print_law.proofs.State.{Invariant, Ready, Reads, IsLater}
-use Rattle.ir_print_law.proofs.Shown.{shape_stays}
+use Rattle.ir_print_law.proofs.PrintedTypes.{read_again}
 use Rattle.ir_print_law.proofs.Steps.{word_skipped, intern_reads, less_spare, grows_further, grows_itself, unlike, passed, grows_advanced}
 use Rattle.ir_print_law.proofs.Types.{Comes, EndsType, ends_type}
 use Rattle.ir_print_law.proofs.Needs.{TypesRead}
 
--- a result is written alike
+-- a result is this one again, in each module later on
 abbrev pub IsResultRead : Module → (written : ℕ) → ℕ → Input → Type 0
-IsResultRead m written id o = (n : Module) (others : List Text) → IsLater o n others → type_text m written ≡ type_text n id
+IsResultRead m written id o = (n : Module) (others : List Text) → IsLater o n others → IsResultAgain m n written id
 
 pub void_shown : (m : Module) (written : ℕ) → slice_get m.types written ≡ Some type.Void → type_text m written ≡ codes "void"
 unfolding printed.type_within
@@ -124,7 +125,7 @@ module _ (m : Module) (f : Function) (v : Invariant m f) (types : TypesRead m) w
         (tt, i, plain, subst (λ (x : Kind). (defined_result_by x).says i n o) (sym comes) a.2),
         a.3,
         a.4,
-        λ later others is_later. e ∙ sym (void_shown later n (stays o.types later.types n type.Void is_later.types a.5)),
+        λ later others is_later. inl (is_void, stays o.types later.types n type.Void is_later.types a.5),
       )
   defined_result_reads returned i gap name rest (inr is_passed) own seam blanks ready =
       let behind = 32 ∷ 64 ∷ (name_text blank.Kept name ++ rest) in
@@ -140,9 +141,7 @@ module _ (m : Module) (f : Function) (v : Invariant m f) (types : TypesRead m) w
         (tt, i, plain, defined_by (kind i.cursor) i o w.id begins (w, o, a.2, (refl, refl))),
         a.3,
         a.4,
-        λ later others is_later.
-            let has_shape = shape_stays o.types later.types o.struct_names.names later.struct_names shape w.id is_later.types is_later.structs a.5.has_shape in
-            types.types_shown m shape returned is_type.0 is_type.1 ∙ sym (types.types_shown later shape w.id has_shape is_type.1),
+        λ later others is_later. inr (read_again m shape returned w.id o later others is_type.0 a.5.has_shape is_later),
       )
 
   pub declared_result_reads : (returned : ℕ) (i : Input) (gap name rest : Text) → IsVoid m returned ⊎ IsAnyType m returned → AreBytes name → IsSeam rest → AreBlanks gap
@@ -163,7 +162,7 @@ module _ (m : Module) (f : Function) (v : Invariant m f) (types : TypesRead m) w
         (tt, i, plain, subst (λ (x : Kind). (declared_result_by x).says i n o) (sym comes) a.2),
         a.3,
         a.4,
-        λ later others is_later. e ∙ sym (void_shown later n (stays o.types later.types n type.Void is_later.types a.5)),
+        λ later others is_later. inl (is_void, stays o.types later.types n type.Void is_later.types a.5),
       )
   declared_result_reads returned i gap name rest (inr is_any) own seam blanks ready =
       let behind = 32 ∷ 64 ∷ (name_text blank.Kept name ++ rest) in
@@ -179,9 +178,7 @@ module _ (m : Module) (f : Function) (v : Invariant m f) (types : TypesRead m) w
         (tt, i, plain, declared_by (kind i.cursor) i o w.id begins (w, o, a.2, (refl, refl))),
         a.3,
         a.4,
-        λ later others is_later.
-            let has_shape = shape_stays o.types later.types o.struct_names.names later.struct_names shape w.id is_later.types is_later.structs a.5.has_shape in
-            types.types_shown m shape returned is_type.0 is_type.1 ∙ sym (types.types_shown later shape w.id has_shape is_type.1),
+        λ later others is_later. inr (read_again m shape returned w.id o later others is_type.0 a.5.has_shape is_later),
       )
 
   -- ---- the end of a head
