@@ -50,7 +50,7 @@ use Rattle.ir_print_law.proofs.WholeForms.{Widens, widens_further, grows_widens,
 use Rattle.ir_print_law.proofs.Known.{Far, AreNamed, known, SymbolsKnown}
 use Rattle.ir_print_law.proofs.Needs.{TypesRead}
 use Rattle.ir_print_law.proofs.NewNames.{SymbolsThen, new_symbol_goes}
-use Rattle.ir_print_law.proofs.Results.{begins_item}
+use Rattle.ir_print_law.proofs.Results.{begins_item, item_ungrouped}
 
 below_most : (n : ℕ) → n < 4096 → nat_lt n 4096 ≡ true
 below_most n less = grind (arith, nat_tests)
@@ -194,7 +194,8 @@ module _ (m : Module) (f : Function) (named : AreNamed m f) (types : TypesRead m
       let size = length-append (constant_shown bits g.initial) (10 ∷ rest) in
       let ready_s = passed w r constant_bytes (10 ∷ rest) 0 0 t.3 c.1 (omega (arith, size)) in
       let s = advanced r in
-      let trail = trailing_said trail.Memory s (unlike k.Comma begins_item s refl (comes s c.1)) in
+      let trail = trailing_said trail.Global s (unlike k.Comma begins_item s refl (comes s c.1)) in
+      let ungrouped = decorations_said spot.GlobalEnd s (item_ungrouped (begins_line s.cursor) (kind s.cursor) (comes s c.1)) in
       let x : Global = record { symbol = a.0; is_constant = g.is_constant; held = t.0.id; initial = g.initial } in
       let o = with_global x s in
       let h = ready_s.holds in
@@ -209,7 +210,7 @@ module _ (m : Module) (f : Function) (named : AreNamed m f) (types : TypesRead m
           a.0,
           p,
           (tt, i, (below_most number counted, refl), a.2),
-          (tt, b.0, b.2, (g.is_constant, q, b.3, (t.0, r, t.2, (g.initial, s, said_here, (tt, s, trail, (refl, refl)))))),
+          (tt, b.0, b.2, (g.is_constant, q, b.3, (t.0, r, t.2, (g.initial, s, said_here, (tt, s, trail, (tt, s, ungrouped, (refl, refl))))))),
         ),
         record {
           stands = ready_s.stands;

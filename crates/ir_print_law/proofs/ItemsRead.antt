@@ -28,7 +28,7 @@ use Rattle.ir_print.specs.Names.{name_at}
 use Rattle.ir_print_law.specs.Definitions.{defined_structs}
 use Rattle.ir_print_law.specs.Printable.{IsStructType, IsGlobal, IsDeclare, IsInitial}
 use Rattle.ir_print_law.proofs.Arguments.{bits_written}
-use Rattle.ir_print_law.proofs.Decorations.{trailing_passes}
+use Rattle.ir_print_law.proofs.Decorations.{decorations_pass, trailing_passes}
 use Rattle.ir_print_law.proofs.Forms.{Keeps, Any}
 use Rattle.ir_print_law.proofs.FunctionsRead.{head_end_keeps}
 use Rattle.ir_print_law.proofs.ItemTypes.{IsFirst, body_keeps, initial_keeps, declared_result_keeps}
@@ -153,6 +153,7 @@ module _ (e : Input) (Good : Function → Type 0) where
       let t3 = t2.3 in
       let t4 = t3.3 in
       let t5 = t4.3 in
+      let t6 = t5.3 in
       let g : Global = record { symbol = h.0; is_constant = t2.0; held = t3.0.id; initial = t4.0 } in
       let later : Made = record made { globals = made.globals ++ g ∷ [] } in
       let b0 = new_global_keeps e (λ (x : Kept). x ≡ between made) named.1 few h.0 h.1 named.3 (subst (IsBetween made) same f) in
@@ -160,12 +161,14 @@ module _ (e : Input) (Good : Function → Type 0) where
       let b2 = is_constant_passes r t1.1 t2.0 t2.1 t2.2 b1.0 in
       let b3 = held_keeps r t2.1 t3.0 t3.1 t3.2 b2.0 in
       let b4 = initial_keeps r (bits_of t3.0) t3.1 t4.0 t4.1 t4.2 b3.0 in
-      let b5 = trailing_passes r trail.Memory t4.1 t5.0 t5.1 t5.2 b4.0 in
-      let there : IsBetween later (with_global g t5.1) = (global_added g t5.1 b5.0.0, ap (λ (x : Kept). record x { globals = x.globals ++ g ∷ [] }) b5.0.1) in (
+      let b5 = trailing_passes r trail.Global t4.1 t5.0 t5.1 t5.2 b4.0 in
+      let b6 = decorations_pass r spot.GlobalEnd t5.1 t6.0 t6.1 t6.2 b5.0 in
+      let there : IsBetween later (with_global g t6.1) = (global_added g t6.1 b6.0.0, ap (λ (x : Kept). record x { globals = x.globals ++ g ∷ [] }) b6.0.1) in (
         later,
-        subst (IsBetween later) t5.3.1 there,
+        subst (IsBetween later) t6.3.1 there,
         λ back.
-            let c5 = b5.1 (leads_kept e t5.1 (kept_of (with_global g t5.1)) (subst (Leads e) (sym t5.3.1) back)) in
+            let c6 = b6.1 (leads_kept e t6.1 (kept_of (with_global g t6.1)) (subst (Leads e) (sym t6.3.1) back)) in
+            let c5 = b5.1 c6.0 in
             let c4 = b4.1 c5.0 in
             let c3 = b3.1 c4.0 in
             let c0 = b0.1 (b1.1 (b2.1 c3.0).0).0 in (

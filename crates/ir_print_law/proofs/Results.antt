@@ -55,6 +55,14 @@ result_plain first k.OpenSquare e = refl
 result_plain first k.OpenBrace e = refl
 result_plain first _ e = absurd cc
 
+-- and has no metadata before it
+declare_plain : (first : Bool) (x : Kind) → begins_type x ≡ true → begins_decoration spot.Declare first x ≡ false
+declare_plain first k.IntegerType e = refl
+declare_plain first k.LocalName e = refl
+declare_plain first k.OpenSquare e = refl
+declare_plain first k.OpenBrace e = refl
+declare_plain first _ e = absurd cc
+
 defined_by : (x : Kind) (i o : Input) (n : ℕ) → begins_type x ≡ true → (passed_type >>= λ w. pure w.id).says i n o → (defined_result_by x).says i n o
 defined_by k.IntegerType i o n e h = h
 defined_by k.LocalName i o n e h = h
@@ -89,6 +97,15 @@ item_plain first k.Declare e = refl
 item_plain first k.Define e = refl
 item_plain first k.End e = refl
 item_plain first _ e = absurd cc
+
+-- and no group of attributes begins with it
+pub item_ungrouped : (first : Bool) (x : Kind) → begins_item x ≡ true → begins_decoration spot.GlobalEnd first x ≡ false
+item_ungrouped first k.LocalName e = refl
+item_ungrouped first k.GlobalName e = refl
+item_ungrouped first k.Declare e = refl
+item_ungrouped first k.Define e = refl
+item_ungrouped first k.End e = refl
+item_ungrouped first _ e = absurd cc
 
 abbrev opens_body : Kind → Bool
 opens_body k.OpenBrace = true
@@ -154,12 +171,13 @@ module _ (m : Module) (f : Function) (v : Invariant m f) (types : TypesRead m) w
       let here = subst (λ (t : Text). Ready v 0 i (gap ++ (t ++ behind))) e ready in
       let comes = (word_comes i.cursor gap (codes "void") behind blanks refl refl here.stands).0 in
       let plain = decorations_said spot.Result i (ap (begins_decoration spot.Result (begins_line i.cursor)) comes) in
+      let none = decorations_said spot.Declare i (ap (begins_decoration spot.Declare (begins_line i.cursor)) comes) in
       let a = void_reads i gap name rest own seam blanks here in
       let o = a.1 in
       let n = a.0 in (
         a.0,
         a.1,
-        (tt, i, plain, subst (λ (x : Kind). (declared_result_by x).says i n o) (sym comes) a.2),
+        (tt, i, none, (tt, i, plain, subst (λ (x : Kind). (declared_result_by x).says i n o) (sym comes) a.2)),
         a.3,
         a.4,
         λ later others is_later. inl (is_void, stays o.types later.types n type.Void is_later.types a.5),
@@ -170,12 +188,13 @@ module _ (m : Module) (f : Function) (v : Invariant m f) (types : TypesRead m) w
       let is_type = is_any.1 in
       let begins = types.type_comes shape returned i.cursor gap behind is_type blanks refl ready.stands in
       let plain = decorations_said spot.Result i (result_plain (begins_line i.cursor) (kind i.cursor) begins) in
+      let none = decorations_said spot.Declare i (declare_plain (begins_line i.cursor) (kind i.cursor) begins) in
       let a = types.any v shape returned i gap behind 0 is_type refl blanks (ends_global name rest own seam) ready in
       let o = a.1 in
       let w = a.0 in (
         a.0.id,
         a.1,
-        (tt, i, plain, declared_by (kind i.cursor) i o w.id begins (w, o, a.2, (refl, refl))),
+        (tt, i, none, (tt, i, plain, declared_by (kind i.cursor) i o w.id begins (w, o, a.2, (refl, refl)))),
         a.3,
         a.4,
         λ later others is_later. inr (read_again m shape returned w.id o later others is_type.0 a.5.has_shape is_later),
