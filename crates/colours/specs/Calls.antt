@@ -192,7 +192,7 @@ pub record IsPoolInOrder (s : Setup) (layout : ℕ) (cells : List ℕ) : Type 0 
   pub of_layout : (cell : ℕ) → IsAmong cell cells → IsOfLayout s layout cell
   pub apart : AreApart cells
 
--- so many cells from this one up
+-- `count` cells from this one up
 abbrev pub cells_up : (first count : ℕ) → List ℕ
 cells_up first zero = []
 cells_up first (suc count) = first ∷ cells_up (suc first) count

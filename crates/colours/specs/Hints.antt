@@ -9,7 +9,7 @@ use Rattle.colours.specs.Calls.{cells_up, cells_from, AreApart, IsPoolInOrder}
 
 -- ---- stretches of cells
 
--- a stretch has so many
+-- a stretch has `count` cells
 up-length : (first count : ℕ) → length (cells_up first count) ≡ count
 up-length first zero = refl
 up-length first (suc count) = ap suc (up-length (suc first) count)

@@ -102,7 +102,7 @@ impl Op {
         }
     }
 
-    /// The search for a free cell, by a thread at this stage, in a pool that has so many cells from this one up: from the hint
+    /// The search for a free cell, by a thread at this stage, in a pool of `count` cells from `first` up: from the hint
     /// to the pool's end, and then from its first cell up to the hint.
     pub fn alloc(stage: u64, first: u32, count: u32, hint: u32) -> Self
         requires stage { stage < 2 ^ 62 }

@@ -38,6 +38,6 @@ stage_at_start late = if late then done else 0
 abbrev pub stance_at_start : (late : Bool) → Stance
 stance_at_start late = if late then Absent else Ready
 
--- a thread before its first move, with a hint for each of so many layouts
+-- a thread before its first move, with a hint for each of this number of layouts
 abbrev pub stand_at_start : {State : Type 0} → (layouts : ℕ) → NewThread State → Stand State
 stand_at_start layouts thread = record { state = thread.machine; stage = 0; stance = stance_at_start thread.is_late; replaced = null; hints = replicate layouts 0 }

@@ -108,7 +108,7 @@ fn value_at_start(values: &[u64], cell: u32, word: usize) -> u64
     }
 }
 
-/// The threads before the first step, with a hint for each of so many layouts.
+/// The threads before the first step, with a hint for each of this number of layouts.
 pub(crate) fn stands_at_start<M: Drop>(
     alloc: Global,
     layouts: usize,
