@@ -5,7 +5,7 @@ use Rattle.std.specs.Fmt.{decimal}
 use Rattle.ir_ast.specs.declared.ir_type.IrType.{IrType}
 use Rattle.ir_ast.specs.declared.ir_type.IrType.TheVariants.{Integer}
 use Rattle.ir_ast.specs.declared.module.Module.{Module}
-use Rattle.ir_ast.specs.declared.op.Argument.{Argument}
+use Rattle.ir_ast.specs.declared.argument.Argument.{Argument}
 use Rattle.ir_ast.specs.declared.operand.Constant.{Constant}
 use Rattle.ir_ast.specs.declared.operand.Constant.TheVariants as constant
 use Rattle.ir_ast.specs.declared.operand.Operand.{Operand}
