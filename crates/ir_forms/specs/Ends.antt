@@ -1,13 +1,13 @@
--- Instructions that end a block.
+-- How a block ends.
 use Rattle.std.specs.Prelude.{ℕ, Bool, true, false, not, List, [], Option}
 use Rattle.grammar.specs.Grammar.{pure, checked, refuse, look, ◌>>=◌, ◌>>◌}
 use Rattle.grammar.specs.Takes.{Takes, TakesWhere, first_takes, first_takes_where, second_takes, look_takes}
 use Rattle.ir_tokens.specs.declared.token.Kind.{Kind}
 use Rattle.ir_tokens.specs.declared.token.Kind.TheVariants as k
 use Rattle.ir_ast.specs.declared.operand.Constant.{Constant}
-use Rattle.ir_ast.specs.declared.op.Case.{Case}
-use Rattle.ir_ast.specs.declared.op.Op.{Op}
-use Rattle.ir_ast.specs.declared.op.Op.TheVariants as op
+use Rattle.ir_ast.specs.declared.ends.Case.{Case}
+use Rattle.ir_ast.specs.declared.ends.End.{End}
+use Rattle.ir_ast.specs.declared.ends.End.TheVariants as end
 use Rattle.ir_forms.specs.declared.fault.Fault.TheVariants.{DefinedTwice}
 use Rattle.ir_forms.specs.declared.input.Input.{Input}
 use Rattle.ir_forms.specs.declared.written.WrittenType.{WrittenType}
@@ -16,36 +16,37 @@ use Rattle.ir_forms.specs.Input.{Form, unexpected, skip, skip_takes, expect, exp
 use Rattle.ir_forms.specs.Names.{target}
 use Rattle.ir_forms.specs.Written.{scalar, again, bits_of}
 use Rattle.ir_forms.specs.Operand.{operand, constant}
-use Rattle.ir_forms.specs.declared.branches.Cases.{Cases}
+use Rattle.ir_forms.specs.declared.ends.Cases.{Cases}
+use Rattle.ir_forms.specs.declared.decorating.Trail.TheVariants as trail
 use Rattle.ir_forms.specs.declared.case_values.CaseValue.{CaseValue}
 use Rattle.ir_forms.specs.CaseValues.{value_of, is_among, with_value}
-use Rattle.ir_forms.specs.Integers.{condition}
+use Rattle.ir_forms.specs.Numbers.{condition}
 use Rattle.ir_forms.specs.Lists.{typed}
-use Rattle.ir_forms.specs.Decorations.{either}
+use Rattle.ir_forms.specs.Decorations.{either, trailing}
 use Rattle.ir_forms.specs.ManyWith.{many_with}
 
 -- ---- br
 
 -- `label %b`
-abbrev pub jump : Form Op
-jump = target >>= λ b. pure (op.Jump b)
+abbrev pub jump : Form End
+jump = target >>= λ b. pure (end.Jump b)
 
 -- `br i1 V, label %a, label %b` after its word
-unfoldable pub branch : Form Op
+unfoldable pub branch : Form End
 branch = do
   x ← condition
   expect k.Comma
   taken ← target
   expect k.Comma
   other ← target
-  pure (op.Branch x.written x.operand taken other)
+  pure (end.Branch x.written x.operand taken other)
 
 -- what follows `br`: a jump, or a branch on a value
-abbrev pub br_behind : Form Op
+abbrev pub br_behind : Form End
 br_behind = look (λ i. sees k.Label i.cursor) (either jump branch)
 
 -- `br label %b`, or a branch
-unfoldable pub br : Form Op
+unfoldable pub br : Form End
 br = skip >> br_behind
 
 -- ---- switch
@@ -101,45 +102,45 @@ bracketed_cases w = do
   pure xs
 
 -- what follows `switch`
-abbrev pub switch_behind : Form Op
+abbrev pub switch_behind : Form End
 switch_behind = do
   w ← scalar
   x ← operand (bits_of w)
   expect k.Comma
   otherwise ← target
   xs ← bracketed_cases w
-  pure (op.Switch w.id x otherwise xs)
+  pure (end.Switch w.id x otherwise xs)
 
 -- `switch T V, label %d [ T c, label %b .. ]`
-unfoldable pub switch : Form Op
+unfoldable pub switch : Form End
 switch = skip >> switch_behind
 
 -- ---- ret
 
 -- `T V`
-abbrev pub returned_value : Form Op
-returned_value = typed >>= λ x. pure (op.Return x)
+abbrev pub returned_value : Form End
+returned_value = typed >>= λ x. pure (end.Return x)
 
 -- what follows `ret`
-abbrev pub ret_behind : Form Op
-ret_behind = look (λ i. sees k.Void i.cursor) (either (skip >> pure op.ReturnVoid) returned_value)
+abbrev pub ret_behind : Form End
+ret_behind = look (λ i. sees k.Void i.cursor) (either (skip >> pure end.ReturnVoid) returned_value)
 
 -- `ret void` or `ret T V`
-unfoldable pub ret : Form Op
+unfoldable pub ret : Form End
 ret = skip >> ret_behind
 
 -- ---- by the word
 
 -- the instruction that ends a block, by the word with which it begins
-abbrev pub terminator_by : Kind → Form Op
+abbrev pub terminator_by : Kind → Form End
 terminator_by k.Ret = ret
 terminator_by k.Br = br
 terminator_by k.Switch = switch
-terminator_by k.Unreachable = skip >> pure op.Unreachable
+terminator_by k.Unreachable = skip >> pure end.Unreachable
 terminator_by _ = refuse unexpected
 
 -- the instruction that ends a block
-unfoldable pub terminator : Form Op
+unfoldable pub terminator : Form End
 terminator = look (λ i. kind i.cursor) terminator_by
 
 ret_takes : TakesWhere (IsKind k.Ret) ret
@@ -158,7 +159,7 @@ terminator_takes_by : (x : Kind) → TakesWhere (IsKind x) (terminator_by x)
 terminator_takes_by k.Ret = ret_takes
 terminator_takes_by k.Br = br_takes
 terminator_takes_by k.Switch = switch_takes
-terminator_takes_by k.Unreachable = first_takes_where (IsKind k.Unreachable) skip (λ _. pure op.Unreachable) (skip_takes k.Unreachable (λ x. cc))
+terminator_takes_by k.Unreachable = first_takes_where (IsKind k.Unreachable) skip (λ _. pure end.Unreachable) (skip_takes k.Unreachable (λ x. cc))
 terminator_takes_by _ = λ i a o e h. absurd h
 
 pub terminator_takes : Takes terminator
@@ -172,3 +173,15 @@ ends_block k.Br = true
 ends_block k.Switch = true
 ends_block k.Unreachable = true
 ends_block _ = false
+
+-- the end of a block with the decorations after it
+abbrev pub with_trail : End → Form End
+with_trail x = trailing trail.Other >> pure x
+
+-- the end of a block, and the decorations after it
+unfoldable pub block_end : Form End
+block_end = terminator >>= with_trail
+
+pub block_end_takes : Takes block_end
+unfolding block_end
+block_end_takes = first_takes terminator with_trail terminator_takes

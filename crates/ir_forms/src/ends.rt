@@ -1,23 +1,24 @@
-//! Instructions that end a block.
+//! How a block ends.
 ghost use Rattle.std.specs.Prelude.{◌≡◌};
 ghost use Rattle.ir_forms.specs.Input.{Reads};
-ghost use Rattle.ir_forms.specs.Branches as form;
+ghost use Rattle.ir_forms.specs.Ends as form;
 
 use crate::case_values::{CaseValue, CaseValues};
+use crate::decorating::{Trail, trailing};
 use crate::fault::Fault;
 use crate::following::{Following, many_with};
 use crate::input::Input;
-use crate::integers::condition;
 use crate::lists::typed;
+use crate::numbers::condition;
 use crate::written::{WrittenType, bits_of};
-use ir_ast::{Case, Constant, Op};
+use ir_ast::{Case, Constant, End};
 use ir_tokens::Kind;
 use items::Items;
 use std::alloc::Global;
 
 /// br with a condition, after its word.
-#[tactic(auto, unfolding(crate::specs::Branches::branch))]
-fn branch(alloc: Global, input: &mut Input<'_>) -> Result<Op, Fault>
+#[tactic(auto, unfolding(crate::specs::Ends::branch))]
+fn branch(alloc: Global, input: &mut Input<'_>) -> Result<End, Fault>
     ensures { Reads (form.branch.read input.old) result input.new }
 {
     let condition = condition(alloc, input)?;
@@ -25,7 +26,7 @@ fn branch(alloc: Global, input: &mut Input<'_>) -> Result<Op, Fault>
     let taken = input.target(alloc)?;
     input.expect(Kind::Comma)?;
     let other = input.target(alloc)?;
-    Ok(Op::Branch {
+    Ok(End::Branch {
         condition_type: condition.written,
         condition: condition.operand,
         taken,
@@ -33,19 +34,19 @@ fn branch(alloc: Global, input: &mut Input<'_>) -> Result<Op, Fault>
     })
 }
 
-#[tactic(auto, unfolding(crate::specs::Branches::br))]
-fn br(alloc: Global, input: &mut Input<'_>) -> Result<Op, Fault>
+#[tactic(auto, unfolding(crate::specs::Ends::br))]
+fn br(alloc: Global, input: &mut Input<'_>) -> Result<End, Fault>
     ensures { Reads (form.br.read input.old) result input.new }
 {
     input.skip();
     if input.sees(Kind::Label) {
-        return Ok(Op::Jump(input.target(alloc)?));
+        return Ok(End::Jump(input.target(alloc)?));
     }
     branch(alloc, input)
 }
 
 /// The constant of a case, which is not among those of the cases before.
-#[tactic(auto, unfolding(crate::specs::Branches::case_constant))]
+#[tactic(auto, unfolding(crate::specs::Ends::case_constant))]
 fn case_constant(
     input: &mut Input<'_>,
     bits: Option<u32>,
@@ -69,7 +70,7 @@ pub struct Cases {
     pub seen: CaseValues,
 }
 
-#[tactic(auto, unfolding(crate::specs::Branches::case))]
+#[tactic(auto, unfolding(crate::specs::Ends::case))]
 fn case(alloc: Global, input: &mut Input<'_>, cases: &Cases) -> Result<Case, Fault>
     ensures { Reads ((form.case cases.now).read input.old) result input.new }
 {
@@ -81,7 +82,7 @@ fn case(alloc: Global, input: &mut Input<'_>, cases: &Cases) -> Result<Case, Fau
 }
 
 impl Following for Cases {
-    ghost use Rattle.ir_forms.specs.Branches.{case, at_square, behind_case};
+    ghost use Rattle.ir_forms.specs.Ends.{case, at_square, behind_case};
 
     type Item = Case;
 
@@ -103,7 +104,7 @@ impl Following for Cases {
 }
 
 /// The cases of a switch of this type.
-#[tactic(auto, unfolding(crate::specs::Branches::all_cases))]
+#[tactic(auto, unfolding(crate::specs::Ends::all_cases))]
 fn all_cases(
     alloc: Global,
     input: &mut Input<'_>,
@@ -119,7 +120,7 @@ fn all_cases(
 }
 
 /// The cases of a switch in their brackets.
-#[tactic(auto, unfolding(crate::specs::Branches::bracketed_cases))]
+#[tactic(auto, unfolding(crate::specs::Ends::bracketed_cases))]
 fn bracketed_cases(
     alloc: Global,
     input: &mut Input<'_>,
@@ -133,8 +134,8 @@ fn bracketed_cases(
     Ok(cases)
 }
 
-#[tactic(auto, unfolding(crate::specs::Branches::switch))]
-fn switch(alloc: Global, input: &mut Input<'_>) -> Result<Op, Fault>
+#[tactic(auto, unfolding(crate::specs::Ends::switch))]
+fn switch(alloc: Global, input: &mut Input<'_>) -> Result<End, Fault>
     ensures { Reads (form.switch.read input.old) result input.new }
 {
     input.skip();
@@ -143,7 +144,7 @@ fn switch(alloc: Global, input: &mut Input<'_>) -> Result<Op, Fault>
     input.expect(Kind::Comma)?;
     let otherwise = input.target(alloc)?;
     let cases = bracketed_cases(alloc, input, &written)?;
-    Ok(Op::Switch {
+    Ok(End::Switch {
         written: written.id,
         value,
         otherwise,
@@ -151,21 +152,21 @@ fn switch(alloc: Global, input: &mut Input<'_>) -> Result<Op, Fault>
     })
 }
 
-#[tactic(auto, unfolding(crate::specs::Branches::ret))]
-fn ret(alloc: Global, input: &mut Input<'_>) -> Result<Op, Fault>
+#[tactic(auto, unfolding(crate::specs::Ends::ret))]
+fn ret(alloc: Global, input: &mut Input<'_>) -> Result<End, Fault>
     ensures { Reads (form.ret.read input.old) result input.new }
 {
     input.skip();
     if input.sees(Kind::Void) {
         input.skip();
-        return Ok(Op::ReturnVoid);
+        return Ok(End::ReturnVoid);
     }
-    Ok(Op::Return(typed(alloc, input)?))
+    Ok(End::Return(typed(alloc, input)?))
 }
 
 /// The instruction that ends a block.
-#[tactic(auto, unfolding(crate::specs::Branches::terminator))]
-pub fn terminator(alloc: Global, input: &mut Input<'_>) -> Result<Op, Fault>
+#[tactic(auto, unfolding(crate::specs::Ends::terminator))]
+fn terminator(alloc: Global, input: &mut Input<'_>) -> Result<End, Fault>
     ensures { Reads (form.terminator.read input.old) result input.new }
 {
     match input.kind() {
@@ -174,13 +175,23 @@ pub fn terminator(alloc: Global, input: &mut Input<'_>) -> Result<Op, Fault>
         Kind::Switch => switch(alloc, input),
         Kind::Unreachable => {
             input.skip();
-            Ok(Op::Unreachable)
+            Ok(End::Unreachable)
         }
         _ => Err(input.refuse(false)),
     }
 }
 
-/// Whether an instruction ends its block.
+/// The end of a block, and the decorations after it.
+#[tactic(auto, unfolding(crate::specs::Ends::block_end))]
+pub fn block_end(alloc: Global, input: &mut Input<'_>) -> Result<End, Fault>
+    ensures { Reads (form.block_end.read input.old) result input.new }
+{
+    let end = terminator(alloc, input)?;
+    trailing(alloc, input, Trail::Other)?;
+    Ok(end)
+}
+
+/// Whether an instruction that begins with this token ends its block.
 pub fn ends_block(kind: Kind) -> bool
     ensures { result ≡ form.ends_block kind }
 {

@@ -1,14 +1,16 @@
-//! Instructions of integers, and select.
+//! Operations on integers.
 ghost use Rattle.std.specs.Prelude.{◌≡◌};
 ghost use Rattle.ir_forms.specs.Input.{Reads};
-ghost use Rattle.ir_forms.specs.Integers as form;
+ghost use Rattle.ir_forms.specs.Numbers as form;
 
 use crate::decorating::flags;
 use crate::fault::Fault;
 use crate::input::Input;
 use crate::lists::typed;
 use crate::written::{Base, ROOM, WrittenType, bits_of};
-use ir_ast::{Argument, Arithmetic, Comparison, IrType, Op, Operand, Resize, TypeId, ValueId};
+use ir_ast::{
+    Argument, Arithmetic, Comparison, IrType, NumberOp, Operand, Resize, TypeId, ValueId,
+};
 use ir_tokens::Kind;
 use std::alloc::Global;
 
@@ -21,30 +23,13 @@ pub struct TwoOperands {
 }
 
 /// Two operands, after their type.
-#[tactic(auto, unfolding(crate::specs::Integers::pair))]
+#[tactic(auto, unfolding(crate::specs::Numbers::pair))]
 fn pair(alloc: Global, input: &mut Input<'_>) -> Result<TwoOperands, Fault>
     ensures { Reads (form.pair.read input.old) result input.new }
 {
     let written = input.scalar(alloc)?;
     let first = input.operand(alloc, bits_of(&written))?;
     input.expect(Kind::Comma)?;
-    let second = input.operand(alloc, bits_of(&written))?;
-    Ok(TwoOperands {
-        written: written.id,
-        first,
-        second,
-    })
-}
-
-/// Two operands, each after its type, which is one.
-#[tactic(auto, unfolding(crate::specs::Integers::typed_pair))]
-fn typed_pair(alloc: Global, input: &mut Input<'_>) -> Result<TwoOperands, Fault>
-    ensures { Reads (form.typed_pair.read input.old) result input.new }
-{
-    let written = input.scalar(alloc)?;
-    let first = input.operand(alloc, bits_of(&written))?;
-    input.expect(Kind::Comma)?;
-    input.again(alloc, &written)?;
     let second = input.operand(alloc, bits_of(&written))?;
     Ok(TwoOperands {
         written: written.id,
@@ -74,20 +59,20 @@ fn may_wrap(kind: Arithmetic) -> bool
     matches!(kind, Arithmetic::Add | Arithmetic::Sub | Arithmetic::Mul)
 }
 
-#[tactic(auto, unfolding(crate::specs::Integers::arithmetic))]
+#[tactic(auto, unfolding(crate::specs::Numbers::arithmetic))]
 fn arithmetic(
     alloc: Global,
     input: &mut Input<'_>,
     kind: Arithmetic,
     value: ValueId,
-) -> Result<Op, Fault>
+) -> Result<NumberOp, Fault>
     ensures { Reads ((form.arithmetic kind value).read input.old) result input.new }
 {
     input.skip();
     flags(alloc, input, may_wrap(kind))?;
     let pair = pair(alloc, input)?;
     input.set_type(value, pair.written);
-    Ok(Op::Arithmetic {
+    Ok(NumberOp::Arithmetic {
         kind,
         written: pair.written,
         first: pair.first,
@@ -106,8 +91,13 @@ fn resize_of(kind: Kind) -> Option<Resize>
     }
 }
 
-#[tactic(auto, unfolding(crate::specs::Integers::resize))]
-fn resize(alloc: Global, input: &mut Input<'_>, kind: Resize, value: ValueId) -> Result<Op, Fault>
+#[tactic(auto, unfolding(crate::specs::Numbers::resize))]
+fn resize(
+    alloc: Global,
+    input: &mut Input<'_>,
+    kind: Resize,
+    value: ValueId,
+) -> Result<NumberOp, Fault>
     ensures { Reads ((form.resize kind value).read input.old) result input.new }
 {
     input.skip();
@@ -115,7 +105,7 @@ fn resize(alloc: Global, input: &mut Input<'_>, kind: Resize, value: ValueId) ->
     input.expect(Kind::To)?;
     let to = input.scalar(alloc)?.id;
     input.set_type(value, to);
-    Ok(Op::Resize {
+    Ok(NumberOp::Resize {
         kind,
         from: from.written,
         operand: from.operand,
@@ -142,7 +132,7 @@ fn comparison_of(kind: Kind) -> Option<Comparison>
 }
 
 /// What icmp asks of its operands.
-#[tactic(auto, unfolding(crate::specs::Integers::comparison))]
+#[tactic(auto, unfolding(crate::specs::Numbers::comparison))]
 fn comparison(input: &mut Input<'_>) -> Result<Comparison, Fault>
     ensures { Reads (form.comparison.read input.old) result input.new }
 {
@@ -156,8 +146,8 @@ fn comparison(input: &mut Input<'_>) -> Result<Comparison, Fault>
 }
 
 /// icmp.
-#[tactic(auto, unfolding(crate::specs::Integers::compare))]
-pub fn compare(alloc: Global, input: &mut Input<'_>, value: ValueId) -> Result<Op, Fault>
+#[tactic(auto, unfolding(crate::specs::Numbers::compare))]
+pub fn compare(alloc: Global, input: &mut Input<'_>, value: ValueId) -> Result<NumberOp, Fault>
     ensures { Reads ((form.compare value).read input.old) result input.new }
 {
     input.skip();
@@ -165,7 +155,7 @@ pub fn compare(alloc: Global, input: &mut Input<'_>, value: ValueId) -> Result<O
     let pair = pair(alloc, input)?;
     let bit = input.intern(IrType::Integer(1))?;
     input.set_type(value, bit);
-    Ok(Op::Compare {
+    Ok(NumberOp::Compare {
         kind,
         written: pair.written,
         first: pair.first,
@@ -186,7 +176,7 @@ fn bit_type(id: TypeId) -> WrittenType
 }
 
 /// An operand after the type i1.
-#[tactic(auto, unfolding(crate::specs::Integers::condition))]
+#[tactic(auto, unfolding(crate::specs::Numbers::condition))]
 pub fn condition(alloc: Global, input: &mut Input<'_>) -> Result<Argument, Fault>
     ensures { Reads (form.condition.read input.old) result input.new }
 {
@@ -196,27 +186,9 @@ pub fn condition(alloc: Global, input: &mut Input<'_>) -> Result<Argument, Fault
     Ok(Argument { written, operand })
 }
 
-#[tactic(auto, unfolding(crate::specs::Integers::select))]
-pub fn select(alloc: Global, input: &mut Input<'_>, value: ValueId) -> Result<Op, Fault>
-    ensures { Reads ((form.select value).read input.old) result input.new }
-{
-    input.skip();
-    let condition = condition(alloc, input)?;
-    input.expect(Kind::Comma)?;
-    let pair = typed_pair(alloc, input)?;
-    input.set_type(value, pair.written);
-    Ok(Op::Select {
-        condition_type: condition.written,
-        condition: condition.operand,
-        written: pair.written,
-        chosen: pair.first,
-        other: pair.second,
-    })
-}
-
 /// A change of width.
-#[tactic(auto, unfolding(crate::specs::Integers::resized))]
-fn resized(alloc: Global, input: &mut Input<'_>, value: ValueId) -> Result<Op, Fault>
+#[tactic(auto, unfolding(crate::specs::Numbers::resized))]
+fn resized(alloc: Global, input: &mut Input<'_>, value: ValueId) -> Result<NumberOp, Fault>
     ensures { Reads ((form.resized value).read input.old) result input.new }
 {
     match resize_of(input.kind()) {
@@ -226,8 +198,8 @@ fn resized(alloc: Global, input: &mut Input<'_>, value: ValueId) -> Result<Op, F
 }
 
 /// An instruction of integers that is named by its word.
-#[tactic(auto, unfolding(crate::specs::Integers::integer_op))]
-pub fn integer_op(alloc: Global, input: &mut Input<'_>, value: ValueId) -> Result<Op, Fault>
+#[tactic(auto, unfolding(crate::specs::Numbers::integer_op))]
+pub fn integer_op(alloc: Global, input: &mut Input<'_>, value: ValueId) -> Result<NumberOp, Fault>
     ensures { Reads ((form.integer_op value).read input.old) result input.new }
 {
     match arithmetic_of(input.kind()) {

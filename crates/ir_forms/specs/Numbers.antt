@@ -1,18 +1,18 @@
--- Instructions of integers, and select.
+-- Operations on integers.
 use Rattle.std.specs.Prelude.{ℕ, Bool, true, false, Option, Some, None}
 use Rattle.grammar.specs.Grammar.{pure, refuse, look, ◌>>=◌, ◌>>◌}
 use Rattle.ir_tokens.specs.declared.token.Kind.{Kind}
 use Rattle.ir_tokens.specs.declared.token.Kind.TheVariants as k
 use Rattle.ir_ast.specs.declared.ir_type.IrType.TheVariants as type
-use Rattle.ir_ast.specs.declared.op.Argument.{Argument}
-use Rattle.ir_ast.specs.declared.op.Arithmetic.{Arithmetic}
-use Rattle.ir_ast.specs.declared.op.Arithmetic.TheVariants as a
-use Rattle.ir_ast.specs.declared.op.Resize.{Resize}
-use Rattle.ir_ast.specs.declared.op.Resize.TheVariants as r
-use Rattle.ir_ast.specs.declared.op.Comparison.{Comparison}
-use Rattle.ir_ast.specs.declared.op.Comparison.TheVariants as c
-use Rattle.ir_ast.specs.declared.op.Op.{Op}
-use Rattle.ir_ast.specs.declared.op.Op.TheVariants as op
+use Rattle.ir_ast.specs.declared.argument.Argument.{Argument}
+use Rattle.ir_ast.specs.declared.numbers.Arithmetic.{Arithmetic}
+use Rattle.ir_ast.specs.declared.numbers.Arithmetic.TheVariants as a
+use Rattle.ir_ast.specs.declared.numbers.Resize.{Resize}
+use Rattle.ir_ast.specs.declared.numbers.Resize.TheVariants as r
+use Rattle.ir_ast.specs.declared.numbers.Comparison.{Comparison}
+use Rattle.ir_ast.specs.declared.numbers.Comparison.TheVariants as c
+use Rattle.ir_ast.specs.declared.numbers.NumberOp.{NumberOp}
+use Rattle.ir_ast.specs.declared.numbers.NumberOp.TheVariants as number
 use Rattle.ir_forms.specs.declared.written.Base.TheVariants.{Integer}
 use Rattle.ir_forms.specs.declared.written.WrittenType.{WrittenType}
 use Rattle.ir_forms.specs.Cursor.{kind}
@@ -20,7 +20,7 @@ use Rattle.ir_forms.specs.Input.{Form, unexpected, skip, expect}
 use Rattle.ir_forms.specs.Names.{set_type}
 use Rattle.ir_forms.specs.Written.{scalar, intern, again, bits_of}
 use Rattle.ir_forms.specs.Operand.{operand}
-use Rattle.ir_forms.specs.declared.integers.TwoOperands.{TwoOperands}
+use Rattle.ir_forms.specs.declared.numbers.TwoOperands.{TwoOperands}
 use Rattle.ir_forms.specs.Lists.{typed}
 use Rattle.ir_forms.specs.Decorations.{flags}
 
@@ -30,16 +30,6 @@ pair = do
   w ← scalar
   x ← operand (bits_of w)
   expect k.Comma
-  y ← operand (bits_of w)
-  pure (record { written = w.id; first = x; second = y })
-
--- `T V, T W`
-unfoldable pub typed_pair : Form TwoOperands
-typed_pair = do
-  w ← scalar
-  x ← operand (bits_of w)
-  expect k.Comma
-  again w
   y ← operand (bits_of w)
   pure (record { written = w.id; first = x; second = y })
 
@@ -63,13 +53,13 @@ may_wrap a.Mul = true
 may_wrap _ = false
 
 -- `add T V, W`, and so for the other five
-unfoldable pub arithmetic : Arithmetic → ℕ → Form Op
+unfoldable pub arithmetic : Arithmetic → ℕ → Form NumberOp
 arithmetic x value = do
   skip
   flags (may_wrap x)
   p ← pair
   set_type value p.written
-  pure (op.Arithmetic x p.written p.first p.second)
+  pure (number.Arithmetic x p.written p.first p.second)
 
 -- ---- changes of width
 
@@ -81,14 +71,14 @@ resize_of k.Trunc = Some r.Truncate
 resize_of _ = None
 
 -- `zext T V to U`, and so for the other two
-unfoldable pub resize : Resize → ℕ → Form Op
+unfoldable pub resize : Resize → ℕ → Form NumberOp
 resize x value = do
   skip
   from ← typed
   expect k.To
   to ← scalar
   set_type value to.id
-  pure (op.Resize x from.written from.operand to.id)
+  pure (number.Resize x from.written from.operand to.id)
 
 -- ---- comparisons
 
@@ -116,14 +106,14 @@ unfoldable pub comparison : Form Comparison
 comparison = look (λ i. comparison_of (kind i.cursor)) comparison_by
 
 -- `icmp C T V, W`, whose value is an i1
-unfoldable pub compare : ℕ → Form Op
+unfoldable pub compare : ℕ → Form NumberOp
 compare value = do
   skip
   x ← comparison
   p ← pair
   bit ← intern (type.Integer 1)
   set_type value bit
-  pure (op.Compare x p.written p.first p.second)
+  pure (number.Compare x p.written p.first p.second)
 
 -- ---- conditions
 
@@ -139,32 +129,22 @@ condition = do
   x ← operand (Some 1)
   pure (record { written = id; operand = x })
 
--- `select i1 V, T V, T W`
-unfoldable pub select : ℕ → Form Op
-select value = do
-  skip
-  x ← condition
-  expect k.Comma
-  p ← typed_pair
-  set_type value p.written
-  pure (op.Select x.written x.operand p.written p.first p.second)
-
 -- ---- by the word
 
 -- a change of width, if the word names one
-abbrev pub resize_by : ℕ → Option Resize → Form Op
+abbrev pub resize_by : ℕ → Option Resize → Form NumberOp
 resize_by value None = refuse unexpected
 resize_by value (Some x) = resize x value
 
 -- `zext`, `sext` or `trunc`, with what follows it
-unfoldable pub resized : ℕ → Form Op
+unfoldable pub resized : ℕ → Form NumberOp
 resized value = look (λ i. resize_of (kind i.cursor)) (resize_by value)
 
 -- an operation of two integers, if the word names one, or else a change of width
-abbrev pub arithmetic_by : ℕ → Option Arithmetic → Form Op
+abbrev pub arithmetic_by : ℕ → Option Arithmetic → Form NumberOp
 arithmetic_by value None = resized value
 arithmetic_by value (Some x) = arithmetic x value
 
 -- an instruction of integers
-unfoldable pub integer_op : ℕ → Form Op
+unfoldable pub integer_op : ℕ → Form NumberOp
 integer_op value = look (λ i. arithmetic_of (kind i.cursor)) (arithmetic_by value)
