@@ -2,7 +2,7 @@ ghost use Rattle.std.specs.Prelude.{◌≡◌, ◌&&◌, if◌then◌else◌, sl
 ghost use Rattle.machine.specs.declared.action.Action.TheVariants.{Wrong};
 ghost use Rattle.machine.specs.Kinds.{is_integer, bits_at, is_usable_number};
 ghost use Rattle.machine.specs.Integers.{may_resize};
-ghost use Rattle.machine.specs.Asks.{are_indices, are_numbers, are_references, may_compare, may_select, is_condition, element_action, enter_action, branch_way, way_of, target_at, way_action, value_action, place_action, end_action, op_action};
+ghost use Rattle.machine.specs.Asks.{are_indices, are_numbers, are_references, may_compare, may_select, is_condition, element_action, enter_action, branch_way, way_of, target_at, way_action, number_action, choice_action, memory_action, end_action, op_action};
 
 use crate::accesses::{load_action, store_action};
 use crate::action::{Action, only_if};
@@ -17,7 +17,10 @@ use crate::kinds::{
 };
 use crate::operands::{is_typed, is_usable, is_usable_number, value_of};
 use crate::scene::Scene;
-use ir_ast::{Argument, BlockId, Comparison, Function, Op, Operand, Resize, TypeId, ValueId};
+use ir_ast::{
+    Argument, BlockId, Choice, Comparison, Element, End, Function, MemoryOp, NumberOp, Op, Operand,
+    Resize, TypeId, ValueId,
+};
 use types::{element_type, target_of};
 
 fn are_indices(scene: &Scene<'_>, indices: &[Argument]) -> bool
@@ -87,24 +90,19 @@ fn may_resize_to(
             && may_resize(kind, bits_at(of_module, from), bits_at(of_module, to)))
 }
 
-fn element_action(
-    scene: &Scene<'_>,
-    source: TypeId,
-    base_type: TypeId,
-    base: &Operand,
-    indices: &[Argument],
-) -> Action
-    ensures { result ≡ element_action scene.now.program.now scene.now.function.now scene.now.slots.now scene.now.registers.now source base_type base.now indices.now }
+fn element_action(scene: &Scene<'_>, element: &Element) -> Action
+    ensures { result ≡ element_action scene.now.program.now scene.now.function.now scene.now.slots.now scene.now.registers.now element.now }
 {
+    let indices = element.indices.as_slice();
     only_if(
-        is_typed(scene, base_type, base)
+        is_typed(scene, element.base_type, &element.base)
             && (are_indices(scene, indices)
-                && (element_type(scene.of_module(), source, indices).is_some()
+                && (element_type(scene.of_module(), element.source, indices).is_some()
                     && element_place_of(
                         scene.program,
                         scene.registers,
-                        source,
-                        &value_of(scene, base_type, base),
+                        element.source,
+                        &value_of(scene, element.base_type, &element.base),
                         indices,
                     )
                     .is_some())),
@@ -112,13 +110,13 @@ fn element_action(
     )
 }
 
-/// The label to which an instruction goes on, if it is a br or a switch.
-fn way_of(scene: &Scene<'_>, op: &Op) -> Option<ValueId>
-    ensures { result ≡ way_of scene.now.program.now.of_module scene.now.registers.now op.now }
+/// The label to which a block goes on, if it ends with a br or a switch.
+fn way_of(scene: &Scene<'_>, end: &End) -> Option<ValueId>
+    ensures { result ≡ way_of scene.now.program.now.of_module scene.now.registers.now end.now }
 {
-    match op {
-        Op::Jump(label) => Some(*label),
-        Op::Branch {
+    match end {
+        End::Jump(label) => Some(*label),
+        End::Branch {
             condition_type,
             condition,
             taken,
@@ -131,7 +129,7 @@ fn way_of(scene: &Scene<'_>, op: &Op) -> Option<ValueId>
                 *taken
             })
         }
-        Op::Switch {
+        End::Switch {
             written,
             value,
             otherwise,
@@ -148,17 +146,17 @@ fn way_of(scene: &Scene<'_>, op: &Op) -> Option<ValueId>
 }
 
 /// The block to which a br or a switch leads.
-pub fn target_of_way(scene: &Scene<'_>, op: &Op) -> Option<BlockId>
-    ensures { result ≡ target_at scene.now.function.now (way_of scene.now.program.now.of_module scene.now.registers.now op.now) }
+pub fn target_of_way(scene: &Scene<'_>, end: &End) -> Option<BlockId>
+    ensures { result ≡ target_at scene.now.function.now (way_of scene.now.program.now.of_module scene.now.registers.now end.now) }
 {
-    target_of(scene.function, way_of(scene, op)?)
+    target_of(scene.function, way_of(scene, end)?)
 }
 
 /// What a br or a switch of this block asks for.
-fn way_action(scene: &Scene<'_>, from: usize, op: &Op) -> Action
-    ensures { result ≡ way_action scene.now.program.now.of_module scene.now.function.now scene.now.slots.now from scene.now.registers.now op.now }
+fn way_action(scene: &Scene<'_>, from: usize, end: &End) -> Action
+    ensures { result ≡ way_action scene.now.program.now.of_module scene.now.function.now scene.now.slots.now from scene.now.registers.now end.now }
 {
-    match target_of_way(scene, op) {
+    match target_of_way(scene, end) {
         Some(block) => only_if(
             phis_fit(scene, from, phis_of(scene.function, block)),
             Action::Local,
@@ -167,97 +165,32 @@ fn way_action(scene: &Scene<'_>, from: usize, op: &Op) -> Action
     }
 }
 
-/// What an instruction asks for that computes a value of others.
-fn value_action(scene: &Scene<'_>, op: &Op) -> Action
-    ensures { result ≡ value_action scene.now.program.now.of_module scene.now.function.now scene.now.slots.now scene.now.registers.now op.now }
-{
-    let has_meaning = match op {
-        Op::Arithmetic {
-            written,
-            first,
-            second,
-            ..
-        } => are_numbers(scene, *written, first, second),
-        Op::Resize {
-            kind,
-            from,
-            operand,
-            to,
-        } => may_resize_to(scene, *kind, *from, operand, *to),
-        Op::Compare {
-            kind,
-            written,
-            first,
-            second,
-        } => may_compare(scene, *kind, *written, first, second),
-        Op::Select {
-            condition_type,
-            condition,
-            written,
-            chosen,
-            other,
-        } => {
-            is_condition(scene, *condition_type, condition)
-                && may_select(scene, *written, chosen, other)
-        }
-        _ => false,
-    };
-    only_if(has_meaning, Action::Local)
-}
-
-/// What an instruction asks for that has to do with a place.
-fn place_action(scene: &Scene<'_>, op: &Op) -> Action
-    ensures { result ≡ place_action scene.now.program.now scene.now.function.now scene.now.slots.now scene.now.registers.now op.now }
-{
-    match op {
-        Op::Bitcast { from, operand, to } => cast_action(scene, *from, operand, *to),
-        Op::Load {
-            loaded,
-            place_type,
-            place,
-        } => load_action(scene, *loaded, *place_type, place),
-        Op::Store {
-            stored,
-            value,
-            place_type,
-            place,
-        } => { store_action(scene, *stored, value, *place_type, place) }
-        Op::Element {
-            source,
-            base_type,
-            base,
-            indices,
-        } => { element_action(scene, *source, *base_type, base, indices.as_slice()) }
-        _ => Action::Wrong,
-    }
-}
-
 /// What a br or a switch of this block asks for, if its operands have a meaning.
-fn way_action_if(scene: &Scene<'_>, block: usize, op: &Op, has_meaning: bool) -> Action
-    ensures { result ≡ (if has_meaning then way_action scene.now.program.now.of_module scene.now.function.now scene.now.slots.now block scene.now.registers.now op.now else Wrong) }
+fn way_action_if(scene: &Scene<'_>, from: usize, end: &End, has_meaning: bool) -> Action
+    ensures { result ≡ (if has_meaning then way_action scene.now.program.now.of_module scene.now.function.now scene.now.slots.now from scene.now.registers.now end.now else Wrong) }
 {
     if has_meaning {
-        way_action(scene, block, op)
+        way_action(scene, from, end)
     } else {
         Action::Wrong
     }
 }
 
-/// What an instruction asks for that ends this block.
-fn end_action(scene: &Scene<'_>, block: usize, op: &Op) -> Action
-    ensures { result ≡ end_action scene.now.program.now.of_module scene.now.function.now scene.now.slots.now block scene.now.registers.now op.now }
+/// What the end of the block with this number asks for.
+pub fn end_action(scene: &Scene<'_>, from: usize, end: &End) -> Action
+    ensures { result ≡ end_action scene.now.program.now.of_module scene.now.function.now scene.now.slots.now from scene.now.registers.now end.now }
 {
-    match op {
-        Op::Jump(_) => way_action(scene, block, op),
-        Op::Branch {
+    match end {
+        End::Jump(_) => way_action(scene, from, end),
+        End::Branch {
             condition_type,
             condition,
             ..
         } => {
             let has_meaning = is_condition(scene, *condition_type, condition);
-            way_action_if(scene, block, op, has_meaning)
+            way_action_if(scene, from, end, has_meaning)
         }
-        Op::Switch {
+        End::Switch {
             written,
             value,
             cases,
@@ -265,46 +198,90 @@ fn end_action(scene: &Scene<'_>, block: usize, op: &Op) -> Action
         } => {
             let has_meaning = is_usable_number(scene, *written, value)
                 && cases_fit(scene.of_module(), *written, cases.as_slice());
-            way_action_if(scene, block, op, has_meaning)
+            way_action_if(scene, from, end, has_meaning)
         }
-        Op::Unreachable => Action::End,
-        Op::ReturnVoid => {
+        End::Unreachable => Action::End,
+        End::ReturnVoid => {
             only_if(
                 is_void(scene.of_module(), scene.function.returned),
                 Action::End,
             )
         }
-        Op::Return(argument) => only_if(
+        End::Return(argument) => only_if(
             argument.written == scene.function.returned
                 && is_usable(scene, argument.written, &argument.operand),
             Action::End,
         ),
-        _ => Action::Wrong,
     }
 }
 
-/// What an instruction of this block asks for.
-pub fn op_action(scene: &Scene<'_>, block: usize, op: &Op) -> Action
-    ensures { result ≡ op_action scene.now.program.now scene.now.function.now scene.now.slots.now block scene.now.registers.now op.now }
+fn number_action(scene: &Scene<'_>, op: &NumberOp) -> Action
+    ensures { result ≡ number_action scene.now.program.now.of_module scene.now.function.now scene.now.slots.now scene.now.registers.now op.now }
+{
+    let has_meaning = match op {
+        NumberOp::Arithmetic {
+            written,
+            first,
+            second,
+            ..
+        } => are_numbers(scene, *written, first, second),
+        NumberOp::Resize {
+            kind,
+            from,
+            operand,
+            to,
+        } => may_resize_to(scene, *kind, *from, operand, *to),
+        NumberOp::Compare {
+            kind,
+            written,
+            first,
+            second,
+        } => may_compare(scene, *kind, *written, first, second),
+    };
+    only_if(has_meaning, Action::Local)
+}
+
+fn choice_action(scene: &Scene<'_>, choice: &Choice) -> Action
+    ensures { result ≡ choice_action scene.now.program.now.of_module scene.now.function.now scene.now.slots.now scene.now.registers.now choice.now }
+{
+    only_if(
+        is_condition(scene, choice.condition_type, &choice.condition)
+            && may_select(scene, choice.written, &choice.chosen, &choice.other),
+        Action::Local,
+    )
+}
+
+fn memory_action(scene: &Scene<'_>, op: &MemoryOp) -> Action
+    ensures { result ≡ memory_action scene.now.program.now scene.now.function.now scene.now.slots.now scene.now.registers.now op.now }
 {
     match op {
-        Op::Alloca(_) | Op::Phi { .. } => Action::Local,
-        Op::Bitcast { .. } | Op::Load { .. } | Op::Store { .. } | Op::Element { .. } => {
-            place_action(scene, op)
+        MemoryOp::Alloca(_) => Action::Local,
+        MemoryOp::Load {
+            loaded,
+            place_type,
+            place,
+        } => load_action(scene, *loaded, *place_type, place),
+        MemoryOp::Store {
+            stored,
+            value,
+            place_type,
+            place,
+        } => store_action(scene, *stored, value, *place_type, place),
+    }
+}
+
+/// What an instruction of a body asks for.
+pub fn op_action(scene: &Scene<'_>, op: &Op) -> Action
+    ensures { result ≡ op_action scene.now.program.now scene.now.function.now scene.now.slots.now scene.now.registers.now op.now }
+{
+    match op {
+        Op::Number(op) => number_action(scene, op),
+        Op::Memory(op) => memory_action(scene, op),
+        Op::Element(element) => element_action(scene, element),
+        Op::Cast(cast) => cast_action(scene, cast),
+        Op::Choice(choice) => choice_action(scene, choice),
+        Op::Call(call) => {
+            call_action(scene, call.returned, call.callee, call.arguments.as_slice())
         }
-        Op::Arithmetic { .. } | Op::Resize { .. } | Op::Compare { .. } | Op::Select { .. } => {
-            value_action(scene, op)
-        }
-        Op::Call {
-            returned,
-            callee,
-            arguments,
-        } => { call_action(scene, *returned, *callee, arguments.as_slice()) }
-        Op::Jump(_)
-        | Op::Branch { .. }
-        | Op::Switch { .. }
-        | Op::Unreachable
-        | Op::ReturnVoid
-        | Op::Return(_) => end_action(scene, block, op),
     }
 }

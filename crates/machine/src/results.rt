@@ -1,10 +1,9 @@
 //! The values that instructions give, and what calls of the runtime name.
 ghost use Rattle.std.specs.Prelude.{◌≡◌, IfOk};
 ghost use Rattle.machine.specs.Kinds.{value_of, bits_at, number_in, slot_at_place, address_at_place};
-ghost use Rattle.machine.specs.Integers.{resized};
+ghost use Rattle.machine.specs.Integers.{computed, resized};
 ghost use Rattle.machine.specs.Elements.{address_of};
-ghost use Rattle.machine.specs.Machine.{slot_value, read_at, loaded_from, arithmetic_value, are_equal, compared, selected, alloc_value, computed_value, element_address, values_of, result_of, layout_of_call, root_of_call, place_of_call};
-ghost use Rattle.ir_ast.specs.declared.op.Op.TheVariants as op;
+ghost use Rattle.machine.specs.Machine.{slot_value, read_at, loaded_from, are_equal, compared, selected, alloc_value, number_value, choice_value, element_address, values_of, result_of, layout_of_call, root_of_call, place_of_call};
 ghost use Rattle.machine.specs.declared.value.Value.TheVariants as value;
 
 use crate::answer::Answer;
@@ -15,7 +14,10 @@ use crate::kinds::{bits_at, number_in};
 use crate::operands::{address_at_place, operand_value, slot_at_place, value_of};
 use crate::scene::Scene;
 use crate::value::{Place, Value};
-use ir_ast::{Argument, Arithmetic, Comparison, Module, Op, Operand, Resize, TypeId};
+use ir_ast::{
+    Argument, Arithmetic, Choice, Comparison, Element, End, Module, NumberOp, Operand, Resize,
+    TypeId,
+};
 use layout::Program;
 use pools::LayoutId;
 use shadow_stack::SlotId;
@@ -80,7 +82,7 @@ fn arithmetic_value(
     first: &Operand,
     second: &Operand,
 ) -> Value
-    ensures { result ≡ arithmetic_value scene.now.program.now.of_module scene.now.registers.now (op.Arithmetic kind written first.now second.now) }
+    ensures { let m = scene.now.program.now.of_module in result ≡ value.Number (computed kind (bits_at m written) (number_in (value_of m scene.now.registers.now written first.now)) (number_in (value_of m scene.now.registers.now written second.now))) }
 {
     Value::Number(computed(
         kind,
@@ -130,7 +132,6 @@ fn compared(kind: Comparison, bits: u32, first: Value, second: Value) -> Value
     }
 }
 
-/// What a select gives.
 fn selected(condition: Value, chosen: Value, other: Value) -> Value
     ensures { result ≡ selected condition chosen other }
 {
@@ -141,24 +142,24 @@ fn selected(condition: Value, chosen: Value, other: Value) -> Value
     }
 }
 
-/// The value that an instruction computes of others.
-pub fn computed_value(scene: &Scene<'_>, op: &Op) -> Value
-    ensures { result ≡ computed_value scene.now.program.now.of_module scene.now.registers.now op.now }
+/// What an operation on integers gives.
+pub fn number_value(scene: &Scene<'_>, op: &NumberOp) -> Value
+    ensures { result ≡ number_value scene.now.program.now.of_module scene.now.registers.now op.now }
 {
     match op {
-        Op::Arithmetic {
+        NumberOp::Arithmetic {
             kind,
             written,
             first,
             second,
         } => arithmetic_value(scene, *kind, *written, first, second),
-        Op::Resize {
+        NumberOp::Resize {
             kind,
             from,
             operand,
             to,
         } => resized_value(scene, *kind, *from, operand, *to),
-        Op::Compare {
+        NumberOp::Compare {
             kind,
             written,
             first,
@@ -169,40 +170,31 @@ pub fn computed_value(scene: &Scene<'_>, op: &Op) -> Value
             value_of(scene, *written, first),
             value_of(scene, *written, second),
         ),
-        Op::Select {
-            condition_type,
-            condition,
-            written,
-            chosen,
-            other,
-        } => selected(
-            value_of(scene, *condition_type, condition),
-            value_of(scene, *written, chosen),
-            value_of(scene, *written, other),
-        ),
-        _ => Value::Unset,
     }
 }
 
-/// The address that a getelementptr gives.
-pub fn element_address(scene: &Scene<'_>, op: &Op) -> Value
-    ensures { result ≡ element_address scene.now.program.now scene.now.registers.now op.now }
+/// What a select gives.
+pub fn choice_value(scene: &Scene<'_>, choice: &Choice) -> Value
+    ensures { result ≡ choice_value scene.now.program.now.of_module scene.now.registers.now choice.now }
 {
-    match op {
-        Op::Element {
-            source,
-            base_type,
-            base,
-            indices,
-        } => address_of(element_place_of(
-            scene.program,
-            scene.registers,
-            *source,
-            &value_of(scene, *base_type, base),
-            indices.as_slice(),
-        )),
-        _ => Value::Unset,
-    }
+    selected(
+        value_of(scene, choice.condition_type, &choice.condition),
+        value_of(scene, choice.written, &choice.chosen),
+        value_of(scene, choice.written, &choice.other),
+    )
+}
+
+/// The address that a getelementptr gives.
+pub fn element_address(scene: &Scene<'_>, element: &Element) -> Value
+    ensures { result ≡ element_address scene.now.program.now scene.now.registers.now element.now }
+{
+    address_of(element_place_of(
+        scene.program,
+        scene.registers,
+        element.source,
+        &value_of(scene, element.base_type, &element.base),
+        element.indices.as_slice(),
+    ))
 }
 
 /// What an alloc of this layout gives.
@@ -262,11 +254,11 @@ pub fn values_of(
 }
 
 /// What a return gives.
-pub fn result_of(of_module: &Module, registers: &[Value], op: &Op) -> Value
-    ensures { result ≡ result_of of_module.now registers.now op.now }
+pub fn result_of(of_module: &Module, registers: &[Value], end: &End) -> Value
+    ensures { result ≡ result_of of_module.now registers.now end.now }
 {
-    match op {
-        Op::Return(argument) => {
+    match end {
+        End::Return(argument) => {
             operand_value(of_module, registers, argument.written, &argument.operand)
         }
         _ => Value::Unset,
