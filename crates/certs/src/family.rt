@@ -68,18 +68,14 @@ pub fn family_of_type(module: &Module, written: TypeId) -> Family
     }
 }
 
-/// The type to which the getelementptr at a place of a block leads.
+/// The type to which the getelementptr at a place of a block's body leads.
 fn element_of(module: &Module, function: &Function, block: BlockId, place: u32) -> Option<TypeId>
     ensures { result ≡ types_spec.element_of «module».now (types_spec.instruction_at function.now block place) }
 {
     let block = function.blocks.get(block.number() as usize)?;
-    let instr = block.instructions.get(place as usize)?;
+    let instr = block.body.get(place as usize)?;
     match &instr.op {
-        Op::Element {
-            source,
-            indices,
-            ..
-        } => element_type(module, *source, indices.as_slice()),
+        Op::Element(element) => element_type(module, element.source, element.indices.as_slice()),
         _ => None,
     }
 }
