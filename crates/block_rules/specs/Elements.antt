@@ -3,7 +3,7 @@ use Rattle.std.specs.Prelude.{ℕ, ◌+◌, ◌*◌, ◌-◌, ◌^◌, ◌==◌,
 use Rattle.std.specs.List.{list_all, range_with_len}
 use Rattle.ir_ast.specs.declared.function.Function.{Function}
 use Rattle.ir_ast.specs.declared.module.Module.{Module}
-use Rattle.ir_ast.specs.declared.op.Argument.{Argument}
+use Rattle.ir_ast.specs.declared.argument.Argument.{Argument}
 use Rattle.ir_ast.specs.declared.operand.Operand.{Operand}
 use Rattle.ir_ast.specs.declared.operand.Operand.TheVariants.{Local}
 use Rattle.layout.specs.Layouts.{LaidOut}
