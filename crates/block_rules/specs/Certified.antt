@@ -100,16 +100,16 @@ pub record IsCertified (s : Scene) (block : ℕ) : Type 0 where
 -- the rules hold up to a place of the block, and what is there is broken in this way: a phi, an instruction of the body, or the end
 pub data BreaksAt (s : Scene) (block : ℕ) : (place : ℕ) → Breach → Type 0 where
   AtPhi :
-    (place : ℕ) (phi : Phi) (broken : Breach) → PhisPass s block 0 (take place (phis_of s.function block)) → slice_get (phis_of s.function block) place ≡ Some phi
-        → phi_breach s block (stands s block place) phi ≡ Some broken → BreaksAt s block place broken
+      (place : ℕ) (phi : Phi) (broken : Breach) → PhisPass s block 0 (take place (phis_of s.function block)) → slice_get (phis_of s.function block) place ≡ Some phi
+      → phi_breach s block (stands s block place) phi ≡ Some broken → BreaksAt s block place broken
   InBody :
-    (place : ℕ) (instr : Instr) (before : FactSet) (broken : Breach) → PhisPass s block 0 (phis_of s.function block)
-        → Follows s block (phi_count s block) (given_at s block) (take place (body_of s.function block)) before → slice_get (body_of s.function block) place ≡ Some instr
-        → breach s (stands s block (phi_count s block + place)) before instr ≡ Some broken → BreaksAt s block (phi_count s block + place) broken
+      (place : ℕ) (instr : Instr) (before : FactSet) (broken : Breach) → PhisPass s block 0 (phis_of s.function block)
+      → Follows s block (phi_count s block) (given_at s block) (take place (body_of s.function block)) before → slice_get (body_of s.function block) place ≡ Some instr
+      → breach s (stands s block (phi_count s block + place)) before instr ≡ Some broken → BreaksAt s block (phi_count s block + place) broken
   AtEnd :
-    (x : End) (before : FactSet) (broken : Breach) → PhisPass s block 0 (phis_of s.function block)
-        → Follows s block (phi_count s block) (given_at s block) (body_of s.function block) before → end_of s.function block ≡ Some x
-        → end_breach s block (stands s block (end_place s block)) before x ≡ Some broken → BreaksAt s block (end_place s block) broken
+      (x : End) (before : FactSet) (broken : Breach) → PhisPass s block 0 (phis_of s.function block)
+      → Follows s block (phi_count s block) (given_at s block) (body_of s.function block) before → end_of s.function block ≡ Some x
+      → end_breach s block (stands s block (end_place s block)) before x ≡ Some broken → BreaksAt s block (end_place s block) broken
 
 -- a function of a program, with its slots and its certificate, among the certificates of all
 abbrev pub scene_of : LaidOut → (certs : List Section) → Function → Option Section → Scene
