@@ -1,6 +1,7 @@
 pub mod Loops
 pub mod Sets
 mod Sheets
+mod Current
 mod Marked
 mod Named
 mod Changes

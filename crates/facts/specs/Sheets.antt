@@ -57,6 +57,27 @@ IsOne v (u ∷ us) = (u ≡ v) ⊎ IsOne v us
 abbrev pub OnlyMarked : (marked : List ℕ) → List Row → Type 0
 OnlyMarked marked rows = (v : ℕ) → IsOne v marked ⊎ (row_at rows v ≡ blank)
 
+-- a safepoint leaves a row whose value is known to be this as it is: a reference is stale and of the class that the value has for itself, and whether that is null is noted
+abbrev pub is_settled_as : (u : ℕ) → (aside : Bool) → (own : Class) → Known → Bool
+is_settled_as u aside own (Cell c layout stale) = (c == u) && stale && not own.fresh && (if own.nonnull then aside else not aside)
+is_settled_as u aside own _ = not aside
+
+-- a safepoint leaves this row as it is
+abbrev pub is_settled : (u : ℕ) → Row → Bool
+is_settled u row = is_settled_as u row.aside row.class row.known
+
+-- a safepoint leaves each other row as it is
+abbrev pub OnlyCurrent : (current : List ℕ) → List Row → Type 0
+OnlyCurrent current rows = (v : ℕ) → IsOne v current ⊎ (is_settled v (row_at rows v) ≡ true)
+
+-- a safepoint left the row before as it was, and does not leave the row after
+abbrev pub is_unsettled : (v : ℕ) → (before after : Row) → Bool
+is_unsettled v before after = is_settled v before && not (is_settled v after)
+
+-- the rows that a safepoint may change once v has another row
+abbrev pub with_current : (v : ℕ) → (before after : Row) → (current : List ℕ) → List ℕ
+with_current v before after current = if is_unsettled v before after then current ++ v ∷ [] else current
+
 -- the rows that are marked once v is filled, whose row was this
 abbrev pub with_mark : (v : ℕ) → Row → (marked : List ℕ) → List ℕ
 with_mark v row marked = if is_blank row then marked ++ v ∷ [] else marked
@@ -117,6 +138,10 @@ stale_row classes u row = settle_row u (keep_row classes u row)
 -- a row is of a class
 abbrev pub row_is_of : (c : ℕ) → List Row → ℕ → Bool
 row_is_of c rows u = is_of c (row_at rows u).known
+
+-- these rows, and a row if it is of a class
+abbrev pub with_row_of : (c : ℕ) → List Row → (u : ℕ) → List ℕ → List ℕ
+with_row_of c rows u us = if row_is_of c rows u then us ++ u ∷ [] else us
 
 -- a row of the class here is listed there as of the other, if as a reference
 abbrev pub covers_row : (c d : ℕ) → (here there : List Row) → ℕ → Bool

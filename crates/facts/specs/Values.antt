@@ -28,7 +28,7 @@ no_values count = record { values = replicate count Nothing; classes = replicate
 
 -- the row of a value of which nothing is known any more, and which is named no more
 abbrev pub ended_row : Row → Row
-ended_row row = record row { known = Nothing; test = None; named = false }
+ended_row row = record row { known = Nothing; test = None; named = false; aside = false }
 
 -- v is named
 abbrev pub name_row : ℕ → List Row → List Row

@@ -1,8 +1,8 @@
 //! What changes in the rows that are marked, and what is asked of them.
-ghost use Rattle.std.specs.Prelude.{◌≡◌, ◌++◌, map, replicate, slice_set, IfOk, OnOk, OnErr};
+ghost use Rattle.std.specs.Prelude.{◌≡◌, ℕ, true, ◌++◌, map, replicate, slice_set, IfOk, OnOk, OnErr};
 ghost use Rattle.std.specs.List.{list_any, list_all};
 ghost use Rattle.facts.specs.Facts.{class_at};
-ghost use Rattle.facts.specs.Sheets.{blank, each, copied, changed, row_at, with_mark, class_of, known_nonnull, keep_row, settled_class, row_is_of, covers_row};
+ghost use Rattle.facts.specs.Sheets.{blank, each, copied, changed, row_at, with_mark, class_of, known_nonnull, keep_row, settled_class, row_is_of, covers_row, IsOne, is_settled, is_settled_as, is_unsettled, with_current, with_row_of};
 
 use crate::class_id::ClassId;
 use crate::known::{Class, Known};
@@ -53,6 +53,78 @@ pub fn mark(marked: &mut Vec<usize>, rows: &[Row], at: usize) -> Result<(), Allo
 {
     if row_at(rows, at).is_blank() {
         marked.push(at)?;
+    }
+    Ok(())
+}
+
+/// A row that a safepoint changes is noted as current, unless it was.
+pub fn note(
+    current: &mut Vec<usize>,
+    at: usize,
+    before: &Row,
+    after: &Row,
+) -> Result<(), AllocError>
+    ensures ok { OnOk result (current.new.items ≡ with_current at before.now after.now current.old.items) }
+    ensures err { OnErr result (current.new.items ≡ current.old.items) }
+{
+    if is_unsettled(at, before, after) {
+        current.push(at)?;
+    }
+    Ok(())
+}
+
+fn is_unsettled(at: usize, before: &Row, after: &Row) -> bool
+    ensures { result ≡ is_unsettled at before.now after.now }
+{
+    is_settled(at, before) && !is_settled(at, after)
+}
+
+/// Whether a safepoint leaves a row as it is.
+fn is_settled(at: usize, row: &Row) -> bool
+    ensures { result ≡ is_settled at row.now }
+{
+    match row.known {
+        Known::Cell { class, stale, .. } => {
+            class.number() == at
+                && stale
+                && !row.class.fresh
+                && (if row.class.nonnull {
+                    row.aside
+                } else {
+                    !row.aside
+                })
+        }
+        _ => !row.aside,
+    }
+}
+
+/// The rows of a class are noted as current.
+pub fn note_class(
+    current: &mut Vec<usize>,
+    rows: &[Row],
+    marked: &[usize],
+    c: ClassId,
+) -> Result<(), AllocError>
+    ensures kept { (v : ℕ) → IsOne v current.old.items → IsOne v current.new.items }
+    ensures noted { OnOk result ((v : ℕ) → IsOne v marked.now → row_is_of c rows.now v ≡ true → IsOne v current.new.items) }
+{
+    for u in marked {
+        note_of(current, rows, *u, c)?;
+    }
+    Ok(())
+}
+
+fn note_of(
+    current: &mut Vec<usize>,
+    rows: &[Row],
+    at: usize,
+    c: ClassId,
+) -> Result<(), AllocError>
+    ensures ok { OnOk result (current.new.items ≡ with_row_of c rows.now at current.old.items) }
+    ensures err { OnErr result (current.new.items ≡ current.old.items) }
+{
+    if row_is_of(c, rows, at) {
+        current.push(at)?;
     }
     Ok(())
 }

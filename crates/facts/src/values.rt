@@ -11,7 +11,6 @@ use crate::known::{Class, Known, Test};
 use crate::row::Row;
 use crate::rows;
 use crate::sheet::Sheet;
-use crate::sweeps::Change;
 use ir_ast::ValueId;
 use std::alloc::{AllocError, Global};
 use std::marker::Model;
@@ -138,6 +137,7 @@ impl Values {
                 known: Known::Nothing,
                 test: None,
                 named: false,
+                aside: false,
                 ..row
             },
         );
@@ -187,10 +187,12 @@ impl Values {
     }
 
     /// The references of one class are of another.
-    pub fn move_class(&mut self, from: ClassId, to: ClassId)
-        ensures { self.new ≡ record self.old { values = map (move from to) self.old.values } }
+    pub fn move_class(&mut self, from: ClassId, to: ClassId) -> Result<(), AllocError>
+        ensures ok { OnOk result (self.new ≡ record self.old { values = map (move from to) self.old.values }) }
+        ensures err { OnErr result (self.new ≡ self.old) }
     {
-        self.sheet.sweep(&Change::Move(from, to));
+        self.sheet.move_class(from, to)?;
+        Ok(())
     }
 
     /// Each reference is stale, and of the class that its value has for itself.
@@ -255,7 +257,7 @@ fn end_names(sheet: &mut Sheet, v: ValueId)
     if at < sheet.len() && !sheet.row(at).named {
         return;
     }
-    sheet.sweep(&Change::Off(v));
+    sheet.end_names(v);
 }
 
 fn set_added(added: &mut Vec<Class>, at: usize, class: Class)
