@@ -21,4 +21,4 @@ invariant_of-self-then-at-len c = (
   subst (λ (us : List ℕ). OnlyCurrent us (slice_set c.self.inside.rows.items c.args.at c.args.row)) (sym noted) (set_current c.args.at c.args.row c.self.inside.current.items c.self.inside.rows.items c.self.invariant.1),
 ) where
   noted : c.note.new.current.items ≡ with_current c.args.at (row_at c.self.inside.rows.items c.args.at) c.args.row c.self.inside.current.items
-  noted = c.in_ok-note.ensures.ok ∙ ap (λ (row : Row). with_current c.args.at row c.args.row c.self.inside.current.items) (c.row_at-before.ensures ∙ ap (λ (rows : List Row). row_at rows c.args.at) c.deref-2.ensures.value)
+  noted = c.in_ok-note.ensures.ok ∙ ap (λ (row : Row). with_current c.args.at row c.args.row c.self.inside.current.items) (c.row_at-before.ensures ∙ ap (λ (rows : List Row). row_at rows c.args.at) c.deref-then-at-len.ensures.value)
