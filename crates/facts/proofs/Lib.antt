@@ -3,7 +3,8 @@ pub mod Sets
 mod Sheets
 mod Current
 mod Marked
-mod Named
+mod Says
+mod Users
 mod Changes
 mod Forgets
 mod Classes

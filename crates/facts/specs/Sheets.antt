@@ -14,7 +14,7 @@ use Rattle.facts.specs.Lines.{move, covers_value}
 
 -- a row of which nothing is known
 abbrev pub blank : Row
-blank = record { known = Nothing; test = None; class = lost_class; named = false; aside = false }
+blank = record { known = Nothing; test = None; class = lost_class; used = None; aside = false }
 
 -- a row, or a blank one
 abbrev pub row_at : List Row → ℕ → Row
@@ -42,9 +42,14 @@ abbrev pub is_no_test : Option Test → Bool
 is_no_test None = true
 is_no_test (Some test) = false
 
+-- a value is not used
+abbrev pub is_no_use : Option ℕ → Bool
+is_no_use None = true
+is_no_use (Some at) = false
+
 -- nothing is known of a row
 abbrev pub is_blank : Row → Bool
-is_blank row = is_nothing row.known && is_no_test row.test && not row.class.nonnull && not row.class.fresh && not row.named && not row.aside
+is_blank row = is_nothing row.known && is_no_test row.test && not row.class.nonnull && not row.class.fresh && is_no_use row.used && not row.aside
 
 -- ---- rows that are marked
 
@@ -157,7 +162,3 @@ tests v (Some test) = test.tested == v
 -- a row names v
 abbrev pub names : (v : ℕ) → Row → Bool
 names v row = is_on v row.known || tests v row.test
-
--- each value that a row names is known to be named
-abbrev pub OnlyNamed : List Row → Type 0
-OnlyNamed rows = (u v : ℕ) → names v (row_at rows u) ≡ true → v < length rows → (row_at rows v).named ≡ true

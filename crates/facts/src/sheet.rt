@@ -4,11 +4,13 @@ ghost use Rattle.facts.specs.Facts.{is_of, class_at};
 ghost use Rattle.facts.specs.Lines.{covers_value};
 ghost use Rattle.facts.specs.declared.sweeps.Change.TheVariants.{Off, Move};
 ghost use Rattle.facts.specs.Sheets.{row_at, blank, EachRow, changed, known_of, class_of, stale_row, is_settled};
+ghost use Rattle.facts.specs.Uses.{OnlyUsers};
 
 use crate::class_id::ClassId;
 use crate::known::Class;
 use crate::row::Row;
 use crate::sweeps::{self, Change};
+use crate::uses::Use;
 use ir_ast::ValueId;
 use std::alloc::{AllocError, Global};
 use std::marker::Model;
@@ -118,11 +120,12 @@ impl Sheet {
         Ok(())
     }
 
-    /// No row names a value.
-    pub fn end_names(&mut self, v: ValueId)
+    /// No row names a value, of which these are the uses.
+    pub fn end_names(&mut self, uses: &[Use], v: ValueId)
+        requires { OnlyUsers uses.now self.old }
         ensures { EachRow (changed (Off v)) self.old self.new }
     {
-        sweeps::sweep(&mut self.rows, &self.marked, &Change::Off(v));
+        sweeps::end_names(&mut self.rows, &self.marked, uses, v);
     }
 
     /// The references of one class are of another.

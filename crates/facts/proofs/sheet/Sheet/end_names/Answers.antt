@@ -1,22 +1,20 @@
-use Rattle.std.proofs.Common.{◌≡◌, ◌∙◌, ap, sym, subst, refl, List, ℕ}
+use Rattle.std.proofs.Common.{◌≡◌, sym, subst, refl, List, ℕ}
 use Rattle.facts.specs.declared.row.Row.{Row}
 use Rattle.facts.specs.declared.sweeps.Change.TheVariants.{Off}
-use Rattle.facts.specs.Sheets.{each, EachRow, OnlyMarked, OnlyCurrent, changed}
+use Rattle.facts.specs.Sheets.{EachRow, OnlyMarked, changed}
+use Rattle.facts.specs.Uses.{OnlyUsers}
 use Rattle.facts.proofs.Current.{marked_after, current_after, off_settled}
-use Rattle.facts.proofs.Marked.{each_all, changed_twice}
 use Rattle.facts.proofs.sheet.Sheet.end_names.Goals as goal
 
-module _ (c : goal.After-sweep) where
+module _ (c : goal.After-end_names) where
   abbrev before : List Row
   before = c.self.inside.rows.items
 
   abbrev after : List Row
-  after = c.sweep.new.rows.items
+  after = c.end_names.new.rows.items
 
   off : EachRow (changed (Off c.args.v)) before after
-  off =
-      let is : after ≡ each (changed (Off c.args.v)) c.self.inside.marked.items before = c.sweep.ensures ∙ ap (λ (marked : List ℕ). each (changed (Off c.args.v)) marked before) c.deref.ensures.value in
-      subst (λ (rows : List Row). EachRow (changed (Off c.args.v)) before rows) (sym is) (each_all (changed (Off c.args.v)) (changed_twice (Off c.args.v)) (λ u. refl) c.self.inside.marked.items before c.self.invariant.0)
+  off = c.end_names.ensures (subst (λ (rows : List Row). OnlyUsers c.args.uses.now rows) (sym c.self.view_is) c.requires) (subst (λ (us : List ℕ). OnlyMarked us before) (sym c.deref.ensures.value) c.self.invariant.0)
 
 pub invariant_of-self : goal.invariant_of-self
 invariant_of-self c = (

@@ -5,10 +5,12 @@ use Rattle.std.proofs.Math.ListN.{get_or-map}
 use Rattle.std.proofs.lemmas.List.{get_or_append_left, length-map}
 use Rattle.std.specs.Prelude.{map}
 use Rattle.facts.specs.Facts.{lost_class, class_at}
-use Rattle.facts.specs.Sheets.{OnlyNamed, blank, row_at, class_of, is_settled_as, is_settled}
+use Rattle.facts.specs.Sheets.{blank, row_at, class_of, is_settled_as, is_settled}
+use Rattle.facts.specs.Uses.{OnlyUsers}
 use Rattle.facts.proofs.Current.{stale_settled}
 use Rattle.facts.specs.Values.{ValueFacts, facts_of_rows}
-use Rattle.facts.proofs.Named.{class_row_facts, class_added_facts, class_only}
+use Rattle.facts.proofs.Says.{class_row_facts, class_added_facts}
+use Rattle.facts.proofs.Users.{class_users}
 use Rattle.facts.proofs.values.Values.drop_fresh.Goals as goal
 
 -- a class that is fresh no more
@@ -33,7 +35,7 @@ changed c = c.change.ensures ∙ ap (λ (row : Row). slice_set c.self.inside.she
     ∙ ap (λ (at : ℕ). slice_set c.self.inside.sheet at (record (row_at c.self.inside.sheet at) { class = stale c.class.result })) c.number-at.ensures
 
 pub invariant_of-self : goal.invariant_of-self
-invariant_of-self c = subst (λ (rows : List Row). OnlyNamed rows) (sym (changed c)) (class_only (stale c.class.result) c.self.inside.sheet c.args.c c.self.invariant)
+invariant_of-self c = subst (λ (rows : List Row). OnlyUsers c.self.inside.uses.items rows) (sym (changed c)) (class_users c.self.inside.uses.items c.self.inside.sheet c.args.c c.self.invariant (stale c.class.result))
 
 pub returns-then-at-own : goal.returns-then-at-own
 returns-then-at-own c =
