@@ -117,12 +117,7 @@ pub fn note_class(
     Ok(())
 }
 
-fn note_of(
-    current: &mut Vec<usize>,
-    rows: &[Row],
-    at: usize,
-    c: ClassId,
-) -> Result<(), AllocError>
+fn note_of(current: &mut Vec<usize>, rows: &[Row], at: usize, c: ClassId) -> Result<(), AllocError>
     ensures ok { OnOk result (current.new.items ≡ with_row_of c rows.now at current.old.items) }
     ensures err { OnErr result (current.new.items ≡ current.old.items) }
 {
