@@ -6,3 +6,4 @@ pub mod PhiOperands
 pub mod Entries
 pub mod Follows
 pub mod Exact
+pub mod Edges

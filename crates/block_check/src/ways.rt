@@ -6,6 +6,7 @@ ghost use Rattle.types.specs.ValueTypes.{target_of};
 ghost use Rattle.block_rules.specs.Ways.{open_way, branch_ways, ways, decided_facts, entered, line_facts, unshown_line, unshown_at, unshown_on};
 ghost use Rattle.block_check.specs.Subject.{seen, IsReady};
 ghost use Rattle.block_check.specs.Decided.{decided_by};
+ghost use Rattle.block_check.specs.Edges.{IsShown};
 
 use crate::given::begin_lines;
 use crate::phis::note_entries;
@@ -113,12 +114,33 @@ impl Rooms {
         requires { IsReady subject.now }
         ensures { IfOk result (λ found. found ≡ unshown_on (seen subject.now) exit.now.block exit.now.facts.now (map (λ case. open_way case.target) cases.now)) }
     {
+        let mut shown = None;
         for case in cases {
-            if let Some(detail) = self.unshown_at(alloc, subject, exit, case.target, None)? {
+            if let Some(detail) = self.unshown_case(alloc, subject, exit, case.target, shown)? {
                 return Ok(Some(detail));
             }
+            shown = Some(case.target);
         }
         Ok(None)
+    }
+
+    /// The first line of a case's target that is not shown; the target of the case before it is shown.
+    fn unshown_case(
+        &mut self,
+        alloc: Global,
+        subject: &Subject,
+        exit: &Exit,
+        target: ValueId,
+        shown: Option<ValueId>,
+    ) -> Result<Option<Detail>, AllocError>
+        requires ready { IsReady subject.now }
+        requires shown { IsShown (seen subject.now) exit.now.block exit.now.facts.now shown }
+        ensures { IfOk result (λ found. found ≡ unshown_at (seen subject.now) exit.now.block exit.now.facts.now (target_of subject.now.scene.function.now target)) }
+    {
+        match shown {
+            Some(before) if before == target => Ok(None),
+            _ => self.unshown_at(alloc, subject, exit, target, None),
+        }
     }
 
     /// The first line of the target that is not shown on one edge.
@@ -153,11 +175,59 @@ impl Rooms {
         if subject.lines(to).is_empty() {
             return Ok(None);
         }
-        self.enter(alloc, subject, exit, decided, to)?;
         begin_lines(alloc, subject, &mut self.there, to)?;
-        match self.unshown_line(subject, to) {
+        match self.unshown_after(alloc, subject, exit, decided, to)? {
             Some(line) => Ok(Some(Detail { target: to, line })),
             None => Ok(None),
+        }
+    }
+
+    fn unshown_after(
+        &mut self,
+        alloc: Global,
+        subject: &Subject,
+        exit: &Exit,
+        decided: Option<(ValueId, bool)>,
+        to: BlockId,
+    ) -> Result<Option<usize>, AllocError>
+        requires ready { IsReady subject.now }
+        requires there { self.old.there ≡ line_facts (seen subject.now) to }
+        ensures { IfOk result (λ line. line ≡ unshown_line (seen subject.now) to (entered (seen subject.now) exit.now.block to (decided_facts decided exit.now.facts.now))) }
+    {
+        match decided {
+            Some(_) => {
+                self.enter(alloc, subject, exit, decided, to)?;
+                Ok(self.unshown_line(subject, to))
+            }
+            None => self.unshown_open(alloc, subject, exit, to),
+        }
+    }
+
+    /// The first line that is not shown on an edge that no value decides: where no phi takes a value, all is known that was.
+    fn unshown_open(
+        &mut self,
+        alloc: Global,
+        subject: &Subject,
+        exit: &Exit,
+        to: BlockId,
+    ) -> Result<Option<usize>, AllocError>
+        requires ready { IsReady subject.now }
+        requires there { self.old.there ≡ line_facts (seen subject.now) to }
+        ensures { IfOk result (λ line. line ≡ unshown_line (seen subject.now) to (entered (seen subject.now) exit.now.block to exit.now.facts.now)) }
+    {
+        note_entries(subject, exit.block, exit.facts, to, &mut self.entries)?;
+        match self.entries.as_slice() {
+            [] => Ok(unshown_among(
+                subject.scene.slots,
+                exit.facts,
+                &self.there,
+                subject.lines(to),
+            )),
+            entries => {
+                self.way.set_from(alloc, exit.facts)?;
+                self.way.after_phis(entries)?;
+                Ok(self.unshown_line(subject, to))
+            }
         }
     }
 
@@ -184,7 +254,8 @@ impl Rooms {
         to: BlockId,
     ) -> Result<(), AllocError>
         requires { IsReady subject.now }
-        ensures { OnOk result (self.new.way ≡ entered (seen subject.now) exit.now.block to (decided_facts decided exit.now.facts.now)) }
+        ensures there { self.new.there ≡ self.old.there }
+        ensures way { OnOk result (self.new.way ≡ entered (seen subject.now) exit.now.block to (decided_facts decided exit.now.facts.now)) }
     {
         self.way.set_from(alloc, exit.facts)?;
         learn(&mut self.way, decided)?;
