@@ -46,6 +46,7 @@ LEFT_OUT = [
     ("a call of a value", r"%.*|\(|i\d+|void", r"\bcall .*%"),
     ("a function's type", r"\(", r"\)\*"),
     ("an opaque struct", r"opaque", r"= type opaque"),
+    ("another name of a global or a function", r"alias|ifunc", r"^@\S+ = "),
 ]
 
 

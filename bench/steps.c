@@ -5,7 +5,7 @@
    The program is the one that replays.py writes: each thread claims a cell, keeps it in its root slot, stores it in the
    global with the barrier, comes to a safepoint, and does so again. The cells are of two words, an integer and a
    reference. Prints what `dgc replay` prints of the same trace. The collector and the barrier are those of
-   docs/COLLECTOR.md; cells are tried from the lowest number up. */
+   docs/COLLECTOR.md, and so is the order in which a thread tries cells: from its hint on. */
 #include <stdint.h>
 #include <stdio.h>
 #include <stdlib.h>
@@ -19,6 +19,7 @@ enum place { ENTRY, CLAIM = 4, CAST, KEEP, READ_OLD, MARK_OLD, MARK_NEW, STORE, 
 struct thread {
     enum place place;
     uint64_t stage, answer;
+    uint32_t hint; /* the place in the pool after the cell won last */
     uint32_t tried, got, slot, old;
 };
 
@@ -44,12 +45,13 @@ static void mark(uint32_t marked, uint64_t k) {
 
 static void claim(struct thread *t) {
     uint64_t k = cycle_of(t->stage);
-    uint32_t tried = ++t->tried;
-    if (colour[tried] == 0) {
-        colour[tried] = t->stage % 3 == 0 ? 2 * k + 1 : 2 * k - 1;
-        t->got = tried;
+    uint32_t count = cells - 1, place = t->hint + t->tried++;
+    uint32_t next = place < count ? place + 1 : place - count + 1;
+    if (colour[next] == 0) {
+        colour[next] = t->stage % 3 == 0 ? 2 * k + 1 : 2 * k - 1;
+        t->got = t->hint = next;
         claims++;
-    } else if (tried + 1 < cells) {
+    } else if (t->tried < count) {
         return;
     } else {
         t->got = 0;

@@ -1,19 +1,22 @@
 -- getelementptr: where its indices lead.
-use Rattle.std.specs.Prelude.{ℕ, ◌+◌, ◌*◌, ◌-◌, ◌^◌, ◌==◌, Bool, true, false, not, ◌&&◌, ◌||◌, if◌then◌else◌, List, [], ◌∷◌, ◌++◌, length, map, filter, Option, Some, None, nat_lt, nat_le}
+use Rattle.std.specs.Prelude.{ℕ, ◌+◌, ◌*◌, ◌-◌, ◌^◌, ◌==◌, Bool, true, false, not, ◌&&◌, ◌||◌, if◌then◌else◌, List, [], ◌∷◌, ◌++◌, length, map, filter, slice_get, Option, Some, None, is_some, nat_lt, nat_le}
 use Rattle.std.specs.List.{list_all, range_with_len}
 use Rattle.ir_ast.specs.declared.function.Function.{Function}
+use Rattle.ir_ast.specs.declared.ir_type.IrType.{IrType}
+use Rattle.ir_ast.specs.declared.ir_type.IrType.TheVariants.{Array}
 use Rattle.ir_ast.specs.declared.module.Module.{Module}
 use Rattle.ir_ast.specs.declared.argument.Argument.{Argument}
 use Rattle.ir_ast.specs.declared.operand.Operand.{Operand}
 use Rattle.ir_ast.specs.declared.operand.Operand.TheVariants.{Local}
 use Rattle.layout.specs.Layouts.{LaidOut}
-use Rattle.layout.specs.Offsets.{step_of}
+use Rattle.layout.specs.Offsets.{size_of, step_of}
 use Rattle.layout.specs.declared.step.Step.{Step}
 use Rattle.layout.specs.declared.step.Step.TheVariants.{Field, Elements}
 use Rattle.pools.specs.Layouts.{words_of}
 use Rattle.pools.specs.WordSets.{no_words, has_word, adds_word}
 use Rattle.pools.specs.declared.word_kind.WordKind.{WordKind}
 use Rattle.pools.specs.declared.word_set.WordSet.{WordSet}
+use Rattle.types.specs.Elements.{part_at}
 use Rattle.facts.specs.declared.known.Known.{Known}
 use Rattle.facts.specs.declared.known.Known.TheVariants.{Nothing, Number, Cell, Address, GlobalAddress}
 use Rattle.facts.specs.Facts.{FactSet, known_at, define, off_base}
@@ -115,6 +118,35 @@ element_words p facts source (first ∷ []) start = None
 element_words p facts source (first ∷ index ∷ indices) start =
     if is_zero (number_of first.operand) then words_behind p facts (Some source) (index ∷ indices) (Some start) else None
 
+-- the words of an element, of which no more than 64 are counted
+abbrev pub counted_words : (size : Option ℕ) → ℕ
+counted_words None = 64
+counted_words (Some size) = size
+
+-- an index into an array leads to one of its elements; of a struct its field alone is asked for
+abbrev pub leads_into : LaidOut → FactSet → Option IrType → Argument → Bool
+leads_into p facts (Some (Array length part)) index =
+    is_some (array_stride facts (counted_words (size_of p part)) length (kind_of p.of_module index.written) index.operand)
+leads_into p facts _ index = true
+
+-- the part of a type to which an index leads, wherever its words lie
+abbrev pub part_led : LaidOut → FactSet → (written : ℕ) → Argument → Option ℕ
+part_led p facts written index =
+    if leads_into p facts (slice_get p.of_module.types written) index then part_at p.of_module written index else None
+
+-- the part to which some indices lead, one after the other
+abbrev pub part_reached : LaidOut → FactSet → (part : Option ℕ) → List Argument → Option ℕ
+part_reached p facts None indices = None
+part_reached p facts (Some written) [] = Some written
+part_reached p facts (Some written) (index ∷ indices) = part_reached p facts (part_led p facts written index) indices
+
+-- the part to which a getelementptr leads: its first index is 0, and another follows it
+abbrev pub element_part : LaidOut → FactSet → (source : ℕ) → List Argument → Option ℕ
+element_part p facts source [] = None
+element_part p facts source (first ∷ []) = None
+element_part p facts source (first ∷ index ∷ indices) =
+    if is_zero (number_of first.operand) then part_reached p facts (Some source) (index ∷ indices) else None
+
 -- the words at which it begins: those of an address, or the first of a cell, or that of a global
 abbrev pub start_of : Known → WordSet
 start_of (Address base words) = words
@@ -129,25 +161,25 @@ base_layout facts known = known_layout known
 abbrev pub lie_below : (count : ℕ) → WordSet → Bool
 lie_below count set = list_all (λ w. not (has_word set.members w) || nat_lt w count) cell_words
 
--- each word of a set is one of a layout
-abbrev pub lies_in : (layouts : List (List WordKind)) → (layout : Option ℕ) → WordSet → Bool
-lies_in layouts None set = true
-lies_in layouts (Some layout) set = lie_below (length (words_of layouts layout)) set
-
 -- there are words, and they are the layout's
-abbrev pub stays_in : (layouts : List (List WordKind)) → (layout : Option ℕ) → (words : Option WordSet) → Bool
+abbrev pub stays_in : (layouts : List (List WordKind)) → (layout : ℕ) → (words : Option WordSet) → Bool
 stays_in layouts layout None = false
-stays_in layouts layout (Some set) = lies_in layouts layout set
+stays_in layouts layout (Some set) = lie_below (length (words_of layouts layout)) set
 
 -- there are words, and a global has them: it has one
 abbrev pub stays_at_first : (words : Option WordSet) → Bool
 stays_at_first None = false
 stays_at_first (Some set) = lie_below 1 set
 
+-- the indices lead into the layout; where the layout is not known, as of null, to a part of the type, whatever its words are
+abbrev pub leads_from : LaidOut → FactSet → (source : ℕ) → List Argument → (start : WordSet) → (layout : Option ℕ) → Bool
+leads_from p facts source indices start None = is_some (element_part p facts source indices)
+leads_from p facts source indices start (Some layout) = stays_in p.layouts layout (element_words p facts source indices start)
+
 -- K5: the indices lead into the layout, or to the word of a global
 abbrev pub may_lead : LaidOut → FactSet → (source : ℕ) → List Argument → (base : Known) → Bool
 may_lead p facts source indices (GlobalAddress symbol) = stays_at_first (element_words p facts source indices (start_of (GlobalAddress symbol)))
-may_lead p facts source indices base = stays_in p.layouts (base_layout facts base) (element_words p facts source indices (start_of base))
+may_lead p facts source indices base = leads_from p facts source indices (start_of base) (base_layout facts base)
 
 -- K2: what is known of a base is that it is a reference or an address
 abbrev pub may_be_base : Known → Bool

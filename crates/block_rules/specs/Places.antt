@@ -22,7 +22,17 @@ use Rattle.block_rules.specs.declared.type_kind.TypeKind.TheVariants.{Bits, Refe
 use Rattle.block_rules.specs.Operands.{slot_named, known_of, known_fits, is_null_constant}
 use Rattle.block_rules.specs.TypeKinds.{kind_of, is_any_reference, is_word}
 
--- a value may be moved between a slot and an instruction: the type that the slot holds is the one that the instruction writes, or the slot holds references and i8* is written
+-- a value may be loaded from a slot: the type that the slot holds is the one that the load writes, or the slot holds references and i8* is written
+abbrev pub loads_kind : (same : Bool) → (written : TypeKind) → (held : TypeKind) → Bool
+loads_kind same written (Reference layout) = same || is_any_reference written
+loads_kind same written _ = same
+
+-- the same by the types; a slot that does not exist holds nothing
+abbrev pub loads_slot : Module → (written : ℕ) → (held : Option ℕ) → Bool
+loads_slot m written None = false
+loads_slot m written (Some held) = loads_kind (written == held) (kind_of m written) (kind_of m held)
+
+-- a value may be stored in a slot: the slot holds integers or references, and its type is the one that the store writes, or it holds references and i8* is written
 abbrev pub moves_kind : (same : Bool) → (written : TypeKind) → (held : TypeKind) → Bool
 moves_kind same written (Bits bits) = same
 moves_kind same written (Reference layout) = same || is_any_reference written
@@ -93,7 +103,7 @@ loads_known p facts kind _ = false
 -- the same by the slot that a name names, or by what is known of the name where it names none
 abbrev pub loads_local : LaidOut → SlotTable → FactSet → Known → (loaded : ℕ) → (slot : Option ℕ) → Bool
 loads_local p slots facts known loaded None = loads_known p facts (kind_of p.of_module loaded) known
-loads_local p slots facts known loaded (Some s) = moves p.of_module loaded (held_type slots s)
+loads_local p slots facts known loaded (Some s) = loads_slot p.of_module loaded (held_type slots s)
 
 -- a load of this type may be from this place
 abbrev pub may_load : LaidOut → SlotTable → FactSet → (loaded : ℕ) → (place : Operand) → Bool
@@ -147,7 +157,7 @@ abbrev pub fits_held : Module → Known → (held : Option ℕ) → Bool
 fits_held m value None = false
 fits_held m value (Some held) = known_fits (kind_of m held) value
 
--- a slot may take a value: its type is moved there, and what is known of the value fits
+-- a slot may take a value: its type may be stored there, and what is known of the value fits
 abbrev pub stores_slot : Module → SlotTable → (stored : ℕ) → (value : Known) → (slot : ℕ) → Bool
 stores_slot m slots stored value s = moves m stored (held_type slots s) && fits_held m value (held_type slots s)
 
@@ -167,7 +177,7 @@ abbrev pub define_held : (v : ℕ) → (layout : Option ℕ) → (nonnull : Bool
 define_held v None nonnull facts = define v Nothing facts
 define_held v (Some layout) nonnull facts = define_new v layout (record { nonnull = nonnull; fresh = false }) facts
 
--- a load from a slot is a number of its bits, or the reference there
+-- a load from a slot is a number of its bits, or the reference there; of what a slot of another type holds nothing is known
 abbrev pub load_kind : (v s : ℕ) → TypeKind → FactSet → FactSet
 load_kind v s (Bits bits) facts = define v (Number bits None) facts
 load_kind v s (Reference layout) facts = load_slot v s layout facts

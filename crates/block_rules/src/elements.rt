@@ -1,9 +1,9 @@
-ghost use Rattle.std.specs.Prelude.{◌≡◌, OnOk, Some};
+ghost use Rattle.std.specs.Prelude.{◌≡◌, OnOk, Some, slice_get};
 ghost use Rattle.std.specs.List.{list_all};
 ghost use Rattle.block_rules.specs.FirstFailing.{first_failing};
 ghost use Rattle.block_rules.specs.Operands.{is_available, number_of};
 ghost use Rattle.block_rules.specs.Rules.{element_conditions};
-ghost use Rattle.block_rules.specs.Elements.{constant_stride, places_below, bounded_stride, register_stride, operand_stride, array_stride, step_stride, step_part, members, reached, all_reached, gathered, empty_set, strode, words_behind, is_zero, element_words, start_of, base_layout, lie_below, lies_in, stays_in, stays_at_first, may_lead, may_be_base, is_index, are_indices, define_element, define_words, after_element};
+ghost use Rattle.block_rules.specs.Elements.{constant_stride, places_below, bounded_stride, register_stride, operand_stride, array_stride, step_stride, step_part, members, reached, all_reached, gathered, empty_set, strode, words_behind, is_zero, element_words, counted_words, leads_into, part_led, part_reached, element_part, start_of, base_layout, lie_below, stays_in, stays_at_first, leads_from, may_lead, may_be_base, is_index, are_indices, define_element, define_words, after_element};
 
 use crate::calls::no_slots;
 use crate::casts::{casts_operand, off_base};
@@ -19,11 +19,12 @@ use crate::standing::Standing;
 use crate::stride::Stride;
 use crate::type_kind::TypeKind;
 use facts::{Facts, Known};
-use ir_ast::{Argument, Element, Operand, TypeId, ValueId};
+use ir_ast::{Argument, Element, IrType, Operand, TypeId, ValueId};
 use layout::{Program, Step};
 use pools::{CELL_WORDS, LayoutId, Layouts, WordSet};
 use shadow_stack::Slots;
 use std::alloc::AllocError;
+use types::part_at;
 
 /// No index has more bits.
 const WORD_BITS: u32 = 64;
@@ -199,6 +200,70 @@ fn element_words(
     }
 }
 
+fn counted_words(size: Option<u32>) -> u32
+    ensures { result ≡ counted_words size }
+{
+    size.unwrap_or(CELL_WORDS as u32)
+}
+
+fn leads_into(program: &Program, facts: &Facts, whole: IrType, index: &Argument) -> bool
+    ensures { result ≡ leads_into program.now facts.now (Some whole) index.now }
+{
+    match whole {
+        IrType::Array { length, part } => {
+            let words = counted_words(program.size_of(part));
+            let kind = TypeKind::of(program.module(), index.written);
+            array_stride(facts, words, length, kind, &index.operand).is_some()
+        }
+        _ => true,
+    }
+}
+
+/// The part of a type to which an index leads, wherever its words lie.
+fn part_led(program: &Program, facts: &Facts, written: TypeId, index: &Argument) -> Option<TypeId>
+    ensures { result ≡ part_led program.now facts.now written index.now }
+{
+    match program.module().types.get(written) {
+        Some(whole) if !leads_into(program, facts, whole, index) => None,
+        _ => part_at(program.module(), written, *index),
+    }
+}
+
+fn part_reached(
+    program: &Program,
+    facts: &Facts,
+    source: TypeId,
+    indices: &[Argument],
+) -> Option<TypeId>
+    ensures { result ≡ part_reached program.now facts.now (Some source) indices.now }
+{
+    let mut part = source;
+    for index in indices {
+        part = part_led(program, facts, part, index)?;
+    }
+    Some(part)
+}
+
+fn element_part(
+    program: &Program,
+    facts: &Facts,
+    source: TypeId,
+    indices: &[Argument],
+) -> Option<TypeId>
+    ensures { result ≡ element_part program.now facts.now source indices.now }
+{
+    match indices {
+        [] | [_] => None,
+        [first, rest @ ..] => {
+            if is_zero(number_of(&first.operand)) {
+                part_reached(program, facts, source, rest)
+            } else {
+                None
+            }
+        }
+    }
+}
+
 fn start_of(known: &Known) -> WordSet
     ensures { result ≡ start_of known.now }
 {
@@ -221,26 +286,17 @@ fn base_layout(facts: &Facts, known: &Known) -> Option<LayoutId>
     }
 }
 
-fn lies_in(layouts: &Layouts, layout: Option<LayoutId>, set: &WordSet) -> bool
-    ensures { result ≡ lies_in layouts.now layout set.now }
-{
-    match layout {
-        Some(layout) => words_lie_in(layouts.words(layout).len(), set),
-        None => true,
-    }
-}
-
 fn words_lie_in(count: usize, set: &WordSet) -> bool
     ensures { result ≡ lie_below count set.now }
 {
     (0..CELL_WORDS as u32).all(|word| !set.has(word) || (word as usize) < count)
 }
 
-fn stays_in(layouts: &Layouts, layout: Option<LayoutId>, words: Option<WordSet>) -> bool
+fn stays_in(layouts: &Layouts, layout: LayoutId, words: Option<WordSet>) -> bool
     ensures { result ≡ stays_in layouts.now layout words }
 {
     match words {
-        Some(words) => lies_in(layouts, layout, &words),
+        Some(words) => words_lie_in(layouts.words(layout).len(), &words),
         None => false,
     }
 }
@@ -251,6 +307,25 @@ fn stays_at_first(words: Option<WordSet>) -> bool
     match words {
         Some(words) => words_lie_in(1, &words),
         None => false,
+    }
+}
+
+fn leads_from(
+    program: &Program,
+    facts: &Facts,
+    source: TypeId,
+    indices: &[Argument],
+    start: &WordSet,
+    layout: Option<LayoutId>,
+) -> bool
+    ensures { result ≡ leads_from program.now facts.now source indices.now start.now layout }
+{
+    match layout {
+        Some(layout) => {
+            let words = element_words(program, facts, source, indices, start);
+            stays_in(program.layouts(), layout, words)
+        }
+        None => element_part(program, facts, source, indices).is_some(),
     }
 }
 
@@ -265,12 +340,13 @@ pub fn may_lead(
     ensures { result ≡ may_lead scene.now.program.now facts.now source indices.now base.now }
 {
     let start = start_of(base);
-    let words = element_words(scene.program, facts, source, indices, &start);
     match base {
-        Known::GlobalAddress(_) => stays_at_first(words),
+        Known::GlobalAddress(_) => {
+            stays_at_first(element_words(scene.program, facts, source, indices, &start))
+        }
         base => {
             let layout = base_layout(facts, base);
-            stays_in(scene.program.layouts(), layout, words)
+            leads_from(scene.program, facts, source, indices, &start, layout)
         }
     }
 }

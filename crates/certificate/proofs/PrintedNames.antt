@@ -27,7 +27,7 @@ use Rattle.certificate.proofs.PrintedWords.{key_read, layout_read, global_read, 
 
 -- a name of a table, as it is printed
 name_is : (names : List Text) (number : ℕ) → AreNames names → number < length names
-    → (name : Text) × (name_text (name_at names number) ≡ name_text name) × (is_word (name_text name) ≡ true) × IsShort blank.Escaped name × (place_of name names ≡ Some number)
+    → (name : Text) × (name_text (name_at names number) ≡ name_text name) × (is_word (name_text name) ≡ true) × IsShort blank.Kept name × (place_of name names ≡ Some number)
 name_is names number are lt =
     let p = get_some names number lt in
     let q = are number p.0 p.1 in

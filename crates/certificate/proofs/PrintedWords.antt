@@ -25,20 +25,20 @@ use Rattle.name_text.specs.declared.naming.Sigil.TheVariants as sigil
 -- ---- names
 
 -- the name of a layout with its sign is read as that name
-pub layout_read : (name : Text) → IsShort blank.Escaped name → name_in sigil.Layout (37 ∷ name_text name) ≡ Some name
-layout_read name short = layout_spelled blank.Escaped name short.0 short.1
+pub layout_read : (name : Text) → IsShort blank.Kept name → name_in sigil.Layout (37 ∷ name_text name) ≡ Some name
+layout_read name short = layout_spelled blank.Kept name short.0 short.1
 
 -- and so is a global name
-pub global_read : (name : Text) → IsShort blank.Escaped name → name_in sigil.Global (64 ∷ name_text name) ≡ Some name
-global_read name short = global_spelled blank.Escaped name short.0 short.1
+pub global_read : (name : Text) → IsShort blank.Kept name → name_in sigil.Global (64 ∷ name_text name) ≡ Some name
+global_read name short = global_spelled blank.Kept name short.0 short.1
 
 -- a local name is read as its key
-local_read : (name : Text) → IsShort blank.Escaped name → name_in sigil.Local (37 ∷ name_text name) ≡ Some (key_of_name name)
-local_read name short = local_spelled blank.Escaped name short.0 short.1
+local_read : (name : Text) → IsShort blank.Kept name → name_in sigil.Local (37 ∷ name_text name) ≡ Some (key_of_name name)
+local_read name short = local_spelled blank.Kept name short.0 short.1
 
 -- a printed name is one word
 pub name_word : (name : Text) → is_word (name_text name) ≡ true
-name_word name = names_are_words blank.Escaped name
+name_word name = names_are_words blank.Kept name
 
 -- ---- keys
 

@@ -9,3 +9,4 @@ pub mod Ends
 pub mod Text
 pub mod Print
 pub mod Named
+pub mod Laws

@@ -18,11 +18,11 @@ use Rattle.certs.specs.Fits.{is_value}
 
 -- each name of a table is such a name, and is found at its place
 abbrev pub AreNames : List Text → Type 0
-AreNames names = (number : ℕ) (name : Text) → slice_get names number ≡ Some name → IsShort blank.Escaped name × (place_of name names ≡ Some number)
+AreNames names = (number : ℕ) (name : Text) → slice_get names number ≡ Some name → IsShort blank.Kept name × (place_of name names ≡ Some number)
 
 -- the key of such a name
 abbrev pub IsNameKey : Text → Type 0
-IsNameKey key = (name : Text) × (key ≡ key_of_name name) × IsShort blank.Escaped name
+IsNameKey key = (name : Text) × (key ≡ key_of_name name) × IsShort blank.Kept name
 
 -- the number of a value or a block without a name, without zeros before it, shorter than a text may be
 abbrev pub IsNumberKey : Text → Type 0

@@ -25,25 +25,25 @@ use Rattle.certs.specs.declared.section.Section.{Section}
 
 -- ---- names
 
--- a name, in quotes where it is not plain; words are separated by blanks, so it shows none
+-- a name, in quotes where it is not plain
 abbrev pub name_text : Text → Text
-name_text = names.name_text blank.Escaped
+name_text = names.name_text blank.Kept
 
 -- what has this key: the number of a value or a block without a name as it is, and otherwise the name
 abbrev pub key_text : Text → Text
-key_text = names.key_text blank.Escaped
+key_text = names.key_text blank.Kept
 
 -- a local name with its sign
 abbrev pub local_text : Function → (value : ℕ) → Text
-local_text f value = names.local_text blank.Escaped f.locals value
+local_text f value = names.local_text blank.Kept f.locals value
 
 -- a global name with its sign
 abbrev pub global_text : Module → (symbol : ℕ) → Text
-global_text = names.global_text blank.Escaped
+global_text = names.global_text blank.Kept
 
 -- the name of a layout's type, without its sign
 abbrev pub layout_text : Module → (layout : ℕ) → Text
-layout_text = names.layout_text blank.Escaped
+layout_text = names.layout_text blank.Kept
 
 -- ---- facts
 

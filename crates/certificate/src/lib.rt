@@ -6,6 +6,7 @@ mod facts;
 mod fault;
 mod forms;
 mod input;
+mod laws;
 mod mistake;
 mod naming;
 mod numbers;
@@ -17,6 +18,7 @@ mod reader;
 
 pub use certs::{Age, Certs, Fact, Family, Line, Mark, Promise, Section};
 pub use fault::CertFault;
+pub use laws::cert_law;
 pub use print::print_line;
 pub use print_sections::print_cert;
 pub use reader::read_cert;

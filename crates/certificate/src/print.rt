@@ -49,7 +49,7 @@ fn put_value(
         None => Ok(()),
         Some(value) => {
             out.extend_from_slice(word)?;
-            put_local(out, &function.locals, value, Blank::Escaped)
+            put_local(out, &function.locals, value, Blank::Kept)
         }
     }
 }
@@ -120,20 +120,20 @@ fn put_fact(
             same,
         } => {
             out.extend_from_slice(b" ref ")?;
-            put_layout(out, module, *layout, Blank::Escaped)?;
+            put_layout(out, module, *layout, Blank::Kept)?;
             put_if(out, *nonnull, b" nonnull")?;
             put_age(out, *age)?;
             put_value(out, function, b" same ", *same)
         }
         Fact::Address { base, words } => {
             out.extend_from_slice(b" addr ")?;
-            put_local(out, &function.locals, *base, Blank::Escaped)?;
+            put_local(out, &function.locals, *base, Blank::Kept)?;
             out.push(b' ')?;
             put_words(alloc, out, words)
         }
         Fact::GlobalAddress(symbol) => {
             out.extend_from_slice(b" addr ")?;
-            put_global(out, module, *symbol, Blank::Escaped)
+            put_global(out, module, *symbol, Blank::Kept)
         }
     }
 }
@@ -150,7 +150,7 @@ pub(crate) fn put_line(
 {
     match line {
         Line::Value { value, fact } => {
-            put_local(out, &function.locals, *value, Blank::Escaped)?;
+            put_local(out, &function.locals, *value, Blank::Kept)?;
             put_fact(alloc, out, module, function, fact)
         }
         Line::Slot {
@@ -159,7 +159,7 @@ pub(crate) fn put_line(
             holds,
         } => {
             out.extend_from_slice(b"slot ")?;
-            put_local(out, &function.locals, *slot, Blank::Escaped)?;
+            put_local(out, &function.locals, *slot, Blank::Kept)?;
             put_if(out, *nonnull, b" nonnull")?;
             put_value(out, function, b" holds ", *holds)
         }

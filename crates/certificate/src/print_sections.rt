@@ -24,7 +24,7 @@ fn put_promised_layout(
         None => Ok(()),
         Some(layout) => {
             out.extend_from_slice(b" ref ")?;
-            put_layout(out, module, layout, Blank::Escaped)
+            put_layout(out, module, layout, Blank::Kept)
         }
     }
 }
@@ -58,7 +58,7 @@ fn put_parameter(
         None => Ok(()),
         Some(promise) => {
             out.extend_from_slice(b"param ")?;
-            put_local(out, &function.locals, parameter.value, Blank::Escaped)?;
+            put_local(out, &function.locals, parameter.value, Blank::Kept)?;
             put_promise(alloc, out, module, promise)
         }
     }
@@ -124,7 +124,7 @@ fn put_block(
     ensures { OnOk result (out.new.items ≡ out.old.items ++ spec.block_text «module».now function.now block.now lines.now) }
 {
     out.extend_from_slice(b"block ")?;
-    put_local(out, &function.locals, block.label, Blank::Escaped)?;
+    put_local(out, &function.locals, block.label, Blank::Kept)?;
     out.push(b'\n')?;
     put_lines(alloc, out, module, function, lines)
 }
@@ -155,7 +155,7 @@ fn put_heading(
     ensures { OnOk result (out.new.items ≡ out.old.items ++ spec.heading_text «module».now function.now mark) }
 {
     out.extend_from_slice(b"function ")?;
-    put_global(out, module, function.symbol, Blank::Escaped)?;
+    put_global(out, module, function.symbol, Blank::Kept)?;
     match mark {
         Mark::May => out.extend_from_slice(b" may\n"),
         Mark::None => out.extend_from_slice(b" none\n"),

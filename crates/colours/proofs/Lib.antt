@@ -1,2 +1,4 @@
 pub mod Barriers
 pub mod Tries
+pub mod Arrivals
+pub mod Nexts

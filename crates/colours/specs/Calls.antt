@@ -1,13 +1,13 @@
 -- The steps of one call of a thread: what it has still to do, what the result of its next operation makes of that,
 -- and which lists of steps are such a call by the order of a thread's steps.
-use Rattle.std.specs.Prelude.{ℕ, zero, suc, ◌<◌, ◌^◌, ◌≡◌, ◌≢◌, ◌==◌, IsTrue, IsFalse, Bool, Option, Some, None, List, [], ◌∷◌, ◌++◌, if◌then◌else◌}
-use Rattle.colours.specs.declared.place.Place.TheVariants.{Posted, Colour, Word}
+use Rattle.std.specs.Prelude.{ℕ, zero, suc, ◌+◌, ◌-◌, ◌<◌, ◌^◌, ◌≡◌, ◌≢◌, ◌==◌, IsTrue, IsFalse, Bool, true, false, Option, Some, None, List, [], ◌∷◌, ◌++◌, length, slice_index, if◌then◌else◌}
+use Rattle.colours.specs.declared.place.Place.TheVariants.{Posted, Stage, Colour, Word}
 use Rattle.colours.specs.declared.ask.Ask.{Ask}
-use Rattle.colours.specs.declared.ask.Ask.TheVariants.{Load, CompareExchange}
-use Rattle.colours.specs.Colours.{is_async, claim_at}
-use Rattle.pools.specs.Heap.{Setup}
-use Rattle.colours.specs.Steps.{Step, ReadWord, ReadOldValue, Mark, StoreBehindBarrier, StorePlain, Claim, ReadPosted, StoreStage, ask_of, Found}
-use Rattle.colours.specs.Mutator.{Phase, Ready, is_between, MayFollow, phase_after}
+use Rattle.colours.specs.declared.ask.Ask.TheVariants.{Load, Store, CompareExchange}
+use Rattle.colours.specs.Colours.{is_async, claim_at, done}
+use Rattle.pools.specs.Heap.{Setup, IsOfLayout}
+use Rattle.colours.specs.Steps.{Step, ReadWord, ReadOldValue, Mark, StoreBehindBarrier, StorePlain, Claim, ReadPosted, StoreStage, ReadPostedFirst, EnterStage, ReadPostedAgain, ask_of, Found}
+use Rattle.colours.specs.Mutator.{Phase, Ready, Absent, IsAmong, is_between, MayFollow, phase_after}
 
 -- ---- what is to be done
 
@@ -41,8 +41,11 @@ answer_to stage posted roots = if posted == stage then [] else (marks_of_roots p
 pub data Todo : Type 0 where
   Reading : (cell word : ℕ) → Todo
   Replacing : (cell word new : ℕ) → Todo  -- read the old value, and then what it asks for
-  Trying : (cell more : ℕ) → Todo  -- try this cell; while a try is lost, try the next one, `more` further cells at most
+  Trying : (cell : ℕ) (cells : List ℕ) → Todo  -- try this cell; while a try is lost, try the next one of these
   Polling : (roots : List ℕ) → Todo  -- read the posted stage, and answer it if it is another
+  Beginning : Todo  -- of a late thread: read the posted stage, and enter it
+  Arriving : (stage : ℕ) → Todo  -- store this stage, and read the posted one again
+  Checking : (stage : ℕ) → Todo  -- read the posted stage, and leave if it is another
   Steps : List Step → Todo  -- these steps
 
 -- ---- the operations and what they return
@@ -51,8 +54,11 @@ pub data Todo : Type 0 where
 abbrev pub asked : (thread stage : ℕ) → Todo → Option Ask
 asked thread stage (Reading cell word) = Some (Load (Word cell word))
 asked thread stage (Replacing cell word new) = Some (Load (Word cell word))
-asked thread stage (Trying cell more) = Some (CompareExchange (Colour cell) 0 (claim_at stage))
+asked thread stage (Trying cell cells) = Some (CompareExchange (Colour cell) 0 (claim_at stage))
 asked thread stage (Polling roots) = Some (Load Posted)
+asked thread stage Beginning = Some (Load Posted)
+asked thread stage (Arriving entered) = Some (Store (Stage thread) entered)
+asked thread stage (Checking entered) = Some (Load Posted)
 asked thread stage (Steps []) = None
 asked thread stage (Steps (step ∷ steps)) = Some (ask_of thread stage step)
 
@@ -60,22 +66,32 @@ asked thread stage (Steps (step ∷ steps)) = Some (ask_of thread stage step)
 abbrev pub made : Todo → (found : ℕ) → Step
 made (Reading cell word) found = ReadWord cell word found
 made (Replacing cell word new) found = ReadOldValue cell word found
-made (Trying cell more) found = Claim cell (found == 0)
+made (Trying cell cells) found = Claim cell (found == 0)
 made (Polling roots) found = ReadPosted found
+made Beginning found = ReadPostedFirst found
+made (Arriving entered) found = EnterStage entered
+made (Checking entered) found = ReadPostedAgain found
 made (Steps []) found = ReadPosted found
 made (Steps (step ∷ steps)) found = step
 
--- after a lost try: the next cell, if one is left
-abbrev pub tries_behind : (cell more : ℕ) → Todo
-tries_behind cell zero = Steps []
-tries_behind cell (suc more) = Trying (suc cell) more
+-- tries of these cells, in their order
+abbrev pub tries_of : (cells : List ℕ) → Todo
+tries_of [] = Steps []
+tries_of (cell ∷ cells) = Trying cell cells
+
+-- after the second look of a late thread: it leaves where another stage is posted
+abbrev pub leaving : (entered found : ℕ) → List Step
+leaving entered found = if found == entered then [] else StoreStage done [] ∷ []
 
 -- and what is to be done then
 abbrev pub left : (stage : ℕ) → Todo → (found : ℕ) → Todo
 left stage (Reading cell word) found = Steps []
 left stage (Replacing cell word new) found = Steps (barrier stage cell word found new)
-left stage (Trying cell more) found = if found == 0 then Steps [] else tries_behind cell more
+left stage (Trying cell cells) found = if found == 0 then Steps [] else tries_of cells
 left stage (Polling roots) found = Steps (answer_to stage found roots)
+left stage Beginning found = Arriving found
+left stage (Arriving entered) found = Checking entered
+left stage (Checking entered) found = Steps (leaving entered found)
 left stage (Steps []) found = Steps []
 left stage (Steps (step ∷ steps)) found = Steps steps
 
@@ -159,11 +175,31 @@ Names roots [] = Unit {0}
 Names roots (StoreStage posted named ∷ steps) = named ≡ roots
 Names roots (_ ∷ steps) = Names roots steps
 
--- the list tries this cell and the next ones, in their order
-abbrev pub TriesFrom : ℕ → List Step → Type 0
-TriesFrom cell [] = Unit {0}
-TriesFrom cell (Claim tried won ∷ steps) = (tried ≡ cell) × TriesFrom (suc cell) steps
-TriesFrom cell (_ ∷ steps) = ⊥
+-- the list tries the first of these cells, in their order
+abbrev pub TriesFrom : List ℕ → List Step → Type 0
+TriesFrom cells [] = Unit {0}
+TriesFrom (cell ∷ cells) (Claim tried won ∷ steps) = (tried ≡ cell) × TriesFrom cells steps
+TriesFrom cells (_ ∷ steps) = ⊥
+
+-- no cell is in the list twice
+abbrev pub AreApart : List ℕ → Type 0
+AreApart [] = Unit {0}
+AreApart (cell ∷ cells) = (IsAmong cell cells → ⊥) × AreApart cells
+
+-- the list has each cell of a layout's pool once
+pub record IsPoolInOrder (s : Setup) (layout : ℕ) (cells : List ℕ) : Type 0 where
+  pub all : length cells ≡ slice_index s.pools layout
+  pub of_layout : (cell : ℕ) → IsAmong cell cells → IsOfLayout s layout cell
+  pub apart : AreApart cells
+
+-- `count` cells from this one up
+abbrev pub cells_up : (first count : ℕ) → List ℕ
+cells_up first zero = []
+cells_up first (suc count) = first ∷ cells_up (suc first) count
+
+-- the cells of a pool from a hint up, and then from its first cell up to the hint
+abbrev pub cells_from : (first count hint : ℕ) → List ℕ
+cells_from first count hint = cells_up (first + hint) (count - hint) ++ cells_up first hint
 
 -- a read of this word
 abbrev pub IsRead : Setup → (stage cell word : ℕ) → List Step → Type 0
@@ -177,9 +213,9 @@ IsPlainStore s stage cell word value steps = IsCallFrom s stage (λ step. step �
 abbrev pub IsReplacement : Setup → (stage cell word new : ℕ) → List Step → Type 0
 IsReplacement s stage cell word new steps = IsCallFrom s stage (IsReadOfOld cell word) steps × Puts new steps
 
--- tries from this cell on, the lowest number first
-abbrev pub IsAllocation : Setup → (stage first : ℕ) → List Step → Type 0
-IsAllocation s stage first steps = IsCallFrom s stage (λ step. (won : Bool) × (step ≡ Claim first won)) steps × TriesFrom first steps
+-- tries of these cells, in their order
+abbrev pub IsAllocation : Setup → (stage cell : ℕ) → List ℕ → List Step → Type 0
+IsAllocation s stage cell cells steps = IsCallFrom s stage (λ step. (won : Bool) × (step ≡ Claim cell won)) steps × TriesFrom (cell ∷ cells) steps
 
 -- a safepoint with these roots
 abbrev pub IsSafepoint : Setup → (stage : ℕ) → (roots : List ℕ) → List Step → Type 0
@@ -188,3 +224,27 @@ IsSafepoint s stage roots steps = IsCallFrom s stage IsReadOfPosted steps × Nam
 -- the last call of a thread
 abbrev pub IsFinish : Setup → (stage : ℕ) → List Step → Type 0
 IsFinish s stage steps = IsCallFrom s stage IsStoreOfStage steps
+
+-- ---- the tries of a late thread
+
+-- the stage after a step
+abbrev pub stage_after : (stage : ℕ) → Step → ℕ
+stage_after stage (StoreStage next roots) = next
+stage_after stage (EnterStage next) = next
+stage_after stage _ = stage
+
+-- a try is over: the thread has begun, or has left
+abbrev pub is_over : Phase → Bool
+is_over Ready = true
+is_over Absent = true
+is_over _ = false
+
+-- the list leads from this place of a try to its end, and no earlier
+abbrev pub EndsTry : Setup → (stage : ℕ) → Phase → List Step → Type 0
+EndsTry s stage phase [] = IsTrue (is_over phase)
+EndsTry s stage phase (step ∷ steps) = IsFalse (is_over phase) × MayFollow s stage phase step × EndsTry s (stage_after stage step) (phase_after s stage phase step) steps
+
+-- a whole try of a thread that has not begun
+abbrev pub IsTryToBegin : Setup → (stage : ℕ) → List Step → Type 0
+IsTryToBegin s stage [] = ⊥
+IsTryToBegin s stage (step ∷ steps) = MayFollow s stage Absent step × EndsTry s (stage_after stage step) (phase_after s stage Absent step) steps

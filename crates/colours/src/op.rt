@@ -1,8 +1,8 @@
-ghost use Rattle.std.specs.Prelude.{◌≡◌, ◌+◌, ◌<◌, ◌^◌, [], ◌∷◌};
+ghost use Rattle.std.specs.Prelude.{ℕ, ◌≡◌, ◌+◌, ◌<◌, ◌≤◌, ◌^◌, [], ◌∷◌};
 ghost use Rattle.colours.specs.Colours.{done};
 ghost use Rattle.colours.specs.Steps.{StorePlain, StoreStage};
-ghost use Rattle.colours.specs.Calls.{Reading, Replacing, Trying, Steps, asked, left, after, IsAnswer};
-ghost use Rattle.colours.specs.View.{todo_at, HasRoom};
+ghost use Rattle.colours.specs.Calls.{Reading, Replacing, Beginning, Steps, asked, left, after, tries_of, cells_from, IsAnswer};
+ghost use Rattle.colours.specs.View.{cells_left, todo_at, HaveNumbers, HasRoom};
 
 use crate::ask::Ask;
 use crate::place::Place;
@@ -25,6 +25,15 @@ struct Replacement {
     new: u32,
 }
 
+/// The cells that are left to try: `more` cells from `next` up, and then `below` cells from the pool's first one up.
+#[derive(Clone, Copy)]
+struct CellsLeft {
+    next: u32,
+    more: u32,
+    first: u32,
+    below: u32,
+}
+
 /// The next operation.
 #[derive(Clone, Copy)]
 enum Next {
@@ -34,8 +43,13 @@ enum Next {
     MarkOld(u32, Replacement),
     MarkNew(Replacement),
     StoreNew(Replacement),
-    /// The cell, and how many may be tried after it.
-    Try(u32, u32),
+    /// The cell, and those to try after it.
+    Try(u32, CellsLeft),
+    ReadPosted,
+    /// Stores this stage.
+    Enter(u64),
+    /// Looks whether this stage is still posted.
+    Check(u64),
     StoreDone,
     Nothing,
 }
@@ -88,16 +102,34 @@ impl Op {
         }
     }
 
-    /// The search for a free cell, by a thread at this stage: this cell first, then `more` cells after it.
-    pub fn alloc(stage: u64, first: u32, more: u32) -> Self
+    /// The search for a free cell, by a thread at this stage, in a pool of `count` cells from `first` up: from the hint
+    /// to the pool's end, and then from its first cell up to the hint.
+    pub fn alloc(stage: u64, first: u32, count: u32, hint: u32) -> Self
         requires stage { stage < 2 ^ 62 }
-        requires cells { first + more < 2 ^ 32 }
-        ensures { result ≡ record { thread = 0; stage = stage; todo = Trying first more } }
+        requires cells { first + count < 2 ^ 32 }
+        requires hint { hint ≤ count }
+        ensures { result ≡ record { thread = 0; stage = stage; todo = tries_of (cells_from first count hint) } }
     {
         Op {
             thread: 0,
             stage,
-            next: Next::Try(first, more),
+            next: next_try(CellsLeft {
+                next: first + hint,
+                more: count - hint,
+                first,
+                below: hint,
+            }),
+        }
+    }
+
+    /// The try of a late thread to begin.
+    pub fn begin(thread: usize) -> Self
+        ensures { result ≡ record { thread = thread; stage = 0; todo = Beginning } }
+    {
+        Op {
+            thread,
+            stage: 0,
+            next: Next::ReadPosted,
         }
     }
 
@@ -131,6 +163,8 @@ impl Op {
                 0,
                 claim_at(self.stage),
             )),
+            Next::ReadPosted | Next::Check(_) => Some(Ask::Load(Place::Posted)),
+            Next::Enter(entered) => Some(Ask::Store(Place::Stage(self.thread), entered)),
             Next::StoreDone => Some(Ask::Store(Place::Stage(self.thread), DONE)),
             Next::Nothing => None,
         }
@@ -157,7 +191,40 @@ fn next_of(next: Next, stage: u64, found: u64) -> Next
         Next::ReadOld(to) | Next::MarkOld(_, to) if to.new != 0 && !is_async(stage) =>
             Next::MarkNew(to),
         Next::ReadOld(to) | Next::MarkOld(_, to) | Next::MarkNew(to) => Next::StoreNew(to),
-        Next::Try(cell, more) if found != 0 && more != 0 => Next::Try(cell + 1, more - 1),
+        Next::Try(_, cells) if found != 0 => next_try(cells),
+        Next::ReadPosted => Next::Enter(found),
+        Next::Enter(entered) => Next::Check(entered),
+        Next::Check(entered) if found != entered => Next::StoreDone,
         _ => Next::Nothing,
     }
+}
+
+/// The try of the next cell, if one is left.
+fn next_try(cells: CellsLeft) -> Next
+    requires { HaveNumbers cells }
+    ensures todo { (stage : ℕ) → todo_at result stage ≡ tries_of (cells_left cells) }
+    ensures room { HasRoom result }
+{
+    if cells.more != 0 {
+        return Next::Try(
+            cells.next,
+            CellsLeft {
+                next: cells.next + 1,
+                more: cells.more - 1,
+                ..cells
+            },
+        );
+    }
+    if cells.below != 0 {
+        return Next::Try(
+            cells.first,
+            CellsLeft {
+                next: cells.first + 1,
+                more: cells.below - 1,
+                below: 0,
+                ..cells
+            },
+        );
+    }
+    Next::Nothing
 }

@@ -1,5 +1,5 @@
 //! The calls of a thread on the heap: each step that they ask for.
-use colours::{Ask, Colour, Op, Place, claim_at, colour, mark_at};
+use colours::{Ask, Colour, DONE, Op, Place, claim_at, colour, mark_at};
 use handshake::answer_safepoint;
 
 /// The colours that a mark and a claim write at a stage.
@@ -45,7 +45,7 @@ fn a_store_marks_both_values_at_the_first_stage(rt: HostRuntime) {
 
 #[test]
 fn an_allocation_takes_the_second_cell(rt: HostRuntime) {
-    let mut op = Op::alloc(3, 4, 2);
+    let mut op = Op::alloc(3, 4, 2, 0);
     assert_eq!(rt;
         op.ask(),
         Some(Ask::CompareExchange(Place::Colour(4), 0, 3))
@@ -56,6 +56,39 @@ fn an_allocation_takes_the_second_cell(rt: HostRuntime) {
         Some(Ask::CompareExchange(Place::Colour(5), 0, 3))
     );
     op.took(0);
+    assert_eq!(rt; op.ask(), None);
+}
+
+#[test]
+fn an_allocation_begins_at_its_hint(rt: HostRuntime) {
+    let mut op = Op::alloc(3, 4, 3, 2);
+    for cell in [6, 4, 5] {
+        assert_eq!(rt;
+            op.ask(),
+            Some(Ask::CompareExchange(Place::Colour(cell), 0, 3))
+        );
+        op.took(1);
+    }
+    assert_eq!(rt; op.ask(), None);
+}
+
+#[test]
+fn an_allocation_from_an_empty_pool_tries_nothing(rt: HostRuntime) {
+    let op = Op::alloc(3, 4, 0, 0);
+    assert_eq!(rt; op.ask(), None);
+}
+
+#[test]
+fn a_late_thread_looks_twice(rt: HostRuntime) {
+    let mut op = Op::begin(2);
+    assert_eq!(rt; op.ask(), Some(Ask::Load(Place::Posted)));
+    op.took(4);
+    assert_eq!(rt; op.ask(), Some(Ask::Store(Place::Stage(2), 4)));
+    op.took(DONE);
+    assert_eq!(rt; op.ask(), Some(Ask::Load(Place::Posted)));
+    op.took(5);
+    assert_eq!(rt; op.ask(), Some(Ask::Store(Place::Stage(2), DONE)));
+    op.took(4);
     assert_eq!(rt; op.ask(), None);
 }
 

@@ -16,11 +16,14 @@ use Rattle.facts.specs.declared.row.Row.{Row}
 use Rattle.facts.specs.declared.sweeps.Change.TheVariants.{Off, Move}
 use Rattle.facts.specs.Facts.{lost_class, is_on, off_base, off_test, values_without, tests_without, stale_of, stale_class}
 use Rattle.facts.specs.Lines.{move}
-use Rattle.facts.specs.Sheets.{blank, row_at, known_of, class_of, test_of, tests, names, OnlyNamed, EachRow, off_row, changed, known_nonnull, settled_class, stale_row}
+use Rattle.facts.specs.Sheets.{blank, row_at, known_of, class_of, test_of, tests, names, IsOne, EachRow, off_row, changed, known_nonnull, settled_class, stale_row}
 use Rattle.facts.specs.Values.{facts_of_rows, no_values, ended_row}
 use Rattle.facts.proofs.Sets.{or_true}
 use Rattle.facts.proofs.Sheets.{same_or_not}
-use Rattle.facts.proofs.Named.{named_each, same_facts, ended_row_facts, each_same, each_mapped}
+use Rattle.facts.specs.declared.uses.Use.{Use}
+use Rattle.facts.specs.Uses.{chain, IsUser, OnlyUsers}
+use Rattle.facts.proofs.Says.{same_facts, ended_row_facts, each_same, each_mapped}
+use Rattle.facts.proofs.Users.{users_each}
 
 -- ---- blank rows
 
@@ -46,8 +49,8 @@ module _ (from to : ℕ) (rows next : List Row) (each : EachRow (changed (Move f
   on_moved v (Address base words) = refl
   on_moved v (GlobalAddress g) = refl
 
-  pub moved_only : OnlyNamed rows → OnlyNamed next
-  moved_only = named_each (changed (Move from to)) rows next each (λ u v row. ap (λ b. b || tests v row.test) (on_moved v row.known)) (λ u row. refl)
+  pub moved_only : (uses : List Use) → OnlyUsers uses rows → OnlyUsers uses next
+  moved_only uses = users_each uses (changed (Move from to)) rows next each (λ u v row. ap (λ b. b || tests v row.test) (on_moved v row.known)) (λ u row. refl)
 
 -- ---- a safepoint
 
@@ -119,8 +122,8 @@ module _ (rows next : List Row) (added : List Class) (each : EachRow (stale_row 
   on_stale u v (Address base words) = refl
   on_stale u v (GlobalAddress g) = refl
 
-  pub stale_only : OnlyNamed rows → OnlyNamed next
-  stale_only = named_each (stale_row classes) rows next each (λ u v row. ap (λ b. b || tests v row.test) (on_stale u v row.known)) (λ u row. refl)
+  pub stale_only : (uses : List Use) → OnlyUsers uses rows → OnlyUsers uses next
+  stale_only uses = users_each uses (stale_row classes) rows next each (λ u v row. ap (λ b. b || tests v row.test) (on_stale u v row.known)) (λ u row. refl)
 
 -- ---- what names a value ends
 
@@ -149,8 +152,8 @@ module _ (v : ℕ) (rows next : List Row) (each : EachRow (changed (Off v)) rows
   ended_facts added = ended_row_facts next added v
       ∙ same_facts _ _ _ _ _ _ (ap (λ l. slice_set l v Nothing) (each_mapped known_of (changed (Off v)) rows next each (off_base v) (λ u row. refl))) (ap (λ l. l ++ added) (each_same class_of (changed (Off v)) rows next each (λ u row. refl))) (ap (λ l. slice_set l v None) (each_mapped test_of (changed (Off v)) rows next each (off_test v) (λ u row. refl)))
 
-  pub ended_only : OnlyNamed rows → OnlyNamed (slice_set next v (ended_row (row_at next v)))
-  ended_only only u w e lt = pick (same_or_not v u) where
+  pub ended_only : (uses : List Use) → OnlyUsers uses rows → OnlyUsers uses (slice_set next v (ended_row (row_at next v)))
+  ended_only uses only u w e lt = pick (same_or_not v u) where
     last : List Row
     last = slice_set next v (ended_row (row_at next v))
 
@@ -160,10 +163,10 @@ module _ (v : ℕ) (rows next : List Row) (each : EachRow (changed (Off v)) rows
     none : (row : Row) → names w (ended_row row) ≡ true → ⊥
     none row h = absurd cc
 
-    kept : (v ≡ w → ⊥) → (row_at rows w).named ≡ true → (row_at last w).named ≡ true
-    kept ne h = ap (λ r. r.named) (get_or-set_other next v w (ended_row (row_at next v)) blank (λ x. ne (sym x)) ∙ each.1 w long) ∙ h
+    kept : (v ≡ w → ⊥) → IsUser uses rows u w → IsUser uses last u w
+    kept ne h = subst (λ (used : Option ℕ). IsOne u (chain (length uses) uses used)) (sym (ap (λ r. r.used) (get_or-set_other next v w (ended_row (row_at next v)) blank (λ x. ne (sym x)) ∙ each.1 w long))) h
 
-    other : (v ≡ u → ⊥) → (u < length rows) ⊎ (length rows ≤ u) → (row_at last w).named ≡ true
+    other : (v ≡ u → ⊥) → (u < length rows) ⊎ (length rows ≤ u) → IsUser uses last u w
     other ne (inl at) = let less = off_less v w (row_at rows u) (ap (names w) (sym (get_or-set_other next v u (ended_row (row_at next v)) blank (λ x. ne (sym x)) ∙ each.1 u at)) ∙ e) in kept less.1 (only u w less.0 long)
     other ne (inr past) = let empty = ap (names w) (get_or_past last u blank (rw (length-set next v (ended_row (row_at next v)), each.0) past)) in absurd cc
 
@@ -171,6 +174,6 @@ module _ (v : ℕ) (rows next : List Row) (each : EachRow (changed (Off v)) rows
     own (inl at) h = none (row_at next v) (sym (ap (names w) (get_or-set_same next v (ended_row (row_at next v)) blank at)) ∙ h)
     own (inr past) h = let empty = ap (names w) (get_or_past last v blank (rw length-set past)) in absurd cc
 
-    pick : (v ≡ u) ⊎ (v ≡ u → ⊥) → (row_at last w).named ≡ true
+    pick : (v ≡ u) ⊎ (v ≡ u → ⊥) → IsUser uses last u w
     pick (inl same) = absurd (own (cases_lt v (length next)) (subst (λ x. names w (row_at last x) ≡ true) (sym same) e))
     pick (inr ne) = other ne (cases_lt u (length rows))

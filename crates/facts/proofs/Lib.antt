@@ -1,8 +1,10 @@
 pub mod Loops
 pub mod Sets
 mod Sheets
+mod Current
 mod Marked
-mod Named
+mod Says
+mod Users
 mod Changes
 mod Forgets
 mod Classes

@@ -1,9 +1,10 @@
 -- Rows of which few are filled.
 use Rattle.std.proofs.Common.{◌≡◌, ◌<◌, ◌⊎◌, ℕ, length, zero, suc, List, [], ◌∷◌, refl, sym, ap, subst, inl, inr, ◌∙◌, arith, true, false, Bool, ◌++◌}
 use Rattle.std.proofs.lemmas.List.{ext_get_or, get_or-set_same, get_or-set_other, length-set, get_or-replicate, length-replicate}
-use Rattle.std.specs.Prelude.{slice_set, replicate}
+use Rattle.std.specs.Prelude.{slice_set, replicate, if◌then◌else◌}
 use Rattle.facts.specs.declared.row.Row.{Row}
 use Rattle.facts.specs.Sheets.{blank, row_at, IsOne, OnlyMarked, each, copied, is_blank, with_mark}
+use Rattle.facts.proofs.Sets.{set_is}
 
 -- a row is another, or it is not
 pub same_or_not : (v w : ℕ) → (v ≡ w) ⊎ (v ≡ w → ⊥)
@@ -70,12 +71,12 @@ copied_all marked rows others only empty = ext_get_or blank (each (copied others
     seen : (v : ℕ) → v < length rows → IsOne v marked ⊎ (row_at others v ≡ row_at rows v)
     seen v lt = elim (only v) [ inl one ↦ inl one | inr e ↦ inr (e ∙ sym (ap (λ l. row_at l v) empty ∙ get_or-replicate (length others) v blank blank (rw (← same) lt))) ]
 
-one_more : (v u : ℕ) (marked : List ℕ) → IsOne v marked → IsOne v (marked ++ u ∷ [])
+pub one_more : (v u : ℕ) (marked : List ℕ) → IsOne v marked → IsOne v (marked ++ u ∷ [])
 one_more v u [] one = absurd one
 one_more v u (w ∷ marked) (inl e) = inl e
 one_more v u (w ∷ marked) (inr one) = inr (one_more v u marked one)
 
-one_last : (v : ℕ) (marked : List ℕ) → IsOne v (marked ++ v ∷ [])
+pub one_last : (v : ℕ) (marked : List ℕ) → IsOne v (marked ++ v ∷ [])
 one_last v [] = inl refl
 one_last v (w ∷ marked) = inr (one_last v marked)
 
@@ -98,3 +99,20 @@ blank_at (suc count) (suc v) = blank_at count v
 -- where all rows are blank it does not matter which are marked
 pub all_blank : (marked : List ℕ) (count : ℕ) (rows : List Row) → rows ≡ replicate count blank → OnlyMarked marked rows
 all_blank marked count rows e v = inr (ap (λ l. row_at l v) e ∙ blank_at count v)
+
+-- a row that is filled, or that stays blank
+pub change_marked : (v : ℕ) (row : Row) (marked : List ℕ) (rows : List Row) → OnlyMarked marked rows → (row_at rows v ≡ blank → row ≡ blank) → OnlyMarked marked (slice_set rows v row)
+change_marked v row marked rows only keeps u = pick (same_or_not v u) where
+  pick : (v ≡ u) ⊎ (v ≡ u → ⊥) → IsOne u marked ⊎ (row_at (slice_set rows v row) u ≡ blank)
+  pick (inl same) = elim (only v) [
+    | inl one ↦ inl (subst (λ x. IsOne x marked) same one)
+    | inr e ↦ inr (subst (λ x. row_at (slice_set rows v row) x ≡ blank) same (set_is (λ r. r) rows v row blank blank (keeps e) refl))
+  ]
+  pick (inr ne) = elim (only u) [ inl one ↦ inl one | inr e ↦ inr (get_or-set_other rows v u row blank (λ x. ne (sym x)) ∙ e) ]
+
+-- more rows are marked
+pub more_marked : (v : ℕ) (row : Row) (marked : List ℕ) (rows : List Row) → OnlyMarked marked rows → OnlyMarked (with_mark v row marked) rows
+more_marked v row marked rows only u = elim (only u) [ inl one ↦ inl (pick (is_blank row) one) | inr e ↦ inr e ] where
+  pick : (b : Bool) → IsOne u marked → IsOne u (if b then marked ++ v ∷ [] else marked)
+  pick true one = one_more u v marked one
+  pick false one = one

@@ -1,7 +1,7 @@
 -- Exactly the lines are shown of which all is said.
-use Rattle.std.proofs.Common.{◌≡◌, ℕ, zero, suc, List, [], ◌∷◌, length, get_or, refl, sym, arith, true, false, Bool, Option, Some, None}
+use Rattle.std.proofs.Common.{◌≡◌, ℕ, zero, suc, List, [], ◌∷◌, length, get_or, refl, sym, subst, arith, true, false, Bool, Option, Some, None, inl, inr}
 use Rattle.std.proofs.lemmas.Bool.{leb-true, le-leb}
-use Rattle.std.specs.Prelude.{◌==◌, ◌&&◌, not, ◌↔◌}
+use Rattle.std.specs.Prelude.{◌==◌, ◌&&◌, not, ◌↔◌, ◌⊎◌}
 use Rattle.std.specs.List.{list_all, zip}
 use Rattle.lemmas.specs.Numbers.{test_true, test_yes}
 use Rattle.lemmas.specs.Bools.{and_parts, not_true, and_true}
@@ -143,13 +143,14 @@ module _ (here there : FactSet) (values : length here.values ≡ length there.va
   lists_back c (Address base words) h = absurd h.0
   lists_back c (GlobalAddress g) h = absurd h.0
 
-  same_there : (c : ℕ) (same : Option ℕ) → is_same here.values c same ≡ true → IfNamed same (λ w. OfClass (λ d. c ≡ d) (known_at here.values w))
-  same_there c None e = tt
-  same_there c (Some w) e = of_there c (known_at here.values w) e
+  same_there : (v c : ℕ) (same : Option ℕ) → is_same here.values c same ≡ true → IfNamed same (λ w. (v ≡ w) ⊎ OfClass (λ d. c ≡ d) (known_at here.values w))
+  same_there v c None e = tt
+  same_there v c (Some w) e = inr (of_there c (known_at here.values w) e)
 
-  same_back : (c : ℕ) (same : Option ℕ) → IfNamed same (λ w. OfClass (λ d. c ≡ d) (known_at here.values w)) → is_same here.values c same ≡ true
-  same_back c None h = refl
-  same_back c (Some w) h = of_back c (known_at here.values w) h
+  same_back : (v c : ℕ) (same : Option ℕ) → OfClass (λ d. c ≡ d) (known_at here.values v) → IfNamed same (λ w. (v ≡ w) ⊎ OfClass (λ d. c ≡ d) (known_at here.values w)) → is_same here.values c same ≡ true
+  same_back v c None own h = refl
+  same_back v c (Some w) own (inl e) = of_back c (known_at here.values w) (subst (λ x. OfClass (λ d. c ≡ d) (known_at here.values x)) e own)
+  same_back v c (Some w) own (inr h) = of_back c (known_at here.values w) h
 
   -- what is asked of a reference that is known to be this
   abbrev Asked : (v layout : ℕ) → (nonnull : Bool) → Age → (same : Option ℕ) → Known → Type 0
@@ -161,7 +162,7 @@ module _ (here there : FactSet) (values : length here.values ≡ length there.va
       × (OfClass (λ x. Unit {0}) (known_at there.values v)
       × (((u : ℕ) → OfClass (λ c. OfClass (λ d. c ≡ d) (known_at here.values u)) k → OfClass (λ x. Unit {0}) (known_at there.values u) → OfClass (λ d. OfClass (λ x. d ≡ x) (known_at there.values u)) (known_at there.values v))
       × ((s : ℕ) → OfClass (λ c. holds_class c (slot_at here.slots s).holds ≡ true) k → OfClass (λ d. holds_class d (slot_at there.slots s).holds ≡ true) (known_at there.values v)))))
-      × IfNamed same (λ w. OfClass (λ c. OfClass (λ d. c ≡ d) (known_at here.values w)) k))))
+      × IfNamed same (λ w. (v ≡ w) ⊎ OfClass (λ c. OfClass (λ d. c ≡ d) (known_at here.values w)) k))))
 
   reference_there : (v layout : ℕ) (nonnull : Bool) (age : Age) (same : Option ℕ) (k : Known) → shows_reference here there v layout nonnull age same k ≡ true → Asked v layout nonnull age same k
   reference_there v layout nonnull age same (Cell c known stale) e =
@@ -184,29 +185,30 @@ module _ (here there : FactSet) (values : length here.values ≡ length there.va
               asked_map (is_fresh age) (F ≡ true) (((class_at here.classes c).fresh ≡ true) × Lists c (known_at there.values v))
                   (λ h. let parts = and_parts (class_at here.classes c).fresh (covers_known here there c (known_at there.values v)) h in (parts.0, lists_there c (known_at there.values v) parts.1))
                   (implied_there (is_fresh age) F three.1),
-              same_there c same four.1,
+              same_there v c same four.1,
             ),
           ),
         ),
       )
   reference_there v layout nonnull age same Null e = pick nonnull (is_fresh age) same e where
-    pick : (n fresh : Bool) (same : Option ℕ) → (not n && not fresh && is_alone same) ≡ true → Unit {0} × (IfAsked n ⊥ × (IfAsked (not (is_stale age)) (Unit {0}) × (IfAsked fresh (⊥ × (OfClass (λ x. Unit {0}) (known_at there.values v)
+    any : (b : Bool) → IfAsked b (Unit {0})
+    any true = tt
+    any false = tt
+
+    pick : (n fresh : Bool) (same : Option ℕ) → (not n && not fresh && is_alone v same) ≡ true → Unit {0} × (IfAsked n ⊥ × (IfAsked (not (is_stale age)) (Unit {0}) × (IfAsked fresh (⊥ × (OfClass (λ x. Unit {0}) (known_at there.values v)
         × (((u : ℕ) → ⊥ → OfClass (λ x. Unit {0}) (known_at there.values u) → OfClass (λ d. OfClass (λ x. d ≡ x) (known_at there.values u)) (known_at there.values v))
-        × ((s : ℕ) → ⊥ → OfClass (λ d. holds_class d (slot_at there.slots s).holds ≡ true) (known_at there.values v))))) × IfNamed same (λ w. ⊥))))
+        × ((s : ℕ) → ⊥ → OfClass (λ d. holds_class d (slot_at there.slots s).holds ≡ true) (known_at there.values v))))) × IfNamed same (λ w. (v ≡ w) ⊎ ⊥))))
     pick true fresh same e = absurd cc
     pick false true same e = absurd cc
-    pick false false (Some w) e = absurd cc
-    pick false false None e = (tt, (tt, (any (not (is_stale age)), (tt, tt)))) where
-      any : (b : Bool) → IfAsked b (Unit {0})
-      any true = tt
-      any false = tt
+    pick false false (Some w) e = (tt, (tt, (any (not (is_stale age)), (tt, inl (sym (test_true w v e))))))
+    pick false false None e = (tt, (tt, (any (not (is_stale age)), (tt, tt))))
   reference_there v layout nonnull age same Nothing e = absurd cc
   reference_there v layout nonnull age same (Number bits below) e = absurd cc
   reference_there v layout nonnull age same (Address base words) e = absurd cc
   reference_there v layout nonnull age same (GlobalAddress g) e = absurd cc
 
-  reference_back : (v layout : ℕ) (nonnull : Bool) (age : Age) (same : Option ℕ) (k : Known) → Asked v layout nonnull age same k → shows_reference here there v layout nonnull age same k ≡ true
-  reference_back v layout nonnull age same (Cell c known stale) h =
+  reference_back : (v layout : ℕ) (nonnull : Bool) (age : Age) (same : Option ℕ) (k : Known) → known_at here.values v ≡ k → Asked v layout nonnull age same k → shows_reference here there v layout nonnull age same k ≡ true
+  reference_back v layout nonnull age same (Cell c known stale) is h =
       let N = (class_at here.classes c).nonnull in
       let F = is_fresh_in here there c v in
       let A = known == layout in
@@ -219,17 +221,18 @@ module _ (here there : FactSet) (values : length here.values ≡ length there.va
       (implied_back (not (is_stale age)) (not stale) (asked_map (not (is_stale age)) (stale ≡ false) (not stale ≡ true) (not_false stale) h.1.1.0)))
       (implied_back (is_fresh age) F (asked_map (is_fresh age) (((class_at here.classes c).fresh ≡ true) × Lists c (known_at there.values v)) (F ≡ true)
       (λ x. and_true (class_at here.classes c).fresh (covers_known here there c (known_at there.values v)) x.0 (lists_back c (known_at there.values v) x.1)) h.1.1.1.0)))
-      (same_back c same h.1.1.1.1)
-  reference_back v layout nonnull age same Null h = pick _ nonnull (is_fresh age) same h.1.0 h.1.1.1.0 h.1.1.1.1 where
-    pick : (P : Type 0) (n fresh : Bool) (same : Option ℕ) → IfAsked n ⊥ → IfAsked fresh (⊥ × P) → IfNamed same (λ w. ⊥) → (not n && not fresh && is_alone same) ≡ true
+      (same_back v c same (subst (OfClass (λ d. c ≡ d)) (sym is) refl) h.1.1.1.1)
+  reference_back v layout nonnull age same Null is h = pick _ nonnull (is_fresh age) same h.1.0 h.1.1.1.0 h.1.1.1.1 where
+    pick : (P : Type 0) (n fresh : Bool) (same : Option ℕ) → IfAsked n ⊥ → IfAsked fresh (⊥ × P) → IfNamed same (λ w. (v ≡ w) ⊎ ⊥) → (not n && not fresh && is_alone v same) ≡ true
     pick P true fresh same a b c = absurd a
     pick P false true same a b c = absurd b.0
-    pick P false false (Some w) a b c = absurd c
+    pick P false false (Some w) a b (inl e) = test_yes w v (sym e)
+    pick P false false (Some w) a b (inr c) = absurd c
     pick P false false None a b c = refl
-  reference_back v layout nonnull age same Nothing h = absurd h.0
-  reference_back v layout nonnull age same (Number bits below) h = absurd h.0
-  reference_back v layout nonnull age same (Address base words) h = absurd h.0
-  reference_back v layout nonnull age same (GlobalAddress g) h = absurd h.0
+  reference_back v layout nonnull age same Nothing is h = absurd h.0
+  reference_back v layout nonnull age same (Number bits below) is h = absurd h.0
+  reference_back v layout nonnull age same (Address base words) is h = absurd h.0
+  reference_back v layout nonnull age same (GlobalAddress g) is h = absurd h.0
 
 -- ---- integers, addresses, slots
 
@@ -332,7 +335,7 @@ module _ (here : FactSet) where
 fact_shown : (here there : FactSet) (v : ℕ) (fact : Fact) → length here.values ≡ length there.values → length here.slots ≡ length there.slots → (shows_fact here there v fact ≡ true) ↔ FactShown here there v fact
 fact_shown here there v (fact.Number bits below) values slots = (number_there bits below (known_at here.values v), number_back bits below (known_at here.values v))
 fact_shown here there v (fact.Reference layout nonnull age same) values slots =
-    (reference_there here there values slots v layout nonnull age same (known_at here.values v), reference_back here there values slots v layout nonnull age same (known_at here.values v))
+    (reference_there here there values slots v layout nonnull age same (known_at here.values v), reference_back here there values slots v layout nonnull age same (known_at here.values v) refl)
 fact_shown here there v (fact.Address base words) values slots = (address_there base words.members (known_at here.values v), address_back base words.members (known_at here.values v))
 fact_shown here there v (fact.GlobalAddress g) values slots = (global_there g (known_at here.values v), global_back g (known_at here.values v))
 

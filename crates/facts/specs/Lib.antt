@@ -2,5 +2,6 @@ pub mod Facts
 pub mod Lines
 pub mod Sheets
 pub mod Values
+pub mod Uses
 pub mod Statements
 pub mod Shown

@@ -200,12 +200,12 @@ abbrev pub is_same : List Known → (c : ℕ) → (same : Option ℕ) → Bool
 is_same values c None = true
 is_same values c (Some w) = is_of c (known_at values w)
 
--- no other value is asked for
-abbrev pub is_alone : (same : Option ℕ) → Bool
-is_alone None = true
-is_alone (Some w) = false
+-- no other value than v is asked for
+abbrev pub is_alone : (v : ℕ) → (same : Option ℕ) → Bool
+is_alone v None = true
+is_alone v (Some w) = w == v
 
--- a value is known to be such a reference; `there` is what the target begins with
+-- a value is known to be such a reference; `there` is what the target begins with. Null has no class, and is shown the same as itself alone
 abbrev pub shows_reference : FactSet → FactSet → (v layout : ℕ) → (nonnull : Bool) → Age → (same : Option ℕ) → Known → Bool
 shows_reference here there v layout nonnull age same (Cell c known stale) =
     (known == layout)
@@ -213,7 +213,7 @@ shows_reference here there v layout nonnull age same (Cell c known stale) =
     && implied (not (is_stale age)) (not stale)
     && implied (is_fresh age) (is_fresh_in here there c v)
     && is_same here.values c same
-shows_reference here there v layout nonnull age same Null = not nonnull && not (is_fresh age) && is_alone same
+shows_reference here there v layout nonnull age same Null = not nonnull && not (is_fresh age) && is_alone v same
 shows_reference here there v layout nonnull age same _ = false
 
 -- a value is known to be such an integer

@@ -14,7 +14,7 @@ use Rattle.facts.specs.Lines.{move, covers_value}
 
 -- a row of which nothing is known
 abbrev pub blank : Row
-blank = record { known = Nothing; test = None; class = lost_class; named = false; aside = false }
+blank = record { known = Nothing; test = None; class = lost_class; used = None; aside = false }
 
 -- a row, or a blank one
 abbrev pub row_at : List Row → ℕ → Row
@@ -42,9 +42,14 @@ abbrev pub is_no_test : Option Test → Bool
 is_no_test None = true
 is_no_test (Some test) = false
 
+-- a value is not used
+abbrev pub is_no_use : Option ℕ → Bool
+is_no_use None = true
+is_no_use (Some at) = false
+
 -- nothing is known of a row
 abbrev pub is_blank : Row → Bool
-is_blank row = is_nothing row.known && is_no_test row.test && not row.class.nonnull && not row.class.fresh && not row.named && not row.aside
+is_blank row = is_nothing row.known && is_no_test row.test && not row.class.nonnull && not row.class.fresh && is_no_use row.used && not row.aside
 
 -- ---- rows that are marked
 
@@ -56,6 +61,27 @@ IsOne v (u ∷ us) = (u ≡ v) ⊎ IsOne v us
 -- each row that is not marked is blank
 abbrev pub OnlyMarked : (marked : List ℕ) → List Row → Type 0
 OnlyMarked marked rows = (v : ℕ) → IsOne v marked ⊎ (row_at rows v ≡ blank)
+
+-- a safepoint leaves a row whose value is known to be this as it is: a reference is stale and of the class that the value has for itself, and whether that is null is noted
+abbrev pub is_settled_as : (u : ℕ) → (aside : Bool) → (own : Class) → Known → Bool
+is_settled_as u aside own (Cell c layout stale) = (c == u) && stale && not own.fresh && (if own.nonnull then aside else not aside)
+is_settled_as u aside own _ = not aside
+
+-- a safepoint leaves this row as it is
+abbrev pub is_settled : (u : ℕ) → Row → Bool
+is_settled u row = is_settled_as u row.aside row.class row.known
+
+-- a safepoint leaves each other row as it is
+abbrev pub OnlyCurrent : (current : List ℕ) → List Row → Type 0
+OnlyCurrent current rows = (v : ℕ) → IsOne v current ⊎ (is_settled v (row_at rows v) ≡ true)
+
+-- a safepoint left the row before as it was, and does not leave the row after
+abbrev pub is_unsettled : (v : ℕ) → (before after : Row) → Bool
+is_unsettled v before after = is_settled v before && not (is_settled v after)
+
+-- the rows that a safepoint may change once v has another row
+abbrev pub with_current : (v : ℕ) → (before after : Row) → (current : List ℕ) → List ℕ
+with_current v before after current = if is_unsettled v before after then current ++ v ∷ [] else current
 
 -- the rows that are marked once v is filled, whose row was this
 abbrev pub with_mark : (v : ℕ) → Row → (marked : List ℕ) → List ℕ
@@ -118,6 +144,10 @@ stale_row classes u row = settle_row u (keep_row classes u row)
 abbrev pub row_is_of : (c : ℕ) → List Row → ℕ → Bool
 row_is_of c rows u = is_of c (row_at rows u).known
 
+-- these rows, and a row if it is of a class
+abbrev pub with_row_of : (c : ℕ) → List Row → (u : ℕ) → List ℕ → List ℕ
+with_row_of c rows u us = if row_is_of c rows u then us ++ u ∷ [] else us
+
 -- a row of the class here is listed there as of the other, if as a reference
 abbrev pub covers_row : (c d : ℕ) → (here there : List Row) → ℕ → Bool
 covers_row c d here there u = covers_value c d ((row_at here u).known, (row_at there u).known)
@@ -132,7 +162,3 @@ tests v (Some test) = test.tested == v
 -- a row names v
 abbrev pub names : (v : ℕ) → Row → Bool
 names v row = is_on v row.known || tests v row.test
-
--- each value that a row names is known to be named
-abbrev pub OnlyNamed : List Row → Type 0
-OnlyNamed rows = (u v : ℕ) → names v (row_at rows u) ≡ true → v < length rows → (row_at rows v).named ≡ true

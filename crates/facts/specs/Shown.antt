@@ -1,5 +1,5 @@
 -- When a line of a target is shown, in statements.
-use Rattle.std.specs.Prelude.{◌≡◌, ◌↔◌, ℕ, Bool, true, false, not, length, Option, Some, None}
+use Rattle.std.specs.Prelude.{◌≡◌, ◌↔◌, ◌⊎◌, ℕ, Bool, true, false, not, length, Option, Some, None}
 use Rattle.shadow_stack.specs.Slots.{SlotTable, slot_of}
 use Rattle.certs.specs.declared.section.Age.{Age}
 use Rattle.certs.specs.declared.section.Fact.{Fact}
@@ -36,14 +36,18 @@ ListsAll here there v =
     × (((u : ℕ) → Says here (IsSame v u) → IsReference there u → Says there (IsSame v u))
     × ((s : ℕ) → Says here (SlotHolds s v) → Says there (SlotHolds s v)))
 
--- what a line asks of a reference is said: `ref L`, nonnull, not stale, fresh where the target lists all that is the same, and the same as another
+-- v is the same as w: it is said, or w is v itself
+abbrev pub SameAs : FactSet → (v w : ℕ) → Type 0
+SameAs here v w = (v ≡ w) ⊎ Says here (IsSame v w)
+
+-- what a line asks of a reference is said: `ref L`, nonnull, not stale, fresh where the target lists all that is the same, and the same as another or as itself
 abbrev pub ReferenceShown : FactSet → FactSet → (v layout : ℕ) → (nonnull : Bool) → Age → (same : Option ℕ) → Type 0
 ReferenceShown here there v layout nonnull age same =
     Says here (RefersTo v layout)
     × (IfAsked nonnull (Says here (IsNonnull v))
     × (IfAsked (not (is_stale age)) (Says here (IsCurrent v))
     × (IfAsked (is_fresh age) (Says here (IsFresh v) × ListsAll here there v)
-    × IfNamed same (λ w. Says here (IsSame v w)))))
+    × IfNamed same (λ w. SameAs here v w))))
 
 -- what a line asks of a value is said
 abbrev pub FactShown : FactSet → FactSet → ℕ → Fact → Type 0

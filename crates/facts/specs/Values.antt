@@ -1,12 +1,12 @@
 -- What is known of values and classes, and the rows that hold it.
-use Rattle.std.specs.Prelude.{ℕ, false, List, ◌++◌, map, replicate, slice_set, Option, Some, None, true}
+use Rattle.std.specs.Prelude.{ℕ, false, List, ◌++◌, map, replicate, Option, None}
 use Rattle.facts.specs.declared.known.Class.{Class}
 use Rattle.facts.specs.declared.known.Known.{Known}
-use Rattle.facts.specs.declared.known.Known.TheVariants.{Nothing, Address}
+use Rattle.facts.specs.declared.known.Known.TheVariants.{Nothing}
 use Rattle.facts.specs.declared.known.Test.{Test}
 use Rattle.facts.specs.declared.row.Row.{Row}
 use Rattle.facts.specs.Facts.{lost_class}
-use Rattle.facts.specs.Sheets.{known_of, test_of, class_of, row_at}
+use Rattle.facts.specs.Sheets.{known_of, test_of, class_of}
 
 -- what is known of each value and each class, and the comparison that gave each value
 pub record ValueFacts : Type 0 where
@@ -26,20 +26,6 @@ facts_of_rows rows added = record { values = map known_of rows; classes = map cl
 abbrev pub no_values : ℕ → ValueFacts
 no_values count = record { values = replicate count Nothing; classes = replicate count lost_class; tests = replicate count None }
 
--- the row of a value of which nothing is known any more, and which is named no more
+-- the row of a value of which nothing is known any more, and which nothing uses
 abbrev pub ended_row : Row → Row
-ended_row row = record row { known = Nothing; test = None; named = false }
-
--- v is named
-abbrev pub name_row : ℕ → List Row → List Row
-name_row v rows = slice_set rows v (record (row_at rows v) { named = true })
-
--- the base of an address is named
-abbrev pub with_base : Known → List Row → List Row
-with_base (Address base words) rows = name_row base rows
-with_base _ rows = rows
-
--- the value that is compared is named
-abbrev pub with_tested : Option Test → List Row → List Row
-with_tested None rows = rows
-with_tested (Some test) rows = name_row test.tested rows
+ended_row row = record row { known = Nothing; test = None; used = None; aside = false }

@@ -367,7 +367,7 @@ impl Facts {
     {
         let one = self.class(from);
         let other = self.class(to);
-        self.values.move_class(from, to);
+        self.values.move_class(from, to)?;
         self.set_class(
             to,
             Class {

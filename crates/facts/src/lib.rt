@@ -12,6 +12,7 @@ pub mod rows;
 mod sheet;
 mod shown;
 mod sweeps;
+mod uses;
 mod values;
 
 pub use class_id::ClassId;

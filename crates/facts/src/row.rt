@@ -9,8 +9,8 @@ pub(crate) struct Row {
     pub known: Known,
     pub test: Option<Test>,
     pub class: Class,
-    /// An address or a comparison may name the value.
-    pub named: bool,
+    /// The newest use of the value, by an address or a comparison.
+    pub used: Option<usize>,
     /// The class of the value was not null where the last safepoint came.
     pub aside: bool,
 }
@@ -24,7 +24,7 @@ impl Row {
             known: Known::Nothing,
             test: None,
             class: Class::lost(),
-            named: false,
+            used: None,
             aside: false,
         }
     }
@@ -37,7 +37,7 @@ impl Row {
             && self.test.is_none()
             && !self.class.nonnull
             && !self.class.fresh
-            && !self.named
+            && self.used.is_none()
             && !self.aside
     }
 }

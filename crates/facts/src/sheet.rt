@@ -1,13 +1,17 @@
-ghost use Rattle.std.specs.Prelude.{◌≡◌, ◌<◌, ◌++◌, map, length, replicate, slice_set, IfOk, OnOk, OnErr};
+ghost use Rattle.std.specs.Prelude.{◌≡◌, true, ◌<◌, ◌++◌, map, length, replicate, slice_set, IfOk, OnOk, OnErr};
 ghost use Rattle.std.specs.List.{list_any, list_all, zip};
 ghost use Rattle.facts.specs.Facts.{is_of, class_at};
 ghost use Rattle.facts.specs.Lines.{covers_value};
-ghost use Rattle.facts.specs.Sheets.{row_at, blank, EachRow, changed, known_of, class_of, stale_row};
+ghost use Rattle.facts.specs.declared.sweeps.Change.TheVariants.{Off, Move};
+ghost use Rattle.facts.specs.Sheets.{row_at, blank, EachRow, changed, known_of, class_of, stale_row, is_settled};
+ghost use Rattle.facts.specs.Uses.{OnlyUsers};
 
 use crate::class_id::ClassId;
 use crate::known::Class;
 use crate::row::Row;
 use crate::sweeps::{self, Change};
+use crate::uses::Use;
+use ir_ast::ValueId;
 use std::alloc::{AllocError, Global};
 use std::marker::Model;
 
@@ -16,18 +20,20 @@ use std::marker::Model;
 pub(crate) struct Sheet {
     rows: Vec<Row>,
     marked: Vec<usize>,
+    /// The rows that the next safepoint may change.
+    current: Vec<usize>,
 }
 
 impl Model for Sheet {
     ghost use Rattle.std.specs.Prelude.{List};
     ghost use Rattle.facts.specs.declared.row.Row.{Row};
-    ghost use Rattle.facts.specs.Sheets.{OnlyMarked};
+    ghost use Rattle.facts.specs.Sheets.{OnlyMarked, OnlyCurrent};
 
     ghost Value = { List Row };
 
     ghost view = { λ sheet. sheet.rows.items };
 
-    ghost invariant = { λ sheet. OnlyMarked sheet.marked.items sheet.rows.items };
+    ghost invariant = { λ sheet. OnlyMarked sheet.marked.items sheet.rows.items × OnlyCurrent sheet.current.items sheet.rows.items };
 }
 
 impl Sheet {
@@ -39,6 +45,7 @@ impl Sheet {
         Ok(Sheet {
             rows,
             marked: Vec::new(alloc),
+            current: Vec::new(alloc),
         })
     }
 
@@ -71,14 +78,17 @@ impl Sheet {
     {
         if at < self.rows.len() {
             sweeps::mark(&mut self.marked, &self.rows, at)?;
+            let before = sweeps::row_at(&self.rows, at);
+            sweeps::note(&mut self.current, at, &before, &row)?;
             self.rows[at] = row;
         }
         Ok(())
     }
 
-    /// A row that is filled, or that stays blank, is this from now on.
+    /// A row that is filled, or that stays blank, is this from now on; a safepoint changes it only where it did.
     pub fn change(&mut self, at: usize, row: Row)
-        requires { row_at self.old at ≡ blank → row ≡ blank }
+        requires filled { row_at self.old at ≡ blank → row ≡ blank }
+        requires settled { is_settled at (row_at self.old at) ≡ true → is_settled at row ≡ true }
         ensures { self.new ≡ slice_set self.old at row }
     {
         if at < self.rows.len() {
@@ -92,6 +102,7 @@ impl Sheet {
     {
         sweeps::copy(&mut self.rows, &self.marked, &[]);
         self.marked.clear();
+        self.current.clear();
     }
 
     /// The rows are those of a sheet of the same length.
@@ -101,25 +112,39 @@ impl Sheet {
         ensures err { OnErr result (self.new ≡ self.old) }
     {
         let marked = Vec::from_slice(alloc, &other.marked)?;
+        let current = Vec::from_slice(alloc, &other.current)?;
         sweeps::copy(&mut self.rows, &self.marked, &[]);
         sweeps::copy(&mut self.rows, &marked, &other.rows);
         self.marked = marked;
+        self.current = current;
         Ok(())
     }
 
-    /// Each row changes.
-    pub fn sweep(&mut self, change: &Change)
-        ensures { EachRow (changed change.now) self.old self.new }
+    /// No row names a value, of which these are the uses.
+    pub fn end_names(&mut self, uses: &[Use], v: ValueId)
+        requires { OnlyUsers uses.now self.old }
+        ensures { EachRow (changed (Off v)) self.old self.new }
     {
-        sweeps::sweep(&mut self.rows, &self.marked, change);
+        sweeps::end_names(&mut self.rows, &self.marked, uses, v);
+    }
+
+    /// The references of one class are of another.
+    pub fn move_class(&mut self, from: ClassId, to: ClassId) -> Result<(), AllocError>
+        ensures ok { OnOk result (EachRow (changed (Move from to)) self.old self.new) }
+        ensures err { OnErr result (self.new ≡ self.old) }
+    {
+        sweeps::note_class(&mut self.current, &self.rows, &self.marked, from)?;
+        sweeps::sweep(&mut self.rows, &self.marked, &Change::Move(from, to));
+        Ok(())
     }
 
     /// Each reference is stale, and of the class that its value has for itself; these classes were added.
     pub fn make_stale(&mut self, added: &[Class])
         ensures { EachRow (stale_row (map class_of self.old ++ added.now)) self.old self.new }
     {
-        sweeps::keep_rows(&mut self.rows, &self.marked, added);
-        sweeps::sweep(&mut self.rows, &self.marked, &Change::Settle);
+        sweeps::keep_rows(&mut self.rows, &self.current, added);
+        sweeps::sweep(&mut self.rows, &self.current, &Change::Settle);
+        self.current.clear();
     }
 
     /// Whether some value is of this class.

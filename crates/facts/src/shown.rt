@@ -83,7 +83,9 @@ impl Facts {
                     )
                     && self.is_same(class, asked.same)
             }
-            Known::Null => !asked.nonnull && !is_fresh(asked.age) && asked.same.is_none(),
+            Known::Null => {
+                !asked.nonnull && !is_fresh(asked.age) && is_alone(asked.value, asked.same)
+            }
             _ => false,
         }
     }
@@ -139,6 +141,15 @@ fn implied(asked: bool, holds: bool) -> bool
     ensures { result ≡ implied asked holds }
 {
     holds || !asked
+}
+
+fn is_alone(v: ValueId, same: Option<ValueId>) -> bool
+    ensures { result ≡ is_alone v same }
+{
+    match same {
+        Some(w) => w == v,
+        None => true,
+    }
 }
 
 fn is_below(below: Option<u64>, asked: Option<u64>) -> bool

@@ -1,13 +1,16 @@
 //! What changes in the rows that are marked, and what is asked of them.
-ghost use Rattle.std.specs.Prelude.{◌≡◌, ◌++◌, map, replicate, slice_set, IfOk, OnOk, OnErr};
+ghost use Rattle.std.specs.Prelude.{◌≡◌, ℕ, true, ◌++◌, map, length, replicate, slice_set, IfOk, OnOk, OnErr};
 ghost use Rattle.std.specs.List.{list_any, list_all};
 ghost use Rattle.facts.specs.Facts.{class_at};
-ghost use Rattle.facts.specs.Sheets.{blank, each, copied, changed, row_at, with_mark, class_of, known_nonnull, keep_row, settled_class, row_is_of, covers_row};
+ghost use Rattle.facts.specs.Uses.{chain, OnlyUsers};
+ghost use Rattle.facts.specs.declared.sweeps.Change.TheVariants.{Off};
+ghost use Rattle.facts.specs.Sheets.{blank, each, copied, changed, row_at, with_mark, class_of, known_nonnull, keep_row, settled_class, row_is_of, covers_row, IsOne, is_settled, is_settled_as, is_unsettled, with_current, with_row_of, EachRow, OnlyMarked};
 
 use crate::class_id::ClassId;
 use crate::known::{Class, Known};
 use crate::row::Row;
 use crate::rows;
+use crate::uses::{Use, use_at};
 use ir_ast::ValueId;
 use std::alloc::{AllocError, Global};
 
@@ -30,7 +33,7 @@ pub fn blank_rows(alloc: Global, count: usize) -> Result<Vec<Row>, AllocError>
         known: Known::Nothing,
         test: None,
         class: Class::lost(),
-        named: false,
+        used: None,
         aside: false
     }; count]?;
     Ok(rows)
@@ -57,6 +60,73 @@ pub fn mark(marked: &mut Vec<usize>, rows: &[Row], at: usize) -> Result<(), Allo
     Ok(())
 }
 
+/// A row that a safepoint changes is noted as current, unless it was.
+pub fn note(
+    current: &mut Vec<usize>,
+    at: usize,
+    before: &Row,
+    after: &Row,
+) -> Result<(), AllocError>
+    ensures ok { OnOk result (current.new.items ≡ with_current at before.now after.now current.old.items) }
+    ensures err { OnErr result (current.new.items ≡ current.old.items) }
+{
+    if is_unsettled(at, before, after) {
+        current.push(at)?;
+    }
+    Ok(())
+}
+
+fn is_unsettled(at: usize, before: &Row, after: &Row) -> bool
+    ensures { result ≡ is_unsettled at before.now after.now }
+{
+    is_settled(at, before) && !is_settled(at, after)
+}
+
+/// Whether a safepoint leaves a row as it is.
+fn is_settled(at: usize, row: &Row) -> bool
+    ensures { result ≡ is_settled at row.now }
+{
+    match row.known {
+        Known::Cell { class, stale, .. } => {
+            class.number() == at
+                && stale
+                && !row.class.fresh
+                && (if row.class.nonnull {
+                    row.aside
+                } else {
+                    !row.aside
+                })
+        }
+        _ => !row.aside,
+    }
+}
+
+/// The rows of a class are noted as current.
+pub fn note_class(
+    current: &mut Vec<usize>,
+    rows: &[Row],
+    marked: &[usize],
+    c: ClassId,
+) -> Result<(), AllocError>
+    ensures kept { (v : ℕ) → IsOne v current.old.items → IsOne v current.new.items }
+    ensures noted { OnOk result ((v : ℕ) → IsOne v marked.now → row_is_of c rows.now v ≡ true → IsOne v current.new.items) }
+{
+    for u in marked {
+        note_of(current, rows, *u, c)?;
+    }
+    Ok(())
+}
+
+fn note_of(current: &mut Vec<usize>, rows: &[Row], at: usize, c: ClassId) -> Result<(), AllocError>
+    ensures ok { OnOk result (current.new.items ≡ with_row_of c rows.now at current.old.items) }
+    ensures err { OnErr result (current.new.items ≡ current.old.items) }
+{
+    if row_is_of(c, rows, at) {
+        current.push(at)?;
+    }
+    Ok(())
+}
+
 /// The rows are those of another sheet, which are blank where it is shorter.
 pub fn copy(rows: &mut Vec<Row>, marked: &[usize], others: &[Row])
     ensures { rows.new.items ≡ each (copied others.now) marked.now rows.old.items }
@@ -78,6 +148,41 @@ pub fn sweep(rows: &mut Vec<Row>, marked: &[usize], change: &Change)
         if at < rows.len() {
             rows[at] = changed(change, at, &row_at(rows, at));
         }
+    }
+}
+
+/// No row names a value: those that came to use it end that, or all that are marked if the value has no row.
+pub fn end_names(rows: &mut Vec<Row>, marked: &[usize], uses: &[Use], v: ValueId)
+    ensures { OnlyUsers uses.now rows.old.items → OnlyMarked marked.now rows.old.items → EachRow (changed (Off v)) rows.old.items rows.new.items }
+{
+    let at = v.number() as usize;
+    if at < rows.len() {
+        let row = row_at(rows, at);
+        sweep_uses(rows, uses, row.used, &Change::Off(v));
+    } else {
+        sweep(rows, marked, &Change::Off(v));
+    }
+}
+
+/// The rows that came to use a value change, from this use of it back.
+fn sweep_uses(rows: &mut Vec<Row>, uses: &[Use], newest: Option<usize>, change: &Change)
+    ensures { rows.new.items ≡ each (changed change.now) (chain (length uses.now) uses.now newest) rows.old.items }
+{
+    let mut at = newest;
+    for step in 0..uses.len() {
+        let Some(found) = use_at(uses, at) else {
+            return;
+        };
+        change_row(rows, found.user, change);
+        at = found.before;
+    }
+}
+
+fn change_row(rows: &mut Vec<Row>, at: usize, change: &Change)
+    ensures { rows.new.items ≡ slice_set rows.old.items at (changed change.now at (row_at rows.old.items at)) }
+{
+    if at < rows.len() {
+        rows[at] = changed(change, at, &row_at(rows, at));
     }
 }
 

@@ -1,17 +1,17 @@
-ghost use Rattle.std.specs.Prelude.{◌≡◌, false, ◌∷◌, [], ◌++◌, map, length, slice_set, IfOk, OnOk, OnErr};
+ghost use Rattle.std.specs.Prelude.{◌≡◌, ◌<◌, ℕ, true, false, ◌∷◌, [], ◌++◌, map, length, slice_set, IfOk, OnOk, OnErr};
 ghost use Rattle.std.specs.List.{list_any, list_all, enumerate_from, zip};
-ghost use Rattle.facts.specs.Facts.{known_at, class_at, test_at, is_of, values_without, tests_without, stale_of, stale_class};
+ghost use Rattle.facts.specs.Facts.{known_at, class_at, test_at, is_of, is_on, values_without, tests_without, stale_of, stale_class};
 ghost use Rattle.facts.specs.Lines.{move, covers_value};
-ghost use Rattle.facts.specs.declared.sweeps.Change.TheVariants.{Off};
-ghost use Rattle.facts.specs.Sheets.{OnlyNamed, EachRow, changed};
-ghost use Rattle.facts.specs.Values.{no_values, name_row, with_base, with_tested};
+ghost use Rattle.facts.specs.Sheets.{tests};
+ghost use Rattle.facts.specs.Uses.{IsUser, OnlyUsers, SayTheSame};
+ghost use Rattle.facts.specs.Values.{no_values};
 
 use crate::class_id::ClassId;
 use crate::known::{Class, Known, Test};
 use crate::row::Row;
 use crate::rows;
 use crate::sheet::Sheet;
-use crate::sweeps::Change;
+use crate::uses::Use;
 use ir_ast::ValueId;
 use std::alloc::{AllocError, Global};
 use std::marker::Model;
@@ -21,17 +21,18 @@ use std::marker::Model;
 pub struct Values {
     sheet: Sheet,
     added: Vec<Class>,
+    uses: Vec<Use>,
 }
 
 impl Model for Values {
     ghost use Rattle.facts.specs.Values.{ValueFacts, facts_of_rows};
-    ghost use Rattle.facts.specs.Sheets.{OnlyNamed};
+    ghost use Rattle.facts.specs.Uses.{OnlyUsers};
 
     ghost Value = { ValueFacts };
 
     ghost view = { λ values. facts_of_rows values.sheet values.added.items };
 
-    ghost invariant = { λ values. OnlyNamed values.sheet };
+    ghost invariant = { λ values. OnlyUsers values.uses.items values.sheet };
 }
 
 impl Values {
@@ -43,6 +44,7 @@ impl Values {
         Ok(Values {
             sheet,
             added: Vec::new(alloc),
+            uses: Vec::new(alloc),
         })
     }
 
@@ -87,6 +89,7 @@ impl Values {
     {
         self.sheet.clear();
         self.added.clear();
+        self.uses.clear();
     }
 
     /// What is known elsewhere of as many values, in place of what is known here.
@@ -96,8 +99,10 @@ impl Values {
         ensures err { OnErr result (self.new ≡ self.old) }
     {
         let added = Vec::from_slice(alloc, &other.added)?;
+        let uses = Vec::from_slice(alloc, &other.uses)?;
         self.sheet.set_from(alloc, &other.sheet)?;
         self.added = added;
+        self.uses = uses;
         Ok(())
     }
 
@@ -106,8 +111,8 @@ impl Values {
         ensures ok { OnOk result (self.new ≡ record self.old { values = slice_set self.old.values v known }) }
         ensures err { OnErr result (self.new ≡ self.old) }
     {
-        name_base(&mut self.sheet, &known)?;
         let at = v.number() as usize;
+        use_base(&mut self.sheet, &mut self.uses, at, &known)?;
         let row = self.sheet.row(at);
         self.sheet.set(at, Row { known, ..row })?;
         Ok(())
@@ -118,8 +123,8 @@ impl Values {
         ensures ok { OnOk result (self.new ≡ record self.old { tests = slice_set self.old.tests v test }) }
         ensures err { OnErr result (self.new ≡ self.old) }
     {
-        name_tested(&mut self.sheet, &test)?;
         let at = v.number() as usize;
+        use_tested(&mut self.sheet, &mut self.uses, at, &test)?;
         let row = self.sheet.row(at);
         self.sheet.set(at, Row { test, ..row })?;
         Ok(())
@@ -129,7 +134,7 @@ impl Values {
     pub fn forget(&mut self, v: ValueId)
         ensures { self.new ≡ record self.old { values = values_without v self.old.values; tests = tests_without v self.old.tests } }
     {
-        end_names(&mut self.sheet, v);
+        self.sheet.end_names(&self.uses, v);
         let at = v.number() as usize;
         let row = self.sheet.row(at);
         self.sheet.change(
@@ -137,7 +142,8 @@ impl Values {
             Row {
                 known: Known::Nothing,
                 test: None,
-                named: false,
+                used: None,
+                aside: false,
                 ..row
             },
         );
@@ -187,10 +193,12 @@ impl Values {
     }
 
     /// The references of one class are of another.
-    pub fn move_class(&mut self, from: ClassId, to: ClassId)
-        ensures { self.new ≡ record self.old { values = map (move from to) self.old.values } }
+    pub fn move_class(&mut self, from: ClassId, to: ClassId) -> Result<(), AllocError>
+        ensures ok { OnOk result (self.new ≡ record self.old { values = map (move from to) self.old.values }) }
+        ensures err { OnErr result (self.new ≡ self.old) }
     {
-        self.sheet.sweep(&Change::Move(from, to));
+        self.sheet.move_class(from, to)?;
+        Ok(())
     }
 
     /// Each reference is stale, and of the class that its value has for itself.
@@ -216,46 +224,68 @@ impl Values {
     }
 }
 
-/// The base of an address is named.
-fn name_base(sheet: &mut Sheet, known: &Known) -> Result<(), AllocError>
-    ensures ok { OnOk result (sheet.new ≡ with_base known.now sheet.old) }
-    ensures err { OnErr result (sheet.new ≡ sheet.old) }
+/// A row uses the base of an address.
+fn use_base(
+    sheet: &mut Sheet,
+    uses: &mut Vec<Use>,
+    user: usize,
+    known: &Known,
+) -> Result<(), AllocError>
+    ensures long { length sheet.new ≡ length sheet.old }
+    ensures same { SayTheSame sheet.old sheet.new }
+    ensures users { OnlyUsers uses.old.items sheet.old → OnlyUsers uses.new.items sheet.new }
+    ensures noted { OnOk result ((w : ℕ) → is_on w known.now ≡ true → w < length sheet.new → IsUser uses.new.items sheet.new user w) }
 {
     match known {
-        Known::Address { base, .. } => name(sheet, *base),
+        Known::Address { base, .. } => use_value(sheet, uses, user, *base),
         _ => Ok(()),
     }
 }
 
-/// The value that is compared is named.
-fn name_tested(sheet: &mut Sheet, test: &Option<Test>) -> Result<(), AllocError>
-    ensures ok { OnOk result (sheet.new ≡ with_tested test.now sheet.old) }
-    ensures err { OnErr result (sheet.new ≡ sheet.old) }
+/// A row uses the value that is compared.
+fn use_tested(
+    sheet: &mut Sheet,
+    uses: &mut Vec<Use>,
+    user: usize,
+    test: &Option<Test>,
+) -> Result<(), AllocError>
+    ensures long { length sheet.new ≡ length sheet.old }
+    ensures same { SayTheSame sheet.old sheet.new }
+    ensures users { OnlyUsers uses.old.items sheet.old → OnlyUsers uses.new.items sheet.new }
+    ensures noted { OnOk result ((w : ℕ) → tests w test.now ≡ true → w < length sheet.new → IsUser uses.new.items sheet.new user w) }
 {
     match test {
-        Some(test) => name(sheet, test.tested),
+        Some(test) => use_value(sheet, uses, user, test.tested),
         None => Ok(()),
     }
 }
 
-fn name(sheet: &mut Sheet, v: ValueId) -> Result<(), AllocError>
-    ensures ok { OnOk result (sheet.new ≡ name_row v sheet.old) }
-    ensures err { OnErr result (sheet.new ≡ sheet.old) }
+fn use_value(
+    sheet: &mut Sheet,
+    uses: &mut Vec<Use>,
+    user: usize,
+    v: ValueId,
+) -> Result<(), AllocError>
+    ensures long { length sheet.new ≡ length sheet.old }
+    ensures same { SayTheSame sheet.old sheet.new }
+    ensures users { OnlyUsers uses.old.items sheet.old → OnlyUsers uses.new.items sheet.new }
+    ensures noted { OnOk result (v < length sheet.new → IsUser uses.new.items sheet.new user v) }
 {
     let at = v.number() as usize;
     let row = sheet.row(at);
-    sheet.set(at, Row { named: true, ..row })
-}
-
-/// No row names this value.
-fn end_names(sheet: &mut Sheet, v: ValueId)
-    ensures { OnlyNamed sheet.old → EachRow (changed (Off v)) sheet.old sheet.new }
-{
-    let at = v.number() as usize;
-    if at < sheet.len() && !sheet.row(at).named {
-        return;
-    }
-    sheet.sweep(&Change::Off(v));
+    let newest = uses.len();
+    uses.push(Use {
+        user,
+        before: row.used,
+    })?;
+    sheet.set(
+        at,
+        Row {
+            used: Some(newest),
+            ..row
+        },
+    )?;
+    Ok(())
 }
 
 fn set_added(added: &mut Vec<Class>, at: usize, class: Class)

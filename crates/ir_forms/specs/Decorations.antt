@@ -105,10 +105,16 @@ word s = skip >> word_end s
 
 -- ---- decorations of a part
 
+-- words decorate there, and not only groups of attributes or metadata
+abbrev pub may_have_word : Spot → Bool
+may_have_word spot.GlobalEnd = false
+may_have_word spot.Declare = false
+may_have_word _ = true
+
 -- a global that is external has no value
 abbrev pub may_be_external : Spot → Bool
 may_be_external spot.Global = false
-may_be_external _ = true
+may_be_external s = may_have_word s
 
 -- the place is at the end of a function's head
 abbrev pub ends_head : Spot → Bool
@@ -116,21 +122,23 @@ ends_head spot.Defined = true
 ends_head spot.Declared = true
 ends_head _ = false
 
--- groups of attributes may follow parameters and arguments
+-- groups of attributes may follow parameters, arguments and a global
 abbrev pub may_have_group : Spot → Bool
 may_have_group spot.Call = true
+may_have_group spot.GlobalEnd = true
 may_have_group s = ends_head s
 
 -- after a declared function a line may begin that is metadata
 abbrev pub may_have_metadata : Spot → Bool → Bool
+may_have_metadata spot.Declare first = true
 may_have_metadata spot.Defined first = true
 may_have_metadata spot.Declared first = not first
 may_have_metadata _ first = false
 
 -- a token of this kind is a decoration there, which is the first one on its line or not
 abbrev pub begins_decoration : Spot → Bool → Kind → Bool
-begins_decoration s first k.LowercaseWord = true
-begins_decoration s first k.Align = true
+begins_decoration s first k.LowercaseWord = may_have_word s
+begins_decoration s first k.Align = may_have_word s
 begins_decoration s first k.External = may_be_external s
 begins_decoration s first k.ExternWeak = may_be_external s
 begins_decoration s first k.Comdat = ends_head s
@@ -227,7 +235,13 @@ flags may_wrap = flags_or may_wrap
 abbrev pub may_align : Trail → Bool
 may_align trail.Slot = true
 may_align trail.Memory = true
+may_align trail.Global = true
 may_align trail.Other = false
+
+-- what ends here is a global
+abbrev pub is_global : Trail → Bool
+is_global trail.Global = true
+is_global _ = false
 
 -- the instruction is an alloca
 abbrev pub is_slot : Trail → Bool
@@ -239,21 +253,28 @@ abbrev pub aligned : Bool → Form (Unit {0})
 aligned true = skip >> expect k.Number
 aligned false = refuse unexpected
 
+-- where a global is placed, as `comdat($x)` or `section "x"`: a word with what belongs to it
+abbrev pub placed : Bool → Form (Unit {0})
+placed true = word spot.Global
+placed false = refuse unexpected
+
 -- the count of an alloca, which begins with its type, is left out
 abbrev pub begins_count : Trail → Kind → Bool
 begins_count t x = is_slot t && begins_any_type x
 
--- what may follow an instruction's comma: metadata or an alignment
+-- what may follow the comma of an instruction or a global: metadata, an alignment, or where the global is placed
 abbrev pub trail_by : Trail → Kind → Form (Unit {0})
 trail_by t k.MetadataName = metadata
 trail_by t k.Align = aligned (may_align t)
+trail_by t k.Comdat = placed (is_global t)
+trail_by t k.LowercaseWord = placed (is_global t)
 trail_by t _ = refuse (unread (begins_count t))
 
 -- what follows a comma at an instruction's end
 abbrev pub trail_behind : Trail → Form (Unit {0})
 trail_behind t = look (λ i. kind i.cursor) (trail_by t)
 
--- `, align n` or `, !name !n`
+-- `, align n`, `, !name !n`, or `, comdat` and the like after a global
 unfoldable pub comma_trail : Trail → Form (Unit {0})
 comma_trail t = expect k.Comma >> trail_behind t
 

@@ -16,9 +16,10 @@ use Rattle.ir_forms.specs.declared.input.Input.{Input}
 use Rattle.ir_forms.specs.declared.written.Base.{Base}
 use Rattle.ir_forms.specs.declared.written.Base.TheVariants.{Integer, Named, Aggregate}
 use Rattle.ir_forms.specs.declared.written.WrittenType.{WrittenType}
-use Rattle.ir_forms.specs.Cursor.{kind, sees, start, name, spelled, spelling, left_out}
+use Rattle.ir_forms.specs.Cursor.{kind, kind_behind, sees, start, name, spelled, spelling, left_out, refused}
 use Rattle.ir_forms.specs.Number.{decimal, natural}
 use Rattle.ir_forms.specs.Input.{Form, left, limit, unexpected, unread, advanced, advanced_falls, advanced_left, advance_takes, skip, skip_takes, sees_a, expect, IsKind}
+use Rattle.ir_forms.specs.Starts.{makes_level}
 use Rattle.ir_forms.specs.Names.{has_number, is_at, struct_name, struct_name_takes}
 
 -- ---- the table of types
@@ -157,12 +158,22 @@ fields_behind room inner = many at_brace (field inner) (field_takes inner) >>= c
 abbrev pub braced : ℕ → Firm → Form WrittenType
 braced room inner = skip >> fields_behind room inner
 
+-- a round bracket, as after the result of a function type
+abbrev pub is_round : Kind → Bool
+is_round k.OpenRound = true
+is_round _ = false
+
+-- `void` begins no type but a function type, which is left out
+abbrev pub no_void : Form WrittenType
+no_void = refuse (λ i. refused (is_round (kind_behind i.cursor)) i.cursor)
+
 -- a type without the stars after it, by the token with which it begins
 abbrev pub base_by : ℕ → Firm → Kind → Form WrittenType
 base_by room inner k.IntegerType = integer >>= λ bits. interned (Integer bits) room (type.Integer bits)
 base_by room inner k.LocalName = struct_name >>= λ name. interned Named room (type.Named name)
 base_by room inner k.OpenSquare = array inner
 base_by room inner k.OpenBrace = braced room inner
+base_by room inner k.Void = no_void
 base_by room inner _ = refuse (unread begins_unread_type)
 
 -- a type before its stars
@@ -202,9 +213,13 @@ starred p = do
 
 -- ---- a type
 
--- a type that passes the limit of levels
+-- the next token makes a level of a type
+unfoldable pub sees_level : Input → Bool
+sees_level i = makes_level (kind i.cursor) (spelling i.cursor)
+
+-- a type that passes the limit of levels, whichever it is
 unfoldable pub no_type : Form WrittenType
-no_type = refuse (λ i. if begins_type (kind i.cursor) then limit i else unread begins_unread_type i)
+no_type = refuse (λ i. if sees_level i then limit i else unread begins_unread_type i)
 
 -- a type with its stars, whose parts are of this form
 abbrev pub over : ℕ → Firm → Form WrittenType

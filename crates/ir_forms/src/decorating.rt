@@ -76,6 +76,10 @@ fn past_brackets(alloc: Global, input: &mut Input<'_>) -> Result<(), Fault>
 pub enum Spot {
     /// A global, after its `=`.
     Global,
+    /// A global, after all else.
+    GlobalEnd,
+    /// A declared function, after `declare`.
+    Declare,
     /// The result of a function or a call, before its type.
     Result,
     /// A parameter, after its type.
@@ -129,10 +133,16 @@ fn word_end(alloc: Global, input: &mut Input<'_>, spot: Spot) -> Result<(), Faul
 
 // ---- decorations of a part
 
+fn may_have_word(spot: Spot) -> bool
+    ensures { result ≡ form.may_have_word spot }
+{
+    !matches!(spot, Spot::GlobalEnd | Spot::Declare)
+}
+
 fn may_be_external(spot: Spot) -> bool
     ensures { result ≡ form.may_be_external spot }
 {
-    !matches!(spot, Spot::Global)
+    may_have_word(spot) && !matches!(spot, Spot::Global)
 }
 
 fn ends_head(spot: Spot) -> bool
@@ -144,14 +154,14 @@ fn ends_head(spot: Spot) -> bool
 fn may_have_group(spot: Spot) -> bool
     ensures { result ≡ form.may_have_group spot }
 {
-    ends_head(spot) || matches!(spot, Spot::Call)
+    ends_head(spot) || matches!(spot, Spot::Call | Spot::GlobalEnd)
 }
 
 fn may_have_metadata(spot: Spot, is_first: bool) -> bool
     ensures { result ≡ form.may_have_metadata spot is_first }
 {
     match spot {
-        Spot::Defined => true,
+        Spot::Declare | Spot::Defined => true,
         Spot::Declared => !is_first,
         _ => false,
     }
@@ -162,7 +172,7 @@ fn begins_decoration(spot: Spot, is_first: bool, kind: Kind) -> bool
     ensures { result ≡ form.begins_decoration spot is_first kind }
 {
     match kind {
-        Kind::LowercaseWord | Kind::Align => true,
+        Kind::LowercaseWord | Kind::Align => may_have_word(spot),
         Kind::External | Kind::ExternWeak => may_be_external(spot),
         Kind::Comdat => ends_head(spot),
         Kind::AttributeGroup => may_have_group(spot),
@@ -292,8 +302,10 @@ pub fn flags(alloc: Global, input: &mut Input<'_>, may_wrap: bool) -> Result<(),
 pub enum Trail {
     /// Those of an alloca, whose count is left out.
     Slot,
-    /// Those of a load, a store or a global.
+    /// Those of a load or a store.
     Memory,
+    /// Those of a global, which tell where it is placed.
+    Global,
     /// Those of another instruction.
     Other,
 }
@@ -312,7 +324,7 @@ fn trail_of(op: &Op) -> Trail
 fn may_align(trail: Trail) -> bool
     ensures { result ≡ form.may_align trail }
 {
-    matches!(trail, Trail::Slot | Trail::Memory)
+    matches!(trail, Trail::Slot | Trail::Memory | Trail::Global)
 }
 
 fn begins_count(trail: Trail, kind: Kind) -> bool
@@ -332,15 +344,27 @@ fn aligned(input: &mut Input<'_>, may_stand: bool) -> Result<(), Fault>
     input.expect(Kind::Number)
 }
 
-/// `, align n` or `, !name !n`
+/// Where a global is placed: a word with what belongs to it.
+fn placed(alloc: Global, input: &mut Input<'_>, may_stand: bool) -> Result<(), Fault>
+    ensures { Reads ((form.placed may_stand).read input.old) result input.new }
+{
+    if !may_stand {
+        return Err(input.refuse(false));
+    }
+    input.skip();
+    word_end(alloc, input, Spot::Global)
+}
+
+/// `, align n`, `, !name !n`, or `, comdat` and the like after a global.
 #[tactic(auto, unfolding(crate::specs::Decorations::comma_trail))]
-fn comma_trail(input: &mut Input<'_>, trail: Trail) -> Result<(), Fault>
+fn comma_trail(alloc: Global, input: &mut Input<'_>, trail: Trail) -> Result<(), Fault>
     ensures { Reads ((form.comma_trail trail).read input.old) result input.new }
 {
     input.expect(Kind::Comma)?;
     match input.kind() {
         Kind::MetadataName => metadata(input),
         Kind::Align => aligned(input, may_align(trail)),
+        Kind::Comdat | Kind::LowercaseWord => placed(alloc, input, matches!(trail, Trail::Global)),
         kind => Err(input.refuse(begins_count(trail, kind))),
     }
 }
@@ -360,8 +384,8 @@ impl Following for Trail {
         !input.sees(Kind::Comma)
     }
 
-    fn read(&mut self, _alloc: Global, input: &mut Input<'_>) -> Result<(), Fault> {
-        comma_trail(input, *self)
+    fn read(&mut self, alloc: Global, input: &mut Input<'_>) -> Result<(), Fault> {
+        comma_trail(alloc, input, *self)
     }
 }
 

@@ -7,7 +7,8 @@ ghost use Rattle.ir_forms.specs.Written as form;
 use crate::fault::Fault;
 use crate::input::Input;
 use crate::number::natural;
-use crate::written::{Base, ROOM, WrittenType, begins_type, begins_unread_type};
+use crate::starts::makes_level;
+use crate::written::{Base, ROOM, WrittenType, begins_unread_type};
 use ir_ast::{IrType, TypeId};
 use ir_tokens::Kind;
 use items::Items;
@@ -98,16 +99,23 @@ impl<'a> Input<'a> {
     }
 
     /// The fault of a type that passes the limit of levels.
-    #[tactic(auto, unfolding(crate::specs::Written::no_type))]
+    #[tactic(auto, unfolding(crate::specs::Written::no_type, crate::specs::Written::sees_level))]
     fn no_type(&self) -> Fault
         ensures { form.no_type.read self.now ≡ Err result }
     {
         let kind = self.kind();
-        if begins_type(kind) {
+        if makes_level(kind, self.cursor.spelling()) {
             self.limit()
         } else {
             self.refuse(begins_unread_type(kind))
         }
+    }
+
+    /// The fault of `void`, which begins no type but a function type, which is left out.
+    fn no_void(&self) -> Fault
+        ensures { form.no_void.read self.now ≡ Err result }
+    {
+        self.refuse(matches!(self.cursor.kind_behind(), Kind::OpenRound))
     }
 
     /// The struct that has this field before those of another struct.
@@ -161,6 +169,7 @@ impl<'a> Input<'a> {
             }
             Kind::OpenSquare => self.array(alloc, room),
             Kind::OpenBrace => self.braced(alloc, room),
+            Kind::Void => Err(self.no_void()),
             kind => Err(self.refuse(begins_unread_type(kind))),
         }
     }

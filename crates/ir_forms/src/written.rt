@@ -36,16 +36,6 @@ pub struct WrittenType {
 /// How many levels a type has at most over its first.
 pub const ROOM: u32 = 63;
 
-/// Whether a type of the forms that are read begins with a token of this kind.
-pub fn begins_type(kind: Kind) -> bool
-    ensures { result ≡ form.begins_type kind }
-{
-    matches!(
-        kind,
-        Kind::IntegerType | Kind::LocalName | Kind::OpenSquare | Kind::OpenBrace
-    )
-}
-
 /// Kinds of tokens with which a type begins that is not read yet, or is left out.
 pub fn begins_unread_type(kind: Kind) -> bool
     ensures { result ≡ form.begins_unread_type kind }

@@ -1,5 +1,5 @@
--- Printed lists of arguments and calls are read as lists and calls that are printed alike.
-use Rattle.std.proofs.Common.{◌≡◌, ℕ, Bool, true, false, not, List, [], ◌∷◌, ◌++◌, refl, sym, ap, subst, ◌∙◌, arith, append_assoc}
+-- Printed lists of arguments are read as these lists again.
+use Rattle.std.proofs.Common.{◌≡◌, ℕ, Bool, true, false, not, List, [], ◌∷◌, ◌++◌, refl, ap, subst, ◌∙◌, arith, append_assoc}
 use Rattle.std.specs.Prelude.{codes}
 use Rattle.grammar.specs.Grammar.{pure, ◌>>=◌, ◌>>◌}
 use Rattle.ir_ast.specs.declared.function.Function.{Function}
@@ -19,19 +19,18 @@ use Rattle.ir_forms.specs.Decorations.{either}
 use Rattle.ir_forms.specs.Lists as lists
 use Rattle.ir_print.specs.Operands.{operand_text, argument_text}
 use Rattle.ir_print.specs.Standing.{Stands, IsSeam, AreBlanks}
-use Rattle.ir_print.specs.Types.{type_text}
+use Rattle.ir_print_law.specs.Again.{AreAlike, IsArgumentAgain}
 use Rattle.ir_print_law.specs.Printable.{IsArgument}
 use Rattle.ir_print_law.proofs.State.{Invariant, Ready, IsLater, Reads, Any}
 use Rattle.ir_print_law.proofs.Shown.{shown, IsTypeRead}
 use Rattle.ir_print_law.proofs.Steps.{so, looked, given, sign_reads, unlike, grows_itself, grows_further, later_before}
 use Rattle.ir_print_law.proofs.Types.{EndsType, Comes, ends_type}
 use Rattle.ir_print_law.proofs.WholeTypes.{type_begins}
-use Rattle.ir_print_law.proofs.PrintedTypes.{type_shown, read_shown, scalar_reads}
-use Rattle.ir_print_law.proofs.OperandsAgain.{OperandPrints, ends_operand}
-use Rattle.ir_print_law.proofs.Parts.{ArgumentPrints, operand_at}
+use Rattle.ir_print_law.proofs.PrintedTypes.{type_shown, read_again, scalar_reads}
+use Rattle.ir_print_law.proofs.OperandsAgain.{OperandAgain, ends_operand}
+use Rattle.ir_print_law.proofs.Parts.{ArgumentAgain, operand_at}
 use Rattle.ir_print_law.proofs.OperationsAgain.{on, said_on}
 use Rattle.std.specs.List.{flat_map, AllByRecursion}
-use Rattle.std.specs.Prelude.{map}
 use Rattle.ir_forms.specs.Cursor.{begins_line}
 use Rattle.ir_forms.specs.Decorations.{decorations, begins_decoration}
 use Rattle.ir_forms.specs.declared.decorating.Spot.{Spot}
@@ -41,7 +40,6 @@ use Rattle.ir_print.specs.Operands.{listed}
 use Rattle.ir_print_law.proofs.Words.{seen}
 use Rattle.ir_print_law.proofs.Steps.{sign_kind, test_reads}
 use Rattle.ir_print_law.proofs.OperandsAgain.{begins_operand, operand_begins}
-use Rattle.ir_print_law.proofs.PlaceOperations.{later_shape}
 
 -- ---- what follows an instruction
 
@@ -119,28 +117,12 @@ abbrev no_close : Kind → Bool
 no_close k.CloseRound = false
 no_close _ = true
 
--- ---- lists by the texts of their parts
-
--- further parts by their texts
-pub further_by : {A : Type 0} (shown : A → Text) (xs : List A) → flat_map (λ x. codes ", " ++ shown x) xs ≡ flat_map (λ (x : Text). codes ", " ++ x) (map shown xs)
-further_by shown [] = refl
-further_by shown (x ∷ xs) = ap (λ (y : Text). (codes ", " ++ shown x) ++ y) (further_by shown xs)
-
--- a list by the texts of its parts
-pub listed_by : {A : Type 0} (shown : A → Text) (xs : List A) → listed shown xs ≡ listed (λ (x : Text). x) (map shown xs)
-listed_by shown [] = refl
-listed_by shown (x ∷ xs) = ap (λ (y : Text). shown x ++ y) (further_by shown xs)
-
--- parts are printed as these texts in each later module
-abbrev pub ListPrints : {A : Type 0} → (Module → List Text → A → Text) → List Text → List A → Input → Type 0
-ListPrints shown texts xs o = (n : Module) (others : List Text) → IsLater o n others → map (shown n others) xs ≡ texts
+-- arguments are these again, in each module later on
+abbrev pub AllArgumentsAgain : Module → (locals : List Text) → List Argument → List Argument → Input → Type 0
+AllArgumentsAgain m locals xs ys o = (n : Module) (others : List Text) → IsLater o n others → AreAlike (IsArgumentAgain m n locals others) xs ys
 
 module _ {m : Module} {f : Function} (v : Invariant m f) where
   -- ---- arguments
-
-  -- an argument as it is printed
-  abbrev shown_argument : Argument → Text
-  shown_argument x = argument_text m f.locals x
 
   -- further arguments, each after a comma
   abbrev further : List Argument → Text
@@ -190,13 +172,13 @@ module _ {m : Module} {f : Function} (v : Invariant m f) where
 
   -- an argument is read, up to the one after it
   argument_reads : (x : Argument) (xs : List Argument) (i : Input) (gap rest : Text) (s : ℕ) → IsArgument m f x → AllByRecursion (IsArgument m f) xs → AreBlanks gap
-      → Ready v s i (gap ++ (argument_text m f.locals x ++ (further xs ++ 41 ∷ rest))) → Reads v s lists.argument i (behind_comma xs rest) (ArgumentPrints (argument_text m f.locals x))
+      → Ready v s i (gap ++ (argument_text m f.locals x ++ (further xs ++ 41 ∷ rest))) → Reads v s lists.argument i (behind_comma xs rest) (ArgumentAgain m f.locals x)
   unfolding lists.argument class_of
   argument_reads x xs i gap rest s own more blanks ready =
       let shape = own.0 in
       let scalar = own.1 in
       let type_is = type_shown m shape x.written scalar.0.0 scalar.0.1 in
-      let good = ArgumentPrints (argument_text m f.locals x) in
+      let good = ArgumentAgain m f.locals x in
       let end = behind_comma xs rest in
       let t2 = further xs ++ 41 ∷ rest in
       let text = operand_text m f.locals x.written x.operand in
@@ -206,17 +188,15 @@ module _ {m : Module} {f : Function} (v : Invariant m f) where
       (λ p o ready g read.
       let begins = operand_begins v shape x.written x.operand t2 scalar.0.0 own.2 (seam_further xs rest) o ready.stands in
       said_on v (decorations spot.Argument) (λ _. operand_form p) o tt end s good (decorations_said spot.Argument o (undecorated_operand (begins_line o.cursor) (kind o.cursor) begins))
-      (on v v (form.operand (w.bits_of p)) (separator_form p) o t2 end s s (OperandPrints shape (operand_text m f.locals x.written x.operand)) good
+      (on v v (form.operand (w.bits_of p)) (separator_form p) o t2 end s s (OperandAgain m f.locals x.operand) good
       (operand_at v shape x.written x.operand p o o (32 ∷ []) t2 s read scalar.0.0 own.2 refl (seam_further xs rest) ready)
-      (λ y q ready h prints.
+      (λ y q ready h again.
       on v v (lists.separator k.CloseRound) (λ _. pure (record { written = p.id; operand = y })) q end end s s Any good
       (separator_reads xs q rest s more ready)
       (λ _ r ready hh e. given v (record { written = p.id; operand = y }) r end s good ready
       (λ n others later.
       let laterq = later_before q r n others hh later in
-      let latero = later_before o q n others h laterq in
-      ap (λ (z : Text). type_text n p.id ++ 32 ∷ z) (prints n others laterq p.id (later_shape shape p.id o n others read.has_shape latero))
-      ∙ ap (λ (z : Text). z ++ 32 ∷ operand_text m f.locals x.written x.operand) (read_shown shape p.id o n others read.has_shape scalar.0.1 latero ∙ sym type_is))))))
+      (read_again m shape x.written p.id o n others scalar.0.0 read.has_shape (later_before o q n others h laterq), again n others laterq))))))
     where
       separator_form : WrittenType → Operand → Form Argument
       separator_form p y = lists.separator k.CloseRound >> pure (record { written = p.id; operand = y })
@@ -226,10 +206,10 @@ module _ {m : Module} {f : Function} (v : Invariant m f) where
 
   -- the arguments after a comma, up to the end of the list
   arguments_behind : (xs : List Argument) (i : Input) (rest : Text) (s : ℕ) → AllByRecursion (IsArgument m f) xs → Ready v s i (behind_comma xs rest)
-      → Reads v s lists.arguments i (41 ∷ rest) (ListPrints (λ n others x. argument_text n others x) (map shown_argument xs))
+      → Reads v s lists.arguments i (41 ∷ rest) (AllArgumentsAgain m f.locals xs)
   unfolding lists.arguments class_of
   arguments_behind [] i rest s own ready =
-      ([], i, (seen k.CloseRound i (sign_kind v 41 k.CloseRound i [] rest s refl refl refl ready), refl), ready, grows_itself i, λ n others later. refl)
+      ([], i, (seen k.CloseRound i (sign_kind v 41 k.CloseRound i [] rest s refl refl refl ready), refl), ready, grows_itself i, λ n others later. tt)
   arguments_behind (x ∷ xs) i rest s own ready =
       let opens = unlike k.CloseRound w.begins_type i refl (argument_begins x i (32 ∷ []) (further xs ++ 41 ∷ rest) s own.0 refl (seam_further xs rest) ready) in
       let a = argument_reads x xs i (32 ∷ []) rest s own.0 own.1 refl ready in
@@ -239,15 +219,15 @@ module _ {m : Module} {f : Function} (v : Invariant m f) where
         (opens, a.1, a.2, b.2),
         b.3,
         grows_further i a.1 b.1 a.4 b.4,
-        λ n others later. ap (λ (y : Text). y ∷ map (λ z. argument_text n others z) b.0) (a.5 n others (later_before a.1 b.1 n others b.4 later)) ∙ ap (λ (ys : List Text). argument_text m f.locals x ∷ ys) (b.5 n others later),
+        λ n others later. (a.5 n others (later_before a.1 b.1 n others b.4 later), b.5 n others later),
       )
 
   -- the arguments of a call
   pub arguments_read : (xs : List Argument) (i : Input) (rest : Text) (s : ℕ) → AllByRecursion (IsArgument m f) xs → Ready v s i (listed (argument_text m f.locals) xs ++ 41 ∷ rest)
-      → Reads v s lists.arguments i (41 ∷ rest) (ListPrints (λ n others x. argument_text n others x) (map shown_argument xs))
+      → Reads v s lists.arguments i (41 ∷ rest) (AllArgumentsAgain m f.locals xs)
   unfolding lists.arguments class_of
   arguments_read [] i rest s own ready =
-      ([], i, (seen k.CloseRound i (sign_kind v 41 k.CloseRound i [] rest s refl refl refl ready), refl), ready, grows_itself i, λ n others later. refl)
+      ([], i, (seen k.CloseRound i (sign_kind v 41 k.CloseRound i [] rest s refl refl refl ready), refl), ready, grows_itself i, λ n others later. tt)
   arguments_read (x ∷ xs) i rest s own ready =
       let ready = subst (λ (y : Text). Ready v s i y) (append_assoc (argument_text m f.locals x) (further xs) (41 ∷ rest)) ready in
       let opens = unlike k.CloseRound w.begins_type i refl (argument_begins x i [] (further xs ++ 41 ∷ rest) s own.0 refl (seam_further xs rest) ready) in
@@ -258,5 +238,5 @@ module _ {m : Module} {f : Function} (v : Invariant m f) where
         (opens, a.1, a.2, b.2),
         b.3,
         grows_further i a.1 b.1 a.4 b.4,
-        λ n others later. ap (λ (y : Text). y ∷ map (λ z. argument_text n others z) b.0) (a.5 n others (later_before a.1 b.1 n others b.4 later)) ∙ ap (λ (ys : List Text). argument_text m f.locals x ∷ ys) (b.5 n others later),
+        λ n others later. (a.5 n others (later_before a.1 b.1 n others b.4 later), b.5 n others later),
       )

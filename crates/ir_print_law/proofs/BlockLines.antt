@@ -1,9 +1,8 @@
--- The blocks of a function are read as blocks that are written alike.
+-- The blocks of a function are read as these blocks again.
 use Rattle.std.proofs.Common.{◌≡◌, ℕ, ◌+◌, ◌<◌, ◌≤◌, true, List, [], ◌∷◌, ◌++◌, length, Option, None, refl, sym, ap, subst, ◌∙◌, arith, append_assoc, length-append}
 use Rattle.std.specs.Prelude.{codes}
 use Rattle.std.specs.List.{AllByRecursion, flat_map}
 use Rattle.std.proofs.lemmas.List.{append-nil}
-use Rattle.ir_print_law.proofs.Operands.{named_at}
 use Rattle.ir_ast.specs.declared.block.Block.{Block}
 use Rattle.ir_ast.specs.declared.function.Function.{Function}
 use Rattle.ir_ast.specs.declared.instr.Instr.{Instr}
@@ -21,7 +20,7 @@ use Rattle.ir_print_law.specs.Readings.{IsKey}
 use Rattle.ir_print_law.specs.Definitions.{result_keys, value_keys_of, block_keys}
 use Rattle.ir_print_law.specs.Printable.{IsOp, IsBlock, AreInner}
 use Rattle.ir_print_law.proofs.Tables.{stays}
-use Rattle.ir_print_law.specs.Again.{AreAlike, IsLineAgain, IsBlockAgain}
+use Rattle.ir_print_law.specs.Again.{AreAlike, IsInstrAgain, IsBlockAgain}
 use Rattle.ir_print_law.proofs.State.{Ready, IsLater}
 use Rattle.ir_print_law.proofs.Bodies.{lines_go, plain_line}
 use Rattle.ir_print_law.proofs.Empty.{not_trailed}
@@ -61,15 +60,15 @@ block_is m locals label xs last rest =
     append_assoc (key ++ codes ":\n") all rest ∙ append_assoc key (codes ":\n") (all ++ rest)
     ∙ ap (λ (t : Text). key ++ 58 ∷ 10 ∷ t) (ap (λ (t : Text). t ++ rest) (lines_before m locals xs (record { result = None; op = last })) ∙ append_assoc lines last_line rest)
 
-alike_before : (m n : Module) (locals others : List Text) (xs ys : List Instr) (x y : Instr) → AreAlike (IsLineAgain m n locals others) xs ys → IsLineAgain m n locals others x y
-    → AreAlike (IsLineAgain m n locals others) (xs ++ x ∷ []) (ys ++ y ∷ [])
+alike_before : (m n : Module) (locals others : List Text) (xs ys : List Instr) (x y : Instr) → AreAlike (IsInstrAgain m n locals others) xs ys → IsInstrAgain m n locals others x y
+    → AreAlike (IsInstrAgain m n locals others) (xs ++ x ∷ []) (ys ++ y ∷ [])
 alike_before m n locals others [] [] x y h e = (e, tt)
 alike_before m n locals others [] (b ∷ ys) x y h e = absurd h
 alike_before m n locals others (a ∷ xs) [] x y h e = absurd h
 alike_before m n locals others (a ∷ xs) (b ∷ ys) x y h e = (h.0, alike_before m n locals others xs ys x y h.1 e)
 
 module _ (m : Module) (f : Function) (named : AreNamed m f) (ops : OpsRead m f named) where
-  -- the block is written alike, and reading has gone on after it
+  -- the block is this one again, and reading has gone on after it
   abbrev pub IsBlockRead : Far → (more : List Text) → Block → Block → Far → Input → Type 0
   IsBlockRead far more x y now o =
       Onward far now (value_keys_of f.locals x) (name_at f.locals x.label ∷ []) more
@@ -115,10 +114,10 @@ module _ (m : Module) (f : Function) (named : AreNamed m f) (ops : OpsRead m f n
         (
           subst (λ (l : List Text). Onward far b.2 l (key ∷ []) more) (sym (keys_before f.locals xs last)) all,
           λ n others later.
-              let there = named_at others w.0 key (stays o.locals.names others w.0 key later.locals (stays p.locals.names o.locals.names w.0 key wide_p.locals w.5)) in (
-                ap key_text (sym there),
+              let there = stays o.locals.names others w.0 key later.locals (stays p.locals.names o.locals.names w.0 key wide_p.locals w.5) in (
+                there,
                 alike_before m n f.locals others xs b.0 (record { result = None; op = last }) (record { result = None; op = t.0 }) (b.7 n others (later_widened q o n others wide_q later))
-                    (ap (λ (x : Text). codes "  " ++ [] ++ x ++ 10 ∷ []) (t.5.1 n others later)),
+                    (tt, t.5.1 n others later),
               ),
         ),
       )

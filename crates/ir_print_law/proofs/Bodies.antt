@@ -23,7 +23,7 @@ use Rattle.ir_print_law.specs.Readings.{IsKey}
 use Rattle.ir_print.specs.Standing.{Stands, IsSeam}
 use Rattle.ir_print_law.specs.Definitions.{result_keys}
 use Rattle.ir_print_law.specs.Printable.{IsInner, AreInner}
-use Rattle.ir_print_law.specs.Again.{AreAlike, IsLineAgain}
+use Rattle.ir_print_law.specs.Again.{AreAlike, IsInstrAgain}
 use Rattle.ir_print_law.proofs.State.{Ready, IsLater}
 use Rattle.ir_print_law.proofs.Begins.{local_kind, plain_kind, last_kind, ends_begins}
 use Rattle.ir_print_law.proofs.WholeForms.{Widens, widens_itself, widens_further, Leads, later_widened}
@@ -80,11 +80,11 @@ module _ (m : Module) (f : Function) (named : AreNamed m f) (ops : OpsRead m f n
 
   -- ---- one instruction
 
-  -- the instruction is written alike, and reading has gone on after its value
+  -- the instruction is this one again, and reading has gone on after its value
   abbrev pub IsOneRead : Far → (more : List Text) → Instr → Instr → Far → Input → Type 0
   IsOneRead far more x y now o =
       Onward far now (result_keys f.locals x) [] more × (is_phi y.op ≡ is_phi x.op)
-      × ((n : Module) (others : List Text) → IsLater o n others → instruction_line m f.locals x ≡ instruction_line n others y)
+      × ((n : Module) (others : List Text) → IsLater o n others → IsInstrAgain m n f.locals others x y)
 
   one_by : (result : Option ℕ) (x : Op) (more : List Text) (far : Far) (site : Site) (i : Input) (rest : Text) → IsInner m f site.is_behind_phis (record { result = result; op = x })
       → Steady far (result_keys f.locals (record { result = result; op = x }) ++ more)
@@ -157,9 +157,9 @@ module _ (m : Module) (f : Function) (named : AreNamed m f) (ops : OpsRead m f n
             (subst (λ (t : Text). Stands i.cursor (10 ∷ t)) (append_assoc (instruction_line m f.locals x) (lines_of xs) (instruction_line m f.locals (record { result = None; op = last }) ++ rest)) at)).0,
       )
 
-  -- the instructions are read as instructions that are written alike
+  -- the instructions are read as these instructions again
   abbrev pub AreLinesRead : List Instr → List Instr → Input → Type 0
-  AreLinesRead xs ys o = (n : Module) (others : List Text) → IsLater o n others → AreAlike (IsLineAgain m n f.locals others) xs ys
+  AreLinesRead xs ys o = (n : Module) (others : List Text) → IsLater o n others → AreAlike (IsInstrAgain m n f.locals others) xs ys
 
   abbrev pub Lines : List Instr → (more : List Text) → Far → Site → Input → (rest : Text) → Type 0
   Lines xs more far site i rest =

@@ -1,5 +1,5 @@
--- Printed calls are read as calls that are printed alike.
-use Rattle.std.proofs.Common.{◌≡◌, ℕ, ◌+◌, Bool, true, false, not, List, [], ◌∷◌, ◌++◌, slice_get, Option, None, Some, unwrap_or, refl, sym, ap, subst, ◌∙◌, arith, append_assoc}
+-- Printed calls are read as these calls again.
+use Rattle.std.proofs.Common.{◌≡◌, ℕ, ◌+◌, Bool, true, false, not, List, [], ◌∷◌, ◌++◌, slice_get, Option, None, Some, refl, ap, subst, arith, append_assoc, inl, inr}
 use Rattle.std.specs.Prelude.{codes}
 use Rattle.grammar.specs.Grammar.{pure, look, ◌>>=◌, ◌>>◌}
 use Rattle.ir_ast.specs.declared.function.Function.{Function}
@@ -24,6 +24,7 @@ use Rattle.ir_print.specs.Operands.{argument_text}
 use Rattle.ir_print.specs.Instructions.{op_text}
 use Rattle.ir_print.specs.Standing.{IsSeam, AreBlanks}
 use Rattle.ir_print.specs.Types.{type_text, type_within, type_by}
+use Rattle.ir_print_law.specs.Again.{IsResultAgain, IsOpAgain}
 use Rattle.ir_print_law.specs.Printable.{IsScalar, IsArgument}
 use Rattle.ir_print_law.specs.Shapes.{IsIn, Shape}
 use Rattle.ir_print_law.proofs.Tables.{stays}
@@ -32,11 +33,10 @@ use Rattle.ir_print_law.proofs.Shown.{shown, IsTypeRead}
 use Rattle.ir_print_law.proofs.Steps.{looked, given, sign_reads, word_skipped, word_seen, intern_reads, unlike, grows_itself, later_before}
 use Rattle.ir_print_law.proofs.Types.{EndsType, ends_type}
 use Rattle.ir_print_law.proofs.WholeTypes.{type_begins}
-use Rattle.ir_print_law.proofs.PrintedTypes.{type_shown, read_shown, scalar_reads}
-use Rattle.ir_print_law.proofs.Parts.{OpPrints, Sets}
+use Rattle.ir_print_law.proofs.PrintedTypes.{type_shown, read_again, scalar_reads}
+use Rattle.ir_print_law.proofs.Parts.{OpAgain, Sets}
 use Rattle.ir_print_law.proofs.OperationsAgain.{on, said_on, set_reads}
 use Rattle.std.specs.List.{AllByRecursion}
-use Rattle.std.specs.Prelude.{map}
 use Rattle.ir_forms.specs.Cursor.{begins_line}
 use Rattle.ir_forms.specs.Decorations.{decorations, begins_decoration}
 use Rattle.ir_forms.specs.Calls as calls
@@ -56,7 +56,7 @@ use Rattle.ir_print_law.proofs.OperandsAgain.{symbol_ready, symbol_grows, symbol
 use Rattle.ir_ast.specs.declared.instr.Instr.{Instr}
 use Rattle.ir_forms.specs.Decorations.{trailing, trail_of}
 use Rattle.ir_forms.specs.declared.decorating.Trail.{Trail}
-use Rattle.ir_print_law.proofs.ArgumentsAgain.{ends_line, EndsLine, undecorated_line, undecorated_type, decorations_said, listed_by, ListPrints, arguments_read}
+use Rattle.ir_print_law.proofs.ArgumentsAgain.{ends_line, EndsLine, undecorated_line, undecorated_type, decorations_said, AllArgumentsAgain, arguments_read}
 
 -- a call of these texts
 abbrev call_by : (returned callee arguments : Text) → Text
@@ -95,19 +95,19 @@ ends_callee : (name behind : Text) → AreBytes name → IsSeam behind → EndsT
 unfolding class_of
 ends_callee name behind own seam = (refl, λ i at. ap ends_type (global_comes i.cursor (32 ∷ []) name behind refl own seam at).0)
 
--- an instruction with this value, or none, whose operation is printed so
-abbrev pub InstrPrints : Option ℕ → Text → Instr → Input → Type 0
-InstrPrints value text x o = (x.result ≡ value) × OpPrints text x.op o
+-- an instruction with this value, or none, whose operation is this one again
+abbrev pub InstrAgain : Module → (locals : List Text) → Option ℕ → Op → Instr → Input → Type 0
+InstrAgain m locals value x y o = (y.result ≡ value) × OpAgain m locals x y.op o
 
 module _ {m : Module} {f : Function} (v : Invariant m f) where
   -- `@f(T V, ..)`
   pub call_behind_reads : (returned number callee : ℕ) (xs : List Argument) (i : Input) (rest : Text) (s : ℕ) → IsIn (functions_of m) (name_at m.symbols callee) → AllByRecursion (IsArgument m f) xs
-      → ((n : Module) (others : List Text) → IsLater i n others → type_text n number ≡ type_text m returned) → EndsLine rest
-      → Ready v s i (32 ∷ (global_text m callee ++ (40 ∷ (listed (argument_text m f.locals) xs ++ 41 ∷ rest)))) → Reads v s (calls.call_behind number) i rest (OpPrints (op_text m f.locals (op.Call returned callee xs)))
-  unfolding calls.call_behind calls.called class_of
-  call_behind_reads returned number callee xs i rest s there own prints ends ready =
+      → ((n : Module) (others : List Text) → IsLater i n others → IsResultAgain m n returned number) → EndsLine rest
+      → Ready v s i (32 ∷ (global_text m callee ++ (40 ∷ (listed (argument_text m f.locals) xs ++ 41 ∷ rest)))) → Reads v s (calls.call_behind number) i rest (OpAgain m f.locals (op.Call returned callee xs))
+  unfolding calls.call_behind calls.called class_of IsOpAgain
+  call_behind_reads returned number callee xs i rest s there own again ends ready =
       let name = name_at m.symbols callee in
-      let good = OpPrints (op_text m f.locals (op.Call returned callee xs)) in
+      let good = OpAgain m f.locals (op.Call returned callee xs) in
       let t2 = listed (argument_text m f.locals) xs ++ 41 ∷ rest in
       let t1 = 40 ∷ t2 in
       let is = v.is_symbol true name there in
@@ -121,9 +121,9 @@ module _ {m : Module} {f : Function} (v : Invariant m f) where
       on v v (expect k.OpenRound) (λ _. arguments_form fn) o t2 rest s s (λ _ q. advanced o ≡ q) good
       (sign_reads v 40 k.OpenRound o [] t2 s s refl refl refl (omega arith) ready)
       (λ _ q ready h e.
-      on v v lists.arguments (close_form fn) q (41 ∷ rest) rest s s (ListPrints (λ n others x. argument_text n others x) (map (λ x. argument_text m f.locals x) xs)) good
+      on v v lists.arguments (close_form fn) q (41 ∷ rest) rest s s (AllArgumentsAgain m f.locals xs) good
       (arguments_read v xs q rest s own ready)
-      (λ ys r ready hh lists_print.
+      (λ ys r ready hh arguments_again.
       on v v (expect k.CloseRound) (λ _. end_form fn ys) r rest rest s s (λ _ z. advanced r ≡ z) good
       (sign_reads v 41 k.CloseRound r [] rest s s refl refl refl (omega arith) ready)
       (λ _ z ready h3 e.
@@ -134,10 +134,7 @@ module _ {m : Module} {f : Function} (v : Invariant m f) where
       let laterq = later_before q r n others hh laterr in
       let latero = later_before o q n others h laterq in
       let lateri = later_before i o n others g latero in
-      ap (λ (y : Text). call_by y (global_text n fn) (listed (argument_text n others) ys)) (prints n others lateri)
-      ∙ ap (λ (y : Option Text). call_by (type_text m returned) (64 ∷ name_text blank.Kept (unwrap_or y [])) (listed (argument_text n others) ys)) (stays o.symbols.names n.symbols fn (name_at m.symbols callee) latero.symbols named)
-      ∙ ap (λ (y : Text). call_by (type_text m returned) (global_text m callee) y)
-      (listed_by (λ x. argument_text n others x) ys ∙ ap (λ (zs : List Text). listed (λ (x : Text). x) zs) (lists_print n others laterr) ∙ sym (listed_by (λ x. argument_text m f.locals x) xs))))))))
+      (again n others lateri, stays o.symbols.names n.symbols fn (name_at m.symbols callee) latero.symbols named, arguments_again n others laterr)))))))
     where
       end_form : ℕ → List Argument → Form Op
       end_form fn ys = decorations spot.Call >> pure (op.Call number fn ys)
@@ -152,25 +149,18 @@ module _ {m : Module} {f : Function} (v : Invariant m f) where
       round_form fn = expect k.OpenRound >> arguments_form fn
 
   -- an instruction without a value
-  pub unnamed_reads : (x : Op) (text : Text) (i : Input) (rest : Text) (s : ℕ) → EndsLine rest → OpPrints text x i → Ready v s i rest → Reads v s (calls.unnamed x) i rest (InstrPrints None text)
-  unnamed_reads x text i rest s ends prints ready =
-      let said = trailing_said (trail_of x) i (no_comma_seen i (ends.1 i ready.stands)) in
-      (record { result = None; op = x }, i, (x, i, (tt, i, said, (refl, refl)), (refl, refl)), ready, grows_itself i, (refl, prints))
-
-  -- an instruction with a value
-  pub valued_reads : (value : ℕ) (x : Op) (text : Text) (i : Input) (rest : Text) (s : ℕ) → EndsLine rest → OpPrints text x i → Ready v s i rest → Reads v s (calls.valued value x) i rest (InstrPrints (Some value) text)
-  valued_reads value x text i rest s ends prints ready =
-      let said = trailing_said (trail_of x) i (no_comma_seen i (ends.1 i ready.stands)) in
-      (record { result = Some value; op = x }, i, (x, i, (tt, i, said, (refl, refl)), (refl, refl)), ready, grows_itself i, (refl, prints))
+  pub unnamed_reads : (x y : Op) (i : Input) (rest : Text) (s : ℕ) → EndsLine rest → OpAgain m f.locals x y i → Ready v s i rest → Reads v s (calls.unnamed y) i rest (InstrAgain m f.locals None x)
+  unnamed_reads x y i rest s ends again ready =
+      let said = trailing_said (trail_of y) i (no_comma_seen i (ends.1 i ready.stands)) in
+      (record { result = None; op = y }, i, (y, i, (tt, i, said, (refl, refl)), (refl, refl)), ready, grows_itself i, (refl, again))
 
   -- `call void @f(T V, ..)`
   pub void_call_reads : (returned callee : ℕ) (xs : List Argument) (i : Input) (gap rest : Text) (s : ℕ) → IsVoid m returned → IsIn (functions_of m) (name_at m.symbols callee) → AllByRecursion (IsArgument m f) xs
       → EndsLine rest → AreBlanks gap → Ready v s i (gap ++ (op_text m f.locals (op.Call returned callee xs) ++ rest))
-      → Reads v s calls.call_statement i rest (InstrPrints None (op_text m f.locals (op.Call returned callee xs)))
+      → Reads v s calls.call_statement i rest (InstrAgain m f.locals None (op.Call returned callee xs))
   unfolding calls.call_statement calls.void_call class_of word_kind keywords
   void_call_reads returned callee xs i gap rest s is_void there own ends blanks ready =
-      let text = op_text m f.locals (op.Call returned callee xs) in
-      let good = InstrPrints None (op_text m f.locals (op.Call returned callee xs)) in
+      let good = InstrAgain m f.locals None (op.Call returned callee xs) in
       let t2 = 32 ∷ (global_text m callee ++ (40 ∷ (listed (argument_text m f.locals) xs ++ 41 ∷ rest))) in
       let t1 = codes "void" ++ t2 in
       let ready = subst (λ (y : Text). Ready v s i (gap ++ y)) (call_front (type_text m returned) (global_text m callee) (listed (argument_text m f.locals) xs) rest) ready in
@@ -181,14 +171,14 @@ module _ {m : Module} {f : Function} (v : Invariant m f) where
       let is = word_seen v (codes "void") o (32 ∷ []) t2 s refl refl refl ready in
       said_on v (decorations spot.Result) (λ _. look (λ i. kind i.cursor) calls.call_by) o tt rest s good (decorations_said spot.Result o (ap (begins_decoration spot.Result (begins_line o.cursor)) is))
       (looked v (λ i. kind i.cursor) calls.call_by o rest s good k.Void is
-      (on v v calls.void_call calls.unnamed o rest rest s s (OpPrints (op_text m f.locals (op.Call returned callee xs))) good
-      (on v v (skip >> w.intern type.Void) calls.call_behind o t2 rest s s (λ n q. slice_get q.types n ≡ Some type.Void) (OpPrints (op_text m f.locals (op.Call returned callee xs)))
+      (on v v calls.void_call calls.unnamed o rest rest s s (OpAgain m f.locals (op.Call returned callee xs)) good
+      (on v v (skip >> w.intern type.Void) calls.call_behind o t2 rest s s (λ n q. slice_get q.types n ≡ Some type.Void) (OpAgain m f.locals (op.Call returned callee xs))
       (on v v skip (λ _. w.intern type.Void) o t2 t2 (s + 1) s (λ _ q. advanced o ≡ q) (λ n q. slice_get q.types n ≡ Some type.Void)
       (word_skipped v (codes "void") o (32 ∷ []) t2 s (s + 1) refl refl refl (omega arith) ready)
       (λ _ q ready h e. intern_reads v type.Void q t2 s tt ready))
       (λ n q ready h is_there. call_behind_reads returned n callee xs q rest s there own
-      (λ later_module others later. void_text later_module n (stays q.types later_module.types n type.Void later.types is_there) ∙ sym (void_text m returned is_void)) ends ready))
-      (λ x q ready h prints. unnamed_reads x (op_text m f.locals (op.Call returned callee xs)) q rest s ends prints ready))))
+      (λ later_module others later. inl (is_void, stays q.types later_module.types n type.Void later.types is_there)) ends ready))
+      (λ x q ready h again. unnamed_reads (op.Call returned callee xs) x q rest s ends again ready))))
     where
       void_text : (n : Module) (t : ℕ) → slice_get n.types t ≡ Some type.Void → type_text n t ≡ codes "void"
       void_text n t e = void_shown n t e
@@ -197,10 +187,10 @@ module _ {m : Module} {f : Function} (v u : Invariant m f) where
   -- `call T @f(T V, ..)`, whose value has a name
   pub call_reads : (shape : Shape) (value returned callee : ℕ) (xs : List Argument) (i : Input) (gap rest : Text) (s : ℕ) → IsScalar m shape returned → IsIn (functions_of m) (name_at m.symbols callee)
       → AllByRecursion (IsArgument m f) xs → Sets v u value → EndsLine rest → AreBlanks gap → Ready v s i (gap ++ (op_text m f.locals (op.Call returned callee xs) ++ rest))
-      → Reads u s (calls.call value) i rest (OpPrints (op_text m f.locals (op.Call returned callee xs)))
+      → Reads u s (calls.call value) i rest (OpAgain m f.locals (op.Call returned callee xs))
   unfolding calls.call class_of word_kind keywords
   call_reads shape value returned callee xs i gap rest s scalar there own sets ends blanks ready =
-      let good = OpPrints (op_text m f.locals (op.Call returned callee xs)) in
+      let good = OpAgain m f.locals (op.Call returned callee xs) in
       let type_is = type_shown m shape returned scalar.0.0 scalar.0.1 in
       let t2 = 32 ∷ (global_text m callee ++ (40 ∷ (listed (argument_text m f.locals) xs ++ 41 ∷ rest))) in
       let t1 = shown false shape ++ t2 in
@@ -215,9 +205,9 @@ module _ {m : Module} {f : Function} (v u : Invariant m f) where
       (on v u w.scalar call_form o t2 rest s s (IsTypeRead shape 64) good
       (scalar_reads v shape o (32 ∷ []) t2 s scalar.0.2 scalar.0.1 scalar.1 refl (ends_callee (name_at m.symbols callee) (40 ∷ (listed (argument_text m f.locals) xs ++ 41 ∷ rest)) is.0 refl) ready)
       (λ p q ready h read.
-      on v u (calls.call_behind p.id) (set_form p) q rest rest s s (OpPrints (op_text m f.locals (op.Call returned callee xs))) good
-      (call_behind_reads v returned p.id callee xs q rest s there own (λ n others later. read_shown shape p.id q n others read.has_shape scalar.0.1 later ∙ sym type_is) ends ready)
-      (λ x r ready hh prints. set_reads v u value (local.Value p.id) x (op_text m f.locals (op.Call returned callee xs)) r rest s sets refl ready prints))))
+      on v u (calls.call_behind p.id) (set_form p) q rest rest s s (OpAgain m f.locals (op.Call returned callee xs)) good
+      (call_behind_reads v returned p.id callee xs q rest s there own (λ n others later. inr (read_again m shape returned p.id q n others scalar.0.0 read.has_shape later)) ends ready)
+      (λ x r ready hh again. set_reads v u value (local.Value p.id) (op.Call returned callee xs) x r rest s sets refl ready again))))
     where
       set_form : WrittenType → Op → Form Op
       set_form p x = set_type value p.id >> pure x

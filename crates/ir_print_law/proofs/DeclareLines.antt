@@ -1,9 +1,7 @@
 -- The line of a declared function is read as that function.
 use Rattle.std.proofs.Common.{◌≡◌, ℕ, ◌+◌, ◌<◌, true, false, List, [], ◌∷◌, ◌++◌, length, slice_get, Some, refl, sym, ap, subst, ◌∙◌, arith, append_assoc}
 use Rattle.std.specs.Prelude.{codes, nat_lt}
-use Rattle.std.specs.List.{flat_map}
 use Rattle.std.proofs.lemmas.Bool.Decides.{nat_tests}
-use Rattle.ir_print_law.proofs.Operands.{named_at}
 use Rattle.ir_ast.specs.declared.function.Function.{Function}
 use Rattle.ir_ast.specs.declared.items_of_module.Declare.{Declare}
 use Rattle.ir_ast.specs.declared.items_of_module.SymbolSort.TheVariants as symbol
@@ -21,6 +19,7 @@ use Rattle.ir_text.specs.ItemsOfText.{declaration, function_name, function_name_
 use Rattle.ir_text.specs.Parameters.{declared_parameters}
 use Rattle.ir_print.specs.Items.{declare_line}
 use Rattle.name_text.specs.Names.{name_text}
+use Rattle.name_text.specs.Reading.{name_spelled}
 use Rattle.name_text.specs.Readings.{AreBytes}
 use Rattle.name_text.specs.declared.blank.Blank.TheVariants as blank
 use Rattle.ir_print.specs.Names.{name_at, global_text}
@@ -32,7 +31,7 @@ use Rattle.ir_print_law.specs.Definitions.{defined_globals}
 use Rattle.ir_print_law.specs.Printable.{IsDeclare}
 use Rattle.ir_print_law.specs.Shapes.{IsIn}
 use Rattle.ir_print_law.proofs.Tables.{stays, begins_itself}
-use Rattle.ir_print_law.specs.Again.{AreAlike}
+use Rattle.ir_print_law.specs.Again.{IsDeclareAgain}
 use Rattle.ir_print_law.proofs.State.{Ready, IsLater}
 use Rattle.ir_print_law.proofs.Steps.{word_skipped, word_seen, sign_reads}
 use Rattle.ir_print_law.proofs.Types.{Comes}
@@ -46,20 +45,6 @@ use Rattle.ir_print_law.proofs.Results.{declared_result_reads, declared_end_read
 
 pub below_most : (n : ℕ) → n < 65535 → nat_lt n 65535 ≡ true
 below_most n less = grind (arith, nat_tests)
-
-same_list : (f g : ℕ → Text) (xs ys : List ℕ) → AreAlike (λ x y. f x ≡ g y) xs ys → flat_map (λ (p : ℕ). codes ", " ++ f p) xs ≡ flat_map (λ (p : ℕ). codes ", " ++ g p) ys
-same_list f g [] [] h = refl
-same_list f g [] (y ∷ ys) h = absurd h
-same_list f g (x ∷ xs) [] h = absurd h
-same_list f g (x ∷ xs) (y ∷ ys) h =
-    ap (λ (t : Text). codes ", " ++ t ++ flat_map (λ (p : ℕ). codes ", " ++ f p) xs) h.0 ∙ ap (λ (t : Text). codes ", " ++ g y ++ t) (same_list f g xs ys h.1)
-
-same_listed : (f g : ℕ → Text) (xs ys : List ℕ) → AreAlike (λ x y. f x ≡ g y) xs ys → listed f xs ≡ listed g ys
-same_listed f g [] [] h = refl
-same_listed f g [] (y ∷ ys) h = absurd h
-same_listed f g (x ∷ xs) [] h = absurd h
-same_listed f g (x ∷ xs) (y ∷ ys) h =
-    ap (λ (t : Text). t ++ flat_map (λ (p : ℕ). codes ", " ++ f p) xs) h.0 ∙ ap (λ (t : Text). g y ++ t) (same_list f g xs ys h.1)
 
 abbrev behind_open : Module → Declare → (rest : Text) → Text
 behind_open m d rest = listed (type_text m) d.parameters ++ 41 ∷ 10 ∷ rest
@@ -87,7 +72,7 @@ module _ (m : Module) (f : Function) (named : AreNamed m f) (types : TypesRead m
   abbrev pub DeclareGoes : Declare → Input → (rest : Text) → Type 0
   DeclareGoes d i rest =
       (o : Input) × (x : Declare) × item.says i tt o × Ready (known m f named (far_declared (name_at m.symbols d.symbol) x)) 0 o (10 ∷ rest) × Widens i o
-      × ((n : Module) (others : List Text) → IsLater o n others → declare_line m d ≡ declare_line n x)
+      × ((n : Module) (others : List Text) → IsLater o n others → IsDeclareAgain m n d x)
 
   name_step : (name : Text) (number : ℕ) (i : Input) → (IsIn far.globals name → ⊥) → (IsIn (defined_globals m) name → ⊥)
       → SymbolsThen m f named far far.globals (far.functions ++ name ∷ []) name (symbol.Declared number) i
@@ -108,13 +93,6 @@ module _ (m : Module) (f : Function) (named : AreNamed m f) (types : TypesRead m
       let o = a.1 in
       (a.0, a.1, subst (λ (x : Kind). (function_name_by (symbol.Declared number) x).says i n o) (sym e) a.2, a.3, a.4, a.5)
 
-  same_line : (n : Module) (d x : Declare) → type_text m d.returned ≡ type_text n x.returned → name_at m.symbols d.symbol ≡ name_at n.symbols x.symbol
-      → AreAlike (λ a b. type_text m a ≡ type_text n b) d.parameters x.parameters → declare_line m d ≡ declare_line n x
-  same_line n d x result name ps =
-      ap (λ (t : Text). codes "declare " ++ t ++ 32 ∷ global_text m d.symbol ++ 40 ∷ listed (type_text m) d.parameters ++ codes ")\n") result
-      ∙ ap (λ (t : Text). codes "declare " ++ type_text n x.returned ++ 32 ∷ 64 ∷ name_text blank.Kept t ++ 40 ∷ listed (type_text m) d.parameters ++ codes ")\n") name
-      ∙ ap (λ (t : Text). codes "declare " ++ type_text n x.returned ++ 32 ∷ global_text n x.symbol ++ 40 ∷ t ++ codes ")\n") (same_listed (type_text m) (type_text n) d.parameters x.parameters ps)
-
   pub declare_goes : (d : Declare) (i : Input) (gap rest : Text) → IsDeclare m d → AreBytes (name_at m.symbols d.symbol) → is_left_out (name_at m.symbols d.symbol) ≡ false
       → (IsIn far.symbols (name_at m.symbols d.symbol) → ⊥) → (IsIn far.globals (name_at m.symbols d.symbol) → ⊥) → (IsIn (defined_globals m) (name_at m.symbols d.symbol) → ⊥)
       → length far.declares < 65535 → far.unnamed + length d.parameters < 4294967295 → Comes begins_item (10 ∷ rest) → AreBlanks gap
@@ -131,6 +109,8 @@ module _ (m : Module) (f : Function) (named : AreNamed m f) (types : TypesRead m
       let p = a.1 in
       let b = declared_result_reads m f v types d.returned p (32 ∷ []) name (40 ∷ behind_open m d rest) is.0 own refl refl a.3 in
       let q = b.1 in
+      let spelled_is : spelled q.cursor ≡ name_at m.symbols d.symbol =
+      (global_comes q.cursor (32 ∷ []) name (40 ∷ behind_open m d rest) refl own refl b.3.stands).2 ∙ name_spelled blank.Kept name own in
       let number = length i.declares in
       let c = name_reads (length i.declares) q name (behind_open m d rest) own allowed none apart never b.3 in
       let r = c.1 in
@@ -183,6 +163,10 @@ module _ (m : Module) (f : Function) (named : AreNamed m f) (types : TypesRead m
         wide_i,
         λ n others later.
             let at_r = later_widened r o n others wide_r later in
-            same_line n d x (b.5 n others (later_widened q o n others wide_q later)) (sym (named_at n.symbols c.0 name (stays r.symbols.names n.symbols c.0 name at_r.symbols c.5)))
-            (e.6 n others (later_widened t o n others wide_t later)),
+            record {
+              symbol = stays r.symbols.names n.symbols c.0 name at_r.symbols c.5;
+              runtime = is.2 ∙ ap runtime_of (sym spelled_is);
+              returned = b.5 n others (later_widened q o n others wide_q later);
+              parameters = e.6 n others (later_widened t o n others wide_t later);
+            },
       )

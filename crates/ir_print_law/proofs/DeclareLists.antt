@@ -29,7 +29,7 @@ use Rattle.ir_print_law.proofs.Words.{word_comes}
 use Rattle.ir_print_law.specs.Definitions.{AreNew, defined_globals}
 use Rattle.ir_print_law.specs.Printable.{IsFunction, IsDeclare, IsPrintable, IsSymbol}
 use Rattle.ir_print_law.specs.Shapes.{IsIn}
-use Rattle.ir_print_law.specs.Again.{AreAlike, IsFunctionAgain}
+use Rattle.ir_print_law.specs.Again.{AreAlike, IsDeclareAgain, IsFunctionAgain}
 use Rattle.ir_print_law.proofs.State.{Ready, IsLater}
 use Rattle.ir_print_law.proofs.Steps.{unlike}
 use Rattle.ir_print_law.proofs.WholeFunctionEnds.{nobody, Reaches, reaches_further, widens_reaches, IsModuleLater}
@@ -96,7 +96,7 @@ module _ (m : Module) (is : IsPrintable m) (named : AreNamed m nobody) where
   DeclaresGo ds fs far i =
       (us : List (Unit {0})) × (o : Input) × (now : Far) × (gs : List Function) × (xs : List Declare) × (gap : Text) × Listed at_end_of_text item.says i us o × Ready (known m nobody named now) 0 o gap
       × (past_gap false gap ≡ []) × Reaches i o × WithDeclares far now (declared_names m ds ++ function_names m fs) xs gs
-      × ((n : Module) → IsModuleLater o n → AreAlike (λ x y. declare_line m x ≡ declare_line n y) ds xs) × ((n : Module) → IsModuleLater o n → AreAlike (IsFunctionAgain m n) fs gs)
+      × ((n : Module) → IsModuleLater o n → AreAlike (IsDeclareAgain m n) ds xs) × ((n : Module) → IsModuleLater o n → AreAlike (IsFunctionAgain m n) fs gs)
 
   pub declares_go : (ds : List Declare) (fs : List Function) (far : Far) (i : Input) (gap : Text) → AreBlanks gap → past_gap false gap ≡ [] → past_gap false (10 ∷ []) ≡ [] → AllByRecursion (IsDeclare m) ds
       → AllByRecursion (IsFunction m) fs → AllByRecursion IsSymbol (declared_names m ds ++ function_names m fs) → AreNew far.symbols (declared_names m ds ++ function_names m fs)

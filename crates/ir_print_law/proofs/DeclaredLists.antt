@@ -1,4 +1,4 @@
--- The parameters of a declared function are read as types that are written alike.
+-- The parameters of a declared function are read as these types again.
 use Rattle.std.proofs.Common.{◌≡◌, ℕ, ◌+◌, ◌<◌, Bool, true, false, List, [], ◌∷◌, ◌++◌, length, refl, sym, ap, subst, ◌∙◌, arith, append_assoc, inl, inr, ◌⊎◌}
 use Rattle.std.specs.Prelude.{codes, nat_lt}
 use Rattle.std.specs.List.{AllByRecursion, flat_map}
@@ -24,7 +24,7 @@ use Rattle.ir_print.specs.Types.{type_text}
 use Rattle.ir_print_law.proofs.Words.{comma_comes, close_round_comes, seen}
 use Rattle.ir_print_law.specs.Printable.{IsAnyType}
 use Rattle.ir_print_law.proofs.Tables.{begins_itself}
-use Rattle.ir_print_law.specs.Again.{AreAlike}
+use Rattle.ir_print_law.specs.Again.{AreAlike, IsTypeAgain}
 use Rattle.ir_print_law.proofs.State.{Ready, IsLater}
 use Rattle.ir_print_law.proofs.Shown.{shape_stays}
 use Rattle.ir_print_law.proofs.Steps.{unlike}
@@ -70,7 +70,7 @@ module _ (m : Module) (f : Function) (named : AreNamed m f) (types : TypesRead m
   far_numbered far unnamed = record far { unnamed = unnamed }
 
   abbrev IsDeclaredRead : Far → ℕ → ℕ → Far → Input → Type 0
-  IsDeclaredRead far x y now o = (now ≡ far_numbered far (far.unnamed + 1)) × ((n : Module) (others : List Text) → IsLater o n others → type_text m x ≡ type_text n y)
+  IsDeclaredRead far x y now o = (now ≡ far_numbered far (far.unnamed + 1)) × ((n : Module) (others : List Text) → IsLater o n others → IsTypeAgain m n x y)
 
   declared_goes : (x : ℕ) (far : Far) (i : Input) (gap sep behind : Text) → IsAnyType m x → far.unnamed < 4294967295 → AreBlanks gap → SeparatorComes sep
       → ((now : Far) → Separates m f named types now sep behind) → Ready (known m f named far) 0 i (gap ++ (type_text m x ++ sep))
@@ -122,7 +122,7 @@ module _ (m : Module) (f : Function) (named : AreNamed m f) (types : TypesRead m
           λ n others later.
               let has_shape = shape_stays o.types n.types o.struct_names.names n.struct_names shape w.id later.types later.structs
               (shape_stays p.types o.types p.struct_names.names o.struct_names.names shape w.id wide_p.types wide_p.structs t.5.has_shape) in
-              types.types_shown m shape x is_type.0 is_type.1 ∙ sym (types.types_shown n shape w.id has_shape is_type.1),
+              (shape, is_type.0, has_shape),
         ),
       )
 
@@ -143,7 +143,7 @@ module _ (m : Module) (f : Function) (named : AreNamed m f) (types : TypesRead m
   abbrev pub DeclaredGo : List ℕ → Far → Input → (rest : Text) → Type 0
   DeclaredGo ps far i rest =
       (ys : List ℕ) × (o : Input) × (unnamed : ℕ) × Listed at_round declared_parameter.says i ys o × Ready (known m f named (far_numbered far unnamed)) 0 o (41 ∷ rest) × Widens i o
-      × ((n : Module) (others : List Text) → IsLater o n others → AreAlike (λ x y. type_text m x ≡ type_text n y) ps ys)
+      × ((n : Module) (others : List Text) → IsLater o n others → AreAlike (IsTypeAgain m n) ps ys)
 
   at_close : (o : Input) (rest : Text) → Stands o.cursor (41 ∷ rest) → at_round o ≡ true
   at_close o rest at = seen k.CloseRound o (close_round_comes o.cursor rest at).0

@@ -11,9 +11,10 @@ use Rattle.ir_forms.specs.Cursor.{kind, sees}
 use Rattle.ir_forms.specs.declared.input.Input.{Input}
 use Rattle.ir_forms.specs.Input.{skip, expect, unexpected, unread, limit}
 use Rattle.ir_forms.specs.ManyWith.{many_with}
-use Rattle.ir_forms.specs.Decorations.{either, any_token, in_brackets, in_brackets_takes, has_room, are_closed, behind_bracket, bracketed, past_brackets, is_operand, word_end_by, word_end, word, metadata, decoration_by, decoration, decoration_takes, at_no_decoration, same_spot, decorations, optional, flag_by, flag, flag_takes, at_no_flag, flags, aligned, may_align, trail_by, trail_behind, comma_trail, comma_trail_takes, at_no_trail, same_trail, trailing, trail_of, trailed, begins_count}
+use Rattle.ir_forms.specs.Decorations.{either, any_token, in_brackets, in_brackets_takes, has_room, are_closed, behind_bracket, bracketed, past_brackets, is_operand, word_end_by, word_end, word, metadata, decoration_by, decoration, decoration_takes, at_no_decoration, same_spot, decorations, optional, flag_by, flag, flag_takes, at_no_flag, flags, aligned, may_align, is_global, placed, trail_by, trail_behind, comma_trail, comma_trail_takes, at_no_trail, same_trail, trailing, trail_of, trailed, begins_count}
 use Rattle.ir_forms.specs.declared.decorating.Brackets.{Brackets}
 use Rattle.ir_forms.specs.declared.decorating.Spot.{Spot}
+use Rattle.ir_forms.specs.declared.decorating.Spot.TheVariants as spot
 use Rattle.ir_forms.specs.declared.decorating.Trail.{Trail}
 use Rattle.ir_forms.specs.Lists.{separator, comma, sees_no}
 use Rattle.ir_print_law.proofs.Forms.{Keeps, Same}
@@ -97,9 +98,15 @@ module _ {m : Module} (r : Reading m) where
   aligned_passes true = past r skip (expect k.Number) (skip_passes r) (expect_passes r k.Number)
   aligned_passes false = refuse_passes r unexpected
 
+  placed_passes : (t : Bool) → Passes r (placed t)
+  placed_passes true = word_passes spot.Global
+  placed_passes false = refuse_passes r unexpected
+
   trail_by_passes : (t : Trail) (x : Kind) → Passes r (trail_by t x)
   trail_by_passes t k.MetadataName = metadata_passes
   trail_by_passes t k.Align = aligned_passes (may_align t)
+  trail_by_passes t k.Comdat = placed_passes (is_global t)
+  trail_by_passes t k.LowercaseWord = placed_passes (is_global t)
   trail_by_passes t _ = refuse_passes r (unread (begins_count t))
 
   comma_trail_passes : (t : Trail) → Passes r (comma_trail t)

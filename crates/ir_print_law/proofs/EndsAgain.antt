@@ -1,4 +1,4 @@
--- Printed instructions that end a block are read as instructions that are printed alike.
+-- Printed instructions that end a block are read as these instructions again.
 use Rattle.std.proofs.Common.{◌≡◌, ℕ, ◌+◌, Bool, true, false, not, List, [], ◌∷◌, ◌++◌, Option, refl, sym, ap, subst, ◌∙◌, arith, append_assoc}
 use Rattle.std.specs.Prelude.{codes}
 use Rattle.grammar.specs.Grammar.{pure, ◌>>=◌, ◌>>◌}
@@ -22,28 +22,27 @@ use Rattle.ir_forms.specs.Decorations.{either}
 use Rattle.ir_forms.specs.Lists as lists
 use Rattle.ir_forms.specs.Integers as integers
 use Rattle.ir_print.specs.Operands.{operand_text, typed_text, argument_text}
-use Rattle.ir_print.specs.Instructions.{op_text}
+use Rattle.ir_print.specs.Instructions.{op_text, typed}
 use Rattle.ir_print.specs.Standing.{Stands, IsSeam, AreBlanks}
 use Rattle.ir_print.specs.Types.{type_text}
 use Rattle.ir_print_law.specs.Printable.{IsType, IsScalar, IsOperand, IsArgument, IsCondition}
-use Rattle.ir_print_law.specs.Shapes.{Shape, Integer, HasShape, bits_of_shape}
+use Rattle.ir_print_law.specs.Shapes.{Shape, Integer, bits_of_shape}
 use Rattle.ir_print_law.proofs.State.{Invariant, Ready, Grows, IsLater, Reads}
 use Rattle.ir_print_law.proofs.Shown.{shown, IsTypeRead, read_stays, bits_read}
 use Rattle.ir_print_law.proofs.Steps.{looked, given, sign_reads, word_skipped, word_seen, unlike, grows_itself, grows_further, later_before}
 use Rattle.ir_print_law.proofs.WholeTypes.{type_begins}
-use Rattle.ir_print_law.proofs.PrintedTypes.{type_shown, read_shown, scalar_reads}
-use Rattle.ir_print_law.proofs.OperandsAgain.{OperandPrints, ends_operand}
+use Rattle.ir_print_law.proofs.PrintedTypes.{type_shown, read_again, scalar_reads}
+use Rattle.ir_print_law.proofs.OperandsAgain.{OperandAgain, ends_operand}
 use Rattle.ir_print_law.proofs.AgainTypes.{again_reads}
-use Rattle.ir_print_law.proofs.Parts.{ends_again, OpPrints, ArgumentPrints, operand_at, typed_reads}
+use Rattle.ir_print_law.proofs.Parts.{ends_again, OpAgain, ArgumentAgain, operand_at, typed_reads}
 use Rattle.ir_print_law.proofs.OperationsAgain.{on}
 use Rattle.std.specs.List.{flat_map}
 use Rattle.ir_forms.specs.ManyWith.{Follows}
 use Rattle.ir_print.specs.Names.{name_at}
 use Rattle.ir_print_law.proofs.Words.{seen}
 use Rattle.ir_print_law.proofs.Steps.{sign_kind, said_then}
-use Rattle.ir_print_law.proofs.PlaceOperations.{later_shape}
+use Rattle.ir_print_law.specs.Again.{AreAlike, IsCaseAgain, IsOpAgain}
 use Rattle.ir_ast.specs.declared.op.Case.{Case}
-use Rattle.ir_ast.specs.declared.operand.Constant.{Constant}
 use Rattle.ir_forms.specs.Branches as branches
 use Rattle.ir_forms.specs.CaseValues.{value_of, is_among, with_value}
 use Rattle.ir_forms.specs.declared.case_values.CaseValue.{CaseValue}
@@ -57,7 +56,7 @@ use Rattle.ir_print.specs.Instructions.{ends_block}
 use Rattle.ir_forms.specs.Names.{target}
 use Rattle.ir_print_law.proofs.Steps.{grows_advanced, passed, shorter}
 use Rattle.ir_print_law.proofs.OperandsAgain.{constant_by_shape}
-use Rattle.ir_print_law.proofs.Parts.{target_reads, label_later, TargetPrints}
+use Rattle.ir_print_law.proofs.Parts.{target_reads, label_later, HasLabel}
 use Rattle.ir_print_law.proofs.PlaceOperations.{condition_reads}
 use Rattle.ir_ast.specs.declared.operand.Operand.TheVariants as operand
 
@@ -79,13 +78,9 @@ no_label _ = true
 module _ {m : Module} {f : Function} (v : Invariant m f) where
   -- ---- cases
 
-  -- cases are printed alike later on
-  abbrev CasesPrint : Shape → ℕ → List Case → List Case → Input → Type 0
-  CasesPrint shape t xs ys o = (n : Module) (others : List Text) → IsLater o n others → (k : ℕ) → HasShape n.types n.struct_names shape k → flat_map (case_text n others k) ys ≡ flat_map (case_text m f.locals t) xs
-
-  -- a case is printed alike later on
-  abbrev CasePrints : Shape → Text → Constant → ℕ → Input → Type 0
-  CasePrints shape text c b o = (n : Module) (others : List Text) → IsLater o n others → (k : ℕ) → HasShape n.types n.struct_names shape k → case_text n others k (record { constant = c; target = b }) ≡ text
+  -- cases are these again, in each module later on
+  abbrev AllCasesAgain : List Case → List Case → Input → Type 0
+  AllCasesAgain xs ys o = (n : Module) (others : List Text) → IsLater o n others → AreAlike (IsCaseAgain m n f.locals others) xs ys
 
   -- a token ends before cases
   seam_cases : (t : ℕ) (xs : List Case) (rest : Text) → IsSeam (flat_map (case_text m f.locals t) xs ++ (codes " ]" ++ rest))
@@ -97,7 +92,7 @@ module _ {m : Module} {f : Function} (v : Invariant m f) where
   case_reads : (shape : Shape) (t : ℕ) (x : Case) (p : WrittenType) (seen : List CaseValue) (i : Input) (rest : Text) (s : ℕ) → IsType m shape t → IsTypeRead shape 64 p i → FitsType (bits_of_shape shape) x.constant
       → is_among (value_of x.constant) seen ≡ false → IsTarget f x.target → IsSeam rest → Ready v s i (case_text m f.locals t x ++ rest)
       → (w.begins_type (kind i.cursor) ≡ true)
-      × (b : ℕ) × (o : Input) × (branches.case (record { written = p; seen = seen })).says i (record { constant = x.constant; target = b }) o × Ready v s o rest × Grows i o × CasePrints shape (case_text m f.locals t x) x.constant b o
+      × (b : ℕ) × (o : Input) × (branches.case (record { written = p; seen = seen })).says i (record { constant = x.constant; target = b }) o × Ready v s o rest × Grows i o × HasLabel (name_at f.locals x.target) b o
   unfolding branches.case branches.case_constant class_of
   case_reads shape t x p seen i rest s own read fits new there seam ready =
       let type_is = type_shown m shape t own.0 own.1 in
@@ -121,10 +116,7 @@ module _ {m : Module} {f : Function} (v : Invariant m f) where
         (a.0, a.1, a.2, (x.constant, advanced a.1, (x.constant, advanced a.1, said, (tt, advanced a.1, (ap not new, refl), (refl, refl))), (d.0, d.1, d.2, (e.0, e.1, e.2, (refl, refl))))),
         e.3,
         grows_further i a.1 e.1 a.4 (grows_further a.1 (advanced a.1) e.1 (grows_advanced v a.1) (grows_further (advanced a.1) d.1 e.1 d.4 e.4)),
-        λ n others later k has.
-            ap (λ (y : Text). 32 ∷ y ++ 32 ∷ constant_text n k x.constant ++ codes ", " ++ (codes "label " ++ local_text others e.0)) (type_shown n shape k has own.1 ∙ sym type_is)
-            ∙ ap (λ (y : Text). 32 ∷ type_text m t ++ 32 ∷ y ++ codes ", " ++ (codes "label " ++ local_text others e.0)) (constant_by_shape n shape k x.constant has ∙ sym (constant_by_shape m shape t x.constant own.0))
-            ∙ ap (λ (y : Text). 32 ∷ type_text m t ++ 32 ∷ constant_text m t x.constant ++ codes ", " ++ (codes "label " ++ y)) (label_later v x.target e.0 e.1 n others e.5 later),
+        e.5,
       )
     where
       front : (a b c : Text) → (32 ∷ a ++ 32 ∷ b ++ codes ", " ++ c) ++ rest ≡ 32 ∷ (a ++ (32 ∷ (b ++ (codes ", " ++ (c ++ rest)))))
@@ -133,10 +125,10 @@ module _ {m : Module} {f : Function} (v : Invariant m f) where
   -- the cases of a switch are read
   cases_read : (shape : Shape) (t : ℕ) (xs : List Case) (p : WrittenType) (seen_values : List CaseValue) (i : Input) (rest : Text) (s : ℕ) → IsType m shape t → IsTypeRead shape 64 p i → AreCases f (bits_of_shape shape) seen_values xs
       → Ready v s i (flat_map (case_text m f.locals t) xs ++ (codes " ]" ++ rest))
-      → (ys : List Case) × (o : Input) × Follows branches.at_square (λ c. (branches.case c).says) branches.behind_case (record { written = p; seen = seen_values }) i ys o × Ready v s o (codes " ]" ++ rest) × Grows i o × CasesPrint shape t xs ys o
+      → (ys : List Case) × (o : Input) × Follows branches.at_square (λ c. (branches.case c).says) branches.behind_case (record { written = p; seen = seen_values }) i ys o × Ready v s o (codes " ]" ++ rest) × Grows i o × AllCasesAgain xs ys o
   unfolding class_of
   cases_read shape t [] p seen_values i rest s own read cases ready =
-      ([], i, (seen k.CloseSquare i (sign_kind v 93 k.CloseSquare i (32 ∷ []) rest s refl refl refl ready), refl), ready, grows_itself i, λ n others later k h. refl)
+      ([], i, (seen k.CloseSquare i (sign_kind v 93 k.CloseSquare i (32 ∷ []) rest s refl refl refl ready), refl), ready, grows_itself i, λ n others later. tt)
   cases_read shape t (x ∷ xs) p seen_values i rest s own read cases ready =
       let ready = subst (λ (y : Text). Ready v s i y) (append_assoc (case_text m f.locals t x) (flat_map (case_text m f.locals t) xs) (codes " ]" ++ rest)) ready in
       let a = case_reads shape t x p seen_values i (flat_map (case_text m f.locals t) xs ++ (codes " ]" ++ rest)) s own read cases.0 cases.1 cases.2 (seam_cases t xs rest) ready in
@@ -147,19 +139,18 @@ module _ {m : Module} {f : Function} (v : Invariant m f) where
         (opens, a.2, a.3, b.2),
         b.3,
         grows_further i a.2 b.1 a.5 b.4,
-        λ n others later k h. ap (λ (y : Text). y ++ flat_map (case_text n others k) b.0) (a.6 n others (later_before a.2 b.1 n others b.4 later) k h)
-            ∙ ap (λ (y : Text). case_text m f.locals t x ++ y) (b.5 n others later k h),
+        λ n others later. ((refl, label_later v x.target a.1 a.2 n others a.6 (later_before a.2 b.1 n others b.4 later)), b.5 n others later),
       )
 
   -- `switch T V, label %d [ .. ]`
   switch_reads : (t : ℕ) (x : Operand) (otherwise : ℕ) (xs : List Case) (i : Input) (gap rest : Text) (s : ℕ)
       → ((shape : Shape) × IsScalar m shape t × IsOperand m f (bits_of_shape shape) x × IsTarget f otherwise × AreCases f (bits_of_shape shape) [] xs) → AreBlanks gap
-      → Ready v s i (gap ++ (op_text m f.locals (op.Switch t x otherwise xs) ++ rest)) → Reads v s branches.switch i rest (OpPrints (op_text m f.locals (op.Switch t x otherwise xs)))
-  unfolding branches.switch branches.bracketed_cases branches.all_cases class_of word_kind keywords
+      → Ready v s i (gap ++ (op_text m f.locals (op.Switch t x otherwise xs) ++ rest)) → Reads v s branches.switch i rest (OpAgain m f.locals (op.Switch t x otherwise xs))
+  unfolding branches.switch branches.bracketed_cases branches.all_cases class_of word_kind keywords IsOpAgain
   switch_reads t x otherwise xs i gap rest s own blanks ready =
       let shape = own.0 in
       let scalar = own.1 in
-      let good = OpPrints (op_text m f.locals (op.Switch t x otherwise xs)) in
+      let good = OpAgain m f.locals (op.Switch t x otherwise xs) in
       let type_is = type_shown m shape t scalar.0.0 scalar.0.1 in
       let t5 = flat_map (case_text m f.locals t) xs ++ (codes " ]" ++ rest) in
       let t4 = codes " [" ++ t5 in
@@ -174,13 +165,13 @@ module _ {m : Module} {f : Function} (v : Invariant m f) where
       on v v w.scalar operand_form o (32 ∷ (operand_text m f.locals t x ++ t2)) rest s s (IsTypeRead shape 64) good
       (scalar_reads v shape o (32 ∷ []) (32 ∷ (operand_text m f.locals t x ++ t2)) s scalar.0.2 scalar.0.1 scalar.1 refl (ends_operand v shape t x t2 scalar.0.0 own.2 refl) ready)
       (λ p q ready h read.
-      on v v (form.operand (w.bits_of p)) (comma_form p) q t2 rest s s (OperandPrints shape (operand_text m f.locals t x)) good
+      on v v (form.operand (w.bits_of p)) (comma_form p) q t2 rest s s (OperandAgain m f.locals x) good
       (operand_at v shape t x p q q (32 ∷ []) t2 s read scalar.0.0 own.2 refl refl ready)
-      (λ y r ready hh prints.
+      (λ y r ready hh again.
       on v v (expect k.Comma) (λ _. target_form p y) r (32 ∷ t3) rest s s (λ _ z. advanced r ≡ z) good
       (sign_reads v 44 k.Comma r [] (32 ∷ t3) s s refl refl refl (omega arith) ready)
       (λ _ z ready h3 e.
-      on v v target (cases_form p y) z t4 rest s s (TargetPrints (name_at f.locals otherwise)) good
+      on v v target (cases_form p y) z t4 rest s s (HasLabel (name_at f.locals otherwise)) good
       (target_reads v otherwise z (32 ∷ []) t4 s own.3 refl refl ready)
       (λ b c ready h4 there.
       let qc = grows_further q r c hh (grows_further r z c h3 h4) in
@@ -196,12 +187,7 @@ module _ {m : Module} {f : Function} (v : Invariant m f) where
       let laterc = later_before c close.1 n others cd later in
       let laterr = later_before r c n others (grows_further r z c h3 h4) laterc in
       let laterq = later_before q r n others hh laterr in
-      let has = later_shape shape p.id q n others read.has_shape laterq in
-      ap (λ (a : Text). codes "switch " ++ (type_text n p.id ++ 32 ∷ a) ++ codes ", " ++ target_text others b ++ codes " [" ++ flat_map (case_text n others p.id) each.0 ++ codes " ]") (prints n others laterr p.id has)
-      ∙ ap (λ (a : Text). codes "switch " ++ (a ++ 32 ∷ operand_text m f.locals t x) ++ codes ", " ++ target_text others b ++ codes " [" ++ flat_map (case_text n others p.id) each.0 ++ codes " ]")
-      (read_shown shape p.id q n others read.has_shape scalar.0.1 laterq ∙ sym type_is)
-      ∙ ap (λ (a : Text). codes "switch " ++ typed_text m f.locals t x ++ codes ", " ++ (codes "label " ++ a) ++ codes " [" ++ flat_map (case_text n others p.id) each.0 ++ codes " ]") (label_later v otherwise b c n others there laterc)
-      ∙ ap (λ (a : Text). codes "switch " ++ typed_text m f.locals t x ++ codes ", " ++ target_text f.locals otherwise ++ codes " [" ++ a ++ codes " ]") (each.5 n others latere p.id has))))))))
+      (read_again m shape t p.id q n others scalar.0.0 read.has_shape laterq, again n others laterr, label_later v otherwise b c n others there laterc, each.5 n others latere))))))))
     where
       front : (a b c d : Text) → (codes "switch " ++ (a ++ 32 ∷ b) ++ codes ", " ++ c ++ codes " [" ++ d ++ codes " ]") ++ rest ≡ codes "switch" ++ (32 ∷ (a ++ (32 ∷ (b ++ (codes ", " ++ (c ++ (codes " [" ++ (d ++ (codes " ]" ++ rest)))))))))
       front a b c d = parts_front (codes "switch ") a b (codes ", ") c (codes " [") d (codes " ]") rest
@@ -222,26 +208,26 @@ module _ {m : Module} {f : Function} (v : Invariant m f) where
 
   -- `br label %b`
   jump_reads : (label : ℕ) (i : Input) (gap rest : Text) (s : ℕ) → IsTarget f label → AreBlanks gap → IsSeam rest
-      → Ready v s i (gap ++ (op_text m f.locals (op.Jump label) ++ rest)) → Reads v s branches.br i rest (OpPrints (op_text m f.locals (op.Jump label)))
-  unfolding branches.br class_of word_kind keywords
+      → Ready v s i (gap ++ (op_text m f.locals (op.Jump label) ++ rest)) → Reads v s branches.br i rest (OpAgain m f.locals (op.Jump label))
+  unfolding branches.br class_of word_kind keywords IsOpAgain
   jump_reads label i gap rest s there blanks seam ready =
-      let good = OpPrints (op_text m f.locals (op.Jump label)) in
+      let good = OpAgain m f.locals (op.Jump label) in
       let t1 = target_text f.locals label ++ rest in
       on v v skip (λ _. branches.br_behind) i (32 ∷ t1) rest s s (λ _ o. advanced i ≡ o) good
       (word_skipped v (codes "br") i gap (32 ∷ t1) s s blanks refl refl (omega arith) ready)
       (λ _ o ready g e.
       looked v (λ i. sees k.Label i.cursor) (either branches.jump branches.branch) o rest s good true (seen k.Label o (word_seen v (codes "label") o (32 ∷ []) (32 ∷ (local_text f.locals label ++ rest)) s refl refl refl ready))
-      (on v v target (λ b. pure (op.Jump b)) o rest rest s s (TargetPrints (name_at f.locals label)) good
+      (on v v target (λ b. pure (op.Jump b)) o rest rest s s (HasLabel (name_at f.locals label)) good
       (target_reads v label o (32 ∷ []) rest s there refl seam ready)
       (λ b q ready h named. given v (op.Jump b) q rest s good ready
-      (λ n others later. ap (λ (y : Text). codes "br " ++ (codes "label " ++ y)) (label_later v label b q n others named later)))))
+      (λ n others later. label_later v label b q n others named later))))
 
   -- `br i1 V, label %a, label %b`
   branch_reads : (ct : ℕ) (c : Operand) (taken other : ℕ) (i : Input) (gap rest : Text) (s : ℕ) → IsCondition m f ct c → IsTarget f taken → IsTarget f other → AreBlanks gap → IsSeam rest
-      → Ready v s i (gap ++ (op_text m f.locals (op.Branch ct c taken other) ++ rest)) → Reads v s branches.br i rest (OpPrints (op_text m f.locals (op.Branch ct c taken other)))
-  unfolding branches.br branches.branch class_of word_kind keywords
+      → Ready v s i (gap ++ (op_text m f.locals (op.Branch ct c taken other) ++ rest)) → Reads v s branches.br i rest (OpAgain m f.locals (op.Branch ct c taken other))
+  unfolding branches.br branches.branch class_of word_kind keywords IsOpAgain
   branch_reads ct c taken other i gap rest s own at_taken at_other blanks seam ready =
-      let good = OpPrints (op_text m f.locals (op.Branch ct c taken other)) in
+      let good = OpAgain m f.locals (op.Branch ct c taken other) in
       let t4 = target_text f.locals other ++ rest in
       let t3 = codes ", " ++ t4 in
       let t2 = codes ", " ++ (target_text f.locals taken ++ t3) in
@@ -254,27 +240,26 @@ module _ {m : Module} {f : Function} (v : Invariant m f) where
       let starts = ap (λ (y : Text). (y ++ 32 ∷ operand_text m f.locals ct c) ++ t2) type_is ∙ append_assoc (shown false (Integer 1)) (32 ∷ operand_text m f.locals ct c) t2 in
       let begins = type_begins v (Integer 1) o (32 ∷ []) (32 ∷ (operand_text m f.locals ct c ++ t2)) (omega arith, omega arith) refl refl (subst (λ (y : Text). Stands o.cursor (32 ∷ y)) starts ready.stands) in
       looked v (λ i. sees k.Label i.cursor) (either branches.jump branches.branch) o rest s good false (unlike k.Label w.begins_type o refl begins)
-      (on v v integers.condition first_form o t2 rest s s (ArgumentPrints (typed_text m f.locals ct c)) good
+      (on v v integers.condition first_form o t2 rest s s (ArgumentAgain m f.locals (typed ct c)) good
       (condition_reads v ct c o (32 ∷ []) t2 s own refl refl ready)
-      (λ b q ready h prints.
+      (λ b q ready h again.
       on v v (expect k.Comma) (λ _. taken_form b) q (32 ∷ (target_text f.locals taken ++ t3)) rest s s (λ _ z. advanced q ≡ z) good
       (sign_reads v 44 k.Comma q [] (32 ∷ (target_text f.locals taken ++ t3)) s s refl refl refl (omega arith) ready)
       (λ _ z ready h3 e.
-      on v v target (second_form b) z t3 rest s s (TargetPrints (name_at f.locals taken)) good
+      on v v target (second_form b) z t3 rest s s (HasLabel (name_at f.locals taken)) good
       (target_reads v taken z (32 ∷ []) t3 s at_taken refl refl ready)
       (λ one y ready h4 first.
       on v v (expect k.Comma) (λ _. other_form b one) y (32 ∷ t4) rest s s (λ _ z. advanced y ≡ z) good
       (sign_reads v 44 k.Comma y [] (32 ∷ t4) s s refl refl refl (omega arith) ready)
       (λ _ a ready h5 e.
-      on v v target (λ two. pure (op.Branch b.written b.operand one two)) a rest rest s s (TargetPrints (name_at f.locals other)) good
+      on v v target (λ two. pure (op.Branch b.written b.operand one two)) a rest rest s s (HasLabel (name_at f.locals other)) good
       (target_reads v other a (32 ∷ []) rest s at_other refl seam ready)
       (λ two end ready h6 second. given v (op.Branch b.written b.operand one two) end rest s good ready
       (λ n others later.
       let latery = later_before y end n others (grows_further y a end h5 h6) later in
       let laterq = later_before q y n others (grows_further q z y h3 h4) latery in
-      ap (λ (x : Text). codes "br " ++ x ++ codes ", " ++ target_text others one ++ codes ", " ++ target_text others two) (prints n others laterq)
-      ∙ ap (λ (x : Text). codes "br " ++ typed_text m f.locals ct c ++ codes ", " ++ (codes "label " ++ x) ++ codes ", " ++ target_text others two) (label_later v taken one y n others first latery)
-      ∙ ap (λ (x : Text). codes "br " ++ typed_text m f.locals ct c ++ codes ", " ++ target_text f.locals taken ++ codes ", " ++ (codes "label " ++ x)) (label_later v other two end n others second later)))))))))
+      let bit = again n others laterq in
+      (bit.0, bit.1, label_later v taken one y n others first latery, label_later v other two end n others second later)))))))))
     where
       front : (a b c : Text) → (codes "br " ++ a ++ codes ", " ++ b ++ codes ", " ++ c) ++ rest ≡ codes "br" ++ (32 ∷ (a ++ (codes ", " ++ (b ++ (codes ", " ++ (c ++ rest))))))
       front a b c = simp append_assoc
@@ -295,10 +280,10 @@ module _ {m : Module} {f : Function} (v : Invariant m f) where
 
   -- `ret T V`
   return_reads : (x : Argument) (i : Input) (gap rest : Text) (s : ℕ) → IsArgument m f x → AreBlanks gap → IsSeam rest
-      → Ready v s i (gap ++ (op_text m f.locals (op.Return x) ++ rest)) → Reads v s branches.ret i rest (OpPrints (op_text m f.locals (op.Return x)))
-  unfolding branches.ret class_of word_kind keywords
+      → Ready v s i (gap ++ (op_text m f.locals (op.Return x) ++ rest)) → Reads v s branches.ret i rest (OpAgain m f.locals (op.Return x))
+  unfolding branches.ret class_of word_kind keywords IsOpAgain
   return_reads x i gap rest s own blanks seam ready =
-      let good = OpPrints (op_text m f.locals (op.Return x)) in
+      let good = OpAgain m f.locals (op.Return x) in
       let t1 = argument_text m f.locals x ++ rest in
       let type_is = type_shown m own.0 x.written own.1.0.0 own.1.0.1 in
       on v v skip (λ _. branches.ret_behind) i (32 ∷ t1) rest s s (λ _ o. advanced i ≡ o) good
@@ -307,35 +292,35 @@ module _ {m : Module} {f : Function} (v : Invariant m f) where
       let starts = ap (λ (y : Text). (y ++ 32 ∷ operand_text m f.locals x.written x.operand) ++ rest) type_is ∙ append_assoc (shown false own.0) (32 ∷ operand_text m f.locals x.written x.operand) rest in
       let begins = type_begins v own.0 o (32 ∷ []) (32 ∷ (operand_text m f.locals x.written x.operand ++ rest)) own.1.0.2 refl refl (subst (λ (y : Text). Stands o.cursor (32 ∷ y)) starts ready.stands) in
       looked v (λ i. sees k.Void i.cursor) (either (skip >> pure op.ReturnVoid) branches.returned_value) o rest s good false (unlike k.Void w.begins_type o refl begins)
-      (on v v lists.typed (λ y. pure (op.Return y)) o rest rest s s (ArgumentPrints (argument_text m f.locals x)) good
+      (on v v lists.typed (λ y. pure (op.Return y)) o rest rest s s (ArgumentAgain m f.locals x) good
       (typed_reads v x.written x.operand o (32 ∷ []) rest s own refl seam ready)
-      (λ y q ready h prints. given v (op.Return y) q rest s good ready (λ n others later. ap (λ (a : Text). codes "ret " ++ a) (prints n others later)))))
+      (λ y q ready h again. given v (op.Return y) q rest s good ready (λ n others later. again n others later))))
 
   -- an instruction that ends a block
   pub terminator_reads : (x : Op) (i : Input) (gap rest : Text) (s : ℕ) → IsOp m f x → ends_block x ≡ true → AreBlanks gap → IsSeam rest
-      → Ready v s i (gap ++ (op_text m f.locals x ++ rest)) → Reads v s branches.terminator i rest (OpPrints (op_text m f.locals x))
-  unfolding branches.terminator branches.ret class_of word_kind keywords
+      → Ready v s i (gap ++ (op_text m f.locals x ++ rest)) → Reads v s branches.terminator i rest (OpAgain m f.locals x)
+  unfolding branches.terminator branches.ret class_of word_kind keywords IsOpAgain
   terminator_reads (op.Jump label) i gap rest s own ends blanks seam ready =
-      looked v (λ i. kind i.cursor) branches.terminator_by i rest s (OpPrints (op_text m f.locals (op.Jump label))) k.Br (word_seen v (codes "br") i gap _ s blanks refl refl ready)
+      looked v (λ i. kind i.cursor) branches.terminator_by i rest s (OpAgain m f.locals (op.Jump label)) k.Br (word_seen v (codes "br") i gap _ s blanks refl refl ready)
       (jump_reads label i gap rest s own blanks seam ready)
   terminator_reads (op.Branch ct c taken other) i gap rest s own ends blanks seam ready =
-      looked v (λ i. kind i.cursor) branches.terminator_by i rest s (OpPrints (op_text m f.locals (op.Branch ct c taken other))) k.Br
+      looked v (λ i. kind i.cursor) branches.terminator_by i rest s (OpAgain m f.locals (op.Branch ct c taken other)) k.Br
       (word_seen v (codes "br") i gap _ s blanks refl refl ready)
       (branch_reads ct c taken other i gap rest s own.0 own.1 own.2 blanks seam ready)
   terminator_reads (op.Switch t x otherwise xs) i gap rest s own ends blanks seam ready =
-      looked v (λ i. kind i.cursor) branches.terminator_by i rest s (OpPrints (op_text m f.locals (op.Switch t x otherwise xs))) k.Switch
+      looked v (λ i. kind i.cursor) branches.terminator_by i rest s (OpAgain m f.locals (op.Switch t x otherwise xs)) k.Switch
       (word_seen v (codes "switch") i gap _ s blanks refl refl ready)
       (switch_reads t x otherwise xs i gap rest s own blanks ready)
   terminator_reads (op.Return x) i gap rest s own ends blanks seam ready =
-      looked v (λ i. kind i.cursor) branches.terminator_by i rest s (OpPrints (op_text m f.locals (op.Return x))) k.Ret (word_seen v (codes "ret") i gap _ s blanks refl refl ready)
+      looked v (λ i. kind i.cursor) branches.terminator_by i rest s (OpAgain m f.locals (op.Return x)) k.Ret (word_seen v (codes "ret") i gap _ s blanks refl refl ready)
       (return_reads x i gap rest s own blanks seam ready)
   terminator_reads op.Unreachable i gap rest s own ends blanks seam ready =
-      looked v (λ i. kind i.cursor) branches.terminator_by i rest s (OpPrints (op_text m f.locals op.Unreachable)) k.Unreachable (word_seen v (codes "unreachable") i gap rest s blanks refl seam ready)
-      (on v v skip (λ _. pure op.Unreachable) i rest rest s s (λ _ o. advanced i ≡ o) (OpPrints (op_text m f.locals op.Unreachable))
+      looked v (λ i. kind i.cursor) branches.terminator_by i rest s (OpAgain m f.locals op.Unreachable) k.Unreachable (word_seen v (codes "unreachable") i gap rest s blanks refl seam ready)
+      (on v v skip (λ _. pure op.Unreachable) i rest rest s s (λ _ o. advanced i ≡ o) (OpAgain m f.locals op.Unreachable)
       (word_skipped v (codes "unreachable") i gap rest s s blanks refl seam (omega arith) ready)
-      (λ _ o ready g e. given v op.Unreachable o rest s (OpPrints (op_text m f.locals op.Unreachable)) ready (λ n others later. refl)))
+      (λ _ o ready g e. given v op.Unreachable o rest s (OpAgain m f.locals op.Unreachable) ready (λ n others later. tt)))
   terminator_reads op.ReturnVoid i gap rest s own ends blanks seam ready =
-      let good = OpPrints (op_text m f.locals op.ReturnVoid) in
+      let good = OpAgain m f.locals op.ReturnVoid in
       looked v (λ i. kind i.cursor) branches.terminator_by i rest s good k.Ret (word_seen v (codes "ret") i gap (32 ∷ (codes "void" ++ rest)) s blanks refl refl ready)
       (on v v skip (λ _. branches.ret_behind) i (32 ∷ (codes "void" ++ rest)) rest s s (λ _ o. advanced i ≡ o) good
       (word_skipped v (codes "ret") i gap (32 ∷ (codes "void" ++ rest)) s s blanks refl refl (omega arith) ready)
@@ -343,5 +328,5 @@ module _ {m : Module} {f : Function} (v : Invariant m f) where
       looked v (λ i. sees k.Void i.cursor) (either (skip >> pure op.ReturnVoid) branches.returned_value) o rest s good true (seen k.Void o (word_seen v (codes "void") o (32 ∷ []) rest s refl refl seam ready))
       (on v v skip (λ _. pure op.ReturnVoid) o rest rest s s (λ _ q. advanced o ≡ q) good
       (word_skipped v (codes "void") o (32 ∷ []) rest s s refl refl seam (omega arith) ready)
-      (λ _ q ready h e. given v op.ReturnVoid q rest s good ready (λ n others later. refl)))))
+      (λ _ q ready h e. given v op.ReturnVoid q rest s good ready (λ n others later. tt)))))
   terminator_reads _ i gap rest s own ends blanks seam ready = absurd cc

@@ -1,9 +1,8 @@
 -- A defined function is read as that function.
-use Rattle.std.proofs.Common.{◌≡◌, ℕ, suc, ◌<◌, false, List, [], ◌∷◌, ◌++◌, length, map, slice_get, Option, Some, refl, sym, ap, subst, ◌∙◌, arith, append_assoc, length-append}
+use Rattle.std.proofs.Common.{◌≡◌, ℕ, suc, ◌<◌, false, List, [], ◌∷◌, ◌++◌, length, map, slice_get, Some, refl, sym, ap, subst, ◌∙◌, arith, append_assoc, length-append}
 use Rattle.std.specs.Prelude.{codes}
 use Rattle.std.specs.List.{AllByRecursion, flat_map}
 use Rattle.std.proofs.lemmas.List.{append-nil}
-use Rattle.ir_print_law.proofs.Operands.{named_at}
 use Rattle.ir_print_law.proofs.DeclareLines.{below_most}
 use Rattle.ir_ast.specs.declared.function.Function.{Function}
 use Rattle.ir_ast.specs.declared.function.Parameter.{Parameter}
@@ -34,7 +33,7 @@ use Rattle.ir_print_law.specs.Definitions.{AreDefined, defined_keys, parameter_k
 use Rattle.ir_print_law.specs.Printable.{IsFunction}
 use Rattle.ir_print_law.specs.Shapes.{IsIn}
 use Rattle.ir_print_law.proofs.Tables.{Begins, stays, begins_further}
-use Rattle.ir_print_law.specs.Again.{AreAlike, IsFunctionAgain}
+use Rattle.ir_print_law.specs.Again.{AreAlike, IsResultAgain, IsParameterAgain, IsFunctionAgain}
 use Rattle.ir_print_law.proofs.State.{Ready, IsLater}
 use Rattle.ir_print_law.proofs.Steps.{word_skipped, word_seen, sign_reads}
 use Rattle.ir_print_law.proofs.BlockLines.{HasKeys}
@@ -48,21 +47,6 @@ use Rattle.ir_print_law.proofs.OpNeeds.{OpsRead}
 use Rattle.ir_print_law.proofs.ParameterLists.{parameters_go}
 use Rattle.ir_print_law.proofs.Results.{defined_result_reads, head_end_reads}
 use Rattle.ir_print_law.proofs.Steady.{Steady, outside}
-
-same_list : (f : Parameter → Text) (g : Parameter → Text) (xs ys : List Parameter) → AreAlike (λ x y. f x ≡ g y) xs ys → flat_map (λ (p : Parameter). codes ", " ++ f p) xs ≡ flat_map (λ (p : Parameter). codes ", " ++ g p) ys
-same_list f g [] [] h = refl
-same_list f g [] (y ∷ ys) h = absurd h
-same_list f g (x ∷ xs) [] h = absurd h
-same_list f g (x ∷ xs) (y ∷ ys) h =
-    ap (λ (t : Text). codes ", " ++ t ++ flat_map (λ (p : Parameter). codes ", " ++ f p) xs) h.0 ∙ ap (λ (t : Text). codes ", " ++ g y ++ t) (same_list f g xs ys h.1)
-
--- lists of parts that are written alike
-same_listed : (f : Parameter → Text) (g : Parameter → Text) (xs ys : List Parameter) → AreAlike (λ x y. f x ≡ g y) xs ys → listed f xs ≡ listed g ys
-same_listed f g [] [] h = refl
-same_listed f g [] (y ∷ ys) h = absurd h
-same_listed f g (x ∷ xs) [] h = absurd h
-same_listed f g (x ∷ xs) (y ∷ ys) h =
-    ap (λ (t : Text). t ++ flat_map (λ (p : Parameter). codes ", " ++ f p) xs) h.0 ∙ ap (λ (t : Text). g y ++ t) (same_list f g xs ys h.1)
 
 -- the head of a function after its parameters
 abbrev behind_close : Function → (rest : Text) → Text
@@ -137,16 +121,6 @@ module _ (m : Module) (f : Function) (named : AreNamed m f) (nobody_named : AreN
   map_size : (ps : List Parameter) → length (map (parameter_key f.locals) ps) ≡ length ps
   map_size [] = refl
   map_size (x ∷ ps) = ap suc (map_size ps)
-
-  -- the heads are written alike, part for part
-  same_head : (n : Module) (g : Function) → type_text m f.returned ≡ type_text n g.returned → name_at m.symbols f.symbol ≡ name_at n.symbols g.symbol
-      → AreAlike (λ x y. parameter_text m f.locals x ≡ parameter_text n g.locals y) f.parameters g.parameters → f.collector ≡ g.collector → head_line m f ≡ head_line n g
-  same_head n g result name ps c =
-      ap (λ (t : Text). codes "define " ++ t ++ 32 ∷ global_text m f.symbol ++ 40 ∷ listed (parameter_text m f.locals) f.parameters ++ 41 ∷ collector_text f.collector ++ codes " {\n") result
-      ∙ ap (λ (t : Text). codes "define " ++ type_text n g.returned ++ 32 ∷ 64 ∷ name_text blank.Kept t ++ 40 ∷ listed (parameter_text m f.locals) f.parameters ++ 41 ∷ collector_text f.collector ++ codes " {\n") name
-      ∙ ap (λ (t : Text). codes "define " ++ type_text n g.returned ++ 32 ∷ global_text n g.symbol ++ 40 ∷ t ++ 41 ∷ collector_text f.collector ++ codes " {\n")
-      (same_listed (parameter_text m f.locals) (parameter_text n g.locals) f.parameters g.parameters ps)
-      ∙ ap (λ (t : Option Text). codes "define " ++ type_text n g.returned ++ 32 ∷ global_text n g.symbol ++ 40 ∷ listed (parameter_text n g.locals) g.parameters ++ 41 ∷ collector_text t ++ codes " {\n") c
 
   -- what comes later comes later than an earlier place too
   later_than : (t o : Input) (n : Module) (others : List Text) → Reaches t o → IsModuleLater o n → Begins t.locals.names others → IsLater t n others
@@ -223,8 +197,11 @@ module _ (m : Module) (f : Function) (named : AreNamed m f) (nobody_named : AreN
             let at_q = later_than q o n made.locals (reach q wide_q) later (locals_of q wide_q) in
             let at_r = later_than r o n made.locals (reach r wide_r) later (locals_of r wide_r) in
             let at_t = later_than t o n made.locals (reach t wide_t) later (locals_of t wide_t) in
-            let result : type_text m f.returned ≡ type_text n made.returned = b.5 n made.locals at_q ∙ ap (type_text n) (sym read.1) in
-            let named_so : name_at m.symbols f.symbol ≡ name_at n.symbols made.symbol = sym (named_at n.symbols c.0 name (stays r.symbols.names n.symbols c.0 name at_r.symbols c.5)) ∙ ap (name_at n.symbols) (sym read.0) in
-            let ps = subst (λ (l : List Parameter). AreAlike (λ x y. parameter_text m f.locals x ≡ parameter_text n made.locals y) f.parameters l) (sym read.2) (e.7 n made.locals at_t) in
-            (same_head n made result named_so ps (sym h.5 ∙ sym read.3), read.5 n later),
+            record {
+              symbol = subst (λ (x : ℕ). slice_get n.symbols x ≡ Some (name_at m.symbols f.symbol)) (sym read.0) (stays r.symbols.names n.symbols c.0 name at_r.symbols c.5);
+              returned = subst (λ (t : ℕ). IsResultAgain m n f.returned t) (sym read.1) (b.5 n made.locals at_q);
+              parameters = subst (λ (l : List Parameter). AreAlike (IsParameterAgain m n f.locals made.locals) f.parameters l) (sym read.2) (e.7 n made.locals at_t);
+              collector = sym h.5 ∙ sym read.3;
+              blocks = read.5 n later;
+            },
       )

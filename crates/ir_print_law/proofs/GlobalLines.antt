@@ -5,7 +5,6 @@ use Rattle.std.specs.Fmt.{decimal}
 use Rattle.std.proofs.lemmas.Bool.Decides.{nat_tests}
 use Rattle.ir_print_law.proofs.CallsAgain.{trailing_said}
 use Rattle.ir_print_law.proofs.ArgumentsAgain.{decorations_said}
-use Rattle.ir_print_law.proofs.Operands.{named_at}
 use Rattle.ir_ast.specs.declared.function.Function.{Function}
 use Rattle.ir_ast.specs.declared.ir_type.IrType.{IrType}
 use Rattle.ir_ast.specs.declared.items_of_module.Global.{Global}
@@ -38,6 +37,7 @@ use Rattle.ir_print.specs.Standing.{Stands, IsSeam, AreBlanks}
 use Rattle.ir_print.specs.Types.{type_text}
 use Rattle.ir_print_law.proofs.Constants.{are_digits, constants_are_read, wide}
 use Rattle.ir_print_law.proofs.Words.{global_comes, word_comes, number_comes}
+use Rattle.ir_print_law.specs.Again.{IsGlobalAgain}
 use Rattle.ir_print_law.specs.Printable.{IsGlobal, IsInitial}
 use Rattle.ir_print_law.specs.Shapes.{IsIn, Shape, Integer, Pointer, Array, Empty, Struct, Named, HasShape, bits_of_shape}
 use Rattle.ir_print_law.proofs.Tables.{stays, begins_itself}
@@ -50,7 +50,7 @@ use Rattle.ir_print_law.proofs.WholeForms.{Widens, widens_further, grows_widens,
 use Rattle.ir_print_law.proofs.Known.{Far, AreNamed, known, SymbolsKnown}
 use Rattle.ir_print_law.proofs.Needs.{TypesRead}
 use Rattle.ir_print_law.proofs.NewNames.{SymbolsThen, new_symbol_goes}
-use Rattle.ir_print_law.proofs.Results.{begins_item}
+use Rattle.ir_print_law.proofs.Results.{begins_item, item_ungrouped}
 
 below_most : (n : ℕ) → n < 4096 → nat_lt n 4096 ≡ true
 below_most n less = grind (arith, nat_tests)
@@ -133,7 +133,7 @@ module _ (m : Module) (f : Function) (named : AreNamed m f) (types : TypesRead m
   abbrev pub GlobalGoes : Global → Input → (rest : Text) → Type 0
   GlobalGoes g i rest =
       (o : Input) × (x : Global) × item.says i tt o × Ready (known m f named (far_global (name_at m.symbols g.symbol) x)) 0 o (10 ∷ rest) × Widens i o
-      × ((n : Module) (others : List Text) → IsLater o n others → global_line m g ≡ global_line n x)
+      × ((n : Module) (others : List Text) → IsLater o n others → IsGlobalAgain m n g x)
 
   name_step : (name : Text) (number : ℕ) (i : Input) → (IsIn far.functions name → ⊥) → SymbolsThen m f named far (far.globals ++ name ∷ []) far.functions name (symbol.Global number) i
   name_step name number i apart = λ h e.
@@ -160,14 +160,6 @@ module _ (m : Module) (f : Function) (named : AreNamed m f) (types : TypesRead m
       let o = b.1 in
       let plain = decorations_said spot.Global p (ap (begins_decoration spot.Global (begins_line p.cursor)) e) in
       (a.1, b.1, a.2, (tt, p, plain, subst (λ (x : Kind). (is_constant_by x).says p false o) (sym e) (tt, o, b.2, (refl, refl))), b.3, widens_further i p o (grows_widens i p a.4) (grows_widens p o b.4))
-
-  same_line : (n : Module) (g x : Global) → name_at m.symbols g.symbol ≡ name_at n.symbols x.symbol → g.is_constant ≡ x.is_constant → type_text m g.held ≡ type_text n x.held
-      → constant_text m g.held g.initial ≡ constant_text n x.held x.initial → global_line m g ≡ global_line n x
-  same_line n g x name c held first =
-      ap (λ (t : Text). 64 ∷ name_text blank.Kept t ++ global_word g.is_constant ++ type_text m g.held ++ 32 ∷ constant_text m g.held g.initial ++ 10 ∷ []) name
-      ∙ ap (λ (t : Bool). global_text n x.symbol ++ global_word t ++ type_text m g.held ++ 32 ∷ constant_text m g.held g.initial ++ 10 ∷ []) c
-      ∙ ap (λ (t : Text). global_text n x.symbol ++ global_word x.is_constant ++ t ++ 32 ∷ constant_text m g.held g.initial ++ 10 ∷ []) held
-      ∙ ap (λ (t : Text). global_text n x.symbol ++ global_word x.is_constant ++ type_text n x.held ++ 32 ∷ t ++ 10 ∷ []) first
 
   pub global_goes : (g : Global) (i : Input) (gap rest : Text) → IsGlobal m g → AreBytes (name_at m.symbols g.symbol) → is_left_out (name_at m.symbols g.symbol) ≡ false
       → (IsIn far.symbols (name_at m.symbols g.symbol) → ⊥) → (IsIn far.functions (name_at m.symbols g.symbol) → ⊥) → length far.global_items < 4096 → Comes begins_item (10 ∷ rest) → AreBlanks gap
@@ -202,7 +194,8 @@ module _ (m : Module) (f : Function) (named : AreNamed m f) (types : TypesRead m
       let size = length-append (constant_shown bits g.initial) (10 ∷ rest) in
       let ready_s = passed w r constant_bytes (10 ∷ rest) 0 0 t.3 c.1 (omega (arith, size)) in
       let s = advanced r in
-      let trail = trailing_said trail.Memory s (unlike k.Comma begins_item s refl (comes s c.1)) in
+      let trail = trailing_said trail.Global s (unlike k.Comma begins_item s refl (comes s c.1)) in
+      let ungrouped = decorations_said spot.GlobalEnd s (item_ungrouped (begins_line s.cursor) (kind s.cursor) (comes s c.1)) in
       let x : Global = record { symbol = a.0; is_constant = g.is_constant; held = t.0.id; initial = g.initial } in
       let o = with_global x s in
       let h = ready_s.holds in
@@ -217,7 +210,7 @@ module _ (m : Module) (f : Function) (named : AreNamed m f) (types : TypesRead m
           a.0,
           p,
           (tt, i, (below_most number counted, refl), a.2),
-          (tt, b.0, b.2, (g.is_constant, q, b.3, (t.0, r, t.2, (g.initial, s, said_here, (tt, s, trail, (refl, refl)))))),
+          (tt, b.0, b.2, (g.is_constant, q, b.3, (t.0, r, t.2, (g.initial, s, said_here, (tt, s, trail, (tt, s, ungrouped, (refl, refl))))))),
         ),
         record {
           stands = ready_s.stands;
@@ -243,7 +236,10 @@ module _ (m : Module) (f : Function) (named : AreNamed m f) (types : TypesRead m
             let at_p = later_widened p o n others wide_p later in
             let at_r = later_widened r o n others wide_r later in
             let has_shape = shape_stays r.types n.types r.struct_names.names n.struct_names shape x.held at_r.types at_r.structs t.5.has_shape in
-            same_line n g x (sym (named_at n.symbols a.0 name (stays p.symbols.names n.symbols a.0 name at_p.symbols a.5))) refl
-            (types.types_shown m shape g.held is_type.0 is_type.1 ∙ sym (types.types_shown n shape x.held has_shape is_type.1))
-            (shown ∙ sym (text_shown n shape x.held g.initial has_shape is.3)),
+            record {
+              symbol = stays p.symbols.names n.symbols a.0 name at_p.symbols a.5;
+              is_constant = refl;
+              held = (shape, is_type.0, has_shape);
+              initial = refl;
+            },
       )

@@ -27,7 +27,7 @@ use Rattle.ir_print.specs.Standing.{Stands, IsSeam, AreBlanks}
 use Rattle.ir_print_law.specs.Definitions.{AreNew, defined_globals}
 use Rattle.ir_print_law.specs.Printable.{IsFunction, IsGlobal, IsDeclare, IsPrintable, IsSymbol}
 use Rattle.ir_print_law.specs.Shapes.{IsIn}
-use Rattle.ir_print_law.specs.Again.{AreAlike, IsFunctionAgain}
+use Rattle.ir_print_law.specs.Again.{AreAlike, IsGlobalAgain, IsDeclareAgain, IsFunctionAgain}
 use Rattle.ir_print_law.proofs.State.{Ready}
 use Rattle.ir_print_law.proofs.Steps.{unlike}
 use Rattle.ir_print_law.proofs.WholeFunctionEnds.{nobody, Reaches, reaches_further, widens_reaches, IsModuleLater}
@@ -81,8 +81,8 @@ module _ (m : Module) (is : IsPrintable m) (named : AreNamed m nobody) (ds : Lis
   GlobalsGo ys far i =
       (us : List (Unit {0})) × (o : Input) × (now : Far) × (gs : List Function) × (xs : List Declare) × (zs : List Global) × (gap : Text) × Listed at_end_of_text item.says i us o
       × Ready (known m nobody named now) 0 o gap × (past_gap false gap ≡ []) × Reaches i o × WithGlobals far now (global_names m ys) (declared_names m ds ++ function_names m fs) zs xs gs
-      × ((n : Module) → IsModuleLater o n → AreAlike (λ x y. global_line m x ≡ global_line n y) ys zs)
-      × ((n : Module) → IsModuleLater o n → AreAlike (λ x y. declare_line m x ≡ declare_line n y) ds xs) × ((n : Module) → IsModuleLater o n → AreAlike (IsFunctionAgain m n) fs gs)
+      × ((n : Module) → IsModuleLater o n → AreAlike (IsGlobalAgain m n) ys zs)
+      × ((n : Module) → IsModuleLater o n → AreAlike (IsDeclareAgain m n) ds xs) × ((n : Module) → IsModuleLater o n → AreAlike (IsFunctionAgain m n) fs gs)
 
   pub globals_go : (ys : List Global) (far : Far) (i : Input) (gap : Text) → AreBlanks gap → past_gap false gap ≡ [] → past_gap false (10 ∷ []) ≡ [] → AllByRecursion (IsGlobal m) ys
       → AllByRecursion (IsDeclare m) ds → AllByRecursion (IsFunction m) fs → AllByRecursion IsSymbol (global_names m ys) → AllByRecursion IsSymbol (declared_names m ds ++ function_names m fs)

@@ -1,8 +1,7 @@
 -- The lines of the instructions before the one that ends a block.
-use Rattle.std.proofs.Common.{◌≡◌, ℕ, ◌+◌, ◌<◌, true, false, List, [], ◌∷◌, ◌++◌, Option, None, Some, refl, sym, ap, subst, ◌∙◌, arith, append_assoc, inl, inr}
+use Rattle.std.proofs.Common.{◌≡◌, ℕ, ◌+◌, ◌<◌, true, false, List, [], ◌∷◌, ◌++◌, None, Some, refl, sym, ap, subst, ◌∙◌, arith, append_assoc, inl, inr}
 use Rattle.std.specs.Prelude.{codes, nat_lt}
 use Rattle.std.proofs.lemmas.Bool.Decides.{nat_tests}
-use Rattle.ir_print_law.proofs.Operands.{named_at}
 use Rattle.grammar.specs.Grammar.{◌>>=◌}
 use Rattle.ir_ast.specs.declared.function.Function.{Function}
 use Rattle.ir_ast.specs.declared.instr.Instr.{Instr}
@@ -19,9 +18,10 @@ use Rattle.ir_forms.specs.Calls.{valued, unnamed, call_statement}
 use Rattle.ir_forms.specs.Instructions.{named_op, named_behind, instruction, instruction_by, placed}
 use Rattle.ir_forms.specs.Memory.{store}
 use Rattle.ir_forms.specs.Sites.{is_phi}
-use Rattle.ir_print.specs.Instructions.{op_text, result_text, instruction_line, ends_block}
+use Rattle.ir_print.specs.Instructions.{op_text, instruction_line, ends_block}
 use Rattle.ir_print.specs.Names.{name_at, key_text, local_text}
 use Rattle.ir_print.specs.Standing.{Stands}
+use Rattle.ir_print_law.specs.Again.{IsValueAgain, IsInstrAgain}
 use Rattle.ir_print_law.specs.Printable.{IsOp, gives_value}
 use Rattle.ir_print_law.specs.Shapes.{IsIn}
 use Rattle.ir_print_law.proofs.Tables.{stays}
@@ -65,11 +65,11 @@ module _ (m : Module) (f : Function) (named : AreNamed m f) (ops : OpsRead m f n
   abbrev pub far_result : (key : Text) (unnamed : ℕ) → Far
   far_result key unnamed = record far { seen = far.seen ++ key ∷ []; values = far.values ++ key ∷ []; pending = []; count = far.count + 1; unnamed = unnamed }
 
-  -- the instruction is written alike, in each module later on
+  -- the instruction is this one again, in each module later on
   abbrev pub IsInnerRead : Instr → (then : Far) → Instr → Far → Input → Type 0
   IsInnerRead x then y now o =
       (now ≡ then) × (is_phi y.op ≡ is_phi x.op)
-      × ((n : Module) (others : List Text) → IsLater o n others → instruction_line m f.locals x ≡ instruction_line n others y)
+      × ((n : Module) (others : List Text) → IsLater o n others → IsInstrAgain m n f.locals others x y)
 
   -- ---- an instruction without a value
 
@@ -77,8 +77,7 @@ module _ (m : Module) (f : Function) (named : AreNamed m f) (ops : OpsRead m f n
   without_value x y o none read = (
     refl,
     read.0,
-    λ n others later.
-        ap (λ (t : Text). codes "  " ++ [] ++ t ++ 10 ∷ []) (read.1 n others later) ∙ ap (λ (r : Option ℕ). codes "  " ++ result_text others r ++ op_text n others y.op ++ 10 ∷ []) (sym none),
+    λ n others later. (subst (IsValueAgain m n f.locals others None) (sym none) tt, read.1 n others later),
   )
 
   pub store_goes : (x : Op) (site : Site) (i : Input) (rest : Text) → kind i.cursor ≡ k.Store → site.place < 4294967295 → EndsOp (10 ∷ rest)
@@ -150,8 +149,7 @@ module _ (m : Module) (f : Function) (named : AreNamed m f) (ops : OpsRead m f n
           refl,
           r.5.0,
           λ later_m others later.
-              let there = named_at others n key (stays o.locals.names others n key later.locals (stays p.locals.names o.locals.names n key wide_p.locals w.1.5)) in
-              ap (λ (t : Text). codes "  " ++ (local_text f.locals value ++ codes " = ") ++ t ++ 10 ∷ []) (r.5.1 later_m others later)
-              ∙ ap (λ (t : Text). codes "  " ++ (37 ∷ key_text t ++ codes " = ") ++ op_text later_m others y ++ 10 ∷ []) (sym there),
+              let there = stays o.locals.names others n key later.locals (stays p.locals.names o.locals.names n key wide_p.locals w.1.5) in
+              (there, r.5.1 later_m others later),
         ),
       )

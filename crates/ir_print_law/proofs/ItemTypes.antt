@@ -114,9 +114,11 @@ module _ {m : Module} (r : Reading m) where
   pub declared_result_keeps : (i : Input) → Keeps r.Fore (Same r.Fore) r.Back declared_result (λ n. IsVoid m n ⊎ IsAnyType m n) i
   unfolding declared_result
   declared_result_keeps i n o h f =
-      let a = decorations_pass r spot.Result i h.0 h.1 h.2 f in
-      let b = declared_by (kind h.1.cursor) h.1 n o h.3 a.0 in
-      (b.0, λ back. let bb = b.1 back in ((a.1 bb.0).0, bb.1))
+      let d = h.3 in
+      let c = decorations_pass r spot.Declare i h.0 h.1 h.2 f in
+      let a = decorations_pass r spot.Result h.1 d.0 d.1 d.2 c.0 in
+      let b = declared_by (kind d.1.cursor) d.1 n o d.3 a.0 in
+      (b.0, λ back. let bb = b.1 back in ((c.1 (a.1 bb.0).0).0, bb.1))
 
   defined_by : (x : Kind) (i : Input) → Keeps r.Fore (Same r.Fore) r.Back (defined_result_by x) (λ n. IsVoid m n ⊎ IsPassed m n) i
   defined_by k.Void i = λ n o h f. let a = void_keeps i n o h f in (a.0, λ b. let ab = a.1 b in (ab.0, inl ab.1))

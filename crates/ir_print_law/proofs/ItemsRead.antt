@@ -7,6 +7,7 @@ use Rattle.ir_ast.specs.declared.function.Function.{Function}
 use Rattle.ir_ast.specs.declared.items_of_module.Declare.{Declare}
 use Rattle.ir_ast.specs.declared.items_of_module.Global.{Global}
 use Rattle.ir_ast.specs.declared.items_of_module.StructType.{StructType}
+use Rattle.ir_ast.specs.declared.items_of_module.SymbolSort.{SymbolSort}
 use Rattle.ir_ast.specs.declared.items_of_module.SymbolSort.TheVariants as symbol
 use Rattle.ir_ast.specs.declared.module.Module.{Module}
 use Rattle.ir_ast.specs.declared.operand.Constant.{Constant}
@@ -23,16 +24,17 @@ use Rattle.ir_forms.specs.declared.decorating.Spot.TheVariants as spot
 use Rattle.ir_forms.specs.declared.decorating.Trail.TheVariants as trail
 use Rattle.ir_text.specs.ItemsOfText.{struct_type, with_struct_type, global, with_global, function_name_by, function_name, declaration, with_declare}
 use Rattle.ir_text.specs.Read.{module_of}
+use Rattle.ir_print.specs.Names.{name_at}
 use Rattle.ir_print_law.specs.Definitions.{defined_structs}
 use Rattle.ir_print_law.specs.Printable.{IsStructType, IsGlobal, IsDeclare, IsInitial}
 use Rattle.ir_print_law.proofs.Arguments.{bits_written}
-use Rattle.ir_print_law.proofs.Decorations.{trailing_passes}
+use Rattle.ir_print_law.proofs.Decorations.{decorations_pass, trailing_passes}
 use Rattle.ir_print_law.proofs.Forms.{Keeps, Any}
 use Rattle.ir_print_law.proofs.FunctionsRead.{head_end_keeps}
 use Rattle.ir_print_law.proofs.ItemTypes.{IsFirst, body_keeps, initial_keeps, declared_result_keeps}
 use Rattle.ir_print_law.proofs.LinesRead.{is_constant_passes, declared_parameters_keep}
 use Rattle.ir_print_law.proofs.Looks.{bits_are, held_is}
-use Rattle.ir_print_law.proofs.ModuleItems.{struct_pending, global_pending, declare_pending, new_struct_keeps, new_global_keeps, new_declare_keeps, struct_added, global_added, declare_added}
+use Rattle.ir_print_law.proofs.ModuleItems.{struct_pending, global_pending, declare_pending, new_struct_keeps, named_at_end, new_global_keeps, new_declare_keeps, struct_added, global_added, declare_added}
 use Rattle.ir_print_law.proofs.ModuleState.{Pending, no_one, Stands, Kept, kept_of, Leads, leads_kept, reading_of, Made, between}
 use Rattle.ir_print_law.proofs.Operands.{AreBits}
 use Rattle.ir_print_law.proofs.Passes.{skip_passes, expect_passes}
@@ -151,6 +153,7 @@ module _ (e : Input) (Good : Function → Type 0) where
       let t3 = t2.3 in
       let t4 = t3.3 in
       let t5 = t4.3 in
+      let t6 = t5.3 in
       let g : Global = record { symbol = h.0; is_constant = t2.0; held = t3.0.id; initial = t4.0 } in
       let later : Made = record made { globals = made.globals ++ g ∷ [] } in
       let b0 = new_global_keeps e (λ (x : Kept). x ≡ between made) named.1 few h.0 h.1 named.3 (subst (IsBetween made) same f) in
@@ -158,12 +161,14 @@ module _ (e : Input) (Good : Function → Type 0) where
       let b2 = is_constant_passes r t1.1 t2.0 t2.1 t2.2 b1.0 in
       let b3 = held_keeps r t2.1 t3.0 t3.1 t3.2 b2.0 in
       let b4 = initial_keeps r (bits_of t3.0) t3.1 t4.0 t4.1 t4.2 b3.0 in
-      let b5 = trailing_passes r trail.Memory t4.1 t5.0 t5.1 t5.2 b4.0 in
-      let there : IsBetween later (with_global g t5.1) = (global_added g t5.1 b5.0.0, ap (λ (x : Kept). record x { globals = x.globals ++ g ∷ [] }) b5.0.1) in (
+      let b5 = trailing_passes r trail.Global t4.1 t5.0 t5.1 t5.2 b4.0 in
+      let b6 = decorations_pass r spot.GlobalEnd t5.1 t6.0 t6.1 t6.2 b5.0 in
+      let there : IsBetween later (with_global g t6.1) = (global_added g t6.1 b6.0.0, ap (λ (x : Kept). record x { globals = x.globals ++ g ∷ [] }) b6.0.1) in (
         later,
-        subst (IsBetween later) t5.3.1 there,
+        subst (IsBetween later) t6.3.1 there,
         λ back.
-            let c5 = b5.1 (leads_kept e t5.1 (kept_of (with_global g t5.1)) (subst (Leads e) (sym t5.3.1) back)) in
+            let c6 = b6.1 (leads_kept e t6.1 (kept_of (with_global g t6.1)) (subst (Leads e) (sym t6.3.1) back)) in
+            let c5 = b5.1 c6.0 in
             let c4 = b4.1 c5.0 in
             let c3 = b3.1 c4.0 in
             let c0 = b0.1 (b1.1 (b2.1 c3.0).0).0 in (
@@ -207,6 +212,15 @@ module _ (e : Input) (Good : Function → Type 0) where
   unfolding function_name
   declare_name_keeps made number i same few n o h f = named_by made number (kind i.cursor) i same few n o h f
 
+  -- the name has its number where reading ends
+  named_by_kind : (sort : SymbolSort) (x : Kind) (i : Input) (n : ℕ) (o : Input) → (function_name_by sort x).says i n o → Leads e o → name_at e.symbols.names n ≡ spelled i.cursor
+  named_by_kind sort k.GlobalName i n o h back = named_at_end e i sort n o h back
+  named_by_kind sort _ i n o h back = absurd h
+
+  function_named : (sort : SymbolSort) (i : Input) (n : ℕ) (o : Input) → (function_name sort).says i n o → Leads e o → name_at e.symbols.names n ≡ spelled i.cursor
+  unfolding function_name
+  function_named sort i n o h back = named_by_kind sort (kind i.cursor) i n o h back
+
   pub declaration_goes : Goes e Good declaration
   unfolding declaration
   declaration_goes i made a o h f =
@@ -241,13 +255,15 @@ module _ (e : Input) (Good : Function → Type 0) where
         λ back.
             let c7 = b7.1 (leads_kept e s7.1 (kept_of (with_declare d s7.1)) (subst (Leads e) (sym s7.3.1) back)) in
             let c5 = b5.1 (b6.1 c7.0).0 in
-            let c2 = b2.1 (b3.1 (b4.1 c5.0).0).0 in
-            let c1 = b1.1 c2.0 in (
+            let c3 = (b4.1 c5.0).0 in
+            let c2 = b2.1 (b3.1 c3).0 in
+            let c1 = b1.1 c2.0 in
+            let runtime = ap runtime_of (sym (function_named (symbol.Declared number) s2.1 s3.0 s3.1 s3.2 c3)) in (
               subst (Leads e) (sym same) c1.0,
               record {
                 structs = grows_not (IsStructType m) made.structs;
                 globals = grows_not (IsGlobal m) made.globals;
-                declares = grows_by (IsDeclare m) made.declares d (c2.1, c5.1);
+                declares = grows_by (IsDeclare m) made.declares d (c2.1, c5.1, runtime);
                 functions = grows_not Good made.functions;
               },
             ),

@@ -88,6 +88,7 @@ pub mod FunctionLists
 pub mod DeclareLists
 pub mod GlobalLists
 pub mod StructLists
+pub mod SameText
 pub mod Whole
 pub mod Constants
 pub mod EndsRead

@@ -1,4 +1,4 @@
--- Printed lists of indices, of entries and of cases are read as lists that are printed alike.
+-- Printed lists of indices and of entries are read as these lists again, and so are getelementptr and phi.
 use Rattle.std.proofs.Common.{◌≡◌, ℕ, ◌<◌, Bool, true, false, not, List, [], ◌∷◌, ◌++◌, length, Option, None, refl, sym, ap, subst, ◌∙◌, arith, append_assoc}
 use Rattle.std.specs.Prelude.{codes}
 use Rattle.grammar.specs.Grammar.{pure, ◌>>=◌, ◌>>◌}
@@ -27,6 +27,7 @@ use Rattle.ir_print.specs.Operands.{operand_text, argument_text}
 use Rattle.ir_print.specs.Instructions.{op_text, typed}
 use Rattle.ir_print.specs.Standing.{Stands, IsSeam, AreBlanks}
 use Rattle.ir_print.specs.Types.{type_text}
+use Rattle.ir_print_law.specs.Again.{AreAlike, IsIncomingAgain, IsOpAgain}
 use Rattle.ir_print_law.specs.Printable.{IsType, IsScalar, IsOperand, IsArgument, IsPlaceType}
 use Rattle.ir_print_law.specs.Shapes.{Shape, HasShape, bits_of_shape}
 use Rattle.ir_print_law.proofs.State.{Invariant, Ready, Grows, IsLater, Reads}
@@ -34,12 +35,11 @@ use Rattle.ir_print_law.proofs.Shown.{shown, IsTypeRead, read_stays, bits_read}
 use Rattle.ir_print_law.proofs.Steps.{given, sign_reads, word_skipped, unlike, grows_itself, grows_further, later_before}
 use Rattle.ir_print_law.proofs.Types.{EndsType, ends_type}
 use Rattle.ir_print_law.proofs.WholeTypes.{type_begins}
-use Rattle.ir_print_law.proofs.PrintedTypes.{type_shown, read_shown, any_type_reads, scalar_reads}
-use Rattle.ir_print_law.proofs.OperandsAgain.{OperandPrints, operand_reads}
-use Rattle.ir_print_law.proofs.Parts.{ends_comma, OpPrints, ArgumentPrints, Sets, typed_reads}
+use Rattle.ir_print_law.proofs.PrintedTypes.{type_shown, read_again, any_type_reads, scalar_reads}
+use Rattle.ir_print_law.proofs.OperandsAgain.{OperandAgain, operand_reads}
+use Rattle.ir_print_law.proofs.Parts.{ends_comma, OpAgain, ArgumentAgain, Sets, typed_reads}
 use Rattle.ir_print_law.proofs.OperationsAgain.{on, said_on, set_reads}
 use Rattle.std.specs.List.{flat_map, AllByRecursion}
-use Rattle.std.specs.Prelude.{map}
 use Rattle.ir_forms.specs.ManyWith.{Follows}
 use Rattle.std.specs.Prelude.{◌||◌, ◌&&◌}
 use Rattle.ir_ast.specs.declared.op.Incoming.{Incoming}
@@ -48,8 +48,7 @@ use Rattle.ir_print.specs.Names.{name_at}
 use Rattle.ir_print.specs.Operands.{listed}
 use Rattle.ir_print_law.proofs.Words.{seen, sign_comes}
 use Rattle.ir_print_law.proofs.Steps.{sign_kind}
-use Rattle.ir_print_law.proofs.PlaceOperations.{later_shape}
-use Rattle.ir_print_law.proofs.ArgumentsAgain.{ends_line, EndsLine, listed_by}
+use Rattle.ir_print_law.proofs.ArgumentsAgain.{ends_line, EndsLine, AllArgumentsAgain}
 use Rattle.ir_forms.specs.Phis as phis
 use Rattle.ir_forms.specs.declared.site.Site.{Site}
 use Rattle.ir_forms.specs.Names.{incoming_label}
@@ -57,7 +56,7 @@ use Rattle.ir_print.specs.Instructions.{index_text, incoming_text, element_word}
 use Rattle.ir_print.specs.Names.{local_text}
 use Rattle.ir_forms.specs.declared.uses.Wanted.TheVariants as wants
 use Rattle.ir_print_law.specs.Printable.{IsIncoming}
-use Rattle.ir_print_law.proofs.Parts.{label_reads, label_later, TargetPrints}
+use Rattle.ir_print_law.proofs.Parts.{label_reads, label_later, HasLabel}
 use Rattle.ir_print_law.proofs.PlaceOperations.{optional_said, place_reads}
 use Rattle.ir_print_law.proofs.CallsAgain.{no_comma_seen}
 
@@ -78,27 +77,19 @@ list_goes_on i is e = ap (λ (b : Bool). not b || lists.is_metadata (kind_behind
 module _ {m : Module} {f : Function} (v : Invariant m f) where
   -- ---- indices
 
-  -- indices, each after a comma
-  abbrev shown_indices : List Argument → Text
-  shown_indices xs = flat_map (index_text m f.locals) xs
-
   -- a token ends before them
   seam_indices : (xs : List Argument) (rest : Text) → IsSeam rest → IsSeam (flat_map (index_text m f.locals) xs ++ rest)
   unfolding class_of
   seam_indices [] rest seam = seam
   seam_indices (x ∷ xs) rest seam = refl
 
-  -- indices are printed alike later on
-  abbrev IndicesPrint : List Argument → List Argument → Input → Type 0
-  IndicesPrint xs ys o = (n : Module) (others : List Text) → IsLater o n others → flat_map (index_text n others) ys ≡ flat_map (index_text m f.locals) xs
-
   -- an index, after others or not
   index_reads : (x : Argument) (xs : List Argument) (is_further : Bool) (i : Input) (rest : Text) (s : ℕ) → IsArgument m f x → EndsLine rest → Ready v s i (codes ", " ++ (argument_text m f.locals x ++ (flat_map (index_text m f.locals) xs ++ rest)))
-      → (lists.ends_indices (record { is_further = is_further }) i ≡ false) × Reads v s lists.index i (flat_map (index_text m f.locals) xs ++ rest) (ArgumentPrints (argument_text m f.locals x))
+      → (lists.ends_indices (record { is_further = is_further }) i ≡ false) × Reads v s lists.index i (flat_map (index_text m f.locals) xs ++ rest) (ArgumentAgain m f.locals x)
   unfolding lists.index class_of
   index_reads x xs is_further i rest s own ends ready =
       let behind = flat_map (index_text m f.locals) xs ++ rest in
-      let good = ArgumentPrints (argument_text m f.locals x) in
+      let good = ArgumentAgain m f.locals x in
       let comma = sign_kind v 44 k.Comma i [] (32 ∷ (argument_text m f.locals x ++ behind)) s refl refl refl ready in
       let a = sign_reads v 44 k.Comma i [] (32 ∷ (argument_text m f.locals x ++ (flat_map (index_text m f.locals) xs ++ rest))) s s refl refl refl (omega arith) ready in
       let front = ap (λ (y : Text). (y ++ 32 ∷ operand_text m f.locals x.written x.operand) ++ behind) (type_shown m own.0 x.written own.1.0.0 own.1.0.1)
@@ -116,8 +107,8 @@ module _ {m : Module} {f : Function} (v : Invariant m f) where
 
   -- further indices are read
   indices_behind : (xs : List Argument) (i : Input) (rest : Text) (s : ℕ) → AllByRecursion (IsArgument m f) xs → EndsLine rest → Ready v s i (flat_map (index_text m f.locals) xs ++ rest)
-      → (ys : List Argument) × (o : Input) × Follows lists.ends_indices (λ c. (lists.any_index c).says) lists.behind_index (record { is_further = true }) i ys o × Ready v s o rest × Grows i o × IndicesPrint xs ys o
-  indices_behind [] i rest s own ends ready = ([], i, (list_ends i (ends.1 i ready.stands), refl), ready, grows_itself i, λ n others later. refl)
+      → (ys : List Argument) × (o : Input) × Follows lists.ends_indices (λ c. (lists.any_index c).says) lists.behind_index (record { is_further = true }) i ys o × Ready v s o rest × Grows i o × AllArgumentsAgain m f.locals xs ys o
+  indices_behind [] i rest s own ends ready = ([], i, (list_ends i (ends.1 i ready.stands), refl), ready, grows_itself i, λ n others later. tt)
   indices_behind (x ∷ xs) i rest s own ends ready =
       let ready = subst (λ (y : Text). Ready v s i y) (append_assoc (codes ", " ++ argument_text m f.locals x) (flat_map (index_text m f.locals) xs) rest ∙ append_assoc (codes ", ") (argument_text m f.locals x) (flat_map (index_text m f.locals) xs ++ rest)) ready in
       let h = index_reads x xs true i rest s own.0 ends ready in
@@ -128,12 +119,12 @@ module _ {m : Module} {f : Function} (v : Invariant m f) where
         (h.0, a.1, a.2, b.2),
         b.3,
         grows_further i a.1 b.1 a.4 b.4,
-        λ n others later. ap (λ (y : Text). (codes ", " ++ y) ++ flat_map (index_text n others) b.0) (a.5 n others (later_before a.1 b.1 n others b.4 later)) ∙ ap (λ (y : Text). (codes ", " ++ argument_text m f.locals x) ++ y) (b.5 n others later),
+        λ n others later. (a.5 n others (later_before a.1 b.1 n others b.4 later), b.5 n others later),
       )
 
   -- the indices of a getelementptr
   pub indices_read : (xs : List Argument) (i : Input) (rest : Text) (s : ℕ) → 0 < length xs → AllByRecursion (IsArgument m f) xs → EndsLine rest → Ready v s i (flat_map (index_text m f.locals) xs ++ rest)
-      → Reads v s lists.indices i rest (IndicesPrint xs)
+      → Reads v s lists.indices i rest (AllArgumentsAgain m f.locals xs)
   unfolding lists.indices
   indices_read [] i rest s some own ends ready = absurd (omega (arith, some))
   indices_read (x ∷ xs) i rest s some own ends ready =
@@ -146,21 +137,21 @@ module _ {m : Module} {f : Function} (v : Invariant m f) where
         (h.0, a.1, a.2, b.2),
         b.3,
         grows_further i a.1 b.1 a.4 b.4,
-        λ n others later. ap (λ (y : Text). (codes ", " ++ y) ++ flat_map (index_text n others) b.0) (a.5 n others (later_before a.1 b.1 n others b.4 later)) ∙ ap (λ (y : Text). (codes ", " ++ argument_text m f.locals x) ++ y) (b.5 n others later),
+        λ n others later. (a.5 n others (later_before a.1 b.1 n others b.4 later), b.5 n others later),
       )
 
   -- ---- entries of a phi
 
-  -- an entry is printed alike later on
-  abbrev EntryPrints : Shape → Text → Incoming → Input → Type 0
-  EntryPrints shape text y o = (n : Module) (others : List Text) → IsLater o n others → (t : ℕ) → HasShape n.types n.struct_names shape t → incoming_text n others t y ≡ text
+  -- an entry is this one again, in each module later on
+  abbrev EntryAgain : Incoming → Incoming → Input → Type 0
+  EntryAgain x y o = (n : Module) (others : List Text) → IsLater o n others → IsIncomingAgain m n f.locals others x y
 
   -- `[ V, %b ]`
   incoming_reads : (shape : Shape) (t : ℕ) (x : Incoming) (i : Input) (gap rest : Text) (s : ℕ) → HasShape m.types m.struct_names shape t → IsIncoming m f (bits_of_shape shape) x → AreBlanks gap
-      → Ready v s i (gap ++ (incoming_text m f.locals t x ++ rest)) → Reads v s (phis.incoming (bits_of_shape shape)) i rest (EntryPrints shape (incoming_text m f.locals t x))
+      → Ready v s i (gap ++ (incoming_text m f.locals t x ++ rest)) → Reads v s (phis.incoming (bits_of_shape shape)) i rest (EntryAgain x)
   unfolding phis.incoming class_of
   incoming_reads shape t x i gap rest s has own blanks ready =
-      let good = EntryPrints shape (incoming_text m f.locals t x) in
+      let good = EntryAgain x in
       let t3 = local_text f.locals x.from ++ (codes " ]" ++ rest) in
       let t2 = codes ", " ++ t3 in
       let t1 = operand_text m f.locals t x.operand ++ t2 in
@@ -168,23 +159,22 @@ module _ {m : Module} {f : Function} (v : Invariant m f) where
       on v v (expect k.OpenSquare) (λ _. phis.incoming_behind (bits_of_shape shape)) i (32 ∷ t1) rest s s (λ _ o. advanced i ≡ o) good
       (sign_reads v 91 k.OpenSquare i gap (32 ∷ t1) s s blanks refl refl (omega arith) ready)
       (λ _ o ready g e.
-      on v v (form.operand (bits_of_shape shape)) comma_form o t2 rest s s (OperandPrints shape (operand_text m f.locals t x.operand)) good
+      on v v (form.operand (bits_of_shape shape)) comma_form o t2 rest s s (OperandAgain m f.locals x.operand) good
       (operand_reads v shape t x.operand o (32 ∷ []) t2 s has own.0 refl refl ready)
-      (λ y q ready h prints.
+      (λ y q ready h again.
       on v v (expect k.Comma) (λ _. label_form y) q (32 ∷ t3) rest s s (λ _ r. advanced q ≡ r) good
       (sign_reads v 44 k.Comma q [] (32 ∷ t3) s s refl refl refl (omega arith) ready)
       (λ _ r ready hh e.
-      on v v incoming_label (close_form y) r (codes " ]" ++ rest) rest s s (TargetPrints (name_at f.locals x.from)) good
+      on v v incoming_label (close_form y) r (codes " ]" ++ rest) rest s s (HasLabel (name_at f.locals x.from)) good
       (label_reads v wants.Block x.from r (32 ∷ []) (codes " ]" ++ rest) s own.1 refl refl ready)
       (λ b z ready h3 there.
       on v v (expect k.CloseSquare) (λ _. pure (record { operand = y; from = b })) z rest rest s s (λ _ u. advanced z ≡ u) good
       (sign_reads v 93 k.CloseSquare z (32 ∷ []) rest s s refl refl refl (omega arith) ready)
       (λ _ u ready h4 e. given v (record { operand = y; from = b }) u rest s good ready
-      (λ n others later k hask.
+      (λ n others later.
       let laterz = later_before z u n others h4 later in
       let laterq = later_before q z n others (grows_further q r z hh h3) laterz in
-      ap (λ (c : Text). codes "[ " ++ c ++ codes ", " ++ local_text others b ++ codes " ]") (prints n others laterq k hask)
-      ∙ ap (λ (c : Text). codes "[ " ++ operand_text m f.locals t x.operand ++ codes ", " ++ c ++ codes " ]") (label_later v x.from b z n others there laterz)))))))
+      (again n others laterq, label_later v x.from b z n others there laterz)))))))
     where
       front : (a b : Text) → (codes "[ " ++ a ++ codes ", " ++ b ++ codes " ]") ++ rest ≡ 91 ∷ 32 ∷ (a ++ (codes ", " ++ (b ++ (codes " ]" ++ rest))))
       front a b = simp append_assoc
@@ -202,16 +192,16 @@ module _ {m : Module} {f : Function} (v : Invariant m f) where
   abbrev further_entries : ℕ → List Incoming → Text
   further_entries t xs = flat_map (λ x. codes ", " ++ incoming_text m f.locals t x) xs
 
-  -- entries are printed alike later on
-  abbrev EntriesPrint : Shape → ℕ → List Incoming → List Incoming → Input → Type 0
-  EntriesPrint shape t xs ys o = (n : Module) (others : List Text) → IsLater o n others → (k : ℕ) → HasShape n.types n.struct_names shape k → map (incoming_text n others k) ys ≡ map (incoming_text m f.locals t) xs
+  -- entries are these again, in each module later on
+  abbrev AllEntriesAgain : List Incoming → List Incoming → Input → Type 0
+  AllEntriesAgain xs ys o = (n : Module) (others : List Text) → IsLater o n others → AreAlike (IsIncomingAgain m n f.locals others) xs ys
 
   -- further entries are read
   entries_behind : (shape : Shape) (t : ℕ) (xs : List Incoming) (i : Input) (rest : Text) (s : ℕ) → HasShape m.types m.struct_names shape t → AllByRecursion (IsIncoming m f (bits_of_shape shape)) xs → EndsLine rest
       → Ready v s i (further_entries t xs ++ rest)
-      → (ys : List Incoming) × (o : Input) × Follows phis.ends_entries (λ c. (phis.entry c).says) phis.behind_entry (record { bits = bits_of_shape shape; is_further = true }) i ys o × Ready v s o rest × Grows i o × EntriesPrint shape t xs ys o
+      → (ys : List Incoming) × (o : Input) × Follows phis.ends_entries (λ c. (phis.entry c).says) phis.behind_entry (record { bits = bits_of_shape shape; is_further = true }) i ys o × Ready v s o rest × Grows i o × AllEntriesAgain xs ys o
   unfolding phis.entry phis.separated class_of
-  entries_behind shape t [] i rest s has own ends ready = ([], i, (list_ends i (ends.1 i ready.stands), refl), ready, grows_itself i, λ n others later k h. refl)
+  entries_behind shape t [] i rest s has own ends ready = ([], i, (list_ends i (ends.1 i ready.stands), refl), ready, grows_itself i, λ n others later. tt)
   entries_behind shape t (x ∷ xs) i rest s has own ends ready =
       let behind = further_entries t xs ++ rest in
       let ready = subst (λ (y : Text). Ready v s i y) (append_assoc (codes ", " ++ incoming_text m f.locals t x) (further_entries t xs) rest ∙ append_assoc (codes ", ") (incoming_text m f.locals t x) (further_entries t xs ++ rest)) ready in
@@ -226,8 +216,7 @@ module _ {m : Module} {f : Function} (v : Invariant m f) where
         (list_goes_on i comma metadata, a.1, (c.0, c.1, c.2, a.2), b.2),
         b.3,
         grows_further i a.1 b.1 (grows_further i c.1 a.1 c.4 a.4) b.4,
-        λ n others later k h. ap (λ (y : Text). y ∷ map (incoming_text n others k) b.0) (a.5 n others (later_before a.1 b.1 n others b.4 later) k h)
-            ∙ ap (λ (ys : List Text). incoming_text m f.locals t x ∷ ys) (b.5 n others later k h),
+        λ n others later. (a.5 n others (later_before a.1 b.1 n others b.4 later), b.5 n others later),
       )
     where
       square_first : (j : Input) (a b behind : Text) (s : ℕ) → Ready v s j (32 ∷ ((codes "[ " ++ a ++ codes ", " ++ b ++ codes " ]") ++ behind)) → kind j.cursor ≡ k.OpenSquare
@@ -235,7 +224,7 @@ module _ {m : Module} {f : Function} (v : Invariant m f) where
 
   -- the entries of a phi
   pub entries_read : (shape : Shape) (t : ℕ) (xs : List Incoming) (i : Input) (rest : Text) (s : ℕ) → 0 < length xs → HasShape m.types m.struct_names shape t → AllByRecursion (IsIncoming m f (bits_of_shape shape)) xs → EndsLine rest
-      → Ready v s i (32 ∷ (listed (incoming_text m f.locals t) xs ++ rest)) → Reads v s (phis.all_entries (bits_of_shape shape)) i rest (EntriesPrint shape t xs)
+      → Ready v s i (32 ∷ (listed (incoming_text m f.locals t) xs ++ rest)) → Reads v s (phis.all_entries (bits_of_shape shape)) i rest (AllEntriesAgain xs)
   unfolding phis.all_entries phis.entry phis.separated
   entries_read shape t [] i rest s some has own ends ready = absurd (omega (arith, some))
   entries_read shape t (x ∷ xs) i rest s some has own ends ready =
@@ -247,20 +236,19 @@ module _ {m : Module} {f : Function} (v : Invariant m f) where
         (refl, a.1, (tt, i, (refl, refl), a.2), b.2),
         b.3,
         grows_further i a.1 b.1 a.4 b.4,
-        λ n others later k h. ap (λ (y : Text). y ∷ map (incoming_text n others k) b.0) (a.5 n others (later_before a.1 b.1 n others b.4 later) k h)
-            ∙ ap (λ (ys : List Text). incoming_text m f.locals t x ∷ ys) (b.5 n others later k h),
+        λ n others later. (a.5 n others (later_before a.1 b.1 n others b.4 later), b.5 n others later),
       )
 
 module _ {m : Module} {f : Function} (v u : Invariant m f) where
   -- `getelementptr T, T* V, T W, ..`
   pub element_reads : (site : Site) (value source base_type : ℕ) (x : Operand) (xs : List Argument) (i : Input) (gap rest : Text) (s : ℕ)
       → ((shape : Shape) × IsType m shape source × IsPlaceType m shape source base_type × IsOperand m f None x × (0 < length xs) × AllByRecursion (IsArgument m f) xs) → Sets v u value → EndsLine rest → AreBlanks gap
-      → Ready v s i (gap ++ (op_text m f.locals (op.Element source base_type x xs) ++ rest)) → Reads u s (memory.element site value) i rest (OpPrints (op_text m f.locals (op.Element source base_type x xs)))
-  unfolding memory.element memory.source element_word class_of word_kind keywords
+      → Ready v s i (gap ++ (op_text m f.locals (op.Element source base_type x xs) ++ rest)) → Reads u s (memory.element site value) i rest (OpAgain m f.locals (op.Element source base_type x xs))
+  unfolding memory.element memory.source element_word class_of word_kind keywords IsOpAgain
   element_reads site value source base_type x xs i gap rest s own sets ends blanks ready =
       let shape = own.0 in
       let is = own.1 in
-      let good = OpPrints (op_text m f.locals (op.Element source base_type x xs)) in
+      let good = OpAgain m f.locals (op.Element source base_type x xs) in
       let type_is = type_shown m shape source is.0 is.1 in
       let t4 = flat_map (index_text m f.locals) xs ++ rest in
       let t3 = argument_text m f.locals (typed base_type x) ++ t4 in
@@ -279,20 +267,18 @@ module _ {m : Module} {f : Function} (v u : Invariant m f) where
       on v u (expect k.Comma) (λ _. place_form p) q (32 ∷ t3) rest s s (λ _ r. advanced q ≡ r) good
       (sign_reads v 44 k.Comma q [] (32 ∷ t3) s s refl refl refl (omega arith) ready)
       (λ _ r ready hh e.
-      on v u (memory.place_of p) (indices_form p) r t4 rest s s (ArgumentPrints (argument_text m f.locals (typed base_type x))) good
+      on v u (memory.place_of p) (indices_form p) r t4 rest s s (ArgumentAgain m f.locals (typed base_type x)) good
       (place_reads v shape source base_type x p r (32 ∷ []) t4 s is own.2 own.3 (read_stays shape 64 p q r hh read) refl (seam_indices v xs rest ends.0) ready)
       (λ place z ready h3 placed.
-      on v u lists.indices (set_form p place) z rest rest s s (IndicesPrint v xs) good
+      on v u lists.indices (set_form p place) z rest rest s s (AllArgumentsAgain m f.locals xs) good
       (indices_read v xs z rest s own.4 own.5 ends ready)
-      (λ ys end ready h4 print.
-      set_reads v u value (local.Element site.block site.place) (op.Element p.id place.written place.operand ys) (op_text m f.locals (op.Element source base_type x xs)) end rest s sets refl ready
+      (λ ys end ready h4 again.
+      set_reads v u value (local.Element site.block site.place) (op.Element source base_type x xs) (op.Element p.id place.written place.operand ys) end rest s sets refl ready
       (λ n others later.
       let laterz = later_before z end n others h4 later in
       let laterq = later_before q z n others (grows_further q r z hh h3) laterz in
-      ap (λ (c : Text). codes "getelementptr " ++ (type_text n p.id ++ codes ", " ++ argument_text n others place) ++ c) (print n others later)
-      ∙ ap (λ (c : Text). codes "getelementptr " ++ (type_text n p.id ++ codes ", " ++ c) ++ flat_map (index_text m f.locals) xs) (placed n others laterz)
-      ∙ ap (λ (c : Text). codes "getelementptr " ++ (c ++ codes ", " ++ argument_text m f.locals (typed base_type x)) ++ flat_map (index_text m f.locals) xs)
-      (read_shown shape p.id q n others read.has_shape is.1 laterq ∙ sym type_is)))))))
+      let place_again = placed n others laterz in
+      (read_again m shape source p.id q n others is.0 read.has_shape laterq, place_again.0, place_again.1, again n others later)))))))
     where
       front : (a b c : Text) → (codes "getelementptr " ++ (a ++ codes ", " ++ b) ++ c) ++ rest ≡ codes "getelementptr" ++ (32 ∷ (a ++ (codes ", " ++ (b ++ (c ++ rest)))))
       front a b c = simp append_assoc
@@ -315,12 +301,12 @@ module _ {m : Module} {f : Function} (v u : Invariant m f) where
   -- `phi T [ V, %b ], ..`
   pub phi_reads : (site : Site) (value t : ℕ) (xs : List Incoming) (i : Input) (gap rest : Text) (s : ℕ) → site.is_behind_phis ≡ true
       → ((shape : Shape) × IsScalar m shape t × (0 < length xs) × AllByRecursion (IsIncoming m f (bits_of_shape shape)) xs) → Sets v u value → EndsLine rest → AreBlanks gap
-      → Ready v s i (gap ++ (op_text m f.locals (op.Phi t xs) ++ rest)) → Reads u s (phis.phi site value) i rest (OpPrints (op_text m f.locals (op.Phi t xs)))
-  unfolding phis.phi class_of word_kind keywords
+      → Ready v s i (gap ++ (op_text m f.locals (op.Phi t xs) ++ rest)) → Reads u s (phis.phi site value) i rest (OpAgain m f.locals (op.Phi t xs))
+  unfolding phis.phi class_of word_kind keywords IsOpAgain
   phi_reads site value t xs i gap rest s first own sets ends blanks ready =
       let shape = own.0 in
       let scalar = own.1 in
-      let good = OpPrints (op_text m f.locals (op.Phi t xs)) in
+      let good = OpAgain m f.locals (op.Phi t xs) in
       let type_is = type_shown m shape t scalar.0.0 scalar.0.1 in
       let t2 = 32 ∷ (listed (incoming_text m f.locals t) xs ++ rest) in
       let t1 = shown false shape ++ t2 in
@@ -333,15 +319,10 @@ module _ {m : Module} {f : Function} (v u : Invariant m f) where
       on v u w.scalar entries_form o t2 rest s s (IsTypeRead shape 64) good
       (scalar_reads v shape o (32 ∷ []) t2 s scalar.0.2 scalar.0.1 scalar.1 refl (ends_entries xs own.2) ready)
       (λ p q ready h read.
-      on v u (phis.all_entries (w.bits_of p)) (set_form p) q rest rest s s (EntriesPrint v shape t xs) good
-      (subst (λ (b : Option ℕ). Reads v s (phis.all_entries b) q rest (EntriesPrint v shape t xs)) (sym (bits_read shape 64 p q read)) (entries_read v shape t xs q rest s own.2 scalar.0.0 own.3 ends ready))
-      (λ ys r ready hh print. set_reads v u value (local.Value p.id) (op.Phi p.id ys) (op_text m f.locals (op.Phi t xs)) r rest s sets refl ready
-      (λ n others later.
-      let laterq = later_before q r n others hh later in
-      let has = later_shape shape p.id q n others read.has_shape laterq in
-      ap (λ (c : Text). codes "phi " ++ c ++ 32 ∷ listed (incoming_text n others p.id) ys) (read_shown shape p.id q n others read.has_shape scalar.0.1 laterq ∙ sym type_is)
-      ∙ ap (λ (c : Text). codes "phi " ++ type_text m t ++ 32 ∷ c)
-      (listed_by (incoming_text n others p.id) ys ∙ ap (λ (zs : List Text). listed (λ (c : Text). c) zs) (print n others later p.id has) ∙ sym (listed_by (incoming_text m f.locals t) xs)))))))
+      on v u (phis.all_entries (w.bits_of p)) (set_form p) q rest rest s s (AllEntriesAgain v xs) good
+      (subst (λ (b : Option ℕ). Reads v s (phis.all_entries b) q rest (AllEntriesAgain v xs)) (sym (bits_read shape 64 p q read)) (entries_read v shape t xs q rest s own.2 scalar.0.0 own.3 ends ready))
+      (λ ys r ready hh again. set_reads v u value (local.Value p.id) (op.Phi t xs) (op.Phi p.id ys) r rest s sets refl ready
+      (λ n others later. (read_again m shape t p.id q n others scalar.0.0 read.has_shape (later_before q r n others hh later), again n others later))))))
     where
       front : (a b : Text) → (codes "phi " ++ a ++ 32 ∷ b) ++ rest ≡ codes "phi" ++ (32 ∷ (a ++ (32 ∷ (b ++ rest))))
       front a b = simp append_assoc

@@ -1,5 +1,5 @@
 -- Names that are defined by items of a module, and items that are added to it.
-use Rattle.std.proofs.Common.{◌≡◌, ℕ, suc, ◌+◌, ◌<◌, ◌≤◌, true, false, not, List, [], ◌∷◌, ◌++◌, length, map, slice_get, Option, None, Some, refl, sym, ap, subst, ◌∙◌, arith, length-append}
+use Rattle.std.proofs.Common.{◌≡◌, ℕ, suc, ◌+◌, ◌<◌, ◌≤◌, true, false, not, List, [], ◌∷◌, ◌++◌, length, map, slice_get, unwrap_or, Option, None, Some, refl, sym, ap, subst, ◌∙◌, arith, length-append}
 use Rattle.std.specs.Prelude.{nat_lt}
 use Rattle.std.proofs.lemmas.Bool.Decides.{nat_tests}
 use Rattle.std.proofs.lemmas.List.{append-nil}
@@ -21,12 +21,13 @@ use Rattle.ir_forms.specs.declared.input.Input.{Input}
 use Rattle.ir_forms.specs.Names.{struct_number, symbol_number, is_known_struct, is_known_symbol, with_struct, with_symbol, new_struct, new_symbol}
 use Rattle.ir_text.specs.ItemsOfText.{with_struct_type, with_global, with_declare, function_of, with_function}
 use Rattle.name_text.specs.Readings.{AreBytes}
+use Rattle.ir_print.specs.Names.{name_at}
 use Rattle.ir_print_law.specs.Printable.{IsSymbol}
 use Rattle.ir_print_law.proofs.Forms.{Keeps, Any}
 use Rattle.ir_print_law.proofs.ModuleState.{Pending, no_one, struct_names_of, symbols_of, Stands, Kept, kept_of, Leads, next_bytes, next_spells, struct_name_begins, symbol_begins}
 use Rattle.ir_print_law.proofs.ModuleTables.{AreStructs, AreSymbols, Owned, OwnsStruct, OwnsSymbol, table_mentions, struct_defines, global_defines, declared_defines, defined_defines, more_globals, more_declares, more_functions}
 use Rattle.ir_print_law.proofs.NameBytes.{spelled_bytes}
-use Rattle.ir_print_law.proofs.Tables.{name_there}
+use Rattle.ir_print_law.proofs.Tables.{name_there, stays}
 
 -- ---- lists of numbers
 
@@ -250,6 +251,18 @@ symbol_keeps e P pending sort i stands n o h f =
           (subst (λ (j : Input). Stands (pending (symbol_number i)) j × P (kept_of j)) end (stands (new, stays) f.0, f.1)),
       λ b. (leads_symbol_name e i sort (subst (Leads e) (sym end) b), tt),
     )
+
+-- a name that is defined here has this number where reading ends
+pub named_at_end : (e i : Input) (sort : SymbolSort) (n : ℕ) (o : Input) → (new_symbol sort).says i n o → Leads e o → name_at e.symbols.names n ≡ spelled i.cursor
+unfolding new_symbol
+named_at_end e i sort n o h back =
+    let rules = h.2 in
+    let same : i ≡ h.1 = rules.2.2.1 ∙ rules.2.3.1 ∙ rules.3.1 in
+    let number : symbol_number i ≡ n = ap symbol_number same ∙ h.3.0 in
+    let end : with_symbol sort i ≡ o = ap (with_symbol sort) same ∙ h.3.1 in
+    let leads = subst (Leads e) (sym end) back in
+    let at = stays (seen_symbols i).names e.symbols.names (symbol_number i) (spelled i.cursor) leads.symbols (there i) in
+    ap (name_at e.symbols.names) (sym number) ∙ ap (λ (x : Option Text). unwrap_or x []) at
 
 -- a name of a global
 pub new_global_keeps : (e : Input) (P : Kept → Type 0) (i : Input) → nat_lt (length i.globals) 4096 ≡ true

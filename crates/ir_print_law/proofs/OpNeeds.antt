@@ -1,4 +1,4 @@
--- What is taken of operations: each printed operation of a function is read as one that is printed alike.
+-- What is taken of operations: each printed operation of a function is read as this operation again.
 use Rattle.std.proofs.Common.{◌≡◌, ℕ, Bool, true, false, List, [], ◌∷◌, ◌++◌, None}
 use Rattle.ir_ast.specs.declared.function.Function.{Function}
 use Rattle.ir_ast.specs.declared.module.Module.{Module}
@@ -16,6 +16,7 @@ use Rattle.ir_forms.specs.Memory.{store}
 use Rattle.ir_forms.specs.Sites.{is_phi}
 use Rattle.ir_print.specs.Instructions.{op_text, ends_block}
 use Rattle.ir_print.specs.Standing.{IsSeam, AreBlanks}
+use Rattle.ir_print_law.specs.Again.{IsOpAgain}
 use Rattle.ir_print_law.specs.Printable.{IsOp, gives_value}
 use Rattle.ir_print_law.specs.Shapes.{IsIn}
 use Rattle.ir_print_law.proofs.State.{Ready, Reads, IsLater}
@@ -41,10 +42,9 @@ begins_body_line _ = false
 abbrev pub EndsOp : Text → Type 0
 EndsOp rest = IsSeam rest × Comes begins_body_line rest
 
--- an operation that is printed as this one, in each module later on
+-- an operation that is this one again, in each module later on
 abbrev pub IsOpRead : Module → List Text → Op → Op → Input → Type 0
-IsOpRead m locals x y o =
-    (is_phi y ≡ is_phi x) × ((n : Module) (others : List Text) → IsLater o n others → op_text m locals x ≡ op_text n others y)
+IsOpRead m locals x y o = (is_phi y ≡ is_phi x) × ((n : Module) (others : List Text) → IsLater o n others → IsOpAgain m n locals others x y)
 
 -- the value that waits for its type has it
 abbrev pub far_set : Text → Far → Far

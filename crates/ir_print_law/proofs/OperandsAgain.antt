@@ -1,5 +1,5 @@
--- Printed operands are read as operands that are printed alike.
-use Rattle.std.proofs.Common.{◌≡◌, ℕ, ◌+◌, ◌<◌, ◌≤◌, ◌^◌, Bool, true, false, not, List, [], ◌∷◌, ◌++◌, length, slice_get, Option, Some, unwrap_or, refl, sym, ap, subst, ◌∙◌, arith, append_assoc, length-append}
+-- Printed operands are read as these operands again.
+use Rattle.std.proofs.Common.{◌≡◌, ℕ, ◌+◌, ◌<◌, ◌≤◌, ◌^◌, Bool, true, false, not, List, [], ◌∷◌, ◌++◌, length, slice_get, Option, Some, refl, sym, ap, subst, ◌∙◌, arith, append_assoc, length-append}
 use Rattle.std.specs.Prelude.{codes, nat_lt, option_and_then}
 use Rattle.grammar.specs.Grammar.{pure, ◌>>=◌, ◌>>◌}
 use Rattle.ir_ast.specs.Names.{place_of, number_of, numbered}
@@ -36,14 +36,15 @@ use Rattle.ir_print_law.proofs.Constants.{constant_is_read}
 use Rattle.ir_print_law.proofs.NamesRead.{local_operands_are_read, few}
 use Rattle.name_text.specs.Reading.{name_spelled}
 use Rattle.ir_print_law.proofs.Words.{global_comes, sign_comes, word_comes}
+use Rattle.ir_print_law.specs.Again.{IsOperandAgain}
 use Rattle.ir_print_law.specs.Printable.{IsType, IsGlobalUse, IsOperand}
 use Rattle.ir_print_law.specs.Shapes.{IsIn, Shape, Integer, Pointer, Array, Empty, Struct, Named, HasShape, bits_of_shape, is_pointer_shape}
-use Rattle.ir_print_law.proofs.Tables.{Begins, begins_itself, stays, name_begins, name_length, name_there, number_within}
+use Rattle.ir_print_law.proofs.Tables.{begins_itself, stays, name_begins, name_length, name_there, number_within}
 use Rattle.ir_print_law.proofs.State.{Invariant, Ready, Grows, IsLater, Reads, used_keys, used_symbols}
 use Rattle.ir_print_law.proofs.Shown.{shown, IsTypeRead}
 use Rattle.ir_print_law.proofs.Steps.{go_on, given, shorter, looked, sign_reads, word_reads, word_skipped, word_seen, later_before, grows_advanced, passed}
 use Rattle.ir_print_law.proofs.Types.{EndsType, Comes, ends_type}
-use Rattle.ir_print_law.proofs.PrintedTypes.{type_shown, read_shown, pointer_type_reads}
+use Rattle.ir_print_law.proofs.PrintedTypes.{type_shown, read_again, pointer_type_reads}
 
 -- ---- constants
 
@@ -62,13 +63,9 @@ constant_by_shape n shape t (constant.Number number) h = ap (λ b. number_text b
 constant_by_shape n shape t constant.Null h = refl
 constant_by_shape n shape t (constant.Truth truth) h = refl
 
--- an operand is printed as this text in each later module, at a type of this shape
-abbrev pub OperandPrints : Shape → Text → Operand → Input → Type 0
-OperandPrints shape text x o = (n : Module) (others : List Text) → IsLater o n others → (t : ℕ) → HasShape n.types n.struct_names shape t → operand_text n others t x ≡ text
-
--- a name has its number later on
-name_later : (names others : List Text) (n : ℕ) (name : Text) → Begins names others → slice_get names n ≡ Some name → name_at others n ≡ name
-name_later names others n name b e = ap (λ (x : Option Text). unwrap_or x []) (stays names others n name b e)
+-- an operand is this one again, in each module later on
+abbrev pub OperandAgain : Module → (locals : List Text) → Operand → Operand → Input → Type 0
+OperandAgain m locals x y o = (n : Module) (others : List Text) → IsLater o n others → IsOperandAgain m n locals others x y
 
 -- the name of a global is read where it is an operand
 global_said : (i : Input) (name : Text) → spelled i.cursor ≡ name → is_intrinsic name ≡ false
@@ -305,7 +302,7 @@ module _ {m : Module} {f : Function} (v : Invariant m f) where
 
   -- a local name is read as an operand
   local_reads : (shape : Shape) (value : ℕ) (i : Input) (gap rest : Text) (s : ℕ) → IsIn (used_keys f wants.Value) (name_at f.locals value) → AreBlanks gap → IsSeam rest
-      → Ready v s i (gap ++ (local_text f.locals value ++ rest)) → Reads v s (form.operand (bits_of_shape shape)) i rest (OperandPrints shape (local_text f.locals value))
+      → Ready v s i (gap ++ (local_text f.locals value ++ rest)) → Reads v s (form.operand (bits_of_shape shape)) i rest (OperandAgain m f.locals (operand.Local value))
   local_reads shape value i gap rest s there blanks seam ready =
       let key = name_at f.locals value in
       let r = local_operands_are_read (bits_of_shape shape) f.locals value i gap rest (v.is_key wants.Value key there) (local_few i _ s key ready) blanks seam ready.stands in (
@@ -314,32 +311,31 @@ module _ {m : Module} {f : Function} (v : Invariant m f) where
         r.0,
         local_ready wants.Value i (gap ++ (local_text f.locals value ++ rest)) rest s key r.1 there ready (byte_less gap (key_text key) rest) r.2,
         local_grows wants.Value i,
-        λ n others later t has. ap (λ (x : Text). 37 ∷ key_text x)
-            (name_later (with_local_use wants.Value i).locals.names others (number_of key i.locals.names) key later.locals (local_there i key wants.Value r.1)),
+        λ n others later. stays (with_local_use wants.Value i).locals.names others (number_of key i.locals.names) key later.locals (local_there i key wants.Value r.1),
       )
 
   -- the name of a global is read as an operand
   global_operand_reads : (shape : Shape) (symbol : ℕ) (i : Input) (gap rest : Text) (s : ℕ) → IsGlobalUse m symbol → AreBlanks gap → IsSeam rest
-      → Ready v s i (gap ++ (global_text m symbol ++ rest)) → Reads v s (form.operand (bits_of_shape shape)) i rest (OperandPrints shape (global_text m symbol))
+      → Ready v s i (gap ++ (global_text m symbol ++ rest)) → Reads v s (form.operand (bits_of_shape shape)) i rest (OperandAgain m f.locals (operand.Global symbol))
   unfolding form.operand
   global_operand_reads shape symbol i gap rest s used blanks seam ready =
       let name = name_at m.symbols symbol in
-      let good = OperandPrints shape (global_text m symbol) in
+      let good = OperandAgain m f.locals (operand.Global symbol) in
       let is = v.is_symbol false name used.0 in
       looked v (λ i. kind i.cursor) (form.operand_by (bits_of_shape shape)) i rest s good k.GlobalName (global_seen name i gap rest s is.0 blanks seam ready)
       (go_on v used_global (λ n. pure (operand.Global n)) i rest rest s s (λ n o. slice_get o.symbols.names n ≡ Some name) good
       (global_reads name i gap rest s used.0 used.1 blanks seam ready)
       (λ number o ready g there. given v (operand.Global number) o rest s good ready
-      (λ n others later t has. ap (λ (x : Text). 64 ∷ name_text blank.Kept x) (name_later o.symbols.names n.symbols number name later.symbols there))))
+      (λ n others later. stays o.symbols.names n.symbols number name later.symbols there)))
 
   -- a bitcast of a global is read as an operand
   cast_reads : (shape first second : Shape) (from symbol to : ℕ) (i : Input) (gap rest : Text) (s : ℕ)
       → IsType m first from → is_pointer_shape first ≡ true → IsGlobalUse m symbol → IsType m second to → is_pointer_shape second ≡ true → AreBlanks gap
-      → Ready v s i (gap ++ (cast_text m from symbol to ++ rest)) → Reads v s (form.operand (bits_of_shape shape)) i rest (OperandPrints shape (cast_text m from symbol to))
+      → Ready v s i (gap ++ (cast_text m from symbol to ++ rest)) → Reads v s (form.operand (bits_of_shape shape)) i rest (OperandAgain m f.locals (operand.CastGlobal from symbol to))
   unfolding form.operand form.cast form.cast_operand word_kind keywords class_of
   cast_reads shape first second from symbol to i gap rest s a pa used b pb blanks ready =
       let name = name_at m.symbols symbol in
-      let good = OperandPrints shape (cast_text m from symbol to) in
+      let good = OperandAgain m f.locals (operand.CastGlobal from symbol to) in
       let is = v.is_symbol false name used.0 in
       let from_text = type_shown m first from a.0 a.1 in
       let to_text = type_shown m second to b.0 b.1 in
@@ -375,23 +371,23 @@ module _ {m : Module} {f : Function} (v : Invariant m f) where
       go_on v (expect k.CloseRound) (λ _. pure (operand.CastGlobal p.id number p2.id)) r2 rest rest s s (λ _ x. advanced r2 ≡ x) good
       (sign_reads v 41 k.CloseRound r2 [] rest s s refl refl refl (omega arith) ready)
       (λ _ x ready h3 e. given v (operand.CastGlobal p.id number p2.id) x rest s good ready
-      (λ n others later t has.
+      (λ n others later.
       let later2 = later_before r2 x n others h3 later in
       let laterq = later_before q r n others hh (later_before r r2 n others h2 later2) in
-      let latero = later_before o q n others h laterq in
-      ap (λ (x : Text). cast_by x (global_text n number) (type_text n p2.id)) (read_shown first p.id o n others read.has_shape a.1 latero)
-      ∙ ap (λ (x : Text). cast_by (shown false first) (64 ∷ name_text blank.Kept x) (type_text n p2.id)) (name_later q.symbols.names n.symbols number name laterq.symbols there)
-      ∙ ap (λ (x : Text). cast_by (shown false first) (global_text m symbol) x) (read_shown second p2.id r2 n others read2.has_shape b.1 later2)
-      ∙ sym whole)))))))))
+      let latero = later_before o q n others h laterq in (
+        read_again m first from p.id o n others a.0 read.has_shape latero,
+        stays q.symbols.names n.symbols number name laterq.symbols there,
+        read_again m second to p2.id r2 n others b.0 read2.has_shape later2,
+      ))))))))))
 
-  -- an operand is read as one that is printed alike
+  -- an operand is read as this one again
   pub operand_reads : (shape : Shape) (t : ℕ) (x : Operand) (i : Input) (gap rest : Text) (s : ℕ) → HasShape m.types m.struct_names shape t → IsOperand m f (bits_of_shape shape) x → AreBlanks gap → IsSeam rest
-      → Ready v s i (gap ++ (operand_text m f.locals t x ++ rest)) → Reads v s (form.operand (bits_of_shape shape)) i rest (OperandPrints shape (operand_text m f.locals t x))
+      → Ready v s i (gap ++ (operand_text m f.locals t x ++ rest)) → Reads v s (form.operand (bits_of_shape shape)) i rest (OperandAgain m f.locals x)
   operand_reads shape t (operand.Constant x) i gap rest s has own blanks seam ready =
       let text = constant_by_shape m shape t x has in
       let r = constant_reads shape x i gap rest s own blanks seam (subst (λ (y : Text). Ready v s i (gap ++ (y ++ rest))) text ready) in
       let said = subst (λ (y : Constant). (form.constant (bits_of_shape shape)).says i y r.1) (sym r.5) r.2 in
-      (operand.Constant x, r.1, constant_said (bits_of_shape shape) i r.1 x said, r.3, r.4, λ n others later k h. constant_by_shape n shape k x h ∙ sym text)
+      (operand.Constant x, r.1, constant_said (bits_of_shape shape) i r.1 x said, r.3, r.4, λ n others later. refl)
   operand_reads shape t (operand.Local value) i gap rest s has own blanks seam ready = local_reads shape value i gap rest s own blanks seam ready
   operand_reads shape t (operand.Global symbol) i gap rest s has own blanks seam ready = global_operand_reads shape symbol i gap rest s own blanks seam ready
   operand_reads shape t (operand.CastGlobal from symbol to) i gap rest s has own blanks seam ready =

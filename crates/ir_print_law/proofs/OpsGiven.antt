@@ -27,10 +27,10 @@ use Rattle.ir_print_law.specs.Definitions.{defined_structs}
 use Rattle.ir_print_law.specs.Shapes.{IsIn}
 use Rattle.ir_print_law.proofs.State.{Ready, Reads}
 use Rattle.ir_print_law.proofs.ArgumentsAgain.{EndsLine, ends_line}
-use Rattle.ir_print_law.proofs.CallsAgain.{InstrPrints, void_call_reads}
+use Rattle.ir_print_law.proofs.CallsAgain.{InstrAgain, void_call_reads}
 use Rattle.ir_print_law.proofs.EndsAgain.{terminator_reads}
 use Rattle.ir_print_law.proofs.InstructionsAgain.{IsNamed, IsUnnamed, named_op_reads}
-use Rattle.ir_print_law.proofs.Parts.{Sets, OpPrints}
+use Rattle.ir_print_law.proofs.Parts.{Sets, OpAgain}
 use Rattle.ir_print_law.proofs.Parts as parts
 use Rattle.ir_print_law.proofs.PhisAgain.{same_phi}
 use Rattle.ir_print_law.proofs.PlaceOperations.{store_reads}
@@ -119,16 +119,16 @@ module _ (m : Module) (f : Function) (named : AreNamed m f) where
         record { values_are = c.values_are; unnamed_is = c.unnamed_is; none_missing = c.none_missing; structs_are = c.structs_are; globals_are = c.globals_are; declares_are = c.declares_are; functions_are = c.functions_are },
       )
 
-  op_read : (x y : Op) (o : Input) → OpPrints (op_text m f.locals x) y o → IsOpRead m f.locals x y o
-  op_read x y o prints = (same_phi m f.locals x y o prints, λ n others later. sym (prints n others later))
+  op_read : (x y : Op) (o : Input) → OpAgain m f.locals x y o → IsOpRead m f.locals x y o
+  op_read x y o again = (same_phi m f.locals x y o again, again)
 
   store_or : (x : Op) (far : Far) (i : Input) (gap rest : Text) → IsOp m f x → IsUnnamed m x → AreBlanks gap → EndsLine rest → kind i.cursor ≡ k.Store
       → Ready (known m f named far) 0 i (gap ++ (op_text m f.locals x ++ rest)) → Reads (known m f named far) 0 store i rest (IsOpRead m f.locals x)
   unfolding word_kind keywords class_of
   store_or (op.Store stored a place_type place) far i gap rest own unnamed blanks ends is ready =
-      so (known m f named far) store i rest 0 (OpPrints (op_text m f.locals (op.Store stored a place_type place))) (IsOpRead m f.locals (op.Store stored a place_type place))
+      so (known m f named far) store i rest 0 (OpAgain m f.locals (op.Store stored a place_type place)) (IsOpRead m f.locals (op.Store stored a place_type place))
       (store_reads (known m f named far) stored a place_type place i gap rest 0 own blanks ends.0 ready)
-      (λ y o g prints. op_read (op.Store stored a place_type place) y o prints)
+      (λ y o g again. op_read (op.Store stored a place_type place) y o again)
   store_or (op.Call returned callee arguments) far i gap rest own unnamed blanks ends is ready =
       absurd (let call = word_seen (known m f named far) (codes "call") i gap _ 0 blanks refl refl ready in no_call (sym call ∙ is))
     where
@@ -145,21 +145,21 @@ module _ (m : Module) (f : Function) (named : AreNamed m f) where
       no_store : k.Store ≡ k.Call → ⊥
       no_store e = cc
   call_or (op.Call returned callee arguments) far i gap rest own unnamed blanks ends is ready =
-      so (known m f named far) call_statement i rest 0 (InstrPrints None (op_text m f.locals (op.Call returned callee arguments))) (λ y o. (y.result ≡ None) × IsOpRead m f.locals (op.Call returned callee arguments) y.op o)
+      so (known m f named far) call_statement i rest 0 (InstrAgain m f.locals None (op.Call returned callee arguments)) (λ y o. (y.result ≡ None) × IsOpRead m f.locals (op.Call returned callee arguments) y.op o)
       (void_call_reads (known m f named far) returned callee arguments i gap rest 0 unnamed own.1 own.2 ends blanks ready)
-      (λ y o g prints. (prints.0, op_read (op.Call returned callee arguments) y.op o prints.1))
+      (λ y o g again. (again.0, op_read (op.Call returned callee arguments) y.op o again.1))
   call_or _ far i gap rest own unnamed blanks ends is ready = absurd unnamed
 
   pub ops_given : OpsRead m f named
   ops_given = record {
     named_read = λ x key value far site i gap rest own ends gives phi pending there apart blanks ends_op ready.
-        so (known m f named (far_set key far)) (whole.named_op site value) i rest 0 (OpPrints (op_text m f.locals x)) (IsOpRead m f.locals x)
+        so (known m f named (far_set key far)) (whole.named_op site value) i rest 0 (OpAgain m f.locals x) (IsOpRead m f.locals x)
         (named_op_reads (known m f named far) (known m f named (far_set key far)) site value x i gap rest 0 blanks own (is_named m x ends gives) phi (sets key value far pending there apart) (line_ends rest ends_op) ready)
-        (λ y o g prints. op_read x y o prints);
+        (λ y o g again. op_read x y o again);
     store_read = λ x far i gap rest own ends gives blanks ends_op is ready. store_or x far i gap rest own (is_unnamed m x ends gives) blanks (line_ends rest ends_op) is ready;
     call_read = λ x far i gap rest own ends gives blanks ends_op is ready. call_or x far i gap rest own (is_unnamed m x ends gives) blanks (line_ends rest ends_op) is ready;
     terminator_read = λ x far i gap rest own ends blanks ends_op ready.
-        so (known m f named far) terminator i rest 0 (OpPrints (op_text m f.locals x)) (IsOpRead m f.locals x)
+        so (known m f named far) terminator i rest 0 (OpAgain m f.locals x) (IsOpRead m f.locals x)
         (terminator_reads (known m f named far) x i gap rest 0 own ends blanks ends_op.0 ready)
-        (λ y o g prints. op_read x y o prints);
+        (λ y o g again. op_read x y o again);
   }

@@ -1,10 +1,9 @@
--- The parameters of a defined function are read as parameters that are written alike.
+-- The parameters of a defined function are read as these parameters again.
 use Rattle.std.proofs.Common.{◌≡◌, ℕ, ◌+◌, ◌<◌, ◌≤◌, Bool, true, false, not, List, [], ◌∷◌, ◌++◌, length, map, refl, sym, ap, subst, ◌∙◌, arith, append_assoc, length-append, inl, inr}
 use Rattle.std.specs.Prelude.{codes}
 use Rattle.std.specs.List.{AllByRecursion, flat_map}
 use Rattle.std.proofs.lemmas.List.{append-nil}
 use Rattle.ir_print_law.proofs.ArgumentsAgain.{decorations_said}
-use Rattle.ir_print_law.proofs.Operands.{named_at}
 use Rattle.grammar.specs.Grammar.{pure}
 use Rattle.grammar.specs.Many.{Listed}
 use Rattle.ir_ast.specs.declared.function.Function.{Function}
@@ -34,7 +33,7 @@ use Rattle.ir_print_law.specs.Definitions.{parameter_key}
 use Rattle.ir_print_law.specs.Printable.{IsParameter, IsType}
 use Rattle.ir_print_law.specs.Shapes.{Shape}
 use Rattle.ir_print_law.proofs.Tables.{stays, begins_itself}
-use Rattle.ir_print_law.specs.Again.{AreAlike}
+use Rattle.ir_print_law.specs.Again.{AreAlike, IsParameterAgain}
 use Rattle.ir_print_law.proofs.State.{Ready, IsLater}
 use Rattle.ir_print_law.proofs.Shown.{shape_stays}
 use Rattle.ir_print_law.proofs.Steps.{sign_reads, unlike}
@@ -113,7 +112,7 @@ module _ (m : Module) (f : Function) (named : AreNamed m f) (types : TypesRead m
   abbrev IsParameterRead : Far → (more : List Text) → Parameter → Parameter → Far → Input → Type 0
   IsParameterRead far more x y now o =
       Onward far now (parameter_key f.locals x ∷ []) [] more
-      × ((n : Module) (others : List Text) → IsLater o n others → parameter_text m f.locals x ≡ parameter_text n others y)
+      × ((n : Module) (others : List Text) → IsLater o n others → IsParameterAgain m n f.locals others x y)
 
   parameter_goes : (x : Parameter) (more : List Text) (far : Far) (i : Input) (gap sep behind : Text) → IsParameter m x → IsKey (parameter_key f.locals x) → Steady far (parameter_key f.locals x ∷ more)
       → length far.values < 1000000 → length far.labels ≤ 65535 → AreBlanks gap → IsSeam sep
@@ -179,11 +178,10 @@ module _ (m : Module) (f : Function) (named : AreNamed m f) (types : TypesRead m
         (
           record { values_are = refl; labels_are = sym (append-nil far.labels); steady = steady_value far key more is steady next.1.1; same_outside = refl },
           λ n others later.
-              let there = named_at others value key (stays o.locals.names others value key later.locals (stays q.locals.names o.locals.names value key wide_q.locals a.1.5)) in
+              let there = stays o.locals.names others value key later.locals (stays q.locals.names o.locals.names value key wide_q.locals a.1.5) in
               let has_shape = shape_stays o.types n.types o.struct_names.names n.struct_names shape w.id later.types later.structs
               (shape_stays p.types o.types p.struct_names.names o.struct_names.names shape w.id wide_p.types wide_p.structs t.5.has_shape) in
-              let same : type_text m x.written ≡ type_text n w.id = types.types_shown m shape x.written is_type.0 is_type.1 ∙ sym (types.types_shown n shape w.id has_shape is_type.1) in
-              ap (λ (y : Text). y ++ 32 ∷ local_text f.locals x.value) same ∙ ap (λ (y : Text). type_text n w.id ++ 32 ∷ 37 ∷ key_text y) (sym there),
+              ((shape, is_type.0, has_shape), there),
         ),
       )
 
@@ -213,7 +211,7 @@ module _ (m : Module) (f : Function) (named : AreNamed m f) (types : TypesRead m
   ParametersGo ps more far i rest =
       (ys : List Parameter) × (o : Input) × (now : Far) × Listed at_round parameter.says i ys o × Ready (known m f named now) 0 o (41 ∷ rest) × Widens i o
       × Onward far now (map (parameter_key f.locals) ps) [] more
-      × ((n : Module) (others : List Text) → IsLater o n others → AreAlike (λ x y. parameter_text m f.locals x ≡ parameter_text n others y) ps ys)
+      × ((n : Module) (others : List Text) → IsLater o n others → AreAlike (IsParameterAgain m n f.locals others) ps ys)
 
   at_close : (o : Input) (rest : Text) → Stands o.cursor (41 ∷ rest) → at_round o ≡ true
   at_close o rest at = seen k.CloseRound o (close_round_comes o.cursor rest at).0

@@ -1,5 +1,5 @@
 -- Parts of instructions: operands with their types, targets, and lists.
-use Rattle.std.proofs.Common.{◌≡◌, ℕ, ◌+◌, ◌≤◌, true, false, List, [], ◌∷◌, ◌++◌, length, slice_get, Option, Some, unwrap_or, refl, sym, ap, subst, ◌∙◌, arith, append_assoc, length-append}
+use Rattle.std.proofs.Common.{◌≡◌, ℕ, ◌+◌, ◌≤◌, true, false, List, [], ◌∷◌, ◌++◌, length, slice_get, Option, Some, refl, sym, ap, subst, arith, append_assoc, length-append}
 use Rattle.std.specs.Prelude.{codes}
 use Rattle.grammar.specs.Grammar.{pure, ◌>>=◌, ◌>>◌}
 use Rattle.ir_ast.specs.Names.{number_of}
@@ -26,21 +26,21 @@ use Rattle.ir_forms.specs.declared.integers.TwoOperands.{TwoOperands}
 use Rattle.ir_forms.specs.Lists as lists
 use Rattle.ir_forms.specs.Integers as integers
 use Rattle.ir_print.specs.Names.{name_at, key_text, local_text}
-use Rattle.ir_print.specs.Operands.{operand_text, typed_text, argument_text}
-use Rattle.ir_print.specs.Instructions.{op_text, typed, pair_text, target_text}
+use Rattle.ir_print.specs.Operands.{operand_text, typed_text}
+use Rattle.ir_print.specs.Instructions.{typed, pair_text, target_text}
 use Rattle.ir_print.specs.Standing.{IsSeam, AreBlanks}
-use Rattle.ir_print.specs.Types.{type_text}
 use Rattle.ir_print_law.proofs.NamesRead.{locals_are_read}
 use Rattle.ir_print_law.proofs.Words.{sign_comes}
+use Rattle.ir_print_law.specs.Again.{IsNameAgain, IsTypeAgain, IsOperandAgain, IsArgumentAgain, IsOpAgain}
 use Rattle.ir_print_law.specs.Printable.{IsOperand, IsArgument, ArePair, IsTarget}
 use Rattle.ir_print_law.specs.Shapes.{IsIn, Shape, HasShape, bits_of_shape}
 use Rattle.ir_print_law.proofs.Tables.{stays}
 use Rattle.ir_print_law.proofs.State.{Invariant, Ready, IsLater, Reads, used_keys}
-use Rattle.ir_print_law.proofs.Shown.{shown, shape_stays, IsTypeRead, bits_read}
+use Rattle.ir_print_law.proofs.Shown.{shown, IsTypeRead, bits_read}
 use Rattle.ir_print_law.proofs.Steps.{go_on, given, sign_reads, word_reads, grows_further, later_before}
 use Rattle.ir_print_law.proofs.Types.{EndsType, ends_type}
-use Rattle.ir_print_law.proofs.PrintedTypes.{type_shown, read_shown, scalar_reads}
-use Rattle.ir_print_law.proofs.OperandsAgain.{OperandPrints, operand_reads, ends_operand, local_ready, local_grows, local_few, local_there}
+use Rattle.ir_print_law.proofs.PrintedTypes.{type_shown, read_again, scalar_reads}
+use Rattle.ir_print_law.proofs.OperandsAgain.{OperandAgain, operand_reads, ends_operand, local_ready, local_grows, local_few, local_there}
 use Rattle.ir_print_law.proofs.AgainTypes.{EndsAgain, no_round}
 
 -- a comma ends a type
@@ -57,21 +57,23 @@ round_of _ e = refl
 pub ends_again : (rest : Text) → EndsType rest → EndsAgain rest
 ends_again rest ends = (ends.0, λ i at. round_of (kind i.cursor) (ends.1 i at))
 
--- an operation is printed as this text in each later module
-abbrev pub OpPrints : Text → Op → Input → Type 0
-OpPrints text x o = (n : Module) (others : List Text) → IsLater o n others → op_text n others x ≡ text
+-- an operation is this one again, in each module later on
+abbrev pub OpAgain : Module → (locals : List Text) → Op → Op → Input → Type 0
+OpAgain m locals x y o = (n : Module) (others : List Text) → IsLater o n others → IsOpAgain m n locals others x y
 
--- an argument is printed as this text in each later module
-abbrev pub ArgumentPrints : Text → Argument → Input → Type 0
-ArgumentPrints text x o = (n : Module) (others : List Text) → IsLater o n others → argument_text n others x ≡ text
+-- an argument is this one again, in each module later on
+abbrev pub ArgumentAgain : Module → (locals : List Text) → Argument → Argument → Input → Type 0
+ArgumentAgain m locals x y o = (n : Module) (others : List Text) → IsLater o n others → IsArgumentAgain m n locals others x y
 
--- two operands are printed as this text in each later module
-abbrev pub PairPrints : Text → TwoOperands → Input → Type 0
-PairPrints text p o = (n : Module) (others : List Text) → IsLater o n others → pair_text n others (typed p.written p.first) p.second ≡ text
+-- two operands are these again, and so is their type, in each module later on
+abbrev pub PairAgain : Module → (locals : List Text) → (written : ℕ) → (first second : Operand) → TwoOperands → Input → Type 0
+PairAgain m locals written first second p o =
+    (n : Module) (others : List Text) → IsLater o n others
+    → IsTypeAgain m n written p.written × IsOperandAgain m n locals others first p.first × IsOperandAgain m n locals others second p.second
 
--- a label has this number
-abbrev pub TargetPrints : Text → ℕ → Input → Type 0
-TargetPrints text n o = slice_get o.locals.names n ≡ Some text
+-- the label with this number has this key
+abbrev pub HasLabel : (key : Text) → (number : ℕ) → Input → Type 0
+HasLabel key number o = slice_get o.locals.names number ≡ Some key
 
 -- the sort is one of a value
 abbrev pub IsValueSort : LocalSort → Type 0
@@ -86,45 +88,39 @@ module _ {m : Module} {f : Function} (v : Invariant m f) where
 
   -- an operand after its type
   pub operand_at : (shape : Shape) (t : ℕ) (x : Operand) (p : WrittenType) (at i : Input) (gap rest : Text) (s : ℕ) → IsTypeRead shape 64 p at → HasShape m.types m.struct_names shape t → IsOperand m f (bits_of_shape shape) x
-      → AreBlanks gap → IsSeam rest → Ready v s i (gap ++ (operand_text m f.locals t x ++ rest)) → Reads v s (form.operand (w.bits_of p)) i rest (OperandPrints shape (operand_text m f.locals t x))
+      → AreBlanks gap → IsSeam rest → Ready v s i (gap ++ (operand_text m f.locals t x ++ rest)) → Reads v s (form.operand (w.bits_of p)) i rest (OperandAgain m f.locals x)
   operand_at shape t x p at i gap rest s read has own blanks seam ready =
-      subst (λ (b : Option ℕ). Reads v s (form.operand b) i rest (OperandPrints shape (operand_text m f.locals t x))) (sym (bits_read shape 64 p at read))
+      subst (λ (b : Option ℕ). Reads v s (form.operand b) i rest (OperandAgain m f.locals x)) (sym (bits_read shape 64 p at read))
       (operand_reads v shape t x i gap rest s has own blanks seam ready)
 
   -- `T V`
   pub typed_reads : (t : ℕ) (x : Operand) (i : Input) (gap rest : Text) (s : ℕ) → IsArgument m f (typed t x) → AreBlanks gap → IsSeam rest
-      → Ready v s i (gap ++ (typed_text m f.locals t x ++ rest)) → Reads v s lists.typed i rest (ArgumentPrints (typed_text m f.locals t x))
+      → Ready v s i (gap ++ (typed_text m f.locals t x ++ rest)) → Reads v s lists.typed i rest (ArgumentAgain m f.locals (typed t x))
   unfolding lists.typed
   typed_reads t x i gap rest s own blanks seam ready =
       let shape = own.0 in
       let scalar = own.1 in
       let type_is = type_shown m shape t scalar.0.0 scalar.0.1 in
       let o_text = operand_text m f.locals t x in
-      let good = ArgumentPrints (typed_text m f.locals t x) in
+      let good = ArgumentAgain m f.locals (typed t x) in
       let ready = subst (λ (y : Text). Ready v s i (gap ++ y)) (append_assoc (shown false shape) (32 ∷ o_text) rest) (subst (λ (y : Text). Ready v s i (gap ++ ((y ++ 32 ∷ operand_text m f.locals t x) ++ rest))) type_is ready) in
       go_on v w.scalar (λ p. form.operand (w.bits_of p) >>= λ y. pure (record { written = p.id; operand = y })) i (32 ∷ (operand_text m f.locals t x ++ rest)) rest s s (IsTypeRead shape 64) good
       (scalar_reads v shape i gap (32 ∷ (operand_text m f.locals t x ++ rest)) s scalar.0.2 scalar.0.1 scalar.1 blanks (ends_operand v shape t x rest scalar.0.0 own.2 seam) ready)
       (λ p o ready g read.
-      go_on v (form.operand (w.bits_of p)) (λ y. pure (record { written = p.id; operand = y })) o rest rest s s (OperandPrints shape (operand_text m f.locals t x)) good
+      go_on v (form.operand (w.bits_of p)) (λ y. pure (record { written = p.id; operand = y })) o rest rest s s (OperandAgain m f.locals x) good
       (operand_at shape t x p o o (32 ∷ []) rest s read scalar.0.0 own.2 refl seam ready)
-      (λ y q ready h prints. given v (record { written = p.id; operand = y }) q rest s good ready
-      (λ n others later.
-      let latero = later_before o q n others h later in
-      ap (λ (z : Text). type_text n p.id ++ 32 ∷ z) (prints n others later p.id (later_shape shape p o n others read latero))
-      ∙ ap (λ (z : Text). z ++ 32 ∷ operand_text m f.locals t x) (read_shown shape p.id o n others read.has_shape scalar.0.1 latero ∙ sym type_is))))
-    where
-      later_shape : (shape : Shape) (p : WrittenType) (o : Input) (n : Module) (others : List Text) → IsTypeRead shape 64 p o → IsLater o n others → HasShape n.types n.struct_names shape p.id
-      later_shape shape p o n others read later = shape_stays o.types n.types o.struct_names.names n.struct_names shape p.id later.types later.structs read.has_shape
+      (λ y q ready h again. given v (record { written = p.id; operand = y }) q rest s good ready
+      (λ n others later. (read_again m shape t p.id o n others scalar.0.0 read.has_shape (later_before o q n others h later), again n others later))))
 
   -- `T V, W`
   pub pair_reads : (t : ℕ) (x y : Operand) (i : Input) (gap rest : Text) (s : ℕ) → ArePair m f t x y → AreBlanks gap → IsSeam rest
-      → Ready v s i (gap ++ (pair_text m f.locals (typed t x) y ++ rest)) → Reads v s integers.pair i rest (PairPrints (pair_text m f.locals (typed t x) y))
+      → Ready v s i (gap ++ (pair_text m f.locals (typed t x) y ++ rest)) → Reads v s integers.pair i rest (PairAgain m f.locals t x y)
   unfolding integers.pair class_of
   pair_reads t x y i gap rest s own blanks seam ready =
       let shape = own.0 in
       let scalar = own.1 in
       let type_is = type_shown m shape t scalar.0.0 scalar.0.1 in
-      let good = PairPrints (pair_text m f.locals (typed t x) y) in
+      let good = PairAgain m f.locals t x y in
       let a = operand_text m f.locals t x in
       let b = operand_text m f.locals t y in
       let t2 = codes ", " ++ (operand_text m f.locals t y ++ rest) in
@@ -134,22 +130,18 @@ module _ {m : Module} {f : Function} (v : Invariant m f) where
       go_on v w.scalar first_form i (32 ∷ (operand_text m f.locals t x ++ t2)) rest s s (IsTypeRead shape 64) good
       (scalar_reads v shape i gap (32 ∷ (operand_text m f.locals t x ++ t2)) s scalar.0.2 scalar.0.1 scalar.1 blanks (ends_operand v shape t x t2 scalar.0.0 own.2 refl) ready)
       (λ p o ready g read.
-      go_on v (form.operand (w.bits_of p)) (comma_form p) o t2 rest s s (OperandPrints shape (operand_text m f.locals t x)) good
+      go_on v (form.operand (w.bits_of p)) (comma_form p) o t2 rest s s (OperandAgain m f.locals x) good
       (operand_at shape t x p o o (32 ∷ []) t2 s read scalar.0.0 own.2 refl refl ready)
       (λ x1 q ready h first.
       go_on v (expect k.Comma) (λ _. second_form p x1) q (32 ∷ (operand_text m f.locals t y ++ rest)) rest s s (λ _ r. advanced q ≡ r) good
       (sign_reads v 44 k.Comma q [] (32 ∷ (operand_text m f.locals t y ++ rest)) s s refl refl refl (omega arith) ready)
       (λ _ r ready hh e.
-      go_on v (form.operand (w.bits_of p)) (λ y1. pure (record { written = p.id; first = x1; second = y1 })) r rest rest s s (OperandPrints shape (operand_text m f.locals t y)) good
+      go_on v (form.operand (w.bits_of p)) (λ y1. pure (record { written = p.id; first = x1; second = y1 })) r rest rest s s (OperandAgain m f.locals y) good
       (operand_at shape t y p o r (32 ∷ []) rest s read scalar.0.0 own.3 refl seam ready)
       (λ y1 u ready h3 second. given v (record { written = p.id; first = x1; second = y1 }) u rest s good ready
       (λ n others later.
       let later2 = later_before q u n others (grows_further q r u hh h3) later in
-      let latero = later_before o q n others h later2 in
-      let has = shape_stays o.types n.types o.struct_names.names n.struct_names shape p.id latero.types latero.structs read.has_shape in
-      ap (λ (z : Text). (type_text n p.id ++ 32 ∷ operand_text n others p.id x1) ++ codes ", " ++ z) (second n others later p.id has)
-      ∙ ap (λ (z : Text). (type_text n p.id ++ 32 ∷ z) ++ codes ", " ++ operand_text m f.locals t y) (first n others later2 p.id has)
-      ∙ ap (λ (z : Text). (z ++ 32 ∷ operand_text m f.locals t x) ++ codes ", " ++ operand_text m f.locals t y) (read_shown shape p.id o n others read.has_shape scalar.0.1 latero ∙ sym type_is))))))
+      (read_again m shape t p.id o n others scalar.0.0 read.has_shape (later_before o q n others h later2), first n others later2, second n others later))))))
     where
       pair_front : (a b c rest : Text) → ((a ++ 32 ∷ b) ++ codes ", " ++ c) ++ rest ≡ a ++ (32 ∷ (b ++ (codes ", " ++ (c ++ rest))))
       pair_front a b c rest = simp append_assoc
@@ -171,7 +163,7 @@ module _ {m : Module} {f : Function} (v : Invariant m f) where
 
   -- `%b`
   pub label_reads : (wanted : Wanted) (label : ℕ) (i : Input) (gap rest : Text) (s : ℕ) → IsIn (used_keys f wanted) (name_at f.locals label) → AreBlanks gap → IsSeam rest
-      → Ready v s i (gap ++ (local_text f.locals label ++ rest)) → Reads v s (used_label wanted) i rest (TargetPrints (name_at f.locals label))
+      → Ready v s i (gap ++ (local_text f.locals label ++ rest)) → Reads v s (used_label wanted) i rest (HasLabel (name_at f.locals label))
   label_reads wanted label i gap rest s there blanks seam ready =
       let key = name_at f.locals label in
       let r = locals_are_read wanted f.locals label i gap rest (v.is_key wanted key there) (local_few v i _ s key ready) blanks seam ready.stands in (
@@ -185,14 +177,14 @@ module _ {m : Module} {f : Function} (v : Invariant m f) where
 
   -- `label %b`
   pub target_reads : (label : ℕ) (i : Input) (gap rest : Text) (s : ℕ) → IsTarget f label → AreBlanks gap → IsSeam rest
-      → Ready v s i (gap ++ (target_text f.locals label ++ rest)) → Reads v s target i rest (TargetPrints (name_at f.locals label))
+      → Ready v s i (gap ++ (target_text f.locals label ++ rest)) → Reads v s target i rest (HasLabel (name_at f.locals label))
   unfolding target word_kind keywords class_of
   target_reads label i gap rest s there blanks seam ready =
-      let good = TargetPrints (name_at f.locals label) in
+      let good = HasLabel (name_at f.locals label) in
       go_on v (expect k.Label) (λ _. used_label wants.Target) i (32 ∷ (local_text f.locals label ++ rest)) rest s s (λ _ o. advanced i ≡ o) good
       (word_reads v (codes "label") i gap (32 ∷ (local_text f.locals label ++ rest)) s s blanks refl refl (omega arith) ready)
       (λ _ o ready g e. label_reads wants.Target label o (32 ∷ []) rest s there refl seam ready)
 
-  -- a label is printed alike later on
-  pub label_later : (label number : ℕ) (o : Input) (n : Module) (others : List Text) → TargetPrints (name_at f.locals label) number o → IsLater o n others → local_text others number ≡ local_text f.locals label
-  label_later label number o n others there later = ap (λ (x : Option Text). 37 ∷ key_text (unwrap_or x [])) (stays o.locals.names others number (name_at f.locals label) later.locals there)
+  -- a label has its key later on
+  pub label_later : (label number : ℕ) (o : Input) (n : Module) (others : List Text) → HasLabel (name_at f.locals label) number o → IsLater o n others → IsNameAgain f.locals others label number
+  label_later label number o n others there later = stays o.locals.names others number (name_at f.locals label) later.locals there

@@ -15,11 +15,12 @@ use Rattle.ir_forms.specs.declared.input.Input.{Input}
 use Rattle.ir_forms.specs.declared.written.WrittenType.{WrittenType}
 use Rattle.ir_forms.specs.Input.{unexpected}
 use Rattle.ir_forms.specs.Written as w
-use Rattle.ir_forms.specs.Written.{is_scalar, is_passed, is_held, part}
+use Rattle.ir_forms.specs.Written.{is_scalar, is_passed, is_held}
 use Rattle.name_text.specs.Names.{name_text}
 use Rattle.name_text.specs.declared.blank.Blank.TheVariants as blank
 use Rattle.ir_print.specs.Types.{type_text, type_within, type_by, fields_text, further_field}
 use Rattle.ir_print.specs.Standing.{AreBlanks}
+use Rattle.ir_print_law.specs.Again.{IsTypeAgain}
 use Rattle.ir_print_law.specs.Definitions.{defined_structs}
 use Rattle.ir_print_law.specs.Shapes.{Shape, Integer, Pointer, Array, Empty, Struct, Named, HasShape, IsWritten, levels, is_scalar_shape, is_pointer_shape, is_passed_shape, is_held_shape, is_struct_shape}
 use Rattle.ir_print_law.proofs.State.{Invariant, Ready, IsLater, Reads}
@@ -40,12 +41,12 @@ module _ (n : Module) where
   FieldsShown shape = (room fuel number : ℕ) → HasShape n.types n.struct_names shape number → levels shape ≤ suc room → number < fuel → fields_text (type_within room n) n fuel number ≡ shown true shape
 
   -- the type at this number is printed by what it is
-  at_type : (room number : ℕ) (x : IrType) → slice_get n.types number ≡ Some x → type_within (suc room) n number ≡ type_by (type_within room n) n (Some x)
+  pub at_type : (room number : ℕ) (x : IrType) → slice_get n.types number ≡ Some x → type_within (suc room) n number ≡ type_by (type_within room n) n (Some x)
   unfolding type_within
   at_type room number x e = ap (type_by (type_within room n) n) e
 
   -- so are the fields
-  at_field : (room fuel number : ℕ) (x : IrType) → slice_get n.types number ≡ Some x → fields_text (type_within room n) n (suc fuel) number ≡ further_field (type_within room n) (fields_text (type_within room n) n fuel) (Some x)
+  pub at_field : (room fuel number : ℕ) (x : IrType) → slice_get n.types number ≡ Some x → fields_text (type_within room n) n (suc fuel) number ≡ further_field (type_within room n) (fields_text (type_within room n) n fuel) (Some x)
   unfolding fields_text
   at_field room fuel number x e = ap (further_field (type_within room n) (fields_text (type_within room n) n fuel)) e
 
@@ -118,10 +119,11 @@ module _ (n : Module) where
   pub type_shown : (shape : Shape) (number : ℕ) → HasShape n.types n.struct_names shape number → levels shape ≤ 64 → type_text n number ≡ shown false shape
   type_shown shape number h le = (both_shown shape).0 64 number h le
 
--- what was read is printed as this shape later on
-pub read_shown : (shape : Shape) (number : ℕ) (o : Input) (n : Module) (others : List Text) → HasShape o.types o.struct_names.names shape number → levels shape ≤ 64 → IsLater o n others → type_text n number ≡ shown false shape
-read_shown shape number o n others h le later =
-    type_shown n shape number (shape_stays o.types n.types o.struct_names.names n.struct_names shape number later.types later.structs h) le
+-- a type that was read as one of this shape is this type again, in each module later on
+pub read_again : (m : Module) (shape : Shape) (written number : ℕ) (o : Input) (n : Module) (others : List Text) → HasShape m.types m.struct_names shape written → HasShape o.types o.struct_names.names shape number
+    → IsLater o n others → IsTypeAgain m n written number
+read_again m shape written number o n others own read later =
+    (shape, own, shape_stays o.types n.types o.struct_names.names n.struct_names shape number later.types later.structs read)
 
 module _ {m : Module} {f : Function} (v : Invariant m f) where
   -- ---- types where they are allowed

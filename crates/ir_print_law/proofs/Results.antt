@@ -26,17 +26,18 @@ use Rattle.ir_print.specs.Types.{type_text}
 use Rattle.ir_print.specs.Types as printed
 use Rattle.ir_print_law.proofs.NamesRead.{collectors_are_read}
 use Rattle.ir_print_law.proofs.Words.{sign_comes, word_comes, global_comes, seen}
+use Rattle.ir_print_law.specs.Again.{IsResultAgain}
 use Rattle.ir_print_law.specs.Printable.{IsVoid, IsPassed, IsAnyType, IsCollector}
 use Rattle.ir_print_law.proofs.Tables.{stays}
 use Rattle.ir_print_law.proofs.State.{Invariant, Ready, Reads, IsLater}
-use Rattle.ir_print_law.proofs.Shown.{shape_stays}
+use Rattle.ir_print_law.proofs.PrintedTypes.{read_again}
 use Rattle.ir_print_law.proofs.Steps.{word_skipped, intern_reads, less_spare, grows_further, grows_itself, unlike, passed, grows_advanced}
 use Rattle.ir_print_law.proofs.Types.{Comes, EndsType, ends_type}
 use Rattle.ir_print_law.proofs.Needs.{TypesRead}
 
--- a result is written alike
+-- a result is this one again, in each module later on
 abbrev pub IsResultRead : Module → (written : ℕ) → ℕ → Input → Type 0
-IsResultRead m written id o = (n : Module) (others : List Text) → IsLater o n others → type_text m written ≡ type_text n id
+IsResultRead m written id o = (n : Module) (others : List Text) → IsLater o n others → IsResultAgain m n written id
 
 pub void_shown : (m : Module) (written : ℕ) → slice_get m.types written ≡ Some type.Void → type_text m written ≡ codes "void"
 unfolding printed.type_within
@@ -53,6 +54,14 @@ result_plain first k.LocalName e = refl
 result_plain first k.OpenSquare e = refl
 result_plain first k.OpenBrace e = refl
 result_plain first _ e = absurd cc
+
+-- and has no metadata before it
+declare_plain : (first : Bool) (x : Kind) → begins_type x ≡ true → begins_decoration spot.Declare first x ≡ false
+declare_plain first k.IntegerType e = refl
+declare_plain first k.LocalName e = refl
+declare_plain first k.OpenSquare e = refl
+declare_plain first k.OpenBrace e = refl
+declare_plain first _ e = absurd cc
 
 defined_by : (x : Kind) (i o : Input) (n : ℕ) → begins_type x ≡ true → (passed_type >>= λ w. pure w.id).says i n o → (defined_result_by x).says i n o
 defined_by k.IntegerType i o n e h = h
@@ -89,6 +98,15 @@ item_plain first k.Define e = refl
 item_plain first k.End e = refl
 item_plain first _ e = absurd cc
 
+-- and no group of attributes begins with it
+pub item_ungrouped : (first : Bool) (x : Kind) → begins_item x ≡ true → begins_decoration spot.GlobalEnd first x ≡ false
+item_ungrouped first k.LocalName e = refl
+item_ungrouped first k.GlobalName e = refl
+item_ungrouped first k.Declare e = refl
+item_ungrouped first k.Define e = refl
+item_ungrouped first k.End e = refl
+item_ungrouped first _ e = absurd cc
+
 abbrev opens_body : Kind → Bool
 opens_body k.OpenBrace = true
 opens_body _ = false
@@ -124,7 +142,7 @@ module _ (m : Module) (f : Function) (v : Invariant m f) (types : TypesRead m) w
         (tt, i, plain, subst (λ (x : Kind). (defined_result_by x).says i n o) (sym comes) a.2),
         a.3,
         a.4,
-        λ later others is_later. e ∙ sym (void_shown later n (stays o.types later.types n type.Void is_later.types a.5)),
+        λ later others is_later. inl (is_void, stays o.types later.types n type.Void is_later.types a.5),
       )
   defined_result_reads returned i gap name rest (inr is_passed) own seam blanks ready =
       let behind = 32 ∷ 64 ∷ (name_text blank.Kept name ++ rest) in
@@ -140,9 +158,7 @@ module _ (m : Module) (f : Function) (v : Invariant m f) (types : TypesRead m) w
         (tt, i, plain, defined_by (kind i.cursor) i o w.id begins (w, o, a.2, (refl, refl))),
         a.3,
         a.4,
-        λ later others is_later.
-            let has_shape = shape_stays o.types later.types o.struct_names.names later.struct_names shape w.id is_later.types is_later.structs a.5.has_shape in
-            types.types_shown m shape returned is_type.0 is_type.1 ∙ sym (types.types_shown later shape w.id has_shape is_type.1),
+        λ later others is_later. inr (read_again m shape returned w.id o later others is_type.0 a.5.has_shape is_later),
       )
 
   pub declared_result_reads : (returned : ℕ) (i : Input) (gap name rest : Text) → IsVoid m returned ⊎ IsAnyType m returned → AreBytes name → IsSeam rest → AreBlanks gap
@@ -155,15 +171,16 @@ module _ (m : Module) (f : Function) (v : Invariant m f) (types : TypesRead m) w
       let here = subst (λ (t : Text). Ready v 0 i (gap ++ (t ++ behind))) e ready in
       let comes = (word_comes i.cursor gap (codes "void") behind blanks refl refl here.stands).0 in
       let plain = decorations_said spot.Result i (ap (begins_decoration spot.Result (begins_line i.cursor)) comes) in
+      let none = decorations_said spot.Declare i (ap (begins_decoration spot.Declare (begins_line i.cursor)) comes) in
       let a = void_reads i gap name rest own seam blanks here in
       let o = a.1 in
       let n = a.0 in (
         a.0,
         a.1,
-        (tt, i, plain, subst (λ (x : Kind). (declared_result_by x).says i n o) (sym comes) a.2),
+        (tt, i, none, (tt, i, plain, subst (λ (x : Kind). (declared_result_by x).says i n o) (sym comes) a.2)),
         a.3,
         a.4,
-        λ later others is_later. e ∙ sym (void_shown later n (stays o.types later.types n type.Void is_later.types a.5)),
+        λ later others is_later. inl (is_void, stays o.types later.types n type.Void is_later.types a.5),
       )
   declared_result_reads returned i gap name rest (inr is_any) own seam blanks ready =
       let behind = 32 ∷ 64 ∷ (name_text blank.Kept name ++ rest) in
@@ -171,17 +188,16 @@ module _ (m : Module) (f : Function) (v : Invariant m f) (types : TypesRead m) w
       let is_type = is_any.1 in
       let begins = types.type_comes shape returned i.cursor gap behind is_type blanks refl ready.stands in
       let plain = decorations_said spot.Result i (result_plain (begins_line i.cursor) (kind i.cursor) begins) in
+      let none = decorations_said spot.Declare i (declare_plain (begins_line i.cursor) (kind i.cursor) begins) in
       let a = types.any v shape returned i gap behind 0 is_type refl blanks (ends_global name rest own seam) ready in
       let o = a.1 in
       let w = a.0 in (
         a.0.id,
         a.1,
-        (tt, i, plain, declared_by (kind i.cursor) i o w.id begins (w, o, a.2, (refl, refl))),
+        (tt, i, none, (tt, i, plain, declared_by (kind i.cursor) i o w.id begins (w, o, a.2, (refl, refl)))),
         a.3,
         a.4,
-        λ later others is_later.
-            let has_shape = shape_stays o.types later.types o.struct_names.names later.struct_names shape w.id is_later.types is_later.structs a.5.has_shape in
-            types.types_shown m shape returned is_type.0 is_type.1 ∙ sym (types.types_shown later shape w.id has_shape is_type.1),
+        λ later others is_later. inr (read_again m shape returned w.id o later others is_type.0 a.5.has_shape is_later),
       )
 
   -- ---- the end of a head

@@ -87,7 +87,3 @@ Reads v spare {A = A} form i rest Good = (a : A) × (o : Input) × form.says i a
 -- nothing more is asked
 abbrev pub Any : {A : Type 0} → A → Input → Type 0
 Any a o = Unit {0}
-
--- what is printed of it is this text, in each module later on
-abbrev pub Prints : {A : Type 0} → (shown : Module → List Text → A → Text) → (text : Text) → A → Input → Type 0
-Prints shown text a o = (n : Module) (locals : List Text) → IsLater o n locals → shown n locals a ≡ text

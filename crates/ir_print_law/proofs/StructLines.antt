@@ -1,7 +1,6 @@
 -- The line of a struct type is read as that struct type.
-use Rattle.std.proofs.Common.{◌≡◌, ℕ, ◌<◌, ◌^◌, true, false, List, [], ◌∷◌, ◌++◌, length, slice_get, Some, refl, sym, ap, subst, ◌∙◌, arith, append_assoc}
+use Rattle.std.proofs.Common.{◌≡◌, ℕ, ◌<◌, ◌^◌, true, false, List, [], ◌∷◌, ◌++◌, length, slice_get, Some, refl, ap, subst, ◌∙◌, arith, append_assoc}
 use Rattle.std.specs.Prelude.{codes}
-use Rattle.ir_print_law.proofs.Operands.{named_at}
 use Rattle.grammar.specs.Grammar.{◌>>=◌, ◌>>◌}
 use Rattle.ir_ast.specs.declared.function.Function.{Function}
 use Rattle.ir_ast.specs.declared.items_of_module.StructType.{StructType}
@@ -22,6 +21,7 @@ use Rattle.ir_print.specs.Names.{name_at, struct_text}
 use Rattle.ir_print.specs.Standing.{Stands, AreBlanks}
 use Rattle.ir_print.specs.Types.{type_text}
 use Rattle.ir_print_law.proofs.Words.{sign_comes}
+use Rattle.ir_print_law.specs.Again.{IsStructAgain}
 use Rattle.ir_print_law.specs.Printable.{IsType}
 use Rattle.ir_print_law.specs.Shapes.{IsIn, Shape, Integer, Pointer, Array, Empty, Struct, Named, HasShape, is_struct_shape}
 use Rattle.ir_print_law.proofs.Tables.{stays, begins_itself}
@@ -52,11 +52,11 @@ module _ (m : Module) (f : Function) (named : AreNamed m f) (types : TypesRead m
   abbrev pub far_line : Text → StructType → Far
   far_line name x = record far { structs = far.structs ++ name ∷ []; struct_types = far.struct_types ++ x ∷ [] }
 
-  -- the struct type is written alike, in each module later on
+  -- the struct type is this one again, in each module later on
   abbrev pub IsStructRead : StructType → (a : Unit {0}) → Far → Input → Type 0
   IsStructRead struct a now o =
       (x : StructType) × (now ≡ far_line (name_at m.struct_names struct.name) x)
-      × ((n : Module) (others : List Text) → IsLater o n others → struct_line m struct ≡ struct_line n x)
+      × ((n : Module) (others : List Text) → IsLater o n others → IsStructAgain m n struct x)
 
   brace_comes : (shape : Shape) (i : Input) (gap rest : Text) → is_struct_shape shape ≡ true → AreBlanks gap → Stands i.cursor (gap ++ (shown false shape ++ rest)) → kind i.cursor ≡ k.OpenBrace
   unfolding class_of
@@ -113,11 +113,9 @@ module _ (m : Module) (f : Function) (named : AreNamed m f) (types : TypesRead m
           x,
           refl,
           λ n others later.
-              let there = named_at n.struct_names x.name name (stays i.struct_names.names n.struct_names x.name name later.structs is_name) in
+              let there = stays i.struct_names.names n.struct_names x.name name later.structs is_name in
               let body_shape = shape_stays i.types n.types i.struct_names.names n.struct_names shape x.body later.types later.structs has_shape in
-              let body_text : type_text m struct.body ≡ type_text n x.body = types.types_shown m shape struct.body is_type.0 is_type.1 ∙ sym (types.types_shown n shape x.body body_shape is_type.1) in
-              ap (λ (y : Text). 37 ∷ name_text blank.Kept y ++ codes " = type " ++ type_text m struct.body ++ 10 ∷ []) (sym there)
-              ∙ ap (λ (y : Text). struct_text n x.name ++ codes " = type " ++ y ++ 10 ∷ []) body_text,
+              record { name = there; body = (shape, is_type.0, body_shape) },
         ),
       )
 

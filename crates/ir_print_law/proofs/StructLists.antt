@@ -14,7 +14,7 @@ use Rattle.ir_forms.specs.Cursor.{kind}
 use Rattle.ir_forms.specs.declared.input.Input.{Input}
 use Rattle.ir_text.specs.ItemsOfText.{item, item_by, at_end_of_text}
 use Rattle.name_text.specs.Readings.{AreBytes}
-use Rattle.ir_print.specs.Items.{struct_line, declare_line, global_line}
+use Rattle.ir_print.specs.Items.{struct_line, global_line}
 use Rattle.ir_ast.specs.declared.items_of_module.Global.{Global}
 use Rattle.ir_ast.specs.declared.items_of_module.StructType.{StructType}
 use Rattle.ir_print_law.proofs.StructLines.{struct_goes, line_is}
@@ -28,7 +28,7 @@ use Rattle.ir_print.specs.Names.{name_at}
 use Rattle.ir_print.specs.Standing.{Stands, AreBlanks}
 use Rattle.ir_print_law.specs.Definitions.{AreNew}
 use Rattle.ir_print_law.specs.Printable.{IsStructType, IsPrintable}
-use Rattle.ir_print_law.specs.Again.{AreAlike, IsFunctionAgain}
+use Rattle.ir_print_law.specs.Again.{AreAlike, IsStructAgain, IsGlobalAgain, IsDeclareAgain, IsFunctionAgain}
 use Rattle.ir_print_law.proofs.State.{Ready}
 use Rattle.ir_print_law.proofs.Steps.{unlike}
 use Rattle.ir_print_law.proofs.WholeFunctionEnds.{nobody, Reaches, reaches_further, widens_reaches, IsModuleLater}
@@ -71,9 +71,9 @@ module _ (m : Module) (is : IsPrintable m) (named : AreNamed m nobody) (ys : Lis
       (us : List (Unit {0})) × (o : Input) × (now : Far) × (gs : List Function) × (xs : List Declare) × (zs : List Global) × (ts : List StructType) × (gap : Text) × Listed at_end_of_text item.says i us o
       × Ready (known m nobody named now) 0 o gap × (past_gap false gap ≡ []) × Reaches i o
       × WithAll far now (struct_names m ss) (global_names m ys) (declared_names m ds ++ function_names m fs) ts zs xs gs
-      × ((n : Module) → IsModuleLater o n → AreAlike (λ x y. struct_line m x ≡ struct_line n y) ss ts)
-      × ((n : Module) → IsModuleLater o n → AreAlike (λ x y. global_line m x ≡ global_line n y) ys zs)
-      × ((n : Module) → IsModuleLater o n → AreAlike (λ x y. declare_line m x ≡ declare_line n y) ds xs) × ((n : Module) → IsModuleLater o n → AreAlike (IsFunctionAgain m n) fs gs)
+      × ((n : Module) → IsModuleLater o n → AreAlike (IsStructAgain m n) ss ts)
+      × ((n : Module) → IsModuleLater o n → AreAlike (IsGlobalAgain m n) ys zs)
+      × ((n : Module) → IsModuleLater o n → AreAlike (IsDeclareAgain m n) ds xs) × ((n : Module) → IsModuleLater o n → AreAlike (IsFunctionAgain m n) fs gs)
 
   -- what the items after the struct types need
   abbrev pub Behind : Far → Type 0

@@ -15,14 +15,15 @@ use Rattle.ir_print_law.specs.Definitions.{AreNew, defined_globals, functions_of
 use Rattle.ir_print_law.specs.Printable.{IsPrintable, IsSymbol}
 use Rattle.ir_print_law.specs.Shapes.{IsIn}
 use Rattle.ir_print_law.proofs.Tables.{begins_itself}
-use Rattle.ir_print_law.specs.Again.{AreAlike, IsFunctionAgain, IsAgain}
+use Rattle.ir_print_law.specs.Again.{AreAlike, IsStructAgain, IsGlobalAgain, IsDeclareAgain, IsFunctionAgain, IsAgain}
 use Rattle.ir_print_law.proofs.State.{Ready}
 use Rattle.ir_print_law.proofs.WholeFunctionEnds.{nobody, IsModuleLater}
 use Rattle.ir_print_law.proofs.GlobalLists.{globals_go}
 use Rattle.ir_print_law.proofs.Known.{known, in_front, in_behind, is_last}
 use Rattle.ir_print_law.proofs.Starts.{nobody_named, far_start, ready_at_start}
 use Rattle.ir_print_law.proofs.StructLists.{structs_go}
-use Rattle.ir_print_law.proofs.WholeEnds.{no_fault, text_is_lexed, ends_there, past_end, same_text}
+use Rattle.ir_print_law.proofs.SameText.{same_text}
+use Rattle.ir_print_law.proofs.WholeEnds.{no_fault, text_is_lexed, ends_there, past_end}
 
 front_all : {A : Type 0} (P : A → Type 0) (xs ys : List A) → AllByRecursion P (xs ++ ys) → AllByRecursion P xs
 front_all P [] ys h = tt
@@ -82,9 +83,9 @@ prints_again m is fits =
     let later : IsModuleLater o n = record { types = begins_itself o.types; structs = begins_itself o.struct_names.names; symbols = begins_itself o.symbols.names } in
     let fault = no_fault m now o h.9.holds w.more_structs w.more_globals w.more_functions in
     let again : IsAgain m n = record {
-      structs = subst (λ (l : List StructType). AreAlike (λ x y. struct_line m x ≡ struct_line n y) m.structs l) (sym (counted.structs_are ∙ w.more_struct_types)) (h.13 n later);
-      globals = subst (λ (l : List Global). AreAlike (λ x y. global_line m x ≡ global_line n y) m.globals l) (sym (counted.globals_are ∙ w.more_items)) (h.14 n later);
-      declares = subst (λ (l : List Declare). AreAlike (λ x y. declare_line m x ≡ declare_line n y) m.declares l) (sym (counted.declares_are ∙ w.more_declares)) (h.15 n later);
+      structs = subst (λ (l : List StructType). AreAlike (IsStructAgain m n) m.structs l) (sym (counted.structs_are ∙ w.more_struct_types)) (h.13 n later);
+      globals = subst (λ (l : List Global). AreAlike (IsGlobalAgain m n) m.globals l) (sym (counted.globals_are ∙ w.more_items)) (h.14 n later);
+      declares = subst (λ (l : List Declare). AreAlike (IsDeclareAgain m n) m.declares l) (sym (counted.declares_are ∙ w.more_declares)) (h.15 n later);
       functions = subst (λ (l : List Function). AreAlike (IsFunctionAgain m n) m.functions l) (sym (counted.functions_are ∙ w.more_defines)) (h.16 n later);
     } in
     (module_of h.1, (fits, lexed_of (text_of m), text_is_lexed (text_of m), (o, (h.0, o, h.8, (ap (λ (b : Option ℕ). not (is_some b)) end.1, refl)), fault, refl)), again, same_text m n again)

@@ -1,9 +1,6 @@
--- Where a text begins and where it ends: no name is used that is not defined; and modules that are alike have one text.
-use Rattle.std.proofs.Common.{◌≡◌, ℕ, zero, suc, Bool, true, false, not, ◌&&◌, List, [], ◌∷◌, ◌++◌, length, Option, None, Some, Ok, refl, sym, ap, subst, ◌∙◌, arith}
-use Rattle.std.specs.Prelude.{option_map, codes}
-use Rattle.std.specs.List.{flat_map}
-use Rattle.ir_ast.specs.declared.block.Block.{Block}
-use Rattle.ir_ast.specs.declared.function.Function.{Function}
+-- Where a text begins and where it ends: no name is used that is not defined.
+use Rattle.std.proofs.Common.{◌≡◌, ℕ, zero, suc, Bool, true, false, not, ◌&&◌, List, [], ◌∷◌, length, Option, None, Some, Ok, refl, sym, ap, subst, ◌∙◌, arith}
+use Rattle.std.specs.Prelude.{option_map}
 use Rattle.ir_ast.specs.declared.items_of_module.SymbolSort.{SymbolSort}
 use Rattle.ir_ast.specs.declared.items_of_module.SymbolSort.TheVariants as symbol
 use Rattle.ir_ast.specs.declared.module.Module.{Module}
@@ -19,14 +16,9 @@ use Rattle.ir_forms.specs.declared.input.Input.{Input}
 use Rattle.ir_text.specs.Late as late
 use Rattle.ir_text.specs.Late.{late_fault, first_of_faults, earliest, operand_fault}
 use Rattle.ir_text.specs.Read.{start}
-use Rattle.ir_print.specs.Blocks.{block_text}
-use Rattle.ir_print.specs.Instructions.{instruction_line}
-use Rattle.ir_print.specs.Items.{struct_line, global_line, declare_line, head_line, function_text, text_of}
-use Rattle.ir_print.specs.Names.{name_at, key_text}
 use Rattle.ir_print.specs.Standing.{Stands}
 use Rattle.ir_print_law.specs.Definitions.{defined_structs, defined_globals, functions_of}
 use Rattle.ir_print_law.specs.Shapes.{IsIn}
-use Rattle.ir_print_law.specs.Again.{AreAlike, IsLineAgain, IsBlockAgain, IsFunctionAgain, IsAgain}
 use Rattle.ir_print_law.proofs.State.{used_symbols}
 use Rattle.ir_print_law.proofs.WholeFunctionEnds.{none_found, nobody}
 use Rattle.ir_print_law.proofs.Known.{Far, Holds, IsStructUse, IsSymbolUse, StructsKnown, SymbolsKnown}
@@ -93,36 +85,3 @@ unfolding kind
 ends_there c gap e at =
     let l = end_by at.1 (length c.text) at.2 gap e in
     (ap kind_first (at.5 ∙ l.0), at.6 ∙ l.1)
-
--- ---- modules that are alike have one text
-
-lines_same : {A B : Type 0} (Alike : A → B → Type 0) (line : A → Text) (other : B → Text) (xs : List A) (ys : List B) → ((x : A) (y : B) → Alike x y → line x ≡ other y) → AreAlike Alike xs ys
-    → flat_map line xs ≡ flat_map other ys
-lines_same Alike line other [] [] f h = refl
-lines_same Alike line other [] (y ∷ ys) f h = absurd h
-lines_same Alike line other (x ∷ xs) [] f h = absurd h
-lines_same Alike line other (x ∷ xs) (y ∷ ys) f h = ap (λ (t : Text). t ++ flat_map line xs) (f x y h.0) ∙ ap (λ (t : Text). other y ++ t) (lines_same Alike line other xs ys f h.1)
-
-block_same : (m n : Module) (locals others : List Text) (x y : Block) → IsBlockAgain m n locals others x y → block_text m locals x ≡ block_text n others y
-block_same m n locals others x y h =
-    ap (λ (t : Text). t ++ codes ":\n" ++ flat_map (instruction_line m locals) x.instructions) h.0
-    ∙ ap (λ (t : Text). key_text (name_at others y.label) ++ codes ":\n" ++ t)
-    (lines_same (IsLineAgain m n locals others) (instruction_line m locals) (instruction_line n others) x.instructions y.instructions (λ a b e. e) h.1)
-
-function_same : (m n : Module) (f g : Function) → IsFunctionAgain m n f g → function_text m f ≡ function_text n g
-function_same m n f g h =
-    ap (λ (t : Text). t ++ flat_map (block_text m f.locals) f.blocks ++ codes "}\n") h.0
-    ∙ ap (λ (t : Text). head_line n g ++ t ++ codes "}\n")
-    (lines_same (IsBlockAgain m n f.locals g.locals) (block_text m f.locals) (block_text n g.locals) f.blocks g.blocks (λ a b e. block_same m n f.locals g.locals a b e) h.1)
-
--- a module that is another one again has its text
-pub same_text : (m n : Module) → IsAgain m n → text_of m ≡ text_of n
-same_text m n h =
-    let structs = lines_same (λ x y. struct_line m x ≡ struct_line n y) (struct_line m) (struct_line n) m.structs n.structs (λ a b e. e) h.structs in
-    let globals = lines_same (λ x y. global_line m x ≡ global_line n y) (global_line m) (global_line n) m.globals n.globals (λ a b e. e) h.globals in
-    let declares = lines_same (λ x y. declare_line m x ≡ declare_line n y) (declare_line m) (declare_line n) m.declares n.declares (λ a b e. e) h.declares in
-    let functions = lines_same (IsFunctionAgain m n) (function_text m) (function_text n) m.functions n.functions (λ a b e. function_same m n a b e) h.functions in
-    ap (λ (t : Text). t ++ flat_map (global_line m) m.globals ++ flat_map (declare_line m) m.declares ++ flat_map (function_text m) m.functions) structs
-    ∙ ap (λ (t : Text). flat_map (struct_line n) n.structs ++ t ++ flat_map (declare_line m) m.declares ++ flat_map (function_text m) m.functions) globals
-    ∙ ap (λ (t : Text). flat_map (struct_line n) n.structs ++ flat_map (global_line n) n.globals ++ t ++ flat_map (function_text m) m.functions) declares
-    ∙ ap (λ (t : Text). flat_map (struct_line n) n.structs ++ flat_map (global_line n) n.globals ++ flat_map (declare_line n) n.declares ++ t) functions

@@ -159,7 +159,7 @@ module _ (m : Module) (f : Function) (named : AreNamed m f) (nobody_named : AreN
         record { types = begins_itself i.types; structs = begins_itself i.struct_names.names; symbols = begins_itself i.symbols.names },
       )
 
-  -- the function that was read has this head and the blocks, written alike
+  -- the function that was read has this head, and the blocks again
   abbrev pub IsBodyRead : (symbol returned : ℕ) → (parameters : List Parameter) → (collector : Option Text) → (i : Input) → (g : Function) → Input → Type 0
   IsBodyRead symbol returned parameters collector i g o =
       (g.symbol ≡ symbol) × (g.returned ≡ returned) × (g.parameters ≡ parameters) × (g.collector ≡ collector) × Begins i.locals.names g.locals

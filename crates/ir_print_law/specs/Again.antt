@@ -1,36 +1,144 @@
--- A module that is another one again: the same items in the same order, each written alike. Types, names of structs and global names may have other numbers.
-use Rattle.std.specs.Prelude.{◌≡◌, List, [], ◌∷◌}
+-- A module that is another one again: the same items in the same order, part for part. Types and names may have other numbers in its tables, so types are compared by their shapes, and names by what they are. What reading notes of names besides, their sorts, is not compared.
+use Rattle.std.specs.Prelude.{◌≡◌, ℕ, List, [], ◌∷◌, Option, Some, None, ◌⊎◌, slice_get}
 use Rattle.ir_ast.specs.declared.block.Block.{Block}
 use Rattle.ir_ast.specs.declared.function.Function.{Function}
+use Rattle.ir_ast.specs.declared.function.Parameter.{Parameter}
 use Rattle.ir_ast.specs.declared.instr.Instr.{Instr}
+use Rattle.ir_ast.specs.declared.items_of_module.Declare.{Declare}
+use Rattle.ir_ast.specs.declared.items_of_module.Global.{Global}
+use Rattle.ir_ast.specs.declared.items_of_module.StructType.{StructType}
 use Rattle.ir_ast.specs.declared.module.Module.{Module}
+use Rattle.ir_ast.specs.declared.op.Argument.{Argument}
+use Rattle.ir_ast.specs.declared.op.Case.{Case}
+use Rattle.ir_ast.specs.declared.op.Incoming.{Incoming}
+use Rattle.ir_ast.specs.declared.op.Op.{Op}
+use Rattle.ir_ast.specs.declared.op.Op.TheVariants as op
+use Rattle.ir_ast.specs.declared.operand.Operand.{Operand}
+use Rattle.ir_ast.specs.declared.operand.Operand.TheVariants as operand
 use Rattle.ir_tokens.specs.Bytes.{Text}
-use Rattle.ir_print.specs.Instructions.{instruction_line}
-use Rattle.ir_print.specs.Items.{struct_line, global_line, declare_line, head_line}
-use Rattle.ir_print.specs.Names.{name_at, key_text}
+use Rattle.ir_print.specs.Names.{name_at}
+use Rattle.ir_print_law.specs.Printable.{IsVoid}
+use Rattle.ir_print_law.specs.Shapes.{Shape, HasShape}
 
--- two lists, each element of which is alike
+-- two lists of one length, the elements at each place alike
 abbrev pub AreAlike : {A B : Type 0} → (A → B → Type 0) → List A → List B → Type 0
 AreAlike Alike [] [] = Unit {0}
 AreAlike Alike (x ∷ xs) (y ∷ ys) = Alike x y × AreAlike Alike xs ys
 AreAlike Alike _ _ = ⊥
 
--- instructions that are written alike
-abbrev pub IsLineAgain : (m n : Module) → (locals others : List Text) → Instr → Instr → Type 0
-IsLineAgain m n locals others x y = instruction_line m locals x ≡ instruction_line n others y
+-- ---- names and types
 
--- blocks with one label and with instructions that are written alike
-abbrev pub IsBlockAgain : (m n : Module) → (locals others : List Text) → Block → Block → Type 0
-IsBlockAgain m n locals others x y =
-    (key_text (name_at locals x.label) ≡ key_text (name_at others y.label)) × AreAlike (IsLineAgain m n locals others) x.instructions y.instructions
+-- the second table has at its number the name that has this number in the first
+abbrev pub IsNameAgain : (names others : List Text) → (number other : ℕ) → Type 0
+IsNameAgain names others number other = slice_get others other ≡ Some (name_at names number)
 
--- functions whose heads are written alike, block for block
-abbrev pub IsFunctionAgain : (m n : Module) → Function → Function → Type 0
-IsFunctionAgain m n f g = (head_line m f ≡ head_line n g) × AreAlike (IsBlockAgain m n f.locals g.locals) f.blocks g.blocks
+-- the types with these numbers have one shape
+abbrev pub IsTypeAgain : (m n : Module) → (written other : ℕ) → Type 0
+IsTypeAgain m n written other = (shape : Shape) × HasShape m.types m.struct_names shape written × HasShape n.types n.struct_names shape other
+
+-- both are `void`, or they are types of one shape
+abbrev pub IsResultAgain : (m n : Module) → (returned other : ℕ) → Type 0
+IsResultAgain m n returned other = (IsVoid m returned × IsVoid n other) ⊎ IsTypeAgain m n returned other
+
+-- ---- instructions
+
+-- Two modules, and the names of a function in each.
+module _ (m n : Module) (locals others : List Text) where
+  -- what instructions read: one constant, one name, or one bitcast of a global
+  abbrev pub IsOperandAgain : Operand → Operand → Type 0
+  IsOperandAgain (operand.Constant x) (operand.Constant y) = x ≡ y
+  IsOperandAgain (operand.Local x) (operand.Local y) = IsNameAgain locals others x y
+  IsOperandAgain (operand.Global x) (operand.Global y) = IsNameAgain m.symbols n.symbols x y
+  IsOperandAgain (operand.CastGlobal t x to) (operand.CastGlobal u y into) = IsTypeAgain m n t u × IsNameAgain m.symbols n.symbols x y × IsTypeAgain m n to into
+  IsOperandAgain _ _ = ⊥
+
+  -- operands with their types
+  abbrev pub IsArgumentAgain : Argument → Argument → Type 0
+  IsArgumentAgain x y = IsTypeAgain m n x.written y.written × IsOperandAgain x.operand y.operand
+
+  -- entries of phis
+  abbrev pub IsIncomingAgain : Incoming → Incoming → Type 0
+  IsIncomingAgain x y = IsOperandAgain x.operand y.operand × IsNameAgain locals others x.from y.from
+
+  -- cases of switches
+  abbrev pub IsCaseAgain : Case → Case → Type 0
+  IsCaseAgain x y = (x.constant ≡ y.constant) × IsNameAgain locals others x.target y.target
+
+  -- what instructions do: one operation, each part alike
+  unfoldable pub IsOpAgain : Op → Op → Type 0
+  IsOpAgain (op.Alloca t) (op.Alloca u) = IsTypeAgain m n t u
+  IsOpAgain (op.Bitcast t x to) (op.Bitcast u y into) = IsTypeAgain m n t u × IsOperandAgain x y × IsTypeAgain m n to into
+  IsOpAgain (op.Load t place x) (op.Load u other y) = IsTypeAgain m n t u × IsTypeAgain m n place other × IsOperandAgain x y
+  IsOpAgain (op.Store t v place x) (op.Store u w other y) = IsTypeAgain m n t u × IsOperandAgain v w × IsTypeAgain m n place other × IsOperandAgain x y
+  IsOpAgain (op.Element t base x indices) (op.Element u other y further) =
+      IsTypeAgain m n t u × IsTypeAgain m n base other × IsOperandAgain x y × AreAlike IsArgumentAgain indices further
+  IsOpAgain (op.Arithmetic kind t a b) (op.Arithmetic other u x y) = (kind ≡ other) × IsTypeAgain m n t u × IsOperandAgain a x × IsOperandAgain b y
+  IsOpAgain (op.Resize kind t x to) (op.Resize other u y into) = (kind ≡ other) × IsTypeAgain m n t u × IsOperandAgain x y × IsTypeAgain m n to into
+  IsOpAgain (op.Compare kind t a b) (op.Compare other u x y) = (kind ≡ other) × IsTypeAgain m n t u × IsOperandAgain a x × IsOperandAgain b y
+  IsOpAgain (op.Select bit c t a b) (op.Select other d u x y) =
+      IsTypeAgain m n bit other × IsOperandAgain c d × IsTypeAgain m n t u × IsOperandAgain a x × IsOperandAgain b y
+  IsOpAgain (op.Phi t entries) (op.Phi u further) = IsTypeAgain m n t u × AreAlike IsIncomingAgain entries further
+  IsOpAgain (op.Call t callee xs) (op.Call u other ys) = IsResultAgain m n t u × IsNameAgain m.symbols n.symbols callee other × AreAlike IsArgumentAgain xs ys
+  IsOpAgain (op.Jump target) (op.Jump other) = IsNameAgain locals others target other
+  IsOpAgain (op.Branch bit c a b) (op.Branch other d x y) =
+      IsTypeAgain m n bit other × IsOperandAgain c d × IsNameAgain locals others a x × IsNameAgain locals others b y
+  IsOpAgain (op.Switch t x target cases) (op.Switch u y other further) =
+      IsTypeAgain m n t u × IsOperandAgain x y × IsNameAgain locals others target other × AreAlike IsCaseAgain cases further
+  IsOpAgain op.Unreachable op.Unreachable = Unit {0}
+  IsOpAgain op.ReturnVoid op.ReturnVoid = Unit {0}
+  IsOpAgain (op.Return x) (op.Return y) = IsArgumentAgain x y
+  IsOpAgain _ _ = ⊥
+
+  -- neither gives a value that has a name, or both do, and it is one name
+  abbrev pub IsValueAgain : Option ℕ → Option ℕ → Type 0
+  IsValueAgain None None = Unit {0}
+  IsValueAgain (Some value) (Some other) = IsNameAgain locals others value other
+  IsValueAgain _ _ = ⊥
+
+  -- instructions
+  abbrev pub IsInstrAgain : Instr → Instr → Type 0
+  IsInstrAgain x y = IsValueAgain x.result y.result × IsOpAgain x.op y.op
+
+  -- blocks
+  abbrev pub IsBlockAgain : Block → Block → Type 0
+  IsBlockAgain x y = IsNameAgain locals others x.label y.label × AreAlike IsInstrAgain x.instructions y.instructions
+
+  -- parameters of defined functions
+  abbrev pub IsParameterAgain : Parameter → Parameter → Type 0
+  IsParameterAgain x y = IsTypeAgain m n x.written y.written × IsNameAgain locals others x.value y.value
+
+-- ---- items
+
+-- struct types
+pub record IsStructAgain (m n : Module) (x y : StructType) : Type 0 where
+  pub name : IsNameAgain m.struct_names n.struct_names x.name y.name
+  pub body : IsTypeAgain m n x.body y.body
+
+-- globals
+pub record IsGlobalAgain (m n : Module) (x y : Global) : Type 0 where
+  pub symbol : IsNameAgain m.symbols n.symbols x.symbol y.symbol
+  pub is_constant : x.is_constant ≡ y.is_constant
+  pub held : IsTypeAgain m n x.held y.held
+  pub initial : x.initial ≡ y.initial
+
+-- declared functions
+pub record IsDeclareAgain (m n : Module) (x y : Declare) : Type 0 where
+  pub symbol : IsNameAgain m.symbols n.symbols x.symbol y.symbol
+  pub runtime : x.runtime ≡ y.runtime
+  pub returned : IsResultAgain m n x.returned y.returned
+  pub parameters : AreAlike (IsTypeAgain m n) x.parameters y.parameters
+
+-- defined functions, each with local names of its own
+pub record IsFunctionAgain (m n : Module) (f g : Function) : Type 0 where
+  pub symbol : IsNameAgain m.symbols n.symbols f.symbol g.symbol
+  pub returned : IsResultAgain m n f.returned g.returned
+  pub parameters : AreAlike (IsParameterAgain m n f.locals g.locals) f.parameters g.parameters
+  pub collector : f.collector ≡ g.collector
+  pub blocks : AreAlike (IsBlockAgain m n f.locals g.locals) f.blocks g.blocks
 
 -- the second module is the first one again
 pub record IsAgain (m n : Module) : Type 0 where
-  pub structs : AreAlike (λ x y. struct_line m x ≡ struct_line n y) m.structs n.structs
-  pub globals : AreAlike (λ x y. global_line m x ≡ global_line n y) m.globals n.globals
-  pub declares : AreAlike (λ x y. declare_line m x ≡ declare_line n y) m.declares n.declares
+  pub structs : AreAlike (IsStructAgain m n) m.structs n.structs
+  pub globals : AreAlike (IsGlobalAgain m n) m.globals n.globals
+  pub declares : AreAlike (IsDeclareAgain m n) m.declares n.declares
   pub functions : AreAlike (IsFunctionAgain m n) m.functions n.functions

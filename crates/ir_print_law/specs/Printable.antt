@@ -1,6 +1,7 @@
 -- Modules whose printed texts are read again.
 use Rattle.std.specs.Prelude.{◌≡◌, ℕ, ◌<◌, ◌≤◌, Bool, true, false, not, ◌&&◌, List, [], ◌∷◌, ◌++◌, length, Option, Some, None, is_some, ◌⊎◌, slice_get}
 use Rattle.std.specs.List.{AllByRecursion}
+use Rattle.ir_ast.specs.RuntimeNames.{runtime_of}
 use Rattle.ir_ast.specs.declared.block.Block.{Block}
 use Rattle.ir_ast.specs.declared.function.Function.{Function}
 use Rattle.ir_ast.specs.declared.function.Parameter.{Parameter}
@@ -202,9 +203,10 @@ IsGlobal m global = (shape : Shape) × IsType m shape global.held × (is_held_sh
 abbrev pub IsAnyType : Module → (written : ℕ) → Type 0
 IsAnyType m written = (shape : Shape) × IsType m shape written
 
--- a declared function
+-- a declared function, with the function of the runtime that its name is, if it is one
 abbrev pub IsDeclare : Module → Declare → Type 0
-IsDeclare m declared = (IsVoid m declared.returned ⊎ IsAnyType m declared.returned) × AllByRecursion (IsAnyType m) declared.parameters
+IsDeclare m declared =
+    (IsVoid m declared.returned ⊎ IsAnyType m declared.returned) × AllByRecursion (IsAnyType m) declared.parameters × (declared.runtime ≡ runtime_of (name_at m.symbols declared.symbol))
 
 -- a global name is bytes, and no intrinsic's that is left out
 abbrev pub IsSymbol : Text → Type 0

@@ -120,7 +120,8 @@ global_behind s = do
   is_fixed ← is_constant
   w ← held_type
   x ← initial (bits_of w)
-  trailing trail.Memory
+  trailing trail.Global
+  decorations spot.GlobalEnd
   add_global (record { symbol = s; is_constant = is_fixed; held = w.id; initial = x })
 
 -- the count is below this bound
@@ -165,8 +166,12 @@ declared_result_by k.Void = void_result
 declared_result_by _ = any_type >>= λ w. pure w.id
 
 -- `void`, or a type, with what decorates the function
+abbrev pub decorated_result : Form ℕ
+decorated_result = decorations spot.Result >> look (λ i. kind i.cursor) declared_result_by
+
+-- the metadata of a declared function, and then its result
 unfoldable pub declared_result : Form ℕ
-declared_result = decorations spot.Result >> look (λ i. kind i.cursor) declared_result_by
+declared_result = decorations spot.Declare >> decorated_result
 
 -- the name of a function that is declared or defined here, as this
 abbrev pub function_name_by : SymbolSort → Kind → Form ℕ

@@ -108,7 +108,8 @@ fn global(alloc: Global, input: &mut Input<'_>) -> Result<(), Fault>
     let is_constant = is_constant(alloc, input)?;
     let written = input.held_type(alloc)?;
     let initial = initial(input, bits_of(&written))?;
-    trailing(alloc, input, Trail::Memory)?;
+    trailing(alloc, input, Trail::Global)?;
+    decorations(alloc, input, Spot::GlobalEnd)?;
     input.globals.push(ast::Global {
         symbol,
         is_constant,
@@ -129,11 +130,12 @@ fn void_result(input: &mut Input<'_>) -> Result<TypeId, Fault>
     input.intern(IrType::Void)
 }
 
-/// `void`, or a type, with what decorates the function.
+/// `void`, or a type, with what decorates a declared function and the metadata before that.
 #[tactic(auto, unfolding(crate::specs::ItemsOfText::declared_result))]
 fn declared_result(alloc: Global, input: &mut Input<'_>) -> Result<TypeId, Fault>
     ensures { Reads (form.declared_result.read input.old) result input.new }
 {
+    decorations(alloc, input, Spot::Declare)?;
     decorations(alloc, input, Spot::Result)?;
     match input.kind() {
         Kind::Void => void_result(input),

@@ -68,7 +68,7 @@ float_words =
 -- left out: vectors and values in parts
 abbrev pub part_words : List Text
 part_words =
-    codes "x86_mmx" ∷ codes "extractelement" ∷ codes "insertelement" ∷ codes "shufflevector" ∷ codes "extractvalue" ∷
+    codes "x86_mmx" ∷ codes "x86_amx" ∷ codes "extractelement" ∷ codes "insertelement" ∷ codes "shufflevector" ∷ codes "extractvalue" ∷
     codes "insertvalue" ∷ []
 
 -- left out: pointers as numbers, and address spaces
@@ -80,6 +80,7 @@ pointer_words =
 abbrev pub control_words : List Text
 control_words =
     codes "invoke" ∷ codes "landingpad" ∷ codes "resume" ∷ codes "musttail" ∷ codes "indirectbr" ∷ codes "callbr" ∷
+    codes "catchpad" ∷ codes "catchret" ∷ codes "catchswitch" ∷ codes "cleanuppad" ∷ codes "cleanupret" ∷
     codes "personality" ∷ codes "prefix" ∷ codes "prologue" ∷ []
 
 -- left out: threads
@@ -92,7 +93,8 @@ abbrev pub further_words : List Text
 further_words =
     codes "asm" ∷ codes "module" ∷ codes "freeze" ∷ codes "va_arg" ∷ codes "blockaddress" ∷
     codes "dso_local_equivalent" ∷ codes "no_cfi" ∷ codes "poison" ∷ codes "opaque" ∷ codes "byval" ∷ codes "sret" ∷
-    codes "inalloca" ∷ codes "preallocated" ∷ []
+    codes "inalloca" ∷ codes "preallocated" ∷ codes "metadata" ∷ codes "token" ∷ codes "alias" ∷ codes "ifunc" ∷
+    codes "uselistorder" ∷ codes "uselistorder_bb" ∷ []
 
 -- each word that has a kind of its own, with that kind
 unfoldable pub keywords : List (Text × Kind)

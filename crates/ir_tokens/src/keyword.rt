@@ -21,6 +21,7 @@ static WORDS: [&[(&[u8], Kind)]; 26] = [
         (b"atomic", Kind::LeftOut),
         (b"atomicrmw", Kind::LeftOut),
         (b"asm", Kind::LeftOut),
+        (b"alias", Kind::LeftOut),
     ],
     &[
         (b"bitcast", Kind::Bitcast),
@@ -34,6 +35,11 @@ static WORDS: [&[(&[u8], Kind)]; 26] = [
         (b"comdat", Kind::Comdat),
         (b"call", Kind::Call),
         (b"callbr", Kind::LeftOut),
+        (b"catchpad", Kind::LeftOut),
+        (b"catchret", Kind::LeftOut),
+        (b"catchswitch", Kind::LeftOut),
+        (b"cleanuppad", Kind::LeftOut),
+        (b"cleanupret", Kind::LeftOut),
         (b"cmpxchg", Kind::LeftOut),
     ],
     &[
@@ -83,6 +89,7 @@ static WORDS: [&[(&[u8], Kind)]; 26] = [
         (b"invoke", Kind::LeftOut),
         (b"indirectbr", Kind::LeftOut),
         (b"inalloca", Kind::LeftOut),
+        (b"ifunc", Kind::LeftOut),
     ],
     &[],
     &[],
@@ -96,6 +103,7 @@ static WORDS: [&[(&[u8], Kind)]; 26] = [
         (b"mul", Kind::Mul),
         (b"musttail", Kind::LeftOut),
         (b"module", Kind::LeftOut),
+        (b"metadata", Kind::LeftOut),
     ],
     &[
         (b"null", Kind::Null),
@@ -146,6 +154,7 @@ static WORDS: [&[(&[u8], Kind)]; 26] = [
         (b"to", Kind::To),
         (b"tail", Kind::Tail),
         (b"thread_local", Kind::LeftOut),
+        (b"token", Kind::LeftOut),
     ],
     &[
         (b"undef", Kind::Undef),
@@ -157,6 +166,8 @@ static WORDS: [&[(&[u8], Kind)]; 26] = [
         (b"udiv", Kind::LeftOut),
         (b"urem", Kind::LeftOut),
         (b"uitofp", Kind::LeftOut),
+        (b"uselistorder", Kind::LeftOut),
+        (b"uselistorder_bb", Kind::LeftOut),
     ],
     &[
         (b"void", Kind::Void),
@@ -169,6 +180,7 @@ static WORDS: [&[(&[u8], Kind)]; 26] = [
         (b"xor", Kind::Xor),
         (b"x86_fp80", Kind::LeftOut),
         (b"x86_mmx", Kind::LeftOut),
+        (b"x86_amx", Kind::LeftOut),
     ],
     &[],
     &[

@@ -14,10 +14,10 @@ use Rattle.trace_sweep.specs.Stands.{StandsBehind}
 use Rattle.trace_sweep.specs.Order.{next-step, took-stands}
 use Rattle.trace_sweep.specs.Extends.{next-extends}
 use Rattle.runs.specs.Machine.{Machine}
-use Rattle.runs.specs.Moves.{Move, step_of}
+use Rattle.runs.specs.Moves.{Move, step_of, steps_of}
 use Rattle.runs.specs.ModuleRuns.{Happening, OfThread, share_of, with_step, heap_of, IsNext, IsModuleRun}
 use Rattle.runs.specs.NextMoves.{next_move_in, sight_behind, IsSightOf}
-use Rattle.runs.specs.Tries.{lowest, TriesLowest}
+use Rattle.runs.specs.Tries.{by_hint, TriesByHint}
 use Rattle.runs.specs.NextMoveLemmas.{next_is}
 use Rattle.runs.specs.TryLemmas.{keeps_order}
 use Rattle.moves.specs.declared.actor.Actor.{Actor}
@@ -53,7 +53,7 @@ turns-with t (Some step) h = refl
 -- a run that was drawn so far
 pub record IsDrawn (s : Setup) (m : Machine) (starts : ℕ → m.State) (run : List Happening) : Type 0 where
   pub is_run : IsModuleRun s m starts run
-  pub tries : (t : ℕ) → t < s.threads → TriesLowest s m t (starts t) (share_of t run)
+  pub tries : (t : ℕ) → t < s.threads → TriesByHint s m t (starts t) (share_of t run)
   pub stands : StandsBehind s (turns_of (heap_of run)) (collector_behind s (turns_of (heap_of run)))
 
 -- before the first step
@@ -80,11 +80,14 @@ drawn-move : (s : Setup) (m : Machine) (starts : ℕ → m.State) (run : List Ha
     → IsDrawn s m starts (with_next (next_by s m starts run (Thread t)) run)
 drawn-move s m starts run t lt d =
     let order = keeps_order s m starts run t d.is_run (d.tries t lt) in
-    let next = next_is s m starts run (sight_behind s run (lowest s)) t d.is_run (seen s run (lowest s)) lt order.in_pool in
-    go (next_move_in s m starts run (sight_behind s run (lowest s)) t) next.is_next order.next
+    let next = next_is s m starts run (sight_behind s run hinted) t d.is_run (seen s run hinted) lt order.in_pool in
+    go (next_move_in s m starts run (sight_behind s run hinted) t) next.is_next order.next
   where
+    hinted : (layout : ℕ) → List ℕ → ℕ
+    hinted = by_hint s (steps_of (share_of t run))
+
     go : (o : Option Move) → MatchOption o (Unit {0}) (λ move. IsNext s m starts run (OfThread t move))
-        → MatchOption o (Unit {0}) (λ move. TriesLowest s m t (starts t) (move ∷ share_of t run)) → IsDrawn s m starts (with_next (by_thread t o) run)
+        → MatchOption o (Unit {0}) (λ move. TriesByHint s m t (starts t) (move ∷ share_of t run)) → IsDrawn s m starts (with_next (by_thread t o) run)
     go None next tries = d
     go (Some move) next tries = record {
       is_run = (d.is_run, next);
@@ -92,8 +95,8 @@ drawn-move s m starts run t lt d =
       stands = subst (λ (log : List Turn). StandsBehind s log (collector_behind s log)) (sym (turns-with t (step_of move) (heap_of run))) d.stands;
     }
       where
-        each : (u : ℕ) → u < s.threads → (b : Bool) → t == u ≡ b → TriesLowest s m u (starts u) (if b then move ∷ share_of u run else share_of u run)
-        each u few true e = subst (λ v. TriesLowest s m v (starts v) (move ∷ share_of v run)) (test_true t u e) tries
+        each : (u : ℕ) → u < s.threads → (b : Bool) → t == u ≡ b → TriesByHint s m u (starts u) (if b then move ∷ share_of u run else share_of u run)
+        each u few true e = subst (λ v. TriesByHint s m v (starts v) (move ∷ share_of v run)) (test_true t u e) tries
         each u few false e = d.tries u few
 
 -- the collector's next step, if there is one

@@ -8,15 +8,15 @@ use Rattle.runs.specs.Machine.{Reference, Action, Answer, Machine}
 use Rattle.runs.specs.Moves.{step_of, phase_behind, ends_call, answer_of}
 use Rattle.runs.specs.Moves as moves
 use Rattle.runs.specs.Ends.{moved, stage_behind, old_by}
+use Rattle.runs.specs.Tries.{hints_by}
 use Rattle.moves.specs.declared.call.Call.{Call}
 use Rattle.moves.specs.declared.call.Call.TheVariants as call
 use Rattle.moves.specs.declared.moves.Move.{Move}
-use Rattle.moves.specs.declared.moves.Move.TheVariants as made
 use Rattle.moves.specs.declared.stand.Stance.{Stance}
 use Rattle.moves.specs.declared.stand.Stance.TheVariants as stance
 use Rattle.moves.specs.declared.stand.Stand.{Stand}
 use Rattle.moves.specs.Calls.{action_of, move_in}
-use Rattle.moves.specs.Stands.{phase_at, standing}
+use Rattle.moves.specs.Stands.{cells_to_try, phase_at, standing}
 
 -- the call of an action
 call_of : Action → Call
@@ -61,38 +61,56 @@ ends-between (moves.StoresStage stage roots) phase e = e
 ends-between (moves.ReadsPostedFirst stage) phase e = e
 ends-between (moves.EntersStage stage) phase e = e
 
--- between two calls the roots do not matter
-pub between-phase : (roots others : List Reference) (at : Stance) → order.is_between (phase_at roots at) ≡ true → phase_at others at ≡ phase_at roots at
-between-phase roots others stance.Ready e = refl
-between-phase roots others stance.Ended e = refl
-between-phase roots others (stance.MarkingOld c w o) e = absurd cc
-between-phase roots others (stance.MarkingNew c w o) e = absurd cc
-between-phase roots others (stance.Writing c w o n) e = absurd cc
-between-phase roots others (stance.Trying f n) e = absurd cc
-between-phase roots others (stance.Answering p n) e = absurd cc
-between-phase roots others stance.Absent e = absurd cc
-between-phase roots others (stance.Arriving p) e = absurd cc
-between-phase roots others stance.Entering e = absurd cc
-between-phase roots others stance.Leaving e = absurd cc
+-- between two calls neither the cells to try nor the roots matter
+pub between-phase : (cells to_try : List ℕ) (roots others : List Reference) (at : Stance) → order.is_between (phase_at cells roots at) ≡ true → phase_at to_try others at ≡ phase_at cells roots at
+between-phase cells to_try roots others stance.Ready e = refl
+between-phase cells to_try roots others stance.Ended e = refl
+between-phase cells to_try roots others (stance.MarkingOld c w o) e = absurd cc
+between-phase cells to_try roots others (stance.MarkingNew c w o) e = absurd cc
+between-phase cells to_try roots others (stance.Writing c w o n) e = absurd cc
+between-phase cells to_try roots others (stance.Trying n) e = absurd cc
+between-phase cells to_try roots others (stance.Answering p n) e = absurd cc
+between-phase cells to_try roots others stance.Absent e = absurd cc
+between-phase cells to_try roots others (stance.Arriving p) e = absurd cc
+between-phase cells to_try roots others stance.Entering e = absurd cc
+between-phase cells to_try roots others stance.Leaving e = absurd cc
+
+-- a cell is won only at a call's end, so until then the hints stay
+hints-within : (s : Setup) (hints : List ℕ) (stage : ℕ) (phase : Phase) (m : moves.Move) → ends_call m (phase_behind s stage phase (step_of m)) ≡ false → hints_by s hints (step_of m) ≡ hints
+hints-within s hints stage phase (moves.Claims r true) e = absurd cc
+hints-within s hints stage phase (moves.Claims r false) e = refl
+hints-within s hints stage phase moves.Works e = refl
+hints-within s hints stage phase moves.GoesWrong e = refl
+hints-within s hints stage phase (moves.ReadsWord base word value) e = refl
+hints-within s hints stage phase (moves.ReadsOldValue base word value) e = refl
+hints-within s hints stage phase (moves.Marks r) e = refl
+hints-within s hints stage phase (moves.StoresBehindBarrier base word value) e = refl
+hints-within s hints stage phase (moves.StoresPlain base word value) e = refl
+hints-within s hints stage phase (moves.ReadsPosted posted) e = refl
+hints-within s hints stage phase (moves.StoresStage to roots) e = refl
+hints-within s hints stage phase (moves.ReadsPostedFirst posted) e = refl
+hints-within s hints stage phase (moves.EntersStage to) e = refl
+hints-within s hints stage phase (moves.ReadsPostedAgain posted) e = refl
 
 -- the thread after a move, where its call ends ..
-pub moved-between : (s : Setup) (m : Machine) (stand : Stand m.State) (move : Move) (state : m.State) (stage : ℕ) (at : Stance) (replaced : Reference) (answer : Answer)
-    → phase_at (m.roots stand.state) at ≡ phase_behind s stand.stage (phase_at (m.roots stand.state) stand.stance) (step_of (move_in (m.roots stand.state) move))
-    → ends_call (move_in (m.roots stand.state) move) (phase_at (m.roots stand.state) at) ≡ true
+pub moved-between : (s : Setup) (m : Machine) (stand : Stand m.State) (move : Move) (state : m.State) (stage : ℕ) (at : Stance) (replaced : Reference) (hints : List ℕ) (answer : Answer)
+    → (let cells = cells_to_try s stand.hints (m.action stand.state) in phase_at cells (m.roots stand.state) at ≡ phase_behind s stand.stage (phase_at cells (m.roots stand.state) stand.stance) (step_of (move_in (m.roots stand.state) move)))
+    → ends_call (move_in (m.roots stand.state) move) (phase_at (cells_to_try s stand.hints (m.action stand.state)) (m.roots stand.state) at) ≡ true
     → state ≡ m.after_answer stand.state answer → answer ≡ answer_of (m.action stand.state) (move_in (m.roots stand.state) move)
-    → stage ≡ stage_behind stand.stage (move_in (m.roots stand.state) move) → replaced ≡ old_by (move_in (m.roots stand.state) move)
-    → standing m.roots (record { state = state; stage = stage; stance = at; replaced = replaced }) ≡ moved s m (standing m.roots stand) (move_in (m.roots stand.state) move)
-moved-between s m stand move state stage at replaced answer phase between after given is_stage is_old =
+    → stage ≡ stage_behind stand.stage (move_in (m.roots stand.state) move) → replaced ≡ old_by (move_in (m.roots stand.state) move) → hints ≡ hints_by s stand.hints (step_of (move_in (m.roots stand.state) move))
+    → standing s m (record { state = state; stage = stage; stance = at; replaced = replaced; hints = hints }) ≡ moved s m (standing s m stand) (move_in (m.roots stand.state) move)
+moved-between s m stand move state stage at replaced hints answer phase between after given is_stage is_old are_hints =
     let ends = ap (ends_call (move_in (m.roots stand.state) move)) (sym phase) ∙ between in
-    let same = between-phase (m.roots stand.state) (m.roots state) at (ends-between (move_in (m.roots stand.state) move) (phase_at (m.roots stand.state) at) between) ∙ phase in
-    rw (ends, same, after, given, is_stage, is_old) refl
+    let same = between-phase (cells_to_try s stand.hints (m.action stand.state)) (cells_to_try s hints (m.action state)) (m.roots stand.state) (m.roots state) at (ends-between (move_in (m.roots stand.state) move) (phase_at (cells_to_try s stand.hints (m.action stand.state)) (m.roots stand.state) at) between) ∙ phase in
+    rw (ends, same, after, given, is_stage, is_old, are_hints) refl
 
 -- .. and where it does not
-pub moved-within : (s : Setup) (m : Machine) (stand : Stand m.State) (move : Move) (stage : ℕ) (at : Stance) (replaced : Reference)
-    → phase_at (m.roots stand.state) at ≡ phase_behind s stand.stage (phase_at (m.roots stand.state) stand.stance) (step_of (move_in (m.roots stand.state) move))
-    → ends_call (move_in (m.roots stand.state) move) (phase_at (m.roots stand.state) at) ≡ false
-    → stage ≡ stage_behind stand.stage (move_in (m.roots stand.state) move) → replaced ≡ old_by (move_in (m.roots stand.state) move)
-    → standing m.roots (record { state = stand.state; stage = stage; stance = at; replaced = replaced }) ≡ moved s m (standing m.roots stand) (move_in (m.roots stand.state) move)
-moved-within s m stand move stage at replaced phase within is_stage is_old =
+pub moved-within : (s : Setup) (m : Machine) (stand : Stand m.State) (move : Move) (stage : ℕ) (at : Stance) (replaced : Reference) (hints : List ℕ)
+    → (let cells = cells_to_try s stand.hints (m.action stand.state) in phase_at cells (m.roots stand.state) at ≡ phase_behind s stand.stage (phase_at cells (m.roots stand.state) stand.stance) (step_of (move_in (m.roots stand.state) move)))
+    → ends_call (move_in (m.roots stand.state) move) (phase_at (cells_to_try s stand.hints (m.action stand.state)) (m.roots stand.state) at) ≡ false
+    → stage ≡ stage_behind stand.stage (move_in (m.roots stand.state) move) → replaced ≡ old_by (move_in (m.roots stand.state) move) → hints ≡ hints_by s stand.hints (step_of (move_in (m.roots stand.state) move))
+    → standing s m (record { state = stand.state; stage = stage; stance = at; replaced = replaced; hints = hints }) ≡ moved s m (standing s m stand) (move_in (m.roots stand.state) move)
+moved-within s m stand move stage at replaced hints phase within is_stage is_old are_hints =
     let ends = ap (ends_call (move_in (m.roots stand.state) move)) (sym phase) ∙ within in
-    rw (ends, phase, is_stage, is_old) refl
+    let kept = hints-within s stand.hints stand.stage (phase_at (cells_to_try s stand.hints (m.action stand.state)) (m.roots stand.state) stand.stance) (move_in (m.roots stand.state) move) ends in
+    rw (ends, are_hints, kept, phase, is_stage, is_old) refl

@@ -33,9 +33,9 @@ taken-more cells count cell e =
     rw add-one (ap reverse (take-suc cells count 0 within) ∙ reverse-append (take count cells) _ ∙ ap (λ v. v ∷ reverse (take count cells)) (get_or_from_slice_get cells count cell 0 e))
 
 -- a thread that answers a stage, after the mark of its next root
-pub answering-mark : (s : Setup) (stage : ℕ) (roots : List Reference) (stance : Stance) (answered marked cell : ℕ) → stance ≡ Answering answered marked → MarksNext roots stance cell
-    → order.Answering answered (marked_of roots (marked + 1)) ≡ phase_after s stage (phase_at roots stance) (Mark cell)
-answering-mark s stage roots stance answered marked cell e next =
+pub answering-mark : (s : Setup) (stage : ℕ) (cells : List ℕ) (roots : List Reference) (stance : Stance) (answered marked cell : ℕ) → stance ≡ Answering answered marked → MarksNext roots stance cell
+    → order.Answering answered (marked_of roots (marked + 1)) ≡ phase_after s stage (phase_at cells roots stance) (Mark cell)
+answering-mark s stage cells roots stance answered marked cell e next =
     let here : MarksNext roots (Answering answered marked) cell = subst (λ (v : Stance). MarksNext roots v cell) e next in
     let got = non_null-get roots marked here.0 here.1 in
     rw e (ap (order.Answering answered) (taken-more (non_null (cells_of roots)) marked cell (got ∙ ap (λ c. Some c) here.2)))

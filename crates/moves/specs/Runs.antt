@@ -1,5 +1,5 @@
 -- The run that a list of actors makes, each by its one next step on the words as the steps before left them. Cells of a pool
--- are tried from the lowest number up. The collector looks only at those cells out of turn that its list asks for.
+-- are tried from the thread's hint to the pool's end, and then from the first one up to the hint. The collector looks only at those cells out of turn that its list asks for.
 use Rattle.std.specs.Prelude.{ℕ, ◌<◌, Option, Some, None, List, [], ◌∷◌}
 use Rattle.pools.specs.Heap.{Setup}
 use Rattle.colours.specs.declared.place.Place.{Place}
@@ -10,10 +10,10 @@ use Rattle.colours.specs.Steps.{place_of}
 use Rattle.colours.specs.Runs.{word_after, turns_of}
 use Rattle.trace_sweep.specs.Collecting.{Collecting, plan_of, begun, ask_of, turn_of, moved}
 use Rattle.runs.specs.Machine.{Machine}
-use Rattle.runs.specs.Moves.{Move}
-use Rattle.runs.specs.ModuleRuns.{Happening, OfThread, OfCollector, heap_of}
+use Rattle.runs.specs.Moves.{Move, steps_of}
+use Rattle.runs.specs.ModuleRuns.{Happening, OfThread, OfCollector, share_of, heap_of}
 use Rattle.runs.specs.NextMoves.{next_move_in, sight_behind}
-use Rattle.runs.specs.Tries.{lowest}
+use Rattle.runs.specs.Tries.{by_hint}
 use Rattle.moves.specs.declared.actor.Actor.{Actor}
 use Rattle.moves.specs.declared.actor.Actor.TheVariants.{Thread, Collector}
 
@@ -58,7 +58,7 @@ by_collector (Some turn) = Some (OfCollector turn)
 
 -- the one next step of an actor after a run; none where its thread has ended, or at the limit of the cycles
 abbrev pub next_by : (s : Setup) (m : Machine) (starts : ℕ → m.State) → List Happening → Actor → Option Happening
-next_by s m starts run (Thread t) = by_thread t (next_move_in s m starts run (sight_behind s run (lowest s)) t)
+next_by s m starts run (Thread t) = by_thread t (next_move_in s m starts run (sight_behind s run (by_hint s (steps_of (share_of t run)))) t)
 next_by s m starts run Collector = by_collector (next_turn (collector_behind s (turns_of (heap_of run))) (word_after s (heap_of run)))
 
 -- a run with one more happening, if there is one

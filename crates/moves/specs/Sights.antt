@@ -1,13 +1,16 @@
 -- Sights that are alike show a thread the same next move.
-use Rattle.std.proofs.Common.{◌≡◌, ℕ, ◌==◌, suc, Some, List, [], slice_index, refl, sym, ap, ◌∙◌, if◌then◌else◌}
+use Rattle.std.proofs.Common.{◌≡◌, inl, inr, ℕ, ◌==◌, suc, Some, List, [], length, slice_index, min, refl, sym, ap, ◌∙◌, if◌then◌else◌, arith}
+use Rattle.std.proofs.lemmas.Bool.{cases_lt}
+use Rattle.std.proofs.lemmas.List.{get_or_past}
 use Rattle.pools.specs.Heap.{Setup}
 use Rattle.colours.specs.declared.place.Place.TheVariants.{Posted, Colour, Word}
+use Rattle.colours.specs.Steps.{Step}
 use Rattle.colours.specs.Mutator.{Phase, Ready, Trying, Absent, Entering, stage_of, phase_of}
 use Rattle.runs.specs.Machine.{Reference, Action, Read, Write, Alloc, Safepoint, Machine}
 use Rattle.runs.specs.Moves.{Move, Works, ReadsWord, ReadsOldValue, Claims, ReadsPosted, ReadsPostedFirst, ReadsPostedAgain, steps_of, state_after, old_of}
 use Rattle.runs.specs.ModuleRuns.{Happening, share_of}
 use Rattle.runs.specs.NextMoves.{Sight, next_move, try_of, sight_behind}
-use Rattle.runs.specs.Tries.{lowest}
+use Rattle.runs.specs.Tries.{hint_in, cells_of_pool, by_hint, AreHints}
 use Rattle.runs.specs.Ends.{Standing, StandsBehind, next_move_of}
 use Rattle.runs.specs.Standings.{goes_on}
 use Rattle.moves.specs.declared.actor.Actor.TheVariants.{Thread}
@@ -15,7 +18,7 @@ use Rattle.moves.specs.declared.shared.Shared.{Shared}
 use Rattle.moves.specs.Rows.{word_at}
 use Rattle.moves.specs.Runs.{by_thread, next_by}
 use Rattle.moves.specs.Shared.{AreBehind}
-use Rattle.moves.specs.Stands.{sight_in}
+use Rattle.moves.specs.Stands.{cells_by, sight_in}
 
 -- they show the same everywhere
 record AreAlike (h k : Sight) : Type 0 where
@@ -46,20 +49,34 @@ alike_next s h k a stage roots old (Alloc layout) (Trying tried) = ap (λ (m : M
 alike_next s h k a stage roots old Safepoint Ready = ap (λ n. Some (ReadsPosted n)) a.posted
 alike_next s h k a stage roots old action phase = refl
 
+-- a thread with these hints tries the cells in the order of its log
+same_cells : (s : Setup) (log : List Step) (hints : List ℕ) → AreHints s log hints → (layout : ℕ) → cells_of_pool s layout (hint_in s layout log) ≡ cells_by s hints layout
+same_cells s log hints are layout = elim (cases_lt layout (length s.pools)) [
+  | inl lt ↦ ap (cells_of_pool s layout) (sym (are.each layout lt))
+  | inr le ↦
+      let none : slice_index s.pools layout ≡ 0 = get_or_past s.pools layout 0 le in
+      let low : min (hint_in s layout log) 0 ≡ 0 = omega arith in
+      let lower : min (slice_index hints layout) 0 ≡ 0 = omega arith in
+      rw (none, low, lower) refl
+]
+
 -- the state after a run, seen in the run and in the words
-alike_behind : (s : Setup) (run : List Happening) (shared : Shared) → AreBehind s run shared → AreAlike (sight_behind s run (lowest s)) (sight_in s shared)
-alike_behind s run shared b = record {
-  word = λ c i. sym (one_reference (word_at shared.words c i) ((sight_behind s run (lowest s)).word c i) (b.words (Word c i)) (b.word_births c i));
+alike_behind : (s : Setup) (run : List Happening) (log : List Step) (shared : Shared) (hints : List ℕ) → AreBehind s run shared → AreHints s log hints → AreAlike (sight_behind s run (by_hint s log)) (sight_in s shared hints)
+alike_behind s run log shared hints b are = record {
+  word = λ c i. sym (one_reference (word_at shared.words c i) ((sight_behind s run (by_hint s log)).word c i) (b.words (Word c i)) (b.word_births c i));
   posted = sym (b.words Posted);
-  claim = λ layout tried. one_reference ((sight_behind s run (lowest s)).claim layout tried) ((sight_in s shared).claim layout tried) refl (ap suc (sym (b.births (lowest s layout tried))));
+  claim = λ layout tried.
+      let same = ap (λ (cells : List ℕ). slice_index cells (length tried)) (same_cells s log hints are layout) in
+      one_reference ((sight_behind s run (by_hint s log)).claim layout tried) ((sight_in s shared hints).claim layout tried) same
+      (ap suc (sym (b.births (by_hint s log layout tried)) ∙ ap (slice_index shared.births) same));
   is_blue = λ c. ap (λ n. n == 0) (sym (b.words (Colour c)));
 }
 
 -- the next step of a thread that is after a run, from the words as they are
 pub next_in_words : (s : Setup) (m : Machine) (starts : ℕ → m.State) (run : List Happening) (t : ℕ) (stand : Standing m.State) (shared : Shared) → AreBehind s run shared → StandsBehind s m starts run t stand
-    → next_by s m starts run (Thread t) ≡ by_thread t (next_move_of s m (sight_in s shared) stand)
+    → next_by s m starts run (Thread t) ≡ by_thread t (next_move_of s m (sight_in s shared stand.hints) stand)
 next_in_words s m starts run t stand shared behind stands =
     let share = share_of t run in
     let state = state_after s m t (starts t) share in
-    let same = alike_next s (sight_behind s run (lowest s)) (sight_in s shared) (alike_behind s run shared behind) (stage_of (steps_of share)) (m.roots state) (old_of share) (m.action state) (phase_of s t (steps_of share)) in
-    ap (by_thread t) (same ∙ sym ((goes_on s m starts run t stand stands).next (sight_in s shared)))
+    let same = alike_next s (sight_behind s run (by_hint s (steps_of share))) (sight_in s shared stand.hints) (alike_behind s run (steps_of share) shared stand.hints behind stands.hints) (stage_of (steps_of share)) (m.roots state) (old_of share) (m.action state) (phase_of s t (steps_of share)) in
+    ap (by_thread t) (same ∙ sym ((goes_on s m starts run t stand stands).next (sight_in s shared stand.hints)))

@@ -6,10 +6,11 @@ ghost use Rattle.runs.specs.Ends.{moved, stage_behind, old_by};
 ghost use Rattle.moves.specs.Calls.{action_of, answer_in, move_in};
 ghost use Rattle.moves.specs.declared.call.Call.{Call as ACall};
 ghost use Rattle.moves.specs.Kinds.{MayAnswer};
-ghost use Rattle.moves.specs.Moving.{HasRoom, MayMake};
+ghost use Rattle.moves.specs.Moving.{HasHint, HasRoom, MayMake};
 ghost use Rattle.moves.specs.Stands.{standing};
 
 use crate::call::Answer;
+use crate::hints::note_win;
 use crate::moves::Move;
 use crate::moving::{answer_of, ends_call, stance_behind};
 use crate::reference::{NULL, Reference};
@@ -26,9 +27,10 @@ pub fn go_on<M: Runner>(
     made: &Move,
 ) -> Result<bool, AllocError>
     requires room { HasRoom stand.old.stance made.now }
+    requires hint { HasHint pools.now stand.old.hints made.now (M.action stand.old.state) }
     requires answer { (s : Setup) × MayAnswer s (M.fits s) M.action stand.old.state (answer_of (M.action stand.old.state) (move_in (M.roots stand.old.state) made.now)) }
-    ensures ok { (s : Setup) (call : ACall) → s.pools ≡ pools.now → action_of call ≡ M.action stand.old.state → MayMake s (M.roots stand.old.state) call stand.old.stance made.now
-        → OnOk result (standing M.roots stand.new ≡ moved s (machine_of M.action M.after_answer M.roots) (standing M.roots stand.old) (move_in (M.roots stand.old.state) made.now)) }
+    ensures ok { (s : Setup) (call : ACall) → s.pools ≡ pools.now → action_of call ≡ M.action stand.old.state → MayMake s stand.old.hints (M.roots stand.old.state) call stand.old.stance made.now
+        → (let m = machine_of M.action M.after_answer M.roots in OnOk result (standing s m stand.new ≡ moved s m (standing s m stand.old) (move_in (M.roots stand.old.state) made.now))) }
     ensures roots { IfOk result (λ change. change ≡ false → M.roots stand.new.state ≡ M.roots stand.old.state) }
     ensures err { OnErr result (stand.new ≡ stand.old) }
 {
@@ -42,6 +44,7 @@ pub fn go_on<M: Runner>(
     stand.stage = stage_behind(stand.stage, made);
     stand.stance = stance;
     stand.replaced = old_by(made);
+    note_win(pools, &call, &mut stand.hints, made);
     Ok(roots_change)
 }
 

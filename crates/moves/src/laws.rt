@@ -3,7 +3,7 @@ ghost use Rattle.pools.specs.Heap.{Setup};
 ghost use Rattle.runs.specs.Machine.{Reference, machine_of};
 ghost use Rattle.runs.specs.ModuleRuns.{Happening, OfThread, share_of, IsModuleRun};
 ghost use Rattle.runs.specs.Ends.{StandsBehind, next_move_of};
-ghost use Rattle.runs.specs.Tries.{TriesLowest};
+ghost use Rattle.runs.specs.Tries.{TriesByHint};
 ghost use Rattle.moves.specs.declared.actor.Actor.{Actor};
 ghost use Rattle.moves.specs.declared.actor.Actor.TheVariants.{Thread};
 ghost use Rattle.moves.specs.declared.cause.Cause.{Cause};
@@ -19,20 +19,20 @@ ghost use Rattle.moves.specs.Stands.{standing, sight_in};
 use runs::Machine;
 
 /// The law of drawn runs, for every machine: the run that a list of actors makes is a run of its threads and of the collector.
-/// In it each thread tries the cells of a pool from the lowest number up.
+/// In it each thread tries the cells of a pool from its hint to the pool's end, and then from the first one up to the hint.
 pub fn drawn_law<M: Machine>()
     ensures is_run { (s : Setup) (starts : ℕ → M) (actors : List Actor) → AreActors s.threads actors
         → IsModuleRun s (machine_of M.action M.after_answer M.roots) starts (run_by s (machine_of M.action M.after_answer M.roots) starts actors) }
-    ensures lowest { (s : Setup) (starts : ℕ → M) (actors : List Actor) (t : ℕ) → AreActors s.threads actors → t < s.threads
-        → TriesLowest s (machine_of M.action M.after_answer M.roots) t (starts t) (share_of t (run_by s (machine_of M.action M.after_answer M.roots) starts actors)) }
+    ensures hints { (s : Setup) (starts : ℕ → M) (actors : List Actor) (t : ℕ) → AreActors s.threads actors → t < s.threads
+        → TriesByHint s (machine_of M.action M.after_answer M.roots) t (starts t) (share_of t (run_by s (machine_of M.action M.after_answer M.roots) starts actors)) }
 {}
 
 /// The law of sights: where the words and births are those after a run, and a thread is in its state after its share of the
 /// run, the next move from these is the thread's next step in the run.
 pub fn sight_law<M: Machine>()
     ensures { (s : Setup) (starts : ℕ → M) (run : List Happening) (t : ℕ) (stand : Stand M) (shared : Shared) → AreBehind s run shared
-        → StandsBehind s (machine_of M.action M.after_answer M.roots) starts run t (standing M.roots stand)
-        → next_by s (machine_of M.action M.after_answer M.roots) starts run (Thread t) ≡ by_thread t (next_move_of s (machine_of M.action M.after_answer M.roots) (sight_in s shared) (standing M.roots stand)) }
+        → StandsBehind s (machine_of M.action M.after_answer M.roots) starts run t (standing s (machine_of M.action M.after_answer M.roots) stand)
+        → next_by s (machine_of M.action M.after_answer M.roots) starts run (Thread t) ≡ by_thread t (next_move_of s (machine_of M.action M.after_answer M.roots) (sight_in s shared stand.hints) (standing s (machine_of M.action M.after_answer M.roots) stand)) }
 {}
 
 /// The law of touches: where the words and births are those after a run, the cause that they give for a move is the first by

@@ -6,6 +6,7 @@ mod actor;
 mod call;
 mod cause;
 mod going;
+mod hints;
 mod laws;
 mod moves;
 mod moving;

@@ -6,8 +6,8 @@ ghost use Rattle.runs.specs.Moves.{step_of, phase_behind, cells_of};
 ghost use Rattle.runs.specs.Moves as moves;
 ghost use Rattle.moves.specs.Calls.{action_of, answer_in, move_in};
 ghost use Rattle.colours.specs.Steps as steps;
-ghost use Rattle.moves.specs.Moving.{MayMake, LosesNext, MarksNext, CountsTry, CountsMark, HasRoom, phase_left};
-ghost use Rattle.moves.specs.Stands.{phase_at};
+ghost use Rattle.moves.specs.Moving.{MayMake, TriesNext, MarksNext, CountsTry, CountsMark, HasRoom, phase_left};
+ghost use Rattle.moves.specs.Stands.{cells_to_try, phase_at};
 
 use crate::call::{Answer, Call};
 use crate::moves::Move;
@@ -25,8 +25,8 @@ pub(crate) fn stance_behind(
     made: &Move,
 ) -> Stance
     requires { HasRoom stance made.now }
-    ensures { (s : Setup) (roots : List AReference) → s.pools ≡ pools.now → MayMake s roots call.now stance made.now
-        → phase_at roots result ≡ phase_behind s stage (phase_at roots stance) (step_of (move_in roots made.now)) }
+    ensures { (s : Setup) (hints : List ℕ) (roots : List AReference) → s.pools ≡ pools.now → MayMake s hints roots call.now stance made.now
+        → (let cells = cells_to_try s hints (action_of call.now) in phase_at cells roots result ≡ phase_behind s stage (phase_at cells roots stance) (step_of (move_in roots made.now))) }
 {
     match made {
         Move::Works => stance,
@@ -42,7 +42,7 @@ pub(crate) fn stance_behind(
             old: value.cell,
         },
         Move::Marks(marked) => behind_mark(stance, marked.cell),
-        Move::Claims { claimed, won } if !*won => behind_loss(pools, call, stance, claimed.cell),
+        Move::Claims { won, .. } if !*won => behind_loss(pools, call, stance),
         Move::ReadsPosted(posted) if *posted != stage => Stance::Answering {
             stage: *posted,
             marked: 0,
@@ -58,7 +58,7 @@ pub(crate) fn stance_behind(
 
 /// After a store of this stage. A late thread that leaves has not begun.
 fn behind_stage(stance: Stance, stored: u64) -> Stance
-    ensures { (s : Setup) (stage : ℕ) (roots named : List AReference) → phase_at roots result ≡ phase_behind s stage (phase_at roots stance) (Some (steps.StoreStage stored (cells_of named))) }
+    ensures { (s : Setup) (stage : ℕ) (cells : List ℕ) (roots named : List AReference) → phase_at cells roots result ≡ phase_behind s stage (phase_at cells roots stance) (Some (steps.StoreStage stored (cells_of named))) }
 {
     match stance {
         Stance::Leaving => Stance::Absent,
@@ -70,8 +70,8 @@ fn behind_stage(stance: Stance, stored: u64) -> Stance
 /// After a mark.
 fn behind_mark(stance: Stance, cell: u64) -> Stance
     requires { CountsMark stance }
-    ensures { (s : Setup) (stage : ℕ) (roots : List AReference) → MarksNext roots stance cell
-        → phase_at roots result ≡ phase_behind s stage (phase_at roots stance) (Some (steps.Mark cell)) }
+    ensures { (s : Setup) (stage : ℕ) (cells : List ℕ) (roots : List AReference) → MarksNext roots stance cell
+        → phase_at cells roots result ≡ phase_behind s stage (phase_at cells roots stance) (Some (steps.Mark cell)) }
 {
     match stance {
         Stance::MarkingOld { cell, word, old } => Stance::MarkingNew { cell, word, old },
@@ -94,40 +94,37 @@ fn behind_mark(stance: Stance, cell: u64) -> Stance
 }
 
 /// After the try of a cell that was not free: the next one, if one is left.
-fn behind_loss(pools: &Pools, call: &Call, stance: Stance, cell: u64) -> Stance
+fn behind_loss(pools: &Pools, call: &Call, stance: Stance) -> Stance
     requires { CountsTry stance }
-    ensures { (s : Setup) (stage : ℕ) (roots : List AReference) → s.pools ≡ pools.now → LosesNext s call.now stance cell
-        → phase_at roots result ≡ phase_behind s stage (phase_at roots stance) (Some (steps.Claim cell false)) }
+    ensures { (s : Setup) (stage : ℕ) (hints : List ℕ) (roots : List AReference) (cell : ℕ) → s.pools ≡ pools.now → TriesNext s hints call.now stance cell
+        → (let cells = cells_to_try s hints (action_of call.now) in phase_at cells roots result ≡ phase_behind s stage (phase_at cells roots stance) (Some (steps.Claim cell false))) }
 {
     match stance {
-        Stance::Trying { first, tried } => tries_left(pools, call, first, tried + 1),
-        _ => tries_left(pools, call, cell, 1),
+        Stance::Trying { tried } => tries_left(pools, call, tried + 1),
+        _ => tries_left(pools, call, 1),
     }
 }
 
 /// The next try after this number of tries, if a cell is left.
-fn tries_left(pools: &Pools, call: &Call, first: u64, tried: u64) -> Stance
-    ensures { (roots : List AReference) → phase_at roots result ≡ phase_left pools.now (action_of call.now) first tried }
+fn tries_left(pools: &Pools, call: &Call, tried: u64) -> Stance
+    ensures { (cells : List ℕ) (roots : List AReference) → phase_at cells roots result ≡ phase_left pools.now (action_of call.now) cells tried }
 {
     match call {
-        Call::Alloc(layout) if tried < u64::from(pools.count(*layout)) => Stance::Trying {
-            first,
-            tried,
-        },
+        Call::Alloc(layout) if tried < u64::from(pools.count(*layout)) => Stance::Trying { tried },
         _ => Stance::Ready,
     }
 }
 
 /// Whether a call is over with this move, after which the thread is here. That a late thread begins is no call.
 pub(crate) fn ends_call(made: &Move, stance: Stance) -> bool
-    ensures { (roots : List AReference) → result ≡ moves.ends_call (move_in roots made.now) (phase_at roots stance) }
+    ensures { (cells : List ℕ) (roots : List AReference) → result ≡ moves.ends_call (move_in roots made.now) (phase_at cells roots stance) }
 {
     !matches!(made, Move::ReadsPostedAgain(_)) && is_between(stance)
 }
 
 /// Whether no call is under way.
 fn is_between(stance: Stance) -> bool
-    ensures { (roots : List AReference) → result ≡ order.is_between (phase_at roots stance) }
+    ensures { (cells : List ℕ) (roots : List AReference) → result ≡ order.is_between (phase_at cells roots stance) }
 {
     matches!(stance, Stance::Ready | Stance::Ended)
 }

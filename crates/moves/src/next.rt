@@ -13,12 +13,14 @@ ghost use Rattle.moves.specs.Moving.{CountsMark, HasRoom, HasRoomForNext};
 ghost use Rattle.moves.specs.Stands.{MayTryMore, HasTryLeft, marked_of, phase_at, standing, sight_in};
 
 use crate::call::Call;
+use crate::hints::next_cell;
 use crate::moves::Move;
 use crate::reference::Reference;
 use crate::runner::Runner;
 use crate::shared::Shared;
 use crate::stand::{Stance, Stand};
 use colours::is_async;
+use items::Items;
 use pools::{LayoutId, Pools};
 use std::alloc::AllocError;
 
@@ -31,13 +33,13 @@ pub fn next_move<M: Runner>(
     requires births { (cell : ℕ) → slice_index shared.now.births cell < 2 ^ 62 }
     requires room { HasTryLeft pools.now (M.action stand.now.state) stand.now.stance }
     ensures next { (s : Setup) → s.pools ≡ pools.now → IfOk result (λ made.
-        next_move_of s (machine_of M.action M.after_answer M.roots) (sight_in s shared.now) (standing M.roots stand.now) ≡ made_by (M.roots stand.now.state) made) }
+        next_move_of s (machine_of M.action M.after_answer M.roots) (sight_in s shared.now stand.now.hints) (standing s (machine_of M.action M.after_answer M.roots) stand.now) ≡ made_by (M.roots stand.now.state) made) }
     // The count that the move raises stays in range: it is at most the roots of a list, or the cells of a pool.
     ensures room { IfOk result (HasRoomForNext stand.now.stance) }
 {
     let call = stand.state.call();
     match stand.stance {
-        Stance::Ready => Ok(Some(first_move(shared, pools, &call))),
+        Stance::Ready => Ok(Some(first_move(shared, pools, &stand.hints, &call))),
         Stance::Answering { stage, marked } => match &call {
             Call::Safepoint => Ok(Some(answering_move(&stand.state, stage, marked)?)),
             _ => Ok(None),
@@ -45,7 +47,7 @@ pub fn next_move<M: Runner>(
         Stance::MarkingOld { .. } => Ok(mark_of_old(&call, stand.replaced)),
         Stance::MarkingNew { .. } => Ok(mark_or_store(&call, stand.stage)),
         Stance::Writing { .. } => Ok(store_of_new(&call)),
-        Stance::Trying { tried, .. } => Ok(next_try(shared, pools, &call, tried)),
+        Stance::Trying { tried } => Ok(next_try(shared, pools, &stand.hints, &call, tried)),
         Stance::Ended => Ok(None),
         Stance::Absent => Ok(Some(Move::ReadsPostedFirst(shared.posted))),
         Stance::Arriving { stage } => Ok(Some(Move::EntersStage(stage))),
@@ -68,10 +70,10 @@ fn answering_move<M: Runner>(state: &M, stage: u64, marked: usize) -> Result<Mov
 }
 
 /// The first move of a call.
-fn first_move(shared: &Shared, pools: &Pools, call: &Call) -> Move
+fn first_move(shared: &Shared, pools: &Pools, hints: &Items<u32>, call: &Call) -> Move
     requires { (cell : ℕ) → slice_index shared.now.births cell < 2 ^ 62 }
     ensures { (s : Setup) (stage : ℕ) (roots : List AReference) (old : AReference) → s.pools ≡ pools.now
-        → next_move s (sight_in s shared.now) stage roots old (action_of call.now) order.Ready ≡ Some (move_in roots result) }
+        → next_move s (sight_in s shared.now hints.now) stage roots old (action_of call.now) order.Ready ≡ Some (move_in roots result) }
 {
     match call {
         Call::Local => Move::Works,
@@ -91,22 +93,22 @@ fn first_move(shared: &Shared, pools: &Pools, call: &Call) -> Move
             word: *word,
             value: shared.words.word(base.cell, *word),
         },
-        Call::Alloc(layout) => alloc_move(shared, pools, *layout),
+        Call::Alloc(layout) => alloc_move(shared, pools, hints, *layout),
         Call::Safepoint => Move::ReadsPosted(shared.posted),
         Call::End => Move::Ends,
     }
 }
 
 /// The first move of an alloc: a local one where the layout has no cell.
-fn alloc_move(shared: &Shared, pools: &Pools, layout: LayoutId) -> Move
+fn alloc_move(shared: &Shared, pools: &Pools, hints: &Items<u32>, layout: LayoutId) -> Move
     requires { (cell : ℕ) → slice_index shared.now.births cell < 2 ^ 62 }
     ensures { (s : Setup) (stage : ℕ) (roots : List AReference) (old : AReference) → s.pools ≡ pools.now
-        → next_move s (sight_in s shared.now) stage roots old (Alloc layout) order.Ready ≡ Some (move_in roots result) }
+        → next_move s (sight_in s shared.now hints.now) stage roots old (Alloc layout) order.Ready ≡ Some (move_in roots result) }
 {
     if pools.count(layout) == 0 {
         return Move::Works;
     }
-    claim_of(shared, pools, layout, 0)
+    claim_of(shared, pools, hints, layout, 0)
 }
 
 /// The mark of the value that a barriered store replaces.
@@ -154,28 +156,40 @@ fn store_of_new(call: &Call) -> Option<Move>
 }
 
 /// The next try of an alloc, after this number of tries.
-fn next_try(shared: &Shared, pools: &Pools, call: &Call, tried: u64) -> Option<Move>
+fn next_try(
+    shared: &Shared,
+    pools: &Pools,
+    hints: &Items<u32>,
+    call: &Call,
+    tried: u64,
+) -> Option<Move>
     requires births { (cell : ℕ) → slice_index shared.now.births cell < 2 ^ 62 }
     requires room { MayTryMore pools.now (action_of call.now) tried }
     ensures next { (s : Setup) (stage : ℕ) (roots : List AReference) (old : AReference) (before : List ℕ) → s.pools ≡ pools.now → length before ≡ tried
-        → next_move s (sight_in s shared.now) stage roots old (action_of call.now) (order.Trying before) ≡ made_by roots result }
-    ensures room { (first : ℕ) → HasRoomForNext (Trying first tried) result }
+        → next_move s (sight_in s shared.now hints.now) stage roots old (action_of call.now) (order.Trying before) ≡ made_by roots result }
+    ensures room { HasRoomForNext (Trying tried) result }
 {
     match call {
-        Call::Alloc(layout) => Some(claim_of(shared, pools, *layout, tried)),
+        Call::Alloc(layout) => Some(claim_of(shared, pools, hints, *layout, tried)),
         _ => None,
     }
 }
 
-/// The try of a layout's next cell, after this number of its pool's cells.
-fn claim_of(shared: &Shared, pools: &Pools, layout: LayoutId, tried: u64) -> Move
+/// The try of the cell of a layout that comes next by the hint, after this number of its pool's cells.
+fn claim_of(
+    shared: &Shared,
+    pools: &Pools,
+    hints: &Items<u32>,
+    layout: LayoutId,
+    tried: u64,
+) -> Move
     requires births { (cell : ℕ) → slice_index shared.now.births cell < 2 ^ 62 }
     requires is_layout { layout < length pools.now }
-    requires few { tried < 2 ^ 32 }
+    requires left { tried < slice_index pools.now layout }
     ensures { (s : Setup) (roots : List AReference) (before : List ℕ) → s.pools ≡ pools.now → length before ≡ tried
-        → try_of (sight_in s shared.now) ((sight_in s shared.now).claim layout before) ≡ move_in roots result }
+        → try_of (sight_in s shared.now hints.now) ((sight_in s shared.now hints.now).claim layout before) ≡ move_in roots result }
 {
-    let cell = u64::from(pools.first_cell(layout)) + tried;
+    let cell = next_cell(pools, hints, layout, tried);
     Move::Claims {
         claimed: Reference {
             cell,

@@ -1,4 +1,5 @@
 use crate::reference::Reference;
+use items::Items;
 
 /// Where a thread is in the call that it asks for.
 #[derive(Clone, Copy, PartialEq, Eq)]
@@ -24,9 +25,8 @@ pub enum Stance {
         old: u64,
         new: u64,
     },
-    /// This number of cells of a pool, from its first one on, were tried, each in vain.
+    /// This number of cells of a pool were tried, each in vain.
     Trying {
-        first: u64,
         tried: u64,
     },
     /// This stage is posted, and this number of roots that are not null are marked.
@@ -54,4 +54,6 @@ pub struct Stand<M> {
     pub stage: u64,
     pub stance: Stance,
     pub replaced: Reference,
+    /// For each layout, the place in its pool after the cell that the thread won last; at first 0. Tries begin there.
+    pub hints: Items<u32>,
 }

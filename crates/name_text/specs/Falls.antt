@@ -4,7 +4,7 @@ use Rattle.std.proofs.Common.{arith, ap}
 use Rattle.std.specs.Str.{bytes_eq}
 use Rattle.lemmas.specs.Bools.{and_second}
 use Rattle.ir_tokens.specs.Bytes.{Text}
-use Rattle.name_text.specs.Words.{ends_word, turned, past_word, word_at, past_comment, past_blanks, past_lines, ends_line}
+use Rattle.name_text.specs.Words.{stops, turned, past_word, word_at, past_comment, past_blanks, past_lines, ends_line}
 
 -- a bound of both texts bounds the one that is chosen
 one_of : (t : Bool) (n : ℕ) (x y : Text) → length x ≤ n → length y ≤ n → length (cond t x y) ≤ n
@@ -16,7 +16,7 @@ past_word_len : (quoted : Bool) (bytes : Text) → length (past_word quoted byte
 past_word_len quoted [] = omega arith
 past_word_len quoted (byte ∷ bytes) =
     let rest = past_word_len (turned quoted byte) bytes in
-    one_of (not quoted && ends_word byte) (length (byte ∷ bytes)) (byte ∷ bytes) (past_word (turned quoted byte) bytes) (omega arith) (omega (arith, rest))
+    one_of (not quoted && stops (byte ∷ bytes)) (length (byte ∷ bytes)) (byte ∷ bytes) (past_word (turned quoted byte) bytes) (omega arith) (omega (arith, rest))
 
 -- no more is left after a comment
 past_comment_len : (bytes : Text) → length (past_comment bytes) ≤ length bytes

@@ -2,23 +2,6 @@
 use Rattle.std.specs.Prelude.{ℕ, ◌-◌, Bool, true, false, not, ◌||◌, ◌&&◌, ◌==◌, if◌then◌else◌, [], ◌∷◌, length, take}
 use Rattle.ir_tokens.specs.Bytes.{Text}
 
--- a blank, a tab, LF, CR or `;` ends a word
-abbrev pub ends_word : ℕ → Bool
-ends_word byte = byte == 32 || byte == 9 || byte == 10 || byte == 13 || byte == 59
-
--- a quote begins quoted text, or ends it
-abbrev pub turned : (quoted : Bool) → ℕ → Bool
-turned quoted byte = if byte == 34 then not quoted else quoted
-
--- what follows a word; inside quotes every byte belongs to it
-abbrev pub past_word : (quoted : Bool) → Text → Text
-past_word quoted [] = []
-past_word quoted (byte ∷ bytes) = if not quoted && ends_word byte then byte ∷ bytes else past_word (turned quoted byte) bytes
-
--- the word at the front of a text
-abbrev pub word_at : Text → Text
-word_at bytes = take (length bytes - length (past_word false bytes)) bytes
-
 -- whether this byte is at the front
 abbrev pub begins_with : ℕ → Text → Bool
 begins_with byte [] = false
@@ -28,6 +11,24 @@ begins_with byte (first ∷ bytes) = first == byte
 abbrev pub ends_line : Text → Bool
 ends_line [] = false
 ends_line (byte ∷ bytes) = byte == 10 || (byte == 13 && begins_with 10 bytes)
+
+-- a word ends before these bytes: at a blank, at a comment, or where a line or the text ends
+abbrev pub stops : Text → Bool
+stops [] = true
+stops (byte ∷ bytes) = byte == 32 || byte == 59 || ends_line (byte ∷ bytes)
+
+-- a quote begins quoted text, or ends it
+abbrev pub turned : (quoted : Bool) → ℕ → Bool
+turned quoted byte = if byte == 34 then not quoted else quoted
+
+-- what follows a word; inside quotes every byte belongs to it
+abbrev pub past_word : (quoted : Bool) → Text → Text
+past_word quoted [] = []
+past_word quoted (byte ∷ bytes) = if not quoted && stops (byte ∷ bytes) then byte ∷ bytes else past_word (turned quoted byte) bytes
+
+-- the word at the front of a text
+abbrev pub word_at : Text → Text
+word_at bytes = take (length bytes - length (past_word false bytes)) bytes
 
 -- where the line of a comment ends
 abbrev pub past_comment : Text → Text
@@ -47,17 +48,16 @@ past_lines false (byte ∷ bytes) = if byte == 32 || byte == 59 || ends_line (by
 
 -- ---- one word
 
--- no word ends among these bytes, and quotes are closed after them
+-- words may end at a blank, LF, CR or `;` alone
+abbrev pub may_end : ℕ → Bool
+may_end byte = byte == 32 || byte == 10 || byte == 13 || byte == 59
+
+-- outside quotes none of these bytes may end a word, and quotes are closed after them
 abbrev pub closes : (quoted : Bool) → Text → Bool
 closes quoted [] = not quoted
-closes quoted (byte ∷ bytes) = not (not quoted && ends_word byte) && closes (turned quoted byte) bytes
+closes quoted (byte ∷ bytes) = not (not quoted && may_end byte) && closes (turned quoted byte) bytes
 
 -- the bytes of one word
 abbrev pub is_word : Text → Bool
 is_word [] = false
 is_word (byte ∷ bytes) = closes false (byte ∷ bytes)
-
--- a word ends before these bytes
-abbrev pub stops : Text → Bool
-stops [] = true
-stops (byte ∷ bytes) = ends_word byte

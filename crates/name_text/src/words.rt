@@ -2,10 +2,26 @@
 ghost use Rattle.std.specs.Prelude.{◌≡◌, ◌≤◌, false, length};
 ghost use Rattle.name_text.specs.Words as spec;
 
-fn ends_word(byte: u8) -> bool
-    ensures { result ≡ spec.ends_word byte }
+/// Whether a line ends here.
+pub fn ends_line(bytes: &[u8]) -> bool
+    ensures { result ≡ spec.ends_line bytes.now }
 {
-    matches!(byte, b' ' | b'\t' | b'\n' | b'\r' | b';')
+    match bytes {
+        [b'\n', ..] => true,
+        [b'\r', b'\n', ..] => true,
+        _ => false,
+    }
+}
+
+/// Whether a word ends here: at a blank, at a comment, or where a line or the text ends.
+fn stops(bytes: &[u8]) -> bool
+    ensures { result ≡ spec.stops bytes.now }
+{
+    match bytes {
+        [] => true,
+        [b' ' | b';', ..] => true,
+        _ => ends_line(bytes),
+    }
 }
 
 /// What follows the word at the front.
@@ -15,8 +31,9 @@ pub fn past_word(bytes: &[u8]) -> &[u8]
 {
     let mut quoted = false;
     for (i, byte) in bytes.iter().enumerate() {
-        if !quoted && ends_word(*byte) {
-            return &bytes[i..];
+        let rest = &bytes[i..];
+        if !quoted && stops(rest) {
+            return rest;
         }
         if *byte == b'"' {
             quoted = !quoted;
@@ -31,17 +48,6 @@ pub fn word(bytes: &[u8]) -> &[u8]
 {
     let rest = past_word(bytes);
     &bytes[..bytes.len() - rest.len()]
-}
-
-/// Whether a line ends here.
-pub fn ends_line(bytes: &[u8]) -> bool
-    ensures { result ≡ spec.ends_line bytes.now }
-{
-    match bytes {
-        [b'\n', ..] => true,
-        [b'\r', b'\n', ..] => true,
-        _ => false,
-    }
 }
 
 /// Where the line of a comment ends.

@@ -20,7 +20,7 @@ use Rattle.moves.specs.declared.stand.Stance.{Stance}
 use Rattle.moves.specs.declared.stand.Stance.TheVariants.{Ready, MarkingOld, MarkingNew, Writing, Trying, Answering, Ended, Absent, Arriving, Entering, Leaving}
 use Rattle.moves.specs.declared.stand.Stand.{Stand}
 use Rattle.moves.specs.Runs.{run_by, by_thread, by_collector, next_by, next_turn, collector_behind, with_next}
-use Rattle.moves.specs.Stands.{standing, phase_at, sight_in}
+use Rattle.moves.specs.Stands.{cells_to_try, standing, phase_at, sight_in}
 use Rattle.moves.specs.Sights.{next_in_words}
 use Rattle.trace_sweep.specs.Collecting.{Collecting}
 use Rattle.colours.specs.declared.turn.Turn.{Turn}
@@ -55,19 +55,19 @@ set_other (y ∷ xs) (suc i) (suc j) x other = set_other xs i j x (λ e. other (
 -- ---- one thread
 
 -- a thread has ended, or says how it ends
-by_stance : (roots : List Reference) (stance : Stance) (t : ProgramThread) (kept : Option ThreadEnd)
-    → ((ending_in stance t kept ≡ unwrap_or kept thread.Ended) × (phase_at roots stance ≡ order.Ended)) ⊎ ((ending_in stance t kept ≡ ending_at t) × (phase_at roots stance ≢ order.Ended))
-by_stance roots Ready t kept = inr (refl, λ e. absurd cc)
-by_stance roots (MarkingOld cell word old) t kept = inr (refl, λ e. absurd cc)
-by_stance roots (MarkingNew cell word old) t kept = inr (refl, λ e. absurd cc)
-by_stance roots (Writing cell word old new) t kept = inr (refl, λ e. absurd cc)
-by_stance roots (Trying first tried) t kept = inr (refl, λ e. absurd cc)
-by_stance roots (Answering stage marked) t kept = inr (refl, λ e. absurd cc)
-by_stance roots Ended t kept = inl (refl, refl)
-by_stance roots Absent t kept = inr (refl, λ e. absurd cc)
-by_stance roots (Arriving posted) t kept = inr (refl, λ e. absurd cc)
-by_stance roots Entering t kept = inr (refl, λ e. absurd cc)
-by_stance roots Leaving t kept = inr (refl, λ e. absurd cc)
+by_stance : (cells : List ℕ) (roots : List Reference) (stance : Stance) (t : ProgramThread) (kept : Option ThreadEnd)
+    → ((ending_in stance t kept ≡ unwrap_or kept thread.Ended) × (phase_at cells roots stance ≡ order.Ended)) ⊎ ((ending_in stance t kept ≡ ending_at t) × (phase_at cells roots stance ≢ order.Ended))
+by_stance cells roots Ready t kept = inr (refl, λ e. absurd cc)
+by_stance cells roots (MarkingOld cell word old) t kept = inr (refl, λ e. absurd cc)
+by_stance cells roots (MarkingNew cell word old) t kept = inr (refl, λ e. absurd cc)
+by_stance cells roots (Writing cell word old new) t kept = inr (refl, λ e. absurd cc)
+by_stance cells roots (Trying tried) t kept = inr (refl, λ e. absurd cc)
+by_stance cells roots (Answering stage marked) t kept = inr (refl, λ e. absurd cc)
+by_stance cells roots Ended t kept = inl (refl, refl)
+by_stance cells roots Absent t kept = inr (refl, λ e. absurd cc)
+by_stance cells roots (Arriving posted) t kept = inr (refl, λ e. absurd cc)
+by_stance cells roots Entering t kept = inr (refl, λ e. absurd cc)
+by_stance cells roots Leaving t kept = inr (refl, λ e. absurd cc)
 
 -- one that has ended has no next move
 none_next : (s : Setup) (h : Sight) (stage : ℕ) (roots : List Reference) (old : Reference) (action : machine.Action) (phase : order.Phase) → phase ≡ order.Ended
@@ -77,7 +77,11 @@ none_next s h stage roots old action phase e = rw e refl
 -- a thread that is so after this run, and the endings that were kept so far
 module _ (p : LaidOut) (setup : traced.Setup) (run : List Happening) (t : ℕ) (stand : Stand ProgramThread) (endings : List ThreadEnd) where
   abbrev Stands : Type 0
-  Stands = StandsBehind (heaps.heap_of p setup) program_machine (starts_of p setup) run t (standing names stand)
+  Stands = StandsBehind (heaps.heap_of p setup) program_machine (starts_of p setup) run t (standing (heaps.heap_of p setup) program_machine stand)
+
+  -- the cells that it tries
+  abbrev to_try : List ℕ
+  to_try = cells_to_try (heaps.heap_of p setup) stand.hints (program_machine.action stand.state)
 
   abbrev Behind : List Happening → ThreadEnd → Type 0
   Behind longer ending = AreEndings p setup longer (slice_set endings t ending)
@@ -106,18 +110,18 @@ module _ (p : LaidOut) (setup : traced.Setup) (run : List Happening) (t : ℕ) (
           ∙ ap (λ (moves : List Move). Some (ending_of (heaps.heap_of p setup) u (starts_of p setup u) moves)) (sym share)
 
   -- after a step of the thread, or none
-  either : (next : Option Move) → (phase_at (names stand.state) stand.stance ≡ order.Ended → next ≡ None) → Stands → t < length setup.starts → AreEndings p setup run endings
+  either : (next : Option Move) → (phase_at to_try (names stand.state) stand.stance ≡ order.Ended → next ≡ None) → Stands → t < length setup.starts → AreEndings p setup run endings
       → Behind (with_next (by_thread t next) run) (ending_in stand.stance stand.state (slice_get endings t))
-  either None none stands is_thread are = put (ending_in stand.stance stand.state (slice_get endings t)) run are is_thread (λ u e. refl) (λ ended. own ended (by_stance (names stand.state) stand.stance stand.state (slice_get endings t)))
+  either None none stands is_thread are = put (ending_in stand.stance stand.state (slice_get endings t)) run are is_thread (λ u e. refl) (λ ended. own ended (by_stance to_try (names stand.state) stand.stance stand.state (slice_get endings t)))
     where
       own : phase_of (heaps.heap_of p setup) t (steps_of (share_of t run)) ≡ order.Ended
-          → ((ending_in stand.stance stand.state (slice_get endings t) ≡ unwrap_or (slice_get endings t) thread.Ended) × (phase_at (names stand.state) stand.stance ≡ order.Ended))
-          ⊎ ((ending_in stand.stance stand.state (slice_get endings t) ≡ ending_at stand.state) × (phase_at (names stand.state) stand.stance ≢ order.Ended))
+          → ((ending_in stand.stance stand.state (slice_get endings t) ≡ unwrap_or (slice_get endings t) thread.Ended) × (phase_at to_try (names stand.state) stand.stance ≡ order.Ended))
+          ⊎ ((ending_in stand.stance stand.state (slice_get endings t) ≡ ending_at stand.state) × (phase_at to_try (names stand.state) stand.stance ≢ order.Ended))
           → ending_in stand.stance stand.state (slice_get endings t) ≡ ending_of (heaps.heap_of p setup) t (starts_of p setup t) (share_of t run)
       own ended (inl q) = q.0 ∙ ap (λ (o : Option ThreadEnd). unwrap_or o thread.Ended) (are.each t is_thread ended)
       own ended (inr q) = absurd (q.1 (stands.phase ∙ ended))
   either (Some move) none stands is_thread are =
-      put (ending_in stand.stance stand.state (slice_get endings t)) (OfThread t move ∷ run) are is_thread others (λ ended. own (by_stance (names stand.state) stand.stance stand.state (slice_get endings t)))
+      put (ending_in stand.stance stand.state (slice_get endings t)) (OfThread t move ∷ run) are is_thread others (λ ended. own (by_stance to_try (names stand.state) stand.stance stand.state (slice_get endings t)))
     where
       others : (u : ℕ) → (t == u) ≡ false → share_of u (OfThread t move ∷ run) ≡ share_of u run
       others u e = rw e refl
@@ -125,8 +129,8 @@ module _ (p : LaidOut) (setup : traced.Setup) (run : List Happening) (t : ℕ) (
       shares : share_of t (OfThread t move ∷ run) ≡ move ∷ share_of t run
       shares = rw (test_yes t t refl) refl
 
-      own : ((ending_in stand.stance stand.state (slice_get endings t) ≡ unwrap_or (slice_get endings t) thread.Ended) × (phase_at (names stand.state) stand.stance ≡ order.Ended))
-          ⊎ ((ending_in stand.stance stand.state (slice_get endings t) ≡ ending_at stand.state) × (phase_at (names stand.state) stand.stance ≢ order.Ended))
+      own : ((ending_in stand.stance stand.state (slice_get endings t) ≡ unwrap_or (slice_get endings t) thread.Ended) × (phase_at to_try (names stand.state) stand.stance ≡ order.Ended))
+          ⊎ ((ending_in stand.stance stand.state (slice_get endings t) ≡ ending_at stand.state) × (phase_at to_try (names stand.state) stand.stance ≢ order.Ended))
           → ending_in stand.stance stand.state (slice_get endings t) ≡ ending_of (heaps.heap_of p setup) t (starts_of p setup t) (share_of t (OfThread t move ∷ run))
       own (inl q) = let e : Some move ≡ None = none q.1 in absurd cc
       own (inr q) = q.0 ∙ ap ending_at stands.state ∙ ap (ending_of (heaps.heap_of p setup) t (starts_of p setup t)) (sym shares)
@@ -144,10 +148,11 @@ kept p setup before threads shared c endings t end is_thread are =
     let run = run_of p setup before in
     let found = get_some threads t (subst (λ (n : ℕ). t < n) (sym end.count) is_thread) in
     let stands = end.stands t found.0 found.1 in
-    let next = next_move_of s program_machine (sight_in s shared) (standing names found.0) in
-    let by = next_in_words s program_machine (starts_of p setup) run t (standing names found.0) shared end.words.behind stands in
-    let none : phase_at (names found.0.state) found.0.stance ≡ order.Ended → next ≡ None =
-    λ e. none_next s (sight_in s shared) found.0.stage (names found.0.state) found.0.replaced (program_machine.action found.0.state) (phase_at (names found.0.state) found.0.stance) e in
+    let next = next_move_of s program_machine (sight_in s shared found.0.hints) (standing s program_machine found.0) in
+    let by = next_in_words s program_machine (starts_of p setup) run t (standing s program_machine found.0) shared end.words.behind stands in
+    let cells = cells_to_try s found.0.hints (program_machine.action found.0.state) in
+    let none : phase_at cells (names found.0.state) found.0.stance ≡ order.Ended → next ≡ None =
+    λ e. none_next s (sight_in s shared found.0.hints) found.0.stage (names found.0.state) found.0.replaced (program_machine.action found.0.state) (phase_at cells (names found.0.state) found.0.stance) e in
     let one = either p setup run t found.0 endings next none stands is_thread are in
     let said = subst (λ (x : Option (Stand ProgramThread)). AreEndings p setup (with_next (by_thread t next) run) (slice_set endings t (ending_behind x (slice_get endings t)))) (sym found.1) one in
     subst (λ (o : Option Happening). AreEndings p setup (with_next o run) (slice_set endings t (ending_behind (slice_get threads t) (slice_get endings t)))) (sym by) said

@@ -47,7 +47,7 @@ in_row rows c i r row at within =
 pub is_end_of : (s : heap.Setup) (m : Machine) (Fits : m.State → Type 0) (starts : ℕ → m.State) (run : List Happening) (threads : List (Stand m.State)) (shared : Shared) (c : Collecting)
     → stepping.IsEnd s m Fits starts run threads shared c → (stands : collector.StandsBehind s (turns_of (heap_of run)) c)
     → IsEndOf s m starts run (record {
-      threads = map (standing m.roots) threads;
+      threads = map (standing s m) threads;
       stages = shared.stages;
       posted = shared.posted;
       colours = shared.colours;
@@ -56,8 +56,8 @@ pub is_end_of : (s : heap.Setup) (m : Machine) (Fits : m.State → Type 0) (star
       collector = stands.place;
     })
 is_end_of s m Fits starts run threads shared c e stands = record {
-  count = length_of_map (standing m.roots) threads ∙ e.count;
-  threads = λ t stand at. let found = from_map (standing m.roots) threads t stand at in subst (λ (x : Standing m.State). StandsBehind s m starts run t x) found.2 (e.stands t found.0 found.1);
+  count = length_of_map (standing s m) threads ∙ e.count;
+  threads = λ t stand at. let found = from_map (standing s m) threads t stand at in subst (λ (x : Standing m.State). StandsBehind s m starts run t x) found.2 (e.stands t found.0 found.1);
   stages = λ t. e.words.behind.words (Stage t);
   posted = e.words.behind.words Posted;
   colours = λ c. e.words.behind.words (Colour c);

@@ -10,8 +10,8 @@ use Rattle.moves.specs.declared.actor.Actor as run
 use Rattle.moves.specs.declared.stand.Stance.{Stance}
 use Rattle.moves.specs.declared.stand.Stance.TheVariants.{Ready, MarkingOld, MarkingNew, Writing, Trying, Answering, Ended, Absent, Arriving, Entering, Leaving}
 use Rattle.moves.specs.declared.stand.Stand.{Stand}
-use Rattle.moves.specs.Stands.{phase_at}
-use Rattle.program_runner.specs.Threads.{ProgramThread, names}
+use Rattle.moves.specs.Stands.{cells_to_try, phase_at}
+use Rattle.program_runner.specs.Threads.{ProgramThread, program_machine, names}
 use Rattle.program_runner.specs.Heaps.{heap_of}
 use Rattle.replay.specs.declared.thread_end.ThreadEnd.{ThreadEnd}
 use Rattle.replay.specs.declared.thread_end.ThreadEnd.TheVariants as thread
@@ -62,18 +62,18 @@ one_more_told ends count told last are is = record {
 -- ---- the ends
 
 -- where a thread is by its stance, is where it is by its phase
-by_phase : (roots : List Reference) (stance : Stance) (stage : ℕ) (kept ending : ThreadEnd) → (phase_at roots stance ≡ order.Ended → kept ≡ ending) → end_at stance stage kept ≡ end_in (phase_at roots stance) stage ending
-by_phase roots Ready stage kept ending same = refl
-by_phase roots (MarkingOld cell word old) stage kept ending same = refl
-by_phase roots (MarkingNew cell word old) stage kept ending same = refl
-by_phase roots (Writing cell word old new) stage kept ending same = refl
-by_phase roots (Trying first tried) stage kept ending same = refl
-by_phase roots (Answering stage' marked) stage kept ending same = refl
-by_phase roots Ended stage kept ending same = same refl
-by_phase roots Absent stage kept ending same = refl
-by_phase roots (Arriving posted) stage kept ending same = refl
-by_phase roots Entering stage kept ending same = refl
-by_phase roots Leaving stage kept ending same = refl
+by_phase : (cells : List ℕ) (roots : List Reference) (stance : Stance) (stage : ℕ) (kept ending : ThreadEnd) → (phase_at cells roots stance ≡ order.Ended → kept ≡ ending) → end_at stance stage kept ≡ end_in (phase_at cells roots stance) stage ending
+by_phase cells roots Ready stage kept ending same = refl
+by_phase cells roots (MarkingOld cell word old) stage kept ending same = refl
+by_phase cells roots (MarkingNew cell word old) stage kept ending same = refl
+by_phase cells roots (Writing cell word old new) stage kept ending same = refl
+by_phase cells roots (Trying tried) stage kept ending same = refl
+by_phase cells roots (Answering stage' marked) stage kept ending same = refl
+by_phase cells roots Ended stage kept ending same = same refl
+by_phase cells roots Absent stage kept ending same = refl
+by_phase cells roots (Arriving posted) stage kept ending same = refl
+by_phase cells roots Entering stage kept ending same = refl
+by_phase cells roots Leaving stage kept ending same = refl
 
 -- what is told of a thread of a world is where it is
 told_is : (w : World) (before : List run.Actor) → IsBehind w before → (t : ℕ) → t < length w.setup.starts → end_told (slice_get w.threads t) (slice_get w.endings t) ≡ end_of w.program w.setup (run_of w.program w.setup before) t
@@ -84,9 +84,10 @@ told_is w before b t few =
     let found = get_some w.threads t (subst (λ (n : ℕ). t < n) (sym end.count) few) in
     let stands = end.stands t found.0 found.1 in
     let ending = ending_of s t (starts_of w.program w.setup t) share in
-    let same = λ (e : phase_at (names found.0.state) found.0.stance ≡ order.Ended). ap (λ (o : Option ThreadEnd). unwrap_or o thread.Ended) (b.ends.endings.each t few (sym stands.phase ∙ e)) in
+    let to_try = cells_to_try s found.0.hints (program_machine.action found.0.state) in
+    let same = λ (e : phase_at to_try (names found.0.state) found.0.stance ≡ order.Ended). ap (λ (o : Option ThreadEnd). unwrap_or o thread.Ended) (b.ends.endings.each t few (sym stands.phase ∙ e)) in
     ap (λ (o : Option (Stand ProgramThread)). end_told o (slice_get w.endings t)) found.1
-    ∙ by_phase (names found.0.state) found.0.stance found.0.stage (unwrap_or (slice_get w.endings t) thread.Ended) ending same
+    ∙ by_phase to_try (names found.0.state) found.0.stance found.0.stage (unwrap_or (slice_get w.endings t) thread.Ended) ending same
     ∙ ap (λ (phase : order.Phase). end_in phase found.0.stage ending) stands.phase
     ∙ ap (λ (stage : ℕ). end_in (phase_of s t (steps_of share)) stage ending) stands.stage
 

@@ -7,13 +7,13 @@ use Rattle.trace_sweep.specs.Collecting.{Collecting, in_order}
 use Rattle.runs.specs.Moves.{Move, steps_of, state_after}
 use Rattle.runs.specs.ModuleRuns.{Happening, share_of, IsModuleRun}
 use Rattle.runs.specs.Ends.{WorldState, IsEndOf}
-use Rattle.runs.specs.Tries.{TriesLowest}
+use Rattle.runs.specs.Tries.{TriesByHint}
 use Rattle.runs.specs.Broken.{IsBroken}
 use Rattle.layout.specs.Layouts.{LaidOut}
 use Rattle.machine.specs.declared.ending.Ending.{Ending}
 use Rattle.machine.specs.declared.ending.Ending.TheVariants.{Returned, Over}
 use Rattle.machine.specs.Endings.{ending}
-use Rattle.program_runner.specs.Threads.{ProgramThread, program_machine, names}
+use Rattle.program_runner.specs.Threads.{ProgramThread, program_machine}
 use Rattle.program_runner.specs.Heaps.{heap_of}
 use Rattle.program_runner.specs.Kinds.{FitsThread}
 use Rattle.trace_text.specs.declared.trace.Actor as traced
@@ -49,7 +49,7 @@ run_of p setup actors = run_by (heap_of p setup) program_machine (starts_of p se
 -- the actors and the words, with the collector at this place
 abbrev pub state_of : World → (place : Collection) → WorldState ProgramThread
 state_of w place = record {
-  threads = map (standing names) w.threads;
+  threads = map (standing (heap_of w.program w.setup) program_machine) w.threads;
   stages = w.shared.stages;
   posted = w.shared.posted;
   colours = w.shared.colours;
@@ -81,7 +81,7 @@ pub record AreEndings (p : LaidOut) (setup : Setup) (run : List Happening) (endi
 -- the world is the end of this run
 pub record EndsIn (w : World) (run : List Happening) : Type 0 where
   pub is_run : IsModuleRun (heap_of w.program w.setup) program_machine (starts_of w.program w.setup) run
-  pub tries : (t : ℕ) → t < length w.setup.starts → TriesLowest (heap_of w.program w.setup) program_machine t (starts_of w.program w.setup t) (share_of t run)
+  pub tries : (t : ℕ) → t < length w.setup.starts → TriesByHint (heap_of w.program w.setup) program_machine t (starts_of w.program w.setup t) (share_of t run)
   pub place : Collection
   pub in_order : w.collector.at ≡ in_order place
   pub ends : IsEndOf (heap_of w.program w.setup) program_machine (starts_of w.program w.setup) run (state_of w place)

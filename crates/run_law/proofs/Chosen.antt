@@ -5,36 +5,35 @@ use Rattle.pools.specs.Heap.{Setup, cells, kind_of, IsOfLayout}
 use Rattle.pools.specs.declared.word_kind.WordKind.{WordKind}
 use Rattle.pools.specs.declared.word_kind.WordKind.TheVariants as kind
 use Rattle.pools.specs.Layouts.{is_reference_kind}
-use Rattle.pools.specs.Pools.{first_cell}
 use Rattle.colours.specs.Colours.{is_async}
 use Rattle.colours.specs.Mutator.{HasBegun}
+use Rattle.colours.specs.Steps.{Step}
 use Rattle.runs.specs.Machine.{Reference, Action, Read, StorePlain, Write, Alloc, Safepoint}
 use Rattle.runs.specs.Moves.{Move, Works, ReadsWord, ReadsOldValue, Marks, StoresBehindBarrier, StoresPlain, Claims, StoresStage, IsIn, next_root}
 use Rattle.runs.specs.NextMoves.{next_move, try_of, mark_or_answer}
-use Rattle.runs.specs.Tries.{lowest}
+use Rattle.runs.specs.TryLemmas.{StandsSo, of_order}
 use Rattle.runs.specs.Calls.{get_in}
 use Rattle.moves.specs.declared.call.Call.TheVariants as call
 use Rattle.moves.specs.declared.shared.Shared.{Shared}
 use Rattle.moves.specs.declared.stand.Stance.{Stance}
 use Rattle.moves.specs.declared.stand.Stance.TheVariants as stance
 use Rattle.moves.specs.Kinds.{MayHold, AsksByKind}
-use Rattle.moves.specs.Moving.{IsNextTry, LosesNext, MarksNext}
+use Rattle.moves.specs.Moving.{TriesNext, MarksNext}
 use Rattle.moves.specs.Rows.{word_at}
-use Rattle.moves.specs.Stands.{falling, marked_of, phase_at, sight_in}
+use Rattle.moves.specs.Stands.{cells_by, cells_to_try, tried_of, marked_of, phase_at, sight_in}
 use Rattle.moves.specs.Marked.{next_root-marked}
-use Rattle.moves.specs.Nexts.{falling-length}
-use Rattle.run_law.proofs.Tries.{of-place, TriesFrom, TriedFrom}
+use Rattle.moves.specs.Nexts.{tried_of-length}
 
 -- the move reads, marks, stores or claims what the action asks for there
-abbrev pub IsChosen : Setup → Shared → (roots : List Reference) → Action → Stance → Move → Type 0
-IsChosen s h roots action at (ReadsWord base word value) = (action ≡ Read base word) × (value ≡ word_at h.words base.cell word)
-IsChosen s h roots action at (ReadsOldValue base word value) = (next : Reference) × (action ≡ Write base word next) × (value ≡ word_at h.words base.cell word)
-IsChosen s h roots action at (Marks r) = (r.cell < cells s) × MarksNext roots at r.cell × HasBegun (phase_at roots at)
-IsChosen s h roots action at (StoresBehindBarrier base word value) = action ≡ Write base word value
-IsChosen s h roots action at (StoresPlain base word value) = action ≡ StorePlain base word value
-IsChosen s h roots action at (Claims r won) =
-    (layout : ℕ) × (action ≡ Alloc layout) × IsOfLayout s layout r.cell × (won ≡ (slice_index h.colours r.cell == 0)) × (r.birth ≡ suc (slice_index h.births r.cell)) × LosesNext s (call.Alloc layout) at r.cell × HasBegun (phase_at roots at)
-IsChosen s h roots action at move = Unit {0}
+abbrev pub IsChosen : Setup → Shared → (hints : List ℕ) → (roots : List Reference) → Action → Stance → Move → Type 0
+IsChosen s h hints roots action at (ReadsWord base word value) = (action ≡ Read base word) × (value ≡ word_at h.words base.cell word)
+IsChosen s h hints roots action at (ReadsOldValue base word value) = (next : Reference) × (action ≡ Write base word next) × (value ≡ word_at h.words base.cell word)
+IsChosen s h hints roots action at (Marks r) = (r.cell < cells s) × MarksNext roots at r.cell × HasBegun (phase_at (cells_to_try s hints action) roots at)
+IsChosen s h hints roots action at (StoresBehindBarrier base word value) = action ≡ Write base word value
+IsChosen s h hints roots action at (StoresPlain base word value) = action ≡ StorePlain base word value
+IsChosen s h hints roots action at (Claims r won) =
+    (layout : ℕ) × (action ≡ Alloc layout) × IsOfLayout s layout r.cell × (won ≡ (slice_index h.colours r.cell == 0)) × (r.birth ≡ suc (slice_index h.births r.cell)) × TriesNext s hints (call.Alloc layout) at r.cell × HasBegun (phase_at (cells_to_try s hints action) roots at)
+IsChosen s h hints roots action at move = Unit {0}
 
 -- ---- references
 
@@ -55,71 +54,55 @@ in-filter p (root ∷ roots) r x = go (p root) (in-filter p roots r) x
     go true rest (inr y) = inr (rest y)
     go false rest y = inr (rest y)
 
--- ---- tries
-
--- the first of some cells that fall by one
-first-is : (first other count : ℕ) → 0 < count → falling first count ≡ falling other count → first ≡ other
-first-is first other zero some e = absurd (omega (arith, some))
-first-is first other (suc count) some e = let same : first + count ≡ other + count = cc in omega (arith, same)
-
--- the try after those so far
-try-next : (s : Setup) (layout first tried : ℕ) → TriedFrom s layout (falling first tried) → IsNextTry s layout first tried (lowest s layout (falling first tried))
-try-next s layout first tried f =
-    let count = falling-length first tried in
-    let begins = first-is first (first_cell s.pools layout) tried (omega (arith, f.some, count)) (f.are ∙ ap (falling (first_cell s.pools layout)) count) in
-    record {
-      is_next = omega (arith, begins, count);
-      of_layout = (of-place s layout (length (falling first tried)) f.few).2;
-      left = omega (arith, f.few, count);
-    }
-
 -- ---- the next move
 
 -- of each action, at each place of its call
-chosen : (s : Setup) (h : Shared) (stage : ℕ) (roots : List Reference) (old : Reference) (action : Action) (at : Stance) → AsksByKind s action → ((r : Reference) → IsIn r roots → r.cell < cells s)
-    → old.cell < cells s → TriesFrom s action (phase_at roots at)
-    → MatchOption (next_move s (sight_in s h) stage roots old action (phase_at roots at)) (Unit {0}) (IsChosen s h roots action at)
-chosen s h stage roots old action stance.Ended a r o f = tt
-chosen s h stage roots old action stance.Absent a r o f = tt
-chosen s h stage roots old action (stance.Arriving posted) a r o f = tt
-chosen s h stage roots old action stance.Entering a r o f = tt
-chosen s h stage roots old action stance.Leaving a r o f = tt
-chosen s h stage roots old (Read base word) stance.Ready a r o f = (refl, refl)
-chosen s h stage roots old (StorePlain base word value) stance.Ready a r o f = refl
-chosen s h stage roots old (Write base word value) stance.Ready a r o f = (value, refl, refl)
-chosen s h stage roots old (Write base word value) (stance.MarkingOld c i x) a r o f = (o, tt, tt)
-chosen s h stage roots old (Write base word value) (stance.MarkingNew c i x) a r o f = go (is_async stage || (value.cell == 0))
+chosen : (s : Setup) (h : Shared) (hints : List ℕ) (log : List Step) (stage : ℕ) (roots : List Reference) (old : Reference) (action : Action) (at : Stance) → AsksByKind s action → ((r : Reference) → IsIn r roots → r.cell < cells s)
+    → old.cell < cells s → StandsSo s log action (phase_at (cells_to_try s hints action) roots at)
+    → MatchOption (next_move s (sight_in s h hints) stage roots old action (phase_at (cells_to_try s hints action) roots at)) (Unit {0}) (IsChosen s h hints roots action at)
+chosen s h hints log stage roots old action stance.Ended a r o f = tt
+chosen s h hints log stage roots old action stance.Absent a r o f = tt
+chosen s h hints log stage roots old action (stance.Arriving posted) a r o f = tt
+chosen s h hints log stage roots old action stance.Entering a r o f = tt
+chosen s h hints log stage roots old action stance.Leaving a r o f = tt
+chosen s h hints log stage roots old (Read base word) stance.Ready a r o f = (refl, refl)
+chosen s h hints log stage roots old (StorePlain base word value) stance.Ready a r o f = refl
+chosen s h hints log stage roots old (Write base word value) stance.Ready a r o f = (value, refl, refl)
+chosen s h hints log stage roots old (Write base word value) (stance.MarkingOld c i x) a r o f = (o, tt, tt)
+chosen s h hints log stage roots old (Write base word value) (stance.MarkingNew c i x) a r o f = go (is_async stage || (value.cell == 0))
   where
-    go : (b : Bool) → IsChosen s h roots (Write base word value) (stance.MarkingNew c i x) (if b then StoresBehindBarrier base word value else Marks value)
+    go : (b : Bool) → IsChosen s h hints roots (Write base word value) (stance.MarkingNew c i x) (if b then StoresBehindBarrier base word value else Marks value)
     go true = refl
     go false = (cell-held s (kind_of s base.cell word) value a.1 a.2, tt, tt)
-chosen s h stage roots old (Write base word value) (stance.Writing c i x n) a r o f = refl
-chosen s h stage roots old (Alloc layout) stance.Ready a r o f = go (slice_index s.pools layout == 0) refl
+chosen s h hints log stage roots old (Write base word value) (stance.Writing c i x n) a r o f = refl
+chosen s h hints log stage roots old (Alloc layout) stance.Ready a r o f = go (slice_index s.pools layout == 0) refl
   where
-    go : (b : Bool) → (slice_index s.pools layout == 0) ≡ b → IsChosen s h roots (Alloc layout) stance.Ready (if b then Works else try_of (sight_in s h) ((sight_in s h).claim layout []))
+    go : (b : Bool) → (slice_index s.pools layout == 0) ≡ b → IsChosen s h hints roots (Alloc layout) stance.Ready (if b then Works else try_of (sight_in s h hints) ((sight_in s h hints).claim layout []))
     go true e = tt
     go false e =
         let some = test_false (slice_index s.pools layout) 0 e in
         let left : 0 < slice_index s.pools layout = omega (arith, some) in
-        let place = of-place s layout 0 left in
-        (layout, refl, place, refl, refl, record { is_next = omega arith; of_layout = place.2; left = left }, tt)
-chosen s h stage roots old (Alloc layout) (stance.Trying first tried) a r o f =
-    (layout, refl, of-place s layout (length (falling first tried)) f.few, refl, refl, try-next s layout first tried f, tt)
-chosen s h stage roots old Safepoint (stance.Answering next marked) a r o f = go (is_async next)
+        let here = of_order s layout (slice_index hints layout) 0 left in
+        (layout, refl, here, refl, refl, record { is_next = refl; of_layout = here; left = left }, tt)
+chosen s h hints log stage roots old (Alloc layout) (stance.Trying tried) a r o f =
+    let count = tried_of-length (cells_by s hints layout) tried in
+    let here = of_order s layout (slice_index hints layout) (length (tried_of (cells_by s hints layout) tried)) f.few in
+    (layout, refl, here, refl, refl, record { is_next = ap (slice_index (cells_by s hints layout)) count; of_layout = here; left = omega (arith, f.few, count) }, tt)
+chosen s h hints log stage roots old Safepoint (stance.Answering next marked) a r o f = go (is_async next)
   where
-    go : (b : Bool) → IsChosen s h roots Safepoint (stance.Answering next marked) (if b then mark_or_answer next roots (next_root roots (marked_of roots marked)) else StoresStage next roots)
+    go : (b : Bool) → IsChosen s h hints roots Safepoint (stance.Answering next marked) (if b then mark_or_answer next roots (next_root roots (marked_of roots marked)) else StoresStage next roots)
     go false = tt
     go true = of-root (next_root roots (marked_of roots marked)) refl
       where
-        of-root : (q : Option Reference) → next_root roots (marked_of roots marked) ≡ q → IsChosen s h roots Safepoint (stance.Answering next marked) (mark_or_answer next roots q)
+        of-root : (q : Option Reference) → next_root roots (marked_of roots marked) ≡ q → IsChosen s h hints roots Safepoint (stance.Answering next marked) (mark_or_answer next roots q)
         of-root None e = tt
         of-root (Some q) e =
             let p : Reference → Bool = λ x. not (x.cell == 0) in
             (r q (in-filter p roots q (get_in (filter p roots) (length (marked_of roots marked)) q e)), (q, sym (next_root-marked roots marked) ∙ e, refl), tt)
-chosen s h stage roots old action at a r o f = tt
+chosen s h hints log stage roots old action at a r o f = tt
 
 -- the same for the move that is made
-pub is-chosen : (s : Setup) (h : Shared) (stage : ℕ) (roots : List Reference) (old : Reference) (action : Action) (at : Stance) (move : Move) → AsksByKind s action → ((r : Reference) → IsIn r roots → r.cell < cells s)
-    → old.cell < cells s → TriesFrom s action (phase_at roots at) → next_move s (sight_in s h) stage roots old action (phase_at roots at) ≡ Some move → IsChosen s h roots action at move
-is-chosen s h stage roots old action at move a r o f e =
-    subst (λ (m : Option Move). MatchOption m (Unit {0}) (IsChosen s h roots action at)) e (chosen s h stage roots old action at a r o f)
+pub is-chosen : (s : Setup) (h : Shared) (hints : List ℕ) (log : List Step) (stage : ℕ) (roots : List Reference) (old : Reference) (action : Action) (at : Stance) (move : Move) → AsksByKind s action → ((r : Reference) → IsIn r roots → r.cell < cells s)
+    → old.cell < cells s → StandsSo s log action (phase_at (cells_to_try s hints action) roots at) → next_move s (sight_in s h hints) stage roots old action (phase_at (cells_to_try s hints action) roots at) ≡ Some move → IsChosen s h hints roots action at move
+is-chosen s h hints log stage roots old action at move a r o f e =
+    subst (λ (m : Option Move). MatchOption m (Unit {0}) (IsChosen s h hints roots action at)) e (chosen s h hints log stage roots old action at a r o f)

@@ -5,9 +5,9 @@ pub mod Rows
 pub mod Places
 pub mod Shapes
 pub mod Words
-pub mod Tries
 pub mod Chosen
 pub mod Moves
+pub mod Hints
 pub mod Threads
 pub mod Turns
 pub mod Motions

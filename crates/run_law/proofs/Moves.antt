@@ -18,10 +18,10 @@ use Rattle.moves.specs.declared.stand.Stance.{Stance}
 use Rattle.moves.specs.declared.stand.Stand.{Stand}
 use Rattle.moves.specs.Calls.{action_of, move_in}
 use Rattle.moves.specs.Kinds.{MayHold, AsksByKind, AnswersByKind, KeepsKinds}
-use Rattle.moves.specs.Moving.{MayMake, LosesNext}
+use Rattle.moves.specs.Moving.{MayMake, TriesNext}
 use Rattle.moves.specs.Rows.{word_at}
 use Rattle.moves.specs.Shared.{HasShape, CanHold, CanTake}
-use Rattle.moves.specs.Stands.{standing, phase_at}
+use Rattle.moves.specs.Stands.{cells_to_try, standing, phase_at}
 use Rattle.moves.specs.GoesOn.{same-call}
 use Rattle.run_law.proofs.Places.{SeesCell}
 use Rattle.run_law.proofs.Shapes.{PutsByKind}
@@ -65,84 +65,83 @@ holds-there s h cell word value shape is_cell may = go (kind_of s cell word) ref
 -- ---- the move may be made
 
 -- what it puts fits
-pub puts : (s : Setup) (h : Shared) (roots : List Reference) (action : Action) (at : Stance) (move : Move) → AsksByKind s action → IsChosen s h roots action at (move_in roots move) → PutsByKind s move
-puts s h roots action at (made.StoresBehindBarrier base word value) a c = let asks : AsksByKind s (Write base word value) = subst (λ (x : Action). AsksByKind s x) c a in asks.2
-puts s h roots action at (made.StoresPlain base word value) a c = let asks : AsksByKind s (StorePlain base word value) = subst (λ (x : Action). AsksByKind s x) c a in asks.1
-puts s h roots action at made.Works a c = tt
-puts s h roots action at made.GoesWrong a c = tt
-puts s h roots action at (made.ReadsWord base word value) a c = tt
-puts s h roots action at (made.ReadsOldValue base word value) a c = tt
-puts s h roots action at (made.Marks r) a c = tt
-puts s h roots action at (made.Claims r won) a c = tt
-puts s h roots action at (made.ReadsPosted stage) a c = tt
-puts s h roots action at (made.Answers stage) a c = tt
-puts s h roots action at made.Ends a c = tt
-puts s h roots action at (made.ReadsPostedFirst posted) a c = tt
-puts s h roots action at (made.EntersStage next) a c = tt
-puts s h roots action at (made.ReadsPostedAgain posted) a c = tt
+pub puts : (s : Setup) (h : Shared) (hints : List ℕ) (roots : List Reference) (action : Action) (at : Stance) (move : Move) → AsksByKind s action → IsChosen s h hints roots action at (move_in roots move) → PutsByKind s move
+puts s h hints roots action at (made.StoresBehindBarrier base word value) a c = let asks : AsksByKind s (Write base word value) = subst (λ (x : Action). AsksByKind s x) c a in asks.2
+puts s h hints roots action at (made.StoresPlain base word value) a c = let asks : AsksByKind s (StorePlain base word value) = subst (λ (x : Action). AsksByKind s x) c a in asks.1
+puts s h hints roots action at made.Works a c = tt
+puts s h hints roots action at made.GoesWrong a c = tt
+puts s h hints roots action at (made.ReadsWord base word value) a c = tt
+puts s h hints roots action at (made.ReadsOldValue base word value) a c = tt
+puts s h hints roots action at (made.Marks r) a c = tt
+puts s h hints roots action at (made.Claims r won) a c = tt
+puts s h hints roots action at (made.ReadsPosted stage) a c = tt
+puts s h hints roots action at (made.Answers stage) a c = tt
+puts s h hints roots action at made.Ends a c = tt
+puts s h hints roots action at (made.ReadsPostedFirst posted) a c = tt
+puts s h hints roots action at (made.EntersStage next) a c = tt
+puts s h hints roots action at (made.ReadsPostedAgain posted) a c = tt
 
 -- a claim agrees with the state of its cell
-pub sees : (s : Setup) (h : Shared) (roots : List Reference) (action : Action) (at : Stance) (move : Move) → IsChosen s h roots action at (move_in roots move) → SeesCell h move
-sees s h roots action at (made.Claims r won) c = (c.3, c.4)
-sees s h roots action at made.Works c = tt
-sees s h roots action at made.GoesWrong c = tt
-sees s h roots action at (made.ReadsWord base word value) c = tt
-sees s h roots action at (made.ReadsOldValue base word value) c = tt
-sees s h roots action at (made.Marks r) c = tt
-sees s h roots action at (made.StoresBehindBarrier base word value) c = tt
-sees s h roots action at (made.StoresPlain base word value) c = tt
-sees s h roots action at (made.ReadsPosted stage) c = tt
-sees s h roots action at (made.Answers stage) c = tt
-sees s h roots action at made.Ends c = tt
-sees s h roots action at (made.ReadsPostedFirst posted) c = tt
-sees s h roots action at (made.EntersStage next) c = tt
-sees s h roots action at (made.ReadsPostedAgain posted) c = tt
+pub sees : (s : Setup) (h : Shared) (hints : List ℕ) (roots : List Reference) (action : Action) (at : Stance) (move : Move) → IsChosen s h hints roots action at (move_in roots move) → SeesCell h move
+sees s h hints roots action at (made.Claims r won) c = (c.3, c.4)
+sees s h hints roots action at made.Works c = tt
+sees s h hints roots action at made.GoesWrong c = tt
+sees s h hints roots action at (made.ReadsWord base word value) c = tt
+sees s h hints roots action at (made.ReadsOldValue base word value) c = tt
+sees s h hints roots action at (made.Marks r) c = tt
+sees s h hints roots action at (made.StoresBehindBarrier base word value) c = tt
+sees s h hints roots action at (made.StoresPlain base word value) c = tt
+sees s h hints roots action at (made.ReadsPosted stage) c = tt
+sees s h hints roots action at (made.Answers stage) c = tt
+sees s h hints roots action at made.Ends c = tt
+sees s h hints roots action at (made.ReadsPostedFirst posted) c = tt
+sees s h hints roots action at (made.EntersStage next) c = tt
+sees s h hints roots action at (made.ReadsPostedAgain posted) c = tt
 
 -- its places are there
-pub takes : (s : Setup) (h : Shared) (roots : List Reference) (action : Action) (at : Stance) (t stage : ℕ) (move : Move) → HasShape s h → AsksByKind s action → t < s.threads → (HasBegun (phase_at roots at) → stage < 2 ^ 62)
-    → IsChosen s h roots action at (move_in roots move) → CanTake h t stage move
-takes s h roots action at t stage (made.StoresBehindBarrier base word value) shape a lt few c =
+pub takes : (s : Setup) (h : Shared) (hints : List ℕ) (roots : List Reference) (action : Action) (at : Stance) (t stage : ℕ) (move : Move) → HasShape s h → AsksByKind s action → t < s.threads → (HasBegun (phase_at (cells_to_try s hints action) roots at) → stage < 2 ^ 62)
+    → IsChosen s h hints roots action at (move_in roots move) → CanTake h t stage move
+takes s h hints roots action at t stage (made.StoresBehindBarrier base word value) shape a lt few c =
     let asks : AsksByKind s (Write base word value) = subst (λ (x : Action). AsksByKind s x) c a in
     holds-there s h base.cell word value shape asks.0 asks.2
-takes s h roots action at t stage (made.StoresPlain base word value) shape a lt few c =
+takes s h hints roots action at t stage (made.StoresPlain base word value) shape a lt few c =
     let asks : AsksByKind s (StorePlain base word value) = subst (λ (x : Action). AsksByKind s x) c a in
     holds-there s h base.cell word value shape asks.0 asks.1
-takes s h roots action at t stage (made.Marks r) shape a lt few c = let is_cell = c.0 in let count = shape.colours in (omega (arith, is_cell, count), few c.2)
-takes s h roots action at t stage (made.Claims r won) shape a lt few c =
+takes s h hints roots action at t stage (made.Marks r) shape a lt few c = let is_cell = c.0 in let count = shape.colours in (omega (arith, is_cell, count), few c.2)
+takes s h hints roots action at t stage (made.Claims r won) shape a lt few c =
     let is_cell : r.cell < cells s = c.2.1 in
     let colours = shape.colours in
     let births = shape.births in
     (omega (arith, is_cell, colours), omega (arith, is_cell, births), few c.6)
-takes s h roots action at t stage (made.Answers next) shape a lt few c = let count = shape.stages in omega (arith, lt, count)
-takes s h roots action at t stage made.Ends shape a lt few c = let count = shape.stages in omega (arith, lt, count)
-takes s h roots action at t stage (made.ReadsPostedFirst posted) shape a lt few c = tt
-takes s h roots action at t stage (made.EntersStage next) shape a lt few c = let count = shape.stages in omega (arith, lt, count)
-takes s h roots action at t stage (made.ReadsPostedAgain posted) shape a lt few c = tt
-takes s h roots action at t stage made.Works shape a lt few c = tt
-takes s h roots action at t stage made.GoesWrong shape a lt few c = tt
-takes s h roots action at t stage (made.ReadsWord base word value) shape a lt few c = tt
-takes s h roots action at t stage (made.ReadsOldValue base word value) shape a lt few c = tt
-takes s h roots action at t stage (made.ReadsPosted posted) shape a lt few c = tt
+takes s h hints roots action at t stage (made.Answers next) shape a lt few c = let count = shape.stages in omega (arith, lt, count)
+takes s h hints roots action at t stage made.Ends shape a lt few c = let count = shape.stages in omega (arith, lt, count)
+takes s h hints roots action at t stage (made.ReadsPostedFirst posted) shape a lt few c = tt
+takes s h hints roots action at t stage (made.EntersStage next) shape a lt few c = let count = shape.stages in omega (arith, lt, count)
+takes s h hints roots action at t stage (made.ReadsPostedAgain posted) shape a lt few c = tt
+takes s h hints roots action at t stage made.Works shape a lt few c = tt
+takes s h hints roots action at t stage made.GoesWrong shape a lt few c = tt
+takes s h hints roots action at t stage (made.ReadsWord base word value) shape a lt few c = tt
+takes s h hints roots action at t stage (made.ReadsOldValue base word value) shape a lt few c = tt
+takes s h hints roots action at t stage (made.ReadsPosted posted) shape a lt few c = tt
 
 -- it is the next one of its call
-pub may-make : (s : Setup) (h : Shared) (roots : List Reference) (action : Action) (at : Stance) (move : Move) (asked : Call) → action_of asked ≡ action → IsChosen s h roots action at (move_in roots move)
-    → MayMake s roots asked at move
-may-make s h roots action at (made.Marks r) asked e c = c.1
-may-make s h roots action at (made.Claims r true) asked e c = tt
-may-make s h roots action at (made.Claims r false) asked e c =
-    subst (λ (x : Call). LosesNext s x at r.cell) (sym (same-call asked (call.Alloc c.0) (e ∙ c.1))) c.5
-may-make s h roots action at made.Works asked e c = tt
-may-make s h roots action at made.GoesWrong asked e c = tt
-may-make s h roots action at (made.ReadsWord base word value) asked e c = tt
-may-make s h roots action at (made.ReadsOldValue base word value) asked e c = tt
-may-make s h roots action at (made.StoresBehindBarrier base word value) asked e c = tt
-may-make s h roots action at (made.StoresPlain base word value) asked e c = tt
-may-make s h roots action at (made.ReadsPosted stage) asked e c = tt
-may-make s h roots action at (made.Answers stage) asked e c = tt
-may-make s h roots action at made.Ends asked e c = tt
-may-make s h roots action at (made.ReadsPostedFirst posted) asked e c = tt
-may-make s h roots action at (made.EntersStage next) asked e c = tt
-may-make s h roots action at (made.ReadsPostedAgain posted) asked e c = tt
+pub may-make : (s : Setup) (h : Shared) (hints : List ℕ) (roots : List Reference) (action : Action) (at : Stance) (move : Move) (asked : Call) → action_of asked ≡ action → IsChosen s h hints roots action at (move_in roots move)
+    → MayMake s hints roots asked at move
+may-make s h hints roots action at (made.Marks r) asked e c = c.1
+may-make s h hints roots action at (made.Claims r won) asked e c =
+    subst (λ (x : Call). TriesNext s hints x at r.cell) (sym (same-call asked (call.Alloc c.0) (e ∙ c.1))) c.5
+may-make s h hints roots action at made.Works asked e c = tt
+may-make s h hints roots action at made.GoesWrong asked e c = tt
+may-make s h hints roots action at (made.ReadsWord base word value) asked e c = tt
+may-make s h hints roots action at (made.ReadsOldValue base word value) asked e c = tt
+may-make s h hints roots action at (made.StoresBehindBarrier base word value) asked e c = tt
+may-make s h hints roots action at (made.StoresPlain base word value) asked e c = tt
+may-make s h hints roots action at (made.ReadsPosted stage) asked e c = tt
+may-make s h hints roots action at (made.Answers stage) asked e c = tt
+may-make s h hints roots action at made.Ends asked e c = tt
+may-make s h hints roots action at (made.ReadsPostedFirst posted) asked e c = tt
+may-make s h hints roots action at (made.EntersStage next) asked e c = tt
+may-make s h hints roots action at (made.ReadsPostedAgain posted) asked e c = tt
 
 -- ---- the thread after it
 
@@ -188,29 +187,29 @@ nothing-fits s roots (Alloc layout) (made.EntersStage next) q = tt
 nothing-fits s roots (Alloc layout) (made.ReadsPostedAgain posted) q = tt
 
 -- the answer fits what was asked for
-pub answers : (s : Setup) (h : Shared) (roots : List Reference) (action : Action) (at : Stance) (move : Move) → HasShape s h → AsksByKind s action → IsChosen s h roots action at (move_in roots move)
+pub answers : (s : Setup) (h : Shared) (hints : List ℕ) (roots : List Reference) (action : Action) (at : Stance) (move : Move) → HasShape s h → AsksByKind s action → IsChosen s h hints roots action at (move_in roots move)
     → AnswersByKind s action (answer_of action (move_in roots move))
-answers s h roots action at (made.ReadsWord base word value) shape a c =
+answers s h hints roots action at (made.ReadsWord base word value) shape a c =
     let asks : AsksByKind s (Read base word) = subst (λ (x : Action). AsksByKind s x) c.0 a in
     let fits : MayHold s (kind_of s base.cell word) value = subst (λ (x : Reference). MayHold s (kind_of s base.cell word) x) (sym c.1) (word-fits s h base.cell word shape asks.0 asks.1) in
     subst (λ (x : Action). AnswersByKind s x (answer_of x (move_in roots (made.ReadsWord base word value)))) (sym c.0) fits
-answers s h roots action at (made.Claims r true) shape a c =
+answers s h hints roots action at (made.Claims r true) shape a c =
     let fits : AnswersByKind s (Alloc c.0) (Got r) = inr c.2 in
     subst (λ (x : Action). AnswersByKind s x (answer_of x (move_in roots (made.Claims r true)))) (sym c.1) fits
-answers s h roots action at (made.Claims r false) shape a c =
+answers s h hints roots action at (made.Claims r false) shape a c =
     subst (λ (x : Action). AnswersByKind s x (answer_of x (move_in roots (made.Claims r false)))) (sym c.1) (inl refl)
-answers s h roots action at made.Works shape a c = nothing-fits s roots action made.Works tt
-answers s h roots action at made.GoesWrong shape a c = nothing-fits s roots action made.GoesWrong tt
-answers s h roots action at (made.ReadsOldValue base word value) shape a c = nothing-fits s roots action (made.ReadsOldValue base word value) tt
-answers s h roots action at (made.Marks r) shape a c = nothing-fits s roots action (made.Marks r) tt
-answers s h roots action at (made.StoresBehindBarrier base word value) shape a c = nothing-fits s roots action (made.StoresBehindBarrier base word value) tt
-answers s h roots action at (made.StoresPlain base word value) shape a c = nothing-fits s roots action (made.StoresPlain base word value) tt
-answers s h roots action at (made.ReadsPosted stage) shape a c = nothing-fits s roots action (made.ReadsPosted stage) tt
-answers s h roots action at (made.Answers stage) shape a c = nothing-fits s roots action (made.Answers stage) tt
-answers s h roots action at made.Ends shape a c = nothing-fits s roots action made.Ends tt
-answers s h roots action at (made.ReadsPostedFirst posted) shape a c = nothing-fits s roots action (made.ReadsPostedFirst posted) tt
-answers s h roots action at (made.EntersStage next) shape a c = nothing-fits s roots action (made.EntersStage next) tt
-answers s h roots action at (made.ReadsPostedAgain posted) shape a c = nothing-fits s roots action (made.ReadsPostedAgain posted) tt
+answers s h hints roots action at made.Works shape a c = nothing-fits s roots action made.Works tt
+answers s h hints roots action at made.GoesWrong shape a c = nothing-fits s roots action made.GoesWrong tt
+answers s h hints roots action at (made.ReadsOldValue base word value) shape a c = nothing-fits s roots action (made.ReadsOldValue base word value) tt
+answers s h hints roots action at (made.Marks r) shape a c = nothing-fits s roots action (made.Marks r) tt
+answers s h hints roots action at (made.StoresBehindBarrier base word value) shape a c = nothing-fits s roots action (made.StoresBehindBarrier base word value) tt
+answers s h hints roots action at (made.StoresPlain base word value) shape a c = nothing-fits s roots action (made.StoresPlain base word value) tt
+answers s h hints roots action at (made.ReadsPosted stage) shape a c = nothing-fits s roots action (made.ReadsPosted stage) tt
+answers s h hints roots action at (made.Answers stage) shape a c = nothing-fits s roots action (made.Answers stage) tt
+answers s h hints roots action at made.Ends shape a c = nothing-fits s roots action made.Ends tt
+answers s h hints roots action at (made.ReadsPostedFirst posted) shape a c = nothing-fits s roots action (made.ReadsPostedFirst posted) tt
+answers s h hints roots action at (made.EntersStage next) shape a c = nothing-fits s roots action (made.EntersStage next) tt
+answers s h hints roots action at (made.ReadsPostedAgain posted) shape a c = nothing-fits s roots action (made.ReadsPostedAgain posted) tt
 
 -- one of two states that fit
 either-fits : {State : Type 0} (Fits : State → Type 0) (b : Bool) (x y : State) → Fits x → Fits y → Fits (if b then x else y)
@@ -219,30 +218,30 @@ either-fits Fits false x y f g = g
 
 -- so the state after the move fits
 pub moved-fits : (s : Setup) (m : Machine) (Fits : m.State → Type 0) (h : Shared) (stand : Stand m.State) (move : Move) → HasShape s h → KeepsKinds s m.action m.after_answer m.roots Fits stand.state → Fits stand.state
-    → IsChosen s h (m.roots stand.state) (m.action stand.state) stand.stance (move_in (m.roots stand.state) move)
-    → Fits (moved s m (standing m.roots stand) (move_in (m.roots stand.state) move)).state
+    → IsChosen s h stand.hints (m.roots stand.state) (m.action stand.state) stand.stance (move_in (m.roots stand.state) move)
+    → Fits (moved s m (standing s m stand) (move_in (m.roots stand.state) move)).state
 moved-fits s m Fits h stand move shape keeps fits c =
     either-fits Fits _ _ _
-    (keeps.goes_on (answer_of (m.action stand.state) (move_in (m.roots stand.state) move)) (answers s h (m.roots stand.state) (m.action stand.state) stand.stance move shape keeps.asks c))
+    (keeps.goes_on (answer_of (m.action stand.state) (move_in (m.roots stand.state) move)) (answers s h stand.hints (m.roots stand.state) (m.action stand.state) stand.stance move shape keeps.asks c))
     fits
 
 -- and what a write under way has read is a cell
-pub replaced-cell : (s : Setup) (h : Shared) (roots : List Reference) (action : Action) (at : Stance) (move : Move) → HasShape s h → AsksByKind s action → IsChosen s h roots action at (move_in roots move)
+pub replaced-cell : (s : Setup) (h : Shared) (hints : List ℕ) (roots : List Reference) (action : Action) (at : Stance) (move : Move) → HasShape s h → AsksByKind s action → IsChosen s h hints roots action at (move_in roots move)
     → (old_by (move_in roots move)).cell < cells s
-replaced-cell s h roots action at (made.ReadsOldValue base word value) shape a c =
+replaced-cell s h hints roots action at (made.ReadsOldValue base word value) shape a c =
     let asks : AsksByKind s (Write base word c.0) = subst (λ (x : Action). AsksByKind s x) c.1 a in
     let fits = word-fits s h base.cell word shape asks.0 (reference-there (kind_of s base.cell word) asks.1) in
     subst (λ (x : Reference). x.cell < cells s) (sym c.2) (cell-held s (kind_of s base.cell word) (word_at h.words base.cell word) asks.1 fits)
-replaced-cell s h roots action at made.Works shape a c = omega arith
-replaced-cell s h roots action at made.GoesWrong shape a c = omega arith
-replaced-cell s h roots action at (made.ReadsWord base word value) shape a c = omega arith
-replaced-cell s h roots action at (made.Marks r) shape a c = omega arith
-replaced-cell s h roots action at (made.StoresBehindBarrier base word value) shape a c = omega arith
-replaced-cell s h roots action at (made.StoresPlain base word value) shape a c = omega arith
-replaced-cell s h roots action at (made.Claims r won) shape a c = omega arith
-replaced-cell s h roots action at (made.ReadsPosted stage) shape a c = omega arith
-replaced-cell s h roots action at (made.Answers stage) shape a c = omega arith
-replaced-cell s h roots action at made.Ends shape a c = omega arith
-replaced-cell s h roots action at (made.ReadsPostedFirst posted) shape a c = omega arith
-replaced-cell s h roots action at (made.EntersStage next) shape a c = omega arith
-replaced-cell s h roots action at (made.ReadsPostedAgain posted) shape a c = omega arith
+replaced-cell s h hints roots action at made.Works shape a c = omega arith
+replaced-cell s h hints roots action at made.GoesWrong shape a c = omega arith
+replaced-cell s h hints roots action at (made.ReadsWord base word value) shape a c = omega arith
+replaced-cell s h hints roots action at (made.Marks r) shape a c = omega arith
+replaced-cell s h hints roots action at (made.StoresBehindBarrier base word value) shape a c = omega arith
+replaced-cell s h hints roots action at (made.StoresPlain base word value) shape a c = omega arith
+replaced-cell s h hints roots action at (made.Claims r won) shape a c = omega arith
+replaced-cell s h hints roots action at (made.ReadsPosted stage) shape a c = omega arith
+replaced-cell s h hints roots action at (made.Answers stage) shape a c = omega arith
+replaced-cell s h hints roots action at made.Ends shape a c = omega arith
+replaced-cell s h hints roots action at (made.ReadsPostedFirst posted) shape a c = omega arith
+replaced-cell s h hints roots action at (made.EntersStage next) shape a c = omega arith
+replaced-cell s h hints roots action at (made.ReadsPostedAgain posted) shape a c = omega arith

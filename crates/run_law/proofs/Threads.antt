@@ -1,6 +1,8 @@
 -- A next move of a thread of a run leaves the words and births after the longer run.
-use Rattle.std.proofs.Common.{◌≡◌, ◌≢◌, ◌≤◌, ◌<◌, ◌^◌, ℕ, Some, List, length, sym, ◌∙◌, subst, arith}
+use Rattle.std.proofs.Common.{◌≡◌, ◌≢◌, ◌≤◌, ◌<◌, ◌^◌, ℕ, Some, List, length, slice_index, sym, ◌∙◌, subst, arith}
 use Rattle.pools.specs.Heap.{Setup, cells}
+use Rattle.pools.specs.Ends.{pool_ends}
+use Rattle.colours.specs.Steps.{Step}
 use Rattle.colours.specs.Mutator.{Phase, Ended, HasBegun, phase_of}
 use Rattle.runs.specs.Machine.{Reference, Action, Alloc, Machine}
 use Rattle.runs.specs.Moves as moves
@@ -9,6 +11,7 @@ use Rattle.runs.specs.ModuleRuns.{Happening, share_of}
 use Rattle.runs.specs.NextMoves.{Sight, next_move}
 use Rattle.runs.specs.Ends.{next_move_of}
 use Rattle.runs.specs.Shares.{is_share}
+use Rattle.runs.specs.TryLemmas.{StandsSo, stands_so, within}
 use Rattle.run_law.specs.Bounds.{IsBounded}
 use Rattle.moves.specs.declared.moves.Move.{Move}
 use Rattle.moves.specs.declared.shared.Shared.{Shared}
@@ -18,40 +21,39 @@ use Rattle.moves.specs.declared.stand.Stand.{Stand}
 use Rattle.moves.specs.Calls.{move_in}
 use Rattle.moves.specs.Kinds.{KeepsKinds}
 use Rattle.moves.specs.Shared.{CanTake}
-use Rattle.moves.specs.Stands.{HasTryLeft, falling, phase_at, standing, sight_in}
-use Rattle.moves.specs.Allocs.{within}
-use Rattle.moves.specs.Nexts.{falling-length}
+use Rattle.moves.specs.Stands.{HasTryLeft, cells_to_try, phase_at, standing, sight_in}
+use Rattle.moves.specs.Nexts.{tried_of-length}
 use Rattle.run_law.specs.Growth.{ThreadIsBehind, MoveGrows, ThreadGrows}
 use Rattle.run_law.proofs.Words.{words-grow}
-use Rattle.run_law.proofs.Tries.{pool-within, TriedFrom, TriesFrom, tries-from}
 use Rattle.run_law.proofs.Chosen.{IsChosen, is-chosen}
+use Rattle.run_law.proofs.Hints.{has-hint}
 use Rattle.run_law.proofs.Moves.{puts, sees, takes, may-make, answers, moved-fits, replaced-cell}
 
 -- ---- a thread that tries cells
 
 -- a pool has fewer cells than 2^32
-few-tried : (s : Setup) (layout first tried : ℕ) → cells s ≤ 2 ^ 32 → TriedFrom s layout (falling first tried) → tried < 2 ^ 32
-few-tried s layout first tried few f =
-    let count = falling-length first tried in
-    let below = pool-within s layout (length (falling first tried)) f.few in
-    omega (arith, few, count, below)
+few-tried : (s : Setup) (layout tried : ℕ) → cells s ≤ 2 ^ 32 → layout < length s.pools → tried < slice_index s.pools layout → tried < 2 ^ 32
+few-tried s layout tried few is_layout left = let ends = pool_ends s.pools layout is_layout in omega (arith, few, left, ends)
 
--- there is a pool, and fewer than 2^32 cells were tried
-try-left : (s : Setup) (action : Action) (roots : List Reference) (at : Stance) → cells s ≤ 2 ^ 32 → TriesFrom s action (phase_at roots at) → HasTryLeft s.pools action at
-try-left s action roots stance.Ready few f = tt
-try-left s action roots (stance.MarkingOld c i o) few f = tt
-try-left s action roots (stance.MarkingNew c i o) few f = tt
-try-left s action roots (stance.Writing c i o n) few f = tt
-try-left s action roots (stance.Answering next marked) few f = tt
-try-left s action roots stance.Ended few f = tt
-try-left s action roots stance.Absent few f = tt
-try-left s action roots (stance.Arriving posted) few f = tt
-try-left s action roots stance.Entering few f = tt
-try-left s action roots stance.Leaving few f = tt
-try-left s (Alloc layout) roots (stance.Trying first tried) few f =
+-- there is a pool, a cell of it was not tried, and fewer than 2^32 were
+try-left : (s : Setup) (log : List Step) (action : Action) (order : List ℕ) (roots : List Reference) (at : Stance) → cells s ≤ 2 ^ 32 → StandsSo s log action (phase_at order roots at) → HasTryLeft s.pools action at
+try-left s log action order roots stance.Ready few f = tt
+try-left s log action order roots (stance.MarkingOld c i o) few f = tt
+try-left s log action order roots (stance.MarkingNew c i o) few f = tt
+try-left s log action order roots (stance.Writing c i o n) few f = tt
+try-left s log action order roots (stance.Answering next marked) few f = tt
+try-left s log action order roots stance.Ended few f = tt
+try-left s log action order roots stance.Absent few f = tt
+try-left s log action order roots (stance.Arriving posted) few f = tt
+try-left s log action order roots stance.Entering few f = tt
+try-left s log action order roots stance.Leaving few f = tt
+try-left s log (Alloc layout) order roots (stance.Trying tried) few f =
     let some = f.few in
-    (within s.pools layout (λ z. omega (arith, some, z)), few-tried s layout first tried few f)
-try-left s action roots (stance.Trying first tried) few f = absurd f
+    let count = tried_of-length order tried in
+    let left : tried < slice_index s.pools layout = omega (arith, some, count) in
+    let is_layout = within s.pools layout (λ z. omega (arith, left, z)) in
+    (is_layout, left, few-tried s layout tried few is_layout left)
+try-left s log action order roots (stance.Trying tried) few f = absurd f
 
 -- ---- each next move
 
@@ -66,7 +68,7 @@ pub thread-grows : (s : Setup) (m : Machine) (Fits : m.State → Type 0) → ((s
     → (starts : ℕ → m.State) (run : List Happening) (t : ℕ) (stand : Stand m.State) (h : Shared) → IsBounded s run → ThreadIsBehind s m Fits starts run t stand h → ThreadGrows s m Fits run t stand h
 thread-grows s m Fits keeps_kinds starts run t stand h bounded b = record {
   births = λ cell. subst (λ n. n < 2 ^ 62) (sym (b.words.behind.births cell)) (bounded.births cell);
-  try_left = try-left s action roots stand.stance b.few_cells tries;
+  try_left = try-left s log action to_try roots stand.stance b.few_cells tries;
   move = grows;
 }
   where
@@ -79,32 +81,39 @@ thread-grows s m Fits keeps_kinds starts run t stand h bounded b = record {
     keeps : KeepsKinds s m.action m.after_answer m.roots Fits stand.state
     keeps = keeps_kinds stand.state b.fits
 
-    tries : TriesFrom s action (phase_at roots stand.stance)
-    tries =
-        subst (λ (p : Phase). TriesFrom s (m.action stand.state) p) (sym b.stands.phase)
-        (subst (λ (q : m.State). TriesFrom s (m.action q) (phase_of s t (steps_of (share_of t run)))) (sym b.stands.state)
-        (tries-from s m t (starts t) (share_of t run) (is_share s m starts run t b.is_run) b.tries))
+    log : List Step
+    log = steps_of (share_of t run)
 
-    grows : (made : Move) → next_move_of s m (sight_in s h) (standing m.roots stand) ≡ Some (move_in roots made) → MoveGrows s m Fits run t stand h made
+    to_try : List ℕ
+    to_try = cells_to_try s stand.hints action
+
+    tries : StandsSo s log action (phase_at to_try roots stand.stance)
+    tries =
+        subst (λ (p : Phase). StandsSo s log (m.action stand.state) p) (sym b.stands.phase)
+        (subst (λ (q : m.State). StandsSo s log (m.action q) (phase_of s t log)) (sym b.stands.state)
+        (stands_so s m t (starts t) (share_of t run) (is_share s m starts run t b.is_run) b.tries))
+
+    grows : (made : Move) → next_move_of s m (sight_in s h stand.hints) (standing s m stand) ≡ Some (move_in roots made) → MoveGrows s m Fits run t stand h made
     grows made e = record {
-      may_make = λ call asks. may-make s h roots action stand.stance made call asks is;
+      may_make = λ call asks. may-make s h stand.hints roots action stand.stance made call asks is;
+      hint = has-hint s h stand.hints roots action stand.stance made b.few_cells b.stands.hints.one_each is;
       can_take = can;
       words = words-grow s run t stand.stage roots h made b.stands.stage b.words can
-          (sees s h roots action stand.stance made is)
-          (puts s h roots action stand.stance made keeps.asks is);
-      answers = answers s h roots action stand.stance made b.words.shape keeps.asks is;
+          (sees s h stand.hints roots action stand.stance made is)
+          (puts s h stand.hints roots action stand.stance made keeps.asks is);
+      answers = answers s h stand.hints roots action stand.stance made b.words.shape keeps.asks is;
       fits = moved-fits s m Fits h stand made b.words.shape keeps b.fits is;
-      replaced = replaced-cell s h roots action stand.stance made b.words.shape keeps.asks is;
+      replaced = replaced-cell s h stand.hints roots action stand.stance made b.words.shape keeps.asks is;
     }
       where
-        is : IsChosen s h roots action stand.stance (move_in roots made)
-        is = is-chosen s h stand.stage roots stand.replaced action stand.stance (move_in roots made) keeps.asks keeps.roots_fit b.replaced tries e
+        is : IsChosen s h stand.hints roots action stand.stance (move_in roots made)
+        is = is-chosen s h stand.hints log stand.stage roots stand.replaced action stand.stance (move_in roots made) keeps.asks keeps.roots_fit b.replaced tries e
 
         goes : phase_of s t (steps_of (share_of t run)) ≢ Ended
-        goes = λ ended. not-ended s (sight_in s h) stand.stage roots stand.replaced action (phase_at roots stand.stance) (move_in roots made) e (b.stands.phase ∙ ended)
+        goes = λ ended. not-ended s (sight_in s h stand.hints) stand.stage roots stand.replaced action (phase_at to_try roots stand.stance) (move_in roots made) e (b.stands.phase ∙ ended)
 
-        few : HasBegun (phase_at roots stand.stance) → stand.stage < 2 ^ 62
+        few : HasBegun (phase_at to_try roots stand.stance) → stand.stage < 2 ^ 62
         few begun = subst (λ n. n < 2 ^ 62) (sym b.stands.stage) (bounded.stages t b.is_thread (subst (λ (p : Phase). HasBegun p) b.stands.phase begun) goes)
 
         can : CanTake h t stand.stage made
-        can = takes s h roots action stand.stance t stand.stage made b.words.shape keeps.asks b.is_thread few is
+        can = takes s h stand.hints roots action stand.stance t stand.stage made b.words.shape keeps.asks b.is_thread few is

@@ -12,14 +12,14 @@ use Rattle.runs.specs.Machine.{Reference, Machine, Action, Answer, machine_of}
 use Rattle.runs.specs.Moves.{answer_of}
 use Rattle.runs.specs.ModuleRuns.{Happening, OfThread, OfCollector, share_of, heap_of, IsModuleRun}
 use Rattle.runs.specs.Ends.{StandsBehind, moved, next_move_of}
-use Rattle.runs.specs.Tries.{TriesLowest}
+use Rattle.runs.specs.Tries.{TriesByHint}
 use Rattle.moves.specs.declared.call.Call.{Call}
 use Rattle.moves.specs.declared.moves.Move.{Move}
 use Rattle.moves.specs.declared.shared.Shared.{Shared}
 use Rattle.moves.specs.declared.stand.Stand.{Stand}
 use Rattle.moves.specs.Calls.{action_of, move_in}
 use Rattle.moves.specs.Kinds.{AnswersByKind}
-use Rattle.moves.specs.Moving.{MayMake}
+use Rattle.moves.specs.Moving.{HasHint, MayMake}
 use Rattle.moves.specs.Shared.{StandBehind, CanHold, CanTake, with_move, with_number, held_at}
 use Rattle.moves.specs.Stands.{HasTryLeft, standing, sight_in}
 
@@ -29,27 +29,28 @@ use Rattle.moves.specs.Stands.{HasTryLeft, standing, sight_in}
 pub record ThreadIsBehind (s : Setup) (m : Machine) (Fits : m.State → Type 0) (starts : ℕ → m.State) (run : List Happening) (t : ℕ) (stand : Stand m.State) (h : Shared) : Type 0 where
   pub few_cells : cells s ≤ 2 ^ 32
   pub is_run : IsModuleRun s m starts run
-  pub tries : TriesLowest s m t (starts t) (share_of t run)
+  pub tries : TriesByHint s m t (starts t) (share_of t run)
   pub is_thread : t < s.threads
-  pub stands : StandsBehind s m starts run t (standing m.roots stand)
+  pub stands : StandsBehind s m starts run t (standing s m stand)
   pub fits : Fits stand.state
   pub replaced : stand.replaced.cell < cells s
   pub words : StandBehind s run h
 
 -- a next move of the thread may be made, and leaves the words and births after the longer run
 pub record MoveGrows (s : Setup) (m : Machine) (Fits : m.State → Type 0) (run : List Happening) (t : ℕ) (stand : Stand m.State) (h : Shared) (made : Move) : Type 0 where
-  pub may_make : (call : Call) → action_of call ≡ m.action stand.state → MayMake s (m.roots stand.state) call stand.stance made
+  pub may_make : (call : Call) → action_of call ≡ m.action stand.state → MayMake s stand.hints (m.roots stand.state) call stand.stance made
+  pub hint : HasHint s.pools stand.hints made (m.action stand.state)
   pub can_take : CanTake h t stand.stage made
   pub words : StandBehind s (OfThread t (move_in (m.roots stand.state) made) ∷ run) (with_move h t stand.stage made)
   pub answers : AnswersByKind s (m.action stand.state) (answer_of (m.action stand.state) (move_in (m.roots stand.state) made))
-  pub fits : Fits (moved s m (standing m.roots stand) (move_in (m.roots stand.state) made)).state
-  pub replaced : (moved s m (standing m.roots stand) (move_in (m.roots stand.state) made)).old.cell < cells s
+  pub fits : Fits (moved s m (standing s m stand) (move_in (m.roots stand.state) made)).state
+  pub replaced : (moved s m (standing s m stand) (move_in (m.roots stand.state) made)).old.cell < cells s
 
 -- what the next move of a thread needs, and each move that is the next one
 pub record ThreadGrows (s : Setup) (m : Machine) (Fits : m.State → Type 0) (run : List Happening) (t : ℕ) (stand : Stand m.State) (h : Shared) : Type 0 where
   pub births : (cell : ℕ) → slice_index h.births cell < 2 ^ 62
   pub try_left : HasTryLeft s.pools (m.action stand.state) stand.stance
-  pub move : (made : Move) → next_move_of s m (sight_in s h) (standing m.roots stand) ≡ Some (move_in (m.roots stand.state) made) → MoveGrows s m Fits run t stand h made
+  pub move : (made : Move) → next_move_of s m (sight_in s h stand.hints) (standing s m stand) ≡ Some (move_in (m.roots stand.state) made) → MoveGrows s m Fits run t stand h made
 
 -- the same for each thread of a machine that obeys the kinds of words
 abbrev pub ThreadsGrow : (s : Setup) {State : Type 0} (action : State → Action) (after_answer : State → Answer → State) (roots : State → List Reference) (Fits : State → Type 0) → Type 0

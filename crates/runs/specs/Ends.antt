@@ -1,5 +1,5 @@
 -- The end of a module run, as one state of all actors and words; and how a thread goes on from it.
-use Rattle.std.specs.Prelude.{ℕ, ◌≡◌, ◌≢◌, Option, Some, List, ◌∷◌, length, slice_get, slice_index, if◌then◌else◌}
+use Rattle.std.specs.Prelude.{ℕ, ◌≡◌, ◌≢◌, Option, Some, List, ◌∷◌, length, replicate, slice_get, slice_index, if◌then◌else◌}
 use Rattle.pools.specs.Heap.{Setup, is_late}
 use Rattle.colours.specs.declared.place.Place.TheVariants.{Posted, Stage, Colour, Word}
 use Rattle.colours.specs.declared.turn.Turn.{Turn}
@@ -10,6 +10,7 @@ use Rattle.runs.specs.Machine.{Reference, Machine}
 use Rattle.runs.specs.Moves.{Move, ReadsOldValue, StoresStage, EntersStage, null, step_of, steps_of, phase_behind, ends_call, answer_of, state_after, old_of}
 use Rattle.runs.specs.ModuleRuns.{Happening, OfThread, OfCollector, share_of, heap_of, birth_of, birth_in}
 use Rattle.runs.specs.NextMoves.{Sight, next_move, next_move_in}
+use Rattle.runs.specs.Tries.{AreHints, hints_by}
 
 -- one thread, perhaps within a call
 pub record Standing (State : Type 0) : Type 0 where
@@ -17,6 +18,7 @@ pub record Standing (State : Type 0) : Type 0 where
   pub stage : ℕ  -- that it stored last
   pub phase : Phase
   pub old : Reference  -- what a write under way has read
+  pub hints : List ℕ  -- for each layout, the place in its pool where tries begin
 
 -- ---- one thread
 
@@ -26,10 +28,11 @@ pub record StandsBehind (s : Setup) (m : Machine) (starts : ℕ → m.State) (ru
   pub stage : stand.stage ≡ stage_of (steps_of (share_of t run))
   pub phase : stand.phase ≡ phase_of s t (steps_of (share_of t run))
   pub old : stand.old ≡ old_of (share_of t run)
+  pub hints : AreHints s (steps_of (share_of t run)) stand.hints
 
 -- a thread before its first move
 abbrev pub begun : (s : Setup) (m : Machine) (starts : ℕ → m.State) (thread : ℕ) → Standing m.State
-begun s m starts t = record { state = starts t; stage = 0; phase = if is_late s t then Absent else Ready; old = null }
+begun s m starts t = record { state = starts t; stage = 0; phase = if is_late s t then Absent else Ready; old = null; hints = replicate (length s.pools) 0 }
 
 -- the stage after a move
 abbrev pub stage_behind : (stage : ℕ) → Move → ℕ
@@ -49,6 +52,7 @@ moved s m stand move = record {
   stage = stage_behind stand.stage move;
   phase = phase_behind s stand.stage stand.phase (step_of move);
   old = old_by move;
+  hints = hints_by s stand.hints (step_of move);
 }
 
 -- the next move of a thread in this state

@@ -1,20 +1,72 @@
 -- Where a thread is after a run, and how it goes on from there.
-use Rattle.std.proofs.Common.{◌≡◌, ◌≢◌, ℕ, List, [], ◌∷◌, if◌then◌else◌, refl, sym, ◌∙◌, subst}
+use Rattle.std.proofs.Common.{◌≡◌, ◌≢◌, ◌<◌, ◌-◌, ◌==◌, ℕ, zero, suc, Bool, true, false, Option, Some, None, List, [], ◌∷◌, length, replicate, slice_index, slice_set, if◌then◌else◌, refl, sym, ◌∙◌, subst, arith}
 use Rattle.std.proofs.Math.Path.{ap}
-use Rattle.lemmas.specs.Numbers.{test_yes, test_no}
-use Rattle.pools.specs.Heap.{Setup}
-use Rattle.colours.specs.Steps.{Step}
+use Rattle.std.proofs.lemmas.List.{length-set, length-replicate, get_or-set_same, get_or-set_other}
+use Rattle.lemmas.specs.Numbers.{test_true, test_false, test_yes, test_no}
+use Rattle.pools.specs.Heap.{Setup, layout_of}
+use Rattle.pools.specs.Pools.{first_cell}
+use Rattle.colours.specs.Steps.{Step, Claim}
+use Rattle.colours.specs.Steps as step
 use Rattle.colours.specs.Mutator.{Phase, stage_of, phase_of}
 use Rattle.runs.specs.Machine.{Reference, Machine}
-use Rattle.runs.specs.Moves.{Move, Works, GoesWrong, ReadsWord, ReadsOldValue, Marks, StoresBehindBarrier, StoresPlain, Claims, ReadsPosted, StoresStage, ReadsPostedFirst, EntersStage, ReadsPostedAgain, step_of, steps_of, phase_behind, ends_call, answer_of, state_after, old_of}
+use Rattle.runs.specs.Moves.{Move, Works, GoesWrong, ReadsWord, ReadsOldValue, Marks, StoresBehindBarrier, StoresPlain, Claims, ReadsPosted, StoresStage, ReadsPostedFirst, EntersStage, ReadsPostedAgain, step_of, steps_of, logged, phase_behind, ends_call, answer_of, state_after, old_of}
 use Rattle.runs.specs.ModuleRuns.{Happening, OfThread, OfCollector, share_of}
 use Rattle.runs.specs.NextMoves.{Sight, next_move, next_move_in}
 use Rattle.runs.specs.Ends.{Standing, StandsBehind, begun, stage_behind, old_by, moved, next_move_of, GoesOn}
+use Rattle.runs.specs.Tries.{hint_in, AreHints, hints_by}
 use Rattle.runs.specs.Calls.{phase_with}
+
+-- ---- hints
+
+no-number : (count k : ℕ) → slice_index (replicate count 0) k ≡ 0
+no-number zero k = refl
+no-number (suc count) zero = refl
+no-number (suc count) (suc k) = no-number count k
+
+-- at first each is the pool's first place
+no-hints : (s : Setup) → AreHints s [] (replicate (length s.pools) 0)
+no-hints s = record { one_each = length-replicate (length s.pools) 0; each = λ layout lt. no-number (length s.pools) layout }
+
+-- a won try sets that of the layout
+won-hint : (s : Setup) (log : List Step) (hints : List ℕ) (cell : ℕ) → AreHints s log hints → AreHints s (Claim cell true ∷ log) (hints_by s hints (Some (Claim cell true)))
+won-hint s log hints cell h = record { one_each = length-set hints own place ∙ h.one_each; each = λ layout lt. go layout lt (layout_of s cell == layout) refl }
+  where
+    own : ℕ
+    own = layout_of s cell
+
+    place : ℕ
+    place = suc cell - first_cell s.pools own
+
+    go : (layout : ℕ) → layout < length s.pools → (b : Bool) → (own == layout) ≡ b
+        → slice_index (slice_set hints own place) layout ≡ (if b then suc cell - first_cell s.pools layout else hint_in s layout log)
+    go layout lt true e =
+        let same : own ≡ layout = test_true own layout e in
+        let count = h.one_each in
+        let within : own < length hints = omega (arith, lt, count, same) in
+        subst (λ l. slice_index (slice_set hints own place) l ≡ suc cell - first_cell s.pools l) same (get_or-set_same hints own place 0 within)
+    go layout lt false e = get_or-set_other hints own layout place 0 (λ x. test_false own layout e (sym x)) ∙ h.each layout lt
+
+-- and every other step leaves them
+hints-with : (s : Setup) (log : List Step) (hints : List ℕ) (step : Option Step) → AreHints s log hints → AreHints s (logged step log) (hints_by s hints step)
+hints-with s log hints None h = h
+hints-with s log hints (Some (Claim cell true)) h = won-hint s log hints cell h
+hints-with s log hints (Some (Claim cell false)) h = record { one_each = h.one_each; each = h.each }
+hints-with s log hints (Some (step.ReadWord cell word value)) h = record { one_each = h.one_each; each = h.each }
+hints-with s log hints (Some (step.ReadOldValue cell word value)) h = record { one_each = h.one_each; each = h.each }
+hints-with s log hints (Some (step.Mark cell)) h = record { one_each = h.one_each; each = h.each }
+hints-with s log hints (Some (step.StoreBehindBarrier cell word value)) h = record { one_each = h.one_each; each = h.each }
+hints-with s log hints (Some (step.StorePlain cell word value)) h = record { one_each = h.one_each; each = h.each }
+hints-with s log hints (Some (step.ReadPosted stage)) h = record { one_each = h.one_each; each = h.each }
+hints-with s log hints (Some (step.StoreStage stage roots)) h = record { one_each = h.one_each; each = h.each }
+hints-with s log hints (Some (step.ReadPostedFirst stage)) h = record { one_each = h.one_each; each = h.each }
+hints-with s log hints (Some (step.EnterStage stage)) h = record { one_each = h.one_each; each = h.each }
+hints-with s log hints (Some (step.ReadPostedAgain stage)) h = record { one_each = h.one_each; each = h.each }
+
+-- ---- the start
 
 -- a thread before its first move
 pub begins : (s : Setup) (m : Machine) (starts : ℕ → m.State) (t : ℕ) → StandsBehind s m starts [] t (begun s m starts t)
-begins s m starts t = record { state = refl; stage = refl; phase = refl; old = refl }
+begins s m starts t = record { state = refl; stage = refl; phase = refl; old = refl; hints = no-hints s }
 
 -- a thread has this state after this share
 record IsAt (s : Setup) (m : Machine) (t : ℕ) (start : m.State) (share : List Move) (stand : Standing m.State) : Type 0 where
@@ -22,15 +74,16 @@ record IsAt (s : Setup) (m : Machine) (t : ℕ) (start : m.State) (share : List 
   stage : stand.stage ≡ stage_of (steps_of share)
   phase : stand.phase ≡ phase_of s t (steps_of share)
   old : stand.old ≡ old_of share
+  hints : AreHints s (steps_of share) stand.hints
 
 at_share : (s : Setup) (m : Machine) (starts : ℕ → m.State) (run : List Happening) (t : ℕ) (stand : Standing m.State) → StandsBehind s m starts run t stand → IsAt s m t (starts t) (share_of t run) stand
-at_share s m starts run t stand x = record { state = x.state; stage = x.stage; phase = x.phase; old = x.old }
+at_share s m starts run t stand x = record { state = x.state; stage = x.stage; phase = x.phase; old = x.old; hints = x.hints }
 
 behind_run : (s : Setup) (m : Machine) (starts : ℕ → m.State) (run : List Happening) (t : ℕ) (share : List Move) (stand : Standing m.State) → share_of t run ≡ share → IsAt s m t (starts t) share stand
     → StandsBehind s m starts run t stand
 behind_run s m starts run t share stand e x =
     let y : IsAt s m t (starts t) (share_of t run) stand = subst (λ (q : List Move). IsAt s m t (starts t) q stand) (sym e) x in
-    record { state = y.state; stage = y.stage; phase = y.phase; old = y.old }
+    record { state = y.state; stage = y.stage; phase = y.phase; old = y.old; hints = y.hints }
 
 -- ---- its own move
 
@@ -59,6 +112,7 @@ own_move s m t start share stand x move = record {
   stage = ap (λ (n : ℕ). stage_behind n move) x.stage ∙ stage_with (steps_of share) move share refl;
   phase = same_phase;
   old = old_with move share;
+  hints = hints-with s (steps_of share) stand.hints (step_of move) x.hints;
 }
   where
     after : m.State → Phase → m.State

@@ -432,6 +432,26 @@ module _ (heap : Setup) (p : LaidOut) (certs : List Section) (reaches : Bool) (f
               at (Some part) None e = absurd (let x = none_behind p facts (Some part) indices in cc)
               at (Some part) (Some next) e = rest part next e
 
+  -- where the rules' indices lead to a part of the type, so do the machine's
+  reached_parts : (part : Option ℕ) (indices : List Argument) → is_some (r.part_reached p facts part indices) ≡ true → is_some (t.part_behind p.of_module part indices) ≡ true
+  reached_parts None indices e = absurd cc
+  reached_parts (Some written) [] e = refl
+  reached_parts (Some written) (index ∷ indices) e = by (r.leads_into p facts (slice_get p.of_module.types written) index) e (reached_parts (t.part_at p.of_module written index) indices) where
+    by : (b : Bool) → is_some (r.part_reached p facts (if b then t.part_at p.of_module written index else None) indices) ≡ true
+        → (is_some (r.part_reached p facts (t.part_at p.of_module written index) indices) ≡ true → is_some (t.part_behind p.of_module (t.part_at p.of_module written index) indices) ≡ true)
+        → is_some (t.part_behind p.of_module (t.part_at p.of_module written index) indices) ≡ true
+    by true e rest = rest e
+    by false e rest = absurd cc
+
+  -- and of a getelementptr
+  element_parts : (source : ℕ) (indices : List Argument) → is_some (r.element_part p facts source indices) ≡ true → is_some (t.element_type p.of_module source indices) ≡ true
+  element_parts source [] e = absurd cc
+  element_parts source (first ∷ []) e = absurd cc
+  element_parts source (first ∷ index ∷ indices) e = by (r.is_zero (o.number_of first.operand)) e where
+    by : (b : Bool) → is_some (if b then r.part_reached p facts (Some source) (index ∷ indices) else None) ≡ true → is_some (t.element_type p.of_module source (first ∷ index ∷ indices)) ≡ true
+    by true e = reached_parts (Some source) (index ∷ indices) e
+    by false e = absurd cc
+
   -- a first index that is 0 passes nothing
   first_index : (first : Argument) → r.is_zero (o.number_of first.operand) ≡ true → index_value p.of_module frame.registers first ≡ 0
   first_index first is = by first.operand is where
@@ -528,6 +548,11 @@ module _ (heap : Setup) (p : LaidOut) (certs : List Section) (reaches : Bool) (f
   unknown : (v : ℕ) (new : Value) → Holds heap p table guarded log cells (define v Nothing facts) (slice_set frame.registers v new) frame.slots
   unknown v new = define_plain heap p table guarded log cells facts frame.registers frame.slots h v Nothing new (λ c l s e. cc) tt
 
+  -- and of an address of null neither, whatever words the indices would lead to
+  of_null : (v u : ℕ) (words : Option WordSet) (new : Value) → Holds heap p table guarded log cells (r.define_words v u Null words facts) (slice_set frame.registers v new) frame.slots
+  of_null v u None new = unknown v new
+  of_null v u (Some words) new = unknown v new
+
   module _ (result : Option ℕ) (source base_type : ℕ) (base : Operand) (indices : List Argument) (fit : AllFit p f table facts indices) where
     -- a base that leads to a place
     placed_goes : k.is_typed p.of_module f table base_type base ≡ true → is_some (t.element_type p.of_module source indices) ≡ true
@@ -544,7 +569,7 @@ module _ (heap : Setup) (p : LaidOut) (certs : List Section) (reaches : Bool) (f
       kept (Some v) = (cells, subst (λ x. Holds heap p table guarded log cells (r.after_element p v source base indices facts) (slice_set frame.registers v (address_of x)) frame.slots) (sym is) (holds v))
 
   -- K5 says that there are words, and that they are of the layout
-  words_are : (layout : Option ℕ) (q : Option WordSet) → r.stays_in p.layouts layout q ≡ true → (words : WordSet) × (q ≡ Some words) × (r.lies_in p.layouts layout words ≡ true)
+  words_are : (layout : ℕ) (q : Option WordSet) → r.stays_in p.layouts layout q ≡ true → (words : WordSet) × (q ≡ Some words) × (r.lie_below (length (words_of p.layouts layout)) words ≡ true)
   words_are layout None e = absurd cc
   words_are layout (Some words) e = (words, refl, e)
 
@@ -581,9 +606,7 @@ module _ (heap : Setup) (p : LaidOut) (certs : List Section) (reaches : Bool) (f
     by (operand.Constant (constant.Number n)) k1 k2 may k5 none k19 = absurd (no_pointer n (kind_of p.of_module base_type) k2 pointer)
     by (operand.Constant (constant.Truth b)) k1 k2 may k5 none k19 = absurd cc
     by (operand.Constant constant.Null) k1 k2 may k5 none k19 =
-        let w = words_are None (r.element_words p facts source indices (r.start_of Nothing)) k5 in
-        let l = led source indices (r.start_of Nothing) w.0 fit w.1 in
-        placed_goes result source base_type (operand.Constant constant.Null) indices fit (constant_passes p.of_module base_type constant.Null k2) l.typed place.OfNull refl (λ v. unknown v (value.Address place.OfNull))
+        placed_goes result source base_type (operand.Constant constant.Null) indices fit (constant_passes p.of_module base_type constant.Null k2) (element_parts source indices k5) place.OfNull refl (λ v. unknown v (value.Address place.OfNull))
     by (operand.Local u) k1 k2 may k5 none k19 = of_known (known_at facts.values u) refl (available heap p certs reaches f table guarded log cells facts frame h u none k1) may k5 where
       typed : k.is_typed p.of_module f table base_type (operand.Local u) ≡ true
       typed = rw (k2, none) refl
@@ -604,21 +627,19 @@ module _ (heap : Setup) (p : LaidOut) (certs : List Section) (reaches : Bool) (f
       of_known Nothing is has may k5 = absurd cc
       of_known (Number bits below) is has may k5 = absurd cc
       of_known (Cell c layout stale) is has may k5 =
-          let w = words_are (Some layout) (r.element_words p facts source indices (r.start_of (Cell c layout stale))) k5 in
+          let w = words_are layout (r.element_words p facts source indices (r.start_of (Cell c layout stale))) k5 in
           let l = led source indices (r.start_of (Cell c layout stale)) w.0 fit w.1 in
           let q = reference_placed source indices (r.start_of (Cell c layout stale)) w.0 l layout w.2 (register_at frame.registers u) (known_within heap p table guarded log cells facts frame.registers frame.slots h u c layout stale is).refers refl in
           goes (Cell c layout stale) is l.typed q.at q.is
           (λ v. subst (λ x. Holds heap p table guarded log cells (r.define_words v u (Cell c layout stale) x facts) (slice_set frame.registers v (value.Address q.at)) frame.slots) (sym w.1) (addressed v u w.0 (value.Address q.at) q.means))
       of_known Null is has may k5 =
-          let w = words_are None (r.element_words p facts source indices (r.start_of Null)) k5 in
-          let l = led source indices (r.start_of Null) w.0 fit w.1 in
           let null : register_at frame.registers u ≡ value.Null = subst (λ x. Means heap p guarded log cells (length facts.classes) frame.registers x (register_at frame.registers u)) is (h.values u) in
-          goes Null is l.typed place.OfNull (ap (element_place p (element_offset p frame.registers source indices)) null)
-          (λ v. subst (λ x. Holds heap p table guarded log cells (r.define_words v u Null x facts) (slice_set frame.registers v (value.Address place.OfNull)) frame.slots) (sym w.1) (unknown v (value.Address place.OfNull)))
+          goes Null is (element_parts source indices k5) place.OfNull (ap (element_place p (element_offset p frame.registers source indices)) null)
+          (λ v. of_null v u (r.element_words p facts source indices (r.start_of Null)) (value.Address place.OfNull))
       of_known (Address on words) is has may k5 =
           let b = base_is heap p certs reaches f table guarded log cells facts frame h on (known_at facts.values on) refl has in
-          let k5b : r.stays_in p.layouts (Some b.1) (r.element_words p facts source indices words) ≡ true = subst (λ x. r.stays_in p.layouts (known_layout x) (r.element_words p facts source indices words) ≡ true) b.3 k5 in
-          let w = words_are (Some b.1) (r.element_words p facts source indices words) k5b in
+          let k5b : r.stays_in p.layouts b.1 (r.element_words p facts source indices words) ≡ true = subst (λ x. r.leads_from p facts source indices words (known_layout x) ≡ true) b.3 k5 in
+          let w = words_are b.1 (r.element_words p facts source indices words) k5b in
           let l = led source indices words w.0 fit w.1 in
           let q = address_placed source indices words w.0 l b.1 w.2 (register_at frame.registers on) (register_at frame.registers u) (known_within heap p table guarded log cells facts frame.registers frame.slots h on b.0 b.1 b.2 b.3).refers
           (subst (λ x. Means heap p guarded log cells (length facts.classes) frame.registers x (register_at frame.registers u)) is (h.values u)) in

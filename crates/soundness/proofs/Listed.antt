@@ -232,9 +232,9 @@ module _ (heap : Setup) (p : LaidOut) (table : SlotTable) (guarded : Guarded) (l
     fresh : is_fresh a ≡ true → FreshHere v
     sames : (w : ℕ) → same ≡ Some w → names v ≡ names w
 
-  alone_none : (same : Option ℕ) (w : ℕ) → is_alone same ≡ true → same ≡ Some w → ⊥
-  alone_none None w e z = absurd cc
-  alone_none (Some x) w e z = absurd cc
+  alone_itself : (v : ℕ) (same : Option ℕ) (w : ℕ) → is_alone v same ≡ true → same ≡ Some w → v ≡ w
+  alone_itself v None w e z = absurd cc
+  alone_itself v (Some x) w e z = let q : x ≡ w = cc in sym (test_true x v e) ∙ q
 
   same_class : (q w : ℕ) (k : Known) → known_at here.values w ≡ k → is_of q k ≡ true → names w ≡ cells q
   same_class q w (Cell c l s) is e = let m = subst (λ k. Means heap p guarded log cells (length here.classes) registers k (names w)) is (h.values w) in m.is ∙ ap cells (test_true c q e)
@@ -268,7 +268,7 @@ module _ (heap : Setup) (p : LaidOut) (table : SlotTable) (guarded : Guarded) (l
         sames mine (Some x) e w z = let q : x ≡ w = cc in mine ∙ sym (same_class c x (known_at here.values x) refl e) ∙ ap names q
   cell_shown v layout nonnull a same Null is e =
       let m = subst (λ k. Means heap p guarded log cells (length here.classes) registers k (names v)) is (h.values v) in
-      let b2 = and_parts (not nonnull && not (is_fresh a)) (is_alone same) e in
+      let b2 = and_parts (not nonnull && not (is_fresh a)) (is_alone v same) e in
       let b1 = and_parts (not nonnull) (not (is_fresh a)) b2.0 in
       record {
         refers = subst (IsReferenceTo heap layout) (sym m) tt;
@@ -276,7 +276,7 @@ module _ (heap : Setup) (p : LaidOut) (table : SlotTable) (guarded : Guarded) (l
         backed = inl is;
         class = record { nonnull = λ z. absurd (not_both nonnull z (not_true nonnull b1.0)); fresh = λ z. absurd (not_both (is_fresh a) z (not_true (is_fresh a) b1.1)) };
         fresh = λ z. absurd (not_both (is_fresh a) z (not_true (is_fresh a) b1.1));
-        sames = λ w z. absurd (alone_none same w b2.1 z);
+        sames = λ w z. ap names (alone_itself v same w b2.1 z);
       }
   cell_shown v layout nonnull a same Nothing is e = absurd cc
   cell_shown v layout nonnull a same (Number n b) is e = absurd cc

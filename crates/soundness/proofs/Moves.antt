@@ -64,6 +64,25 @@ module _ (p : LaidOut) (f : Function) (table : SlotTable) where
     by AddressKind is e = absurd cc
     by Other is e = absurd cc
 
+  -- a type under which a slot is loaded; where it is no reference, it is the slot's own
+  loads_is : (written held : ℕ) → r.loads_kind (written == held) (kind_of p.of_module written) (kind_of p.of_module held) ≡ true → a.is_slot_type p.of_module held written ≡ true
+  loads_is written held e = by (kind_of p.of_module held) refl e where
+    own : (written == held) ≡ true → a.is_slot_type p.of_module held written ≡ true
+    own e = or_first (held == written) (is_some (referenced_layout p.of_module held) && k.is_byte_pointer p.of_module written) (turned written held e)
+
+    by : (x : TypeKind) → kind_of p.of_module held ≡ x → r.loads_kind (written == held) (kind_of p.of_module written) x ≡ true → a.is_slot_type p.of_module held written ≡ true
+    by NoValue is e = own e
+    by (Bits bits) is e = own e
+    by (Reference layout) is e = moves_is written held (subst (λ x. r.moves_kind (written == held) (kind_of p.of_module written) x ≡ true) (sym is) e)
+    by AnyReference is e = own e
+    by AddressKind is e = own e
+    by Other is e = own e
+
+  -- by the type that a slot holds
+  pub loaded_as : (written : ℕ) (held : Option ℕ) → r.loads_slot p.of_module written held ≡ true → a.is_held_as p.of_module held written ≡ true
+  loaded_as written None e = absurd cc
+  loaded_as written (Some held) e = loads_is written held e
+
   -- by the type that a slot holds
   pub held_as : (written : ℕ) (held : Option ℕ) → r.moves p.of_module written held ≡ true → a.is_held_as p.of_module held written ≡ true
   held_as written None e = absurd cc
@@ -175,16 +194,16 @@ module _ (heap : Setup) (p : LaidOut) (certs : List Section) (reaches : Bool) (f
   load_of_type v s (Some held) members fits = load_of_kind v s held (kind_of p.of_module held) refl members fits
 
   -- a load from a slot
-  pub slot_load_goes : (result : Option ℕ) (loaded place_type u s : ℕ) → ((v : ℕ) → result ≡ Some v → HaveMembers (forget v facts)) → slot_of table u ≡ Some s → has_type p.of_module f place_type u ≡ true → r.moves p.of_module loaded (held_type table s) ≡ true
+  pub slot_load_goes : (result : Option ℕ) (loaded place_type u s : ℕ) → ((v : ℕ) → result ≡ Some v → HaveMembers (forget v facts)) → slot_of table u ≡ Some s → has_type p.of_module f place_type u ≡ true → r.loads_slot p.of_module loaded (held_type table s) ≡ true
       → Goes heap p table frame.slots reaches guarded log (after_op p certs table result (Load loaded place_type (operand.Local u)) facts)
       (a.load_action p table loaded (k.slot_at_place p.of_module f table place_type (operand.Local u)) (k.address_at_place p.of_module f table frame.registers place_type (operand.Local u)))
       (λ given. mc.set_register result (mc.loaded_from p frame.slots (k.slot_at_place p.of_module f table place_type (operand.Local u)) (k.address_at_place p.of_module f table frame.registers place_type (operand.Local u)) given) frame)
-  slot_load_goes result loaded place_type u s members is k2 moves =
+  slot_load_goes result loaded place_type u s members is k2 loads =
       subst (λ x. Goes heap p table frame.slots reaches guarded log (after_op p certs table result (Load loaded place_type (operand.Local u)) facts)
       (a.load_action p table loaded x (k.address_at_place p.of_module f table frame.registers place_type (operand.Local u)))
       (λ given. mc.set_register result (mc.loaded_from p frame.slots x (k.address_at_place p.of_module f table frame.registers place_type (operand.Local u)) given) frame))
       (sym (place_is p f table place_type u s k2 is))
-      (goes_local heap p table frame.slots reaches guarded log _ _ _ (rw (held_as p f table loaded (held_type table s) moves) refl) (loaded_keeps result members)) where
+      (goes_local heap p table frame.slots reaches guarded log _ _ _ (rw (loaded_as p f table loaded (held_type table s) loads) refl) (loaded_keeps result members)) where
         loaded_keeps : (result : Option ℕ) → ((v : ℕ) → result ≡ Some v → HaveMembers (forget v facts))
             → (more : Cells) × Holds heap p table guarded log more (after_op p certs table result (Load loaded place_type (operand.Local u)) facts) (mc.set_register result (slot_value frame.slots s) frame).registers (mc.set_register result (slot_value frame.slots s) frame).slots
         loaded_keeps None members = (cells, h)

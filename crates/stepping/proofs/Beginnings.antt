@@ -1,5 +1,5 @@
 -- The words and births before the first step.
-use Rattle.std.proofs.Common.{◌≡◌, Bool, true, false, ◌<◌, ◌≤◌, ◌^◌, inl, inr, ℕ, zero, suc, ◌+◌, Option, Some, List, [], ◌∷◌, ◌++◌, length, slice_get, slice_set, slice_index, slice_index_or, map, length-append, length-set, refl, sym, ap, ◌∙◌, subst, arith, if◌then◌else◌}
+use Rattle.std.proofs.Common.{◌≡◌, Bool, true, false, ◌<◌, ◌≤◌, ◌^◌, inl, inr, ℕ, zero, suc, ◌+◌, Option, Some, List, [], ◌∷◌, ◌++◌, length, replicate, slice_get, slice_set, slice_index, slice_index_or, map, length-append, length-set, refl, sym, ap, ◌∙◌, subst, arith, if◌then◌else◌}
 use Rattle.std.proofs.Math.Seq.{get_or-append_seam}
 use Rattle.std.proofs.lemmas.Bool.{cases_lt}
 use Rattle.std.proofs.lemmas.List.{length-map, get_or_append_left, get_or-set_same, get_or-set_other, get_or_past}
@@ -23,7 +23,7 @@ use Rattle.moves.specs.Kinds.{MayHold}
 use Rattle.moves.specs.Rows.{word_at}
 use Rattle.moves.specs.Runs.{collector_behind, run_by}
 use Rattle.moves.specs.Shared.{held_at, StandBehind}
-use Rattle.moves.specs.Stands.{phase_at, standing}
+use Rattle.moves.specs.Stands.{cells_to_try, phase_at, standing}
 use Rattle.stepping.specs.Reach.{IsPlanOf}
 use Rattle.run_law.specs.Growth.{IsInHeap}
 use Rattle.stepping.specs.declared.acting.Actors.{Actors}
@@ -188,25 +188,27 @@ stand-behind-none s setup stages zeros births rows stages_count colours_count bi
 -- ---- all actors
 
 -- a list of threads before their first move
-pub got-start : {State : Type 0} (states : List (NewThread State)) (t : ℕ) (stand : Stand State) → slice_get (map stand_at_start states) t ≡ Some stand → (thread : NewThread State) × (slice_get states t ≡ Some thread) × (stand ≡ stand_at_start thread)
-got-start [] t stand e = absurd cc
-got-start (x ∷ xs) zero stand e = (x, refl, cc)
-got-start (x ∷ xs) (suc t) stand e = got-start xs t stand e
+pub got-start : {State : Type 0} (layouts : ℕ) (states : List (NewThread State)) (t : ℕ) (stand : Stand State) → slice_get (map (stand_at_start layouts) states) t ≡ Some stand
+    → (thread : NewThread State) × (slice_get states t ≡ Some thread) × (stand ≡ stand_at_start layouts thread)
+got-start layouts [] t stand e = absurd cc
+got-start layouts (x ∷ xs) zero stand e = (x, refl, cc)
+got-start layouts (x ∷ xs) (suc t) stand e = got-start layouts xs t stand e
 
 -- where a thread is, late or not
-phase-first : (roots : List Reference) (late : Bool) → phase_at roots (stance_at_start late) ≡ (if late then Absent else Ready)
-phase-first roots true = refl
-phase-first roots false = refl
+phase-first : (cells : List ℕ) (roots : List Reference) (late : Bool) → phase_at cells roots (stance_at_start late) ≡ (if late then Absent else Ready)
+phase-first cells roots true = refl
+phase-first cells roots false = refl
 
 -- a thread is in this state before its first move
-stands-first : (s : Setup) (m : Machine) (starts : ℕ → m.State) (t : ℕ) (thread : NewThread m.State) → is_late s t ≡ thread.is_late → starts t ≡ thread.machine → StandsBehind s m starts [] t (standing m.roots (stand_at_start thread))
+stands-first : (s : Setup) (m : Machine) (starts : ℕ → m.State) (t : ℕ) (thread : NewThread m.State) → is_late s t ≡ thread.is_late → starts t ≡ thread.machine → StandsBehind s m starts [] t (standing s m (stand_at_start (length s.pools) thread))
 stands-first s m starts t thread late e =
     let first = begins s m starts t in
     record {
       state = sym e;
       stage = first.stage;
-      phase = phase-first (m.roots thread.machine) thread.is_late ∙ sym (ap (λ (b : Bool). if b then Absent else Ready) late) ∙ first.phase;
+      phase = phase-first (cells_to_try s (replicate (length s.pools) 0) (m.action thread.machine)) (m.roots thread.machine) thread.is_late ∙ sym (ap (λ (b : Bool). if b then Absent else Ready) late) ∙ first.phase;
       old = first.old;
+      hints = first.hints;
     }
 
 -- the collector of a heap with this plan
@@ -217,7 +219,7 @@ begun-of s threads layouts pools globals a b c d = rw (a, b, c, d) refl
 -- the actors before their first step
 pub actors-first : (s : Setup) (m : Machine) (Fits : m.State → Type 0) (starts : ℕ → m.State) (a : Actors m.State) (states : List (NewThread m.State)) → IsPlanOf s a.plan → IsSetup s → s.late ≡ map (λ (thread : NewThread m.State). thread.is_late) states → cells s ≤ 2 ^ 32
     → s.threads ≡ length states → ((t : ℕ) (thread : NewThread m.State) → slice_get states t ≡ Some thread → (starts t ≡ thread.machine) × Fits thread.machine)
-    → a.threads.items ≡ map stand_at_start states → StandBehind s [] a.shared → a.collector ≡ begun (plan_of s) → AreBehindSteps s m Fits starts [] a
+    → a.threads.items ≡ map (stand_at_start (length s.pools)) states → StandBehind s [] a.shared → a.collector ≡ begun (plan_of s) → AreBehindSteps s m Fits starts [] a
 unfolding collector_behind run_by is_late
 actors-first s m Fits starts a states is_plan setup late few count begin threads words collects = record {
   plan = is_plan;
@@ -226,15 +228,15 @@ actors-first s m Fits starts a states is_plan setup late few count begin threads
     are_actors = tt;
     is_end = record {
       few_cells = few;
-      count = ap length threads ∙ length-map states stand_at_start ∙ sym count;
+      count = ap length threads ∙ length-map states (stand_at_start (length s.pools)) ∙ sym count;
       stands = λ t stand is.
-          let o = got-start states t stand (sym (ap (λ (v : List (Stand m.State)). slice_get v t) threads) ∙ is) in
-          subst (λ (v : Stand m.State). StandsBehind s m starts [] t (standing m.roots v)) (sym o.2) (stands-first s m starts t o.0 (ap (λ (l : List Bool). slice_index_or l t false) late ∙ lateness states t o.0 o.1) (begin t o.0 o.1).0);
+          let o = got-start (length s.pools) states t stand (sym (ap (λ (v : List (Stand m.State)). slice_get v t) threads) ∙ is) in
+          subst (λ (v : Stand m.State). StandsBehind s m starts [] t (standing s m v)) (sym o.2) (stands-first s m starts t o.0 (ap (λ (l : List Bool). slice_index_or l t false) late ∙ lateness states t o.0 o.1) (begin t o.0 o.1).0);
       fits = λ t stand is.
-          let o = got-start states t stand (sym (ap (λ (v : List (Stand m.State)). slice_get v t) threads) ∙ is) in
+          let o = got-start (length s.pools) states t stand (sym (ap (λ (v : List (Stand m.State)). slice_get v t) threads) ∙ is) in
           subst (λ (v : Stand m.State). Fits v.state) (sym o.2) (begin t o.0 o.1).1;
       replaced = λ t stand is.
-          let o = got-start states t stand (sym (ap (λ (v : List (Stand m.State)). slice_get v t) threads) ∙ is) in
+          let o = got-start (length s.pools) states t stand (sym (ap (λ (v : List (Stand m.State)). slice_get v t) threads) ∙ is) in
           subst (λ (v : Stand m.State). v.replaced.cell < cells s) (sym o.2) (omega arith);
       collects = collects;
       in_heap = subst (λ (c : Collecting). IsInHeap s c) (sym collects) (tt, tt);

@@ -113,7 +113,7 @@ collected s m Fits starts before a b motion behind x grows keeps may_lose loses 
     let ends : IsEnd s m Fits starts (OfCollector motion.turn ∷ run) a.threads.items (with_stored a.shared motion motion.stored) behind = record {
       few_cells = end.few_cells;
       count = end.count;
-      stands = λ t stand is. (goes_on s m starts run t (standing m.roots stand) (end.stands t stand is)).collector motion.turn;
+      stands = λ t stand is. (goes_on s m starts run t (standing s m stand) (end.stands t stand is)).collector motion.turn;
       fits = end.fits;
       replaced = end.replaced;
       collects = collects-more s a.collector run (held_at a.shared) motion behind end.collects x;

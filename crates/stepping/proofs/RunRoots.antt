@@ -13,7 +13,7 @@ use Rattle.moves.specs.declared.stand.Stance.TheVariants as stance
 use Rattle.moves.specs.declared.stand.Stand.{Stand}
 use Rattle.moves.specs.Kinds.{KeepsKinds}
 use Rattle.moves.specs.Runs.{run_by}
-use Rattle.moves.specs.Stands.{phase_at}
+use Rattle.moves.specs.Stands.{cells_to_try, phase_at}
 use Rattle.stepping.specs.Reach.{AreRoots}
 use Rattle.stepping.specs.declared.acting.Actors.{Actors}
 use Rattle.stepping.specs.Ends.{AreBehindSteps, IsEnd}
@@ -75,32 +75,32 @@ own-is-root {State} roots (x ∷ xs) r zero stand e own = in-left r (own_roots r
 own-is-root {State} roots (x ∷ xs) r (suc t) stand e own = in-right r (own_roots roots x) (roots_of roots xs) (own-is-root roots xs r t stand e own)
 
 -- a thread with roots is under way
-own-is-under-way : (rs others : List Reference) (at : Stance) (r : Reference) → IsIn r (under_way at rs) → IsUnderWay (phase_at others at) × IsIn r rs
-own-is-under-way rs others stance.Ready r e = (tt, e)
-own-is-under-way rs others (stance.MarkingOld c w o) r e = (tt, e)
-own-is-under-way rs others (stance.MarkingNew c w o) r e = (tt, e)
-own-is-under-way rs others (stance.Writing c w o n) r e = (tt, e)
-own-is-under-way rs others (stance.Trying f n) r e = (tt, e)
-own-is-under-way rs others (stance.Answering p n) r e = (tt, e)
-own-is-under-way rs others stance.Ended r e = absurd e
-own-is-under-way rs others stance.Absent r e = absurd e
-own-is-under-way rs others (stance.Arriving p) r e = absurd e
-own-is-under-way rs others stance.Entering r e = absurd e
-own-is-under-way rs others stance.Leaving r e = absurd e
+own-is-under-way : (cells : List ℕ) (rs others : List Reference) (at : Stance) (r : Reference) → IsIn r (under_way at rs) → IsUnderWay (phase_at cells others at) × IsIn r rs
+own-is-under-way cells rs others stance.Ready r e = (tt, e)
+own-is-under-way cells rs others (stance.MarkingOld c w o) r e = (tt, e)
+own-is-under-way cells rs others (stance.MarkingNew c w o) r e = (tt, e)
+own-is-under-way cells rs others (stance.Writing c w o n) r e = (tt, e)
+own-is-under-way cells rs others (stance.Trying n) r e = (tt, e)
+own-is-under-way cells rs others (stance.Answering p n) r e = (tt, e)
+own-is-under-way cells rs others stance.Ended r e = absurd e
+own-is-under-way cells rs others stance.Absent r e = absurd e
+own-is-under-way cells rs others (stance.Arriving p) r e = absurd e
+own-is-under-way cells rs others stance.Entering r e = absurd e
+own-is-under-way cells rs others stance.Leaving r e = absurd e
 
 -- and one under way has its roots
-under-way-is-own : (rs others : List Reference) (at : Stance) (r : Reference) → IsUnderWay (phase_at others at) → IsIn r rs → IsIn r (under_way at rs)
-under-way-is-own rs others stance.Ready r way e = e
-under-way-is-own rs others (stance.MarkingOld c w o) r way e = e
-under-way-is-own rs others (stance.MarkingNew c w o) r way e = e
-under-way-is-own rs others (stance.Writing c w o n) r way e = e
-under-way-is-own rs others (stance.Trying f n) r way e = e
-under-way-is-own rs others (stance.Answering p n) r way e = e
-under-way-is-own rs others stance.Ended r way e = absurd way
-under-way-is-own rs others stance.Absent r way e = absurd way
-under-way-is-own rs others (stance.Arriving p) r way e = absurd way
-under-way-is-own rs others stance.Entering r way e = absurd way
-under-way-is-own rs others stance.Leaving r way e = absurd way
+under-way-is-own : (cells : List ℕ) (rs others : List Reference) (at : Stance) (r : Reference) → IsUnderWay (phase_at cells others at) → IsIn r rs → IsIn r (under_way at rs)
+under-way-is-own cells rs others stance.Ready r way e = e
+under-way-is-own cells rs others (stance.MarkingOld c w o) r way e = e
+under-way-is-own cells rs others (stance.MarkingNew c w o) r way e = e
+under-way-is-own cells rs others (stance.Writing c w o n) r way e = e
+under-way-is-own cells rs others (stance.Trying n) r way e = e
+under-way-is-own cells rs others (stance.Answering p n) r way e = e
+under-way-is-own cells rs others stance.Ended r way e = absurd way
+under-way-is-own cells rs others stance.Absent r way e = absurd way
+under-way-is-own cells rs others (stance.Arriving p) r way e = absurd way
+under-way-is-own cells rs others stance.Entering r way e = absurd way
+under-way-is-own cells rs others stance.Leaving r way e = absurd way
 
 -- ---- the run's
 
@@ -111,7 +111,7 @@ are-roots s m Fits starts before a b keeps = record {
   are_roots = λ r e some.
       let o = root-is-own m.roots a.threads.items r e in
       let stands = end.stands o.thread o.stand o.is in
-      let own = own-is-under-way (m.roots o.stand.state) (m.roots o.stand.state) o.stand.stance r o.own in
+      let own = own-is-under-way (cells_to_try s o.stand.hints (m.action o.stand.state)) (m.roots o.stand.state) (m.roots o.stand.state) o.stand.stance r o.own in
       record {
         thread = o.thread;
         is_thread = subst (λ n. o.thread < n) end.count (slice_get_within a.threads.items o.thread o.stand o.is);
@@ -122,10 +122,10 @@ are-roots s m Fits starts before a b keeps = record {
       let there = there-is root.thread root.is_thread in
       let stands = end.stands root.thread there.0 there.1 in
       own-is-root m.roots a.threads.items r root.thread there.0 there.1
-      (under-way-is-own (m.roots there.0.state) (m.roots there.0.state) there.0.stance r (subst (λ (p : Phase). IsUnderWay p) (sym stands.phase) root.is_under_way) (subst (λ (state : m.State). IsIn r (m.roots state)) (sym stands.state) root.is_root));
+      (under-way-is-own (cells_to_try s there.0.hints (m.action there.0.state)) (m.roots there.0.state) (m.roots there.0.state) there.0.stance r (subst (λ (p : Phase). IsUnderWay p) (sym stands.phase) root.is_under_way) (subst (λ (state : m.State). IsIn r (m.roots state)) (sym stands.state) root.is_root));
   are_cells = λ r e.
       let o = root-is-own m.roots a.threads.items r e in
-      (keeps o.stand.state (end.fits o.thread o.stand o.is)).roots_fit r (own-is-under-way (m.roots o.stand.state) (m.roots o.stand.state) o.stand.stance r o.own).1;
+      (keeps o.stand.state (end.fits o.thread o.stand o.is)).roots_fit r (own-is-under-way (cells_to_try s o.stand.hints (m.action o.stand.state)) (m.roots o.stand.state) (m.roots o.stand.state) o.stand.stance r o.own).1;
 }
   where
     end : IsEnd s m Fits starts (run_by s m starts before) a.threads.items a.shared a.collector

@@ -80,10 +80,10 @@ thread_is_behind s m Fits starts before a b t lt stand is =
 -- its next happening, by where it is and the words as they are
 next-by-thread : (s : Setup) (m : Machine) (Fits : m.State → Type 0) (starts : ℕ → m.State) (before : List Actor) (a : Actors m.State) → AreBehindSteps s m Fits starts before a
     → (t : ℕ) (stand : Stand m.State) → slice_get a.threads.items t ≡ Some stand
-    → next_by s m starts (run_by s m starts before) (Thread t) ≡ by_thread t (next_move_of s m (sight_in s a.shared) (standing m.roots stand))
+    → next_by s m starts (run_by s m starts before) (Thread t) ≡ by_thread t (next_move_of s m (sight_in s a.shared stand.hints) (standing s m stand))
 next-by-thread s m Fits starts before a b t stand is =
     let end = b.is_behind.is_end in
-    next_in_words s m starts (run_by s m starts before) t (standing m.roots stand) a.shared end.words.behind (end.stands t stand is)
+    next_in_words s m starts (run_by s m starts before) t (standing s m stand) a.shared end.words.behind (end.stands t stand is)
 
 -- the actors with a thread put back that was there
 pub same-actors : {State : Type 0} (a : Actors State) (t : ℕ) (stand : Stand State) → slice_set a.threads.items t stand ≡ a.threads.items
@@ -97,7 +97,7 @@ same-actors {State} a t stand e =
 -- nothing happens
 pub moved-none : (s : Setup) (m : Machine) (Fits : m.State → Type 0) (starts : ℕ → m.State) (before : List Actor) (a : Actors m.State) → AreBehindSteps s m Fits starts before a
     → (t : ℕ) → t < s.threads → (stand : Stand m.State) → slice_get a.threads.items t ≡ Some stand
-    → next_move_of s m (sight_in s a.shared) (standing m.roots stand) ≡ None → IsOneStep s m Fits starts before (Thread t) None a
+    → next_move_of s m (sight_in s a.shared stand.hints) (standing s m stand) ≡ None → IsOneStep s m Fits starts before (Thread t) None a
 moved-none s m Fits starts before a b t lt stand is ended =
     let none = next-by-thread s m Fits starts before a b t stand is ∙ ap (by_thread t) ended in
     record {
@@ -120,12 +120,12 @@ share-with t move run = ap (λ (b : Bool). if b then move ∷ share_of t run els
 
 -- a step that stores nothing and leaves the roots unchanged loses nothing
 loses-none : (s : Setup) (m : Machine) (starts : ℕ → m.State) (run : List Happening) (t : ℕ) (stand : Stand m.State) (move : moves.Move) (behind : Stand m.State)
-    → StandsBehind s m starts run t (standing m.roots stand) → standing m.roots behind ≡ moved s m (standing m.roots stand) move
+    → StandsBehind s m starts run t (standing s m stand) → standing s m behind ≡ moved s m (standing s m stand) move
     → AddsNothing move × (m.roots behind.state ≡ m.roots stand.state) → LosesNothing s m starts run (OfThread t move)
 loses-none s m starts run t stand move behind stands is loses = (
   loses.0,
   ap (λ (share : List moves.Move). m.roots (state_after s m t (starts t) share)) (sym (share-with t move run))
-      ∙ ap m.roots (sym ((goes_on s m starts run t (standing m.roots stand) stands).own move).state)
+      ∙ ap m.roots (sym ((goes_on s m starts run t (standing s m stand) stands).own move).state)
       ∙ ap (λ (st : Standing m.State). m.roots st.state) (sym is)
       ∙ loses.1
       ∙ ap m.roots stands.state,
@@ -135,16 +135,16 @@ loses-none s m starts run t stand move behind stands is loses = (
 moves-on : (s : Setup) (m : Machine) (Fits : m.State → Type 0) (starts : ℕ → m.State) (run : List Happening) (a : Actors m.State) → IsEnd s m Fits starts run a.threads.items a.shared a.collector
     → (t : ℕ) (stand : Stand m.State) → slice_get a.threads.items t ≡ Some stand
     → (made : Move) → MoveGrows s m Fits run t stand a.shared made
-    → (behind : Stand m.State) → standing m.roots behind ≡ moved s m (standing m.roots stand) (move_in (m.roots stand.state) made)
+    → (behind : Stand m.State) → standing s m behind ≡ moved s m (standing s m stand) (move_in (m.roots stand.state) made)
     → IsEnd s m Fits starts (OfThread t (move_in (m.roots stand.state) made) ∷ run) (slice_set a.threads.items t behind) (with_move a.shared t stand.stage made) a.collector
 moves-on s m Fits starts run a end t stand is made grows behind behind_is = record {
   few_cells = end.few_cells;
   count = length-set a.threads.items t behind ∙ end.count;
   stands = λ u other got. elim (got-set a.threads.items t u behind other got) [
-    | inl h ↦ subst (λ (v : ℕ). StandsBehind s m starts (OfThread t move ∷ run) v (standing m.roots other)) (sym h.0)
-        (subst (λ (v : Standing m.State). StandsBehind s m starts (OfThread t move ∷ run) t v) (sym (ap (standing m.roots) h.1 ∙ behind_is))
-        ((goes_on s m starts run t (standing m.roots stand) (end.stands t stand is)).own move))
-    | inr h ↦ (goes_on s m starts run u (standing m.roots other) (end.stands u other h.1)).other t move (λ q. h.0 (sym q))
+    | inl h ↦ subst (λ (v : ℕ). StandsBehind s m starts (OfThread t move ∷ run) v (standing s m other)) (sym h.0)
+        (subst (λ (v : Standing m.State). StandsBehind s m starts (OfThread t move ∷ run) t v) (sym (ap (standing s m) h.1 ∙ behind_is))
+        ((goes_on s m starts run t (standing s m stand) (end.stands t stand is)).own move))
+    | inr h ↦ (goes_on s m starts run u (standing s m other) (end.stands u other h.1)).other t move (λ q. h.0 (sym q))
   ];
   fits = λ u other got. elim (got-set a.threads.items t u behind other got) [
     | inl h ↦ subst (λ (v : m.State). Fits v) (sym (ap (λ (v : Stand m.State). v.state) h.1 ∙ ap (λ (v : Standing m.State). v.state) behind_is)) grows.fits
@@ -165,8 +165,8 @@ moves-on s m Fits starts run a end t stand is made grows behind behind_is = reco
 -- what the move is reported as, and the actors after it
 pub moved-on : (s : Setup) (m : Machine) (Fits : m.State → Type 0) (starts : ℕ → m.State) (before : List Actor) (a : Actors m.State) → AreBehindSteps s m Fits starts before a
     → (t : ℕ) → t < s.threads → (stand : Stand m.State) → slice_get a.threads.items t ≡ Some stand
-    → (made : Move) → next_move_of s m (sight_in s a.shared) (standing m.roots stand) ≡ Some (move_in (m.roots stand.state) made) → MoveGrows s m Fits (run_by s m starts before) t stand a.shared made
-    → (behind : Stand m.State) → standing m.roots behind ≡ moved s m (standing m.roots stand) (move_in (m.roots stand.state) made)
+    → (made : Move) → next_move_of s m (sight_in s a.shared stand.hints) (standing s m stand) ≡ Some (move_in (m.roots stand.state) made) → MoveGrows s m Fits (run_by s m starts before) t stand a.shared made
+    → (behind : Stand m.State) → standing s m behind ≡ moved s m (standing s m stand) (move_in (m.roots stand.state) made)
     → (broke : Option Cause) → Breaks a.shared made broke
     → KeepsAll s m starts → (may_lose : Bool) → (may_lose ≡ false → AddsNothing (move_in (m.roots stand.state) made) × (m.roots behind.state ≡ m.roots stand.state))
     → IsOneStep s m Fits starts before (Thread t) (Some (record { happening = happening.Thread t made; broke = broke; may_lose = may_lose }))

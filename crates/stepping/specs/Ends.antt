@@ -1,5 +1,5 @@
 -- The threads, the shared words and the collector at the end of the run that a list of actors makes, and one step more.
-use Rattle.std.specs.Prelude.{ℕ, ◌≡◌, ◌<◌, ◌≤◌, ◌^◌, false, Option, Some, None, List, [], ◌∷◌, length, slice_get}
+use Rattle.std.specs.Prelude.{ℕ, ◌≡◌, ◌<◌, ◌≤◌, ◌^◌, false, Option, Some, None, List, ◌∷◌, length, slice_get}
 use Rattle.pools.specs.Heap.{Setup, IsSetup, cells}
 use Rattle.colours.specs.Runs.{turns_of}
 use Rattle.trace_sweep.specs.Collecting.{Collecting}
@@ -27,7 +27,7 @@ use Rattle.stepping.specs.declared.happening.Step.{Step}
 pub record IsEnd (s : Setup) (m : Machine) (Fits : m.State → Type 0) (starts : ℕ → m.State) (run : List runs.Happening) (threads : List (Stand m.State)) (shared : Shared) (collector : Collecting) : Type 0 where
   pub few_cells : cells s ≤ 2 ^ 32
   pub count : length threads ≡ s.threads
-  pub stands : (t : ℕ) (stand : Stand m.State) → slice_get threads t ≡ Some stand → StandsBehind s m starts run t (standing m.roots stand)
+  pub stands : (t : ℕ) (stand : Stand m.State) → slice_get threads t ≡ Some stand → StandsBehind s m starts run t (standing s m stand)
   pub fits : (t : ℕ) (stand : Stand m.State) → slice_get threads t ≡ Some stand → Fits stand.state
   -- what a write under way has read is a cell
   pub replaced : (t : ℕ) (stand : Stand m.State) → slice_get threads t ≡ Some stand → stand.replaced.cell < cells s

@@ -1,5 +1,5 @@
 -- The words of a heap and the threads before the first step.
-use Rattle.std.specs.Prelude.{Bool, if◌then◌else◌, ℕ, zero, suc, ◌≡◌, ◌<◌, Some, List, [], length, slice_index, slice_index_or}
+use Rattle.std.specs.Prelude.{Bool, if◌then◌else◌, ℕ, zero, suc, ◌≡◌, ◌<◌, Some, List, [], length, replicate, slice_index, slice_index_or}
 use Rattle.pools.specs.declared.word_kind.WordKind.{WordKind}
 use Rattle.pools.specs.Heap.{Setup, kind_of, words_of_cell}
 use Rattle.colours.specs.declared.place.Place.TheVariants.{Word}
@@ -38,6 +38,6 @@ stage_at_start late = if late then done else 0
 abbrev pub stance_at_start : (late : Bool) → Stance
 stance_at_start late = if late then Absent else Ready
 
--- a thread before its first move
-abbrev pub stand_at_start : {State : Type 0} → NewThread State → Stand State
-stand_at_start thread = record { state = thread.machine; stage = 0; stance = stance_at_start thread.is_late; replaced = null }
+-- a thread before its first move, with a hint for each of this number of layouts
+abbrev pub stand_at_start : {State : Type 0} → (layouts : ℕ) → NewThread State → Stand State
+stand_at_start layouts thread = record { state = thread.machine; stage = 0; stance = stance_at_start thread.is_late; replaced = null; hints = replicate layouts 0 }

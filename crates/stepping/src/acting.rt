@@ -39,13 +39,14 @@ impl<'a, M: Runner + Drop> Actors<'a, M> {
     ) -> Result<Self, AllocError>
         requires globals { length plan.globals.now < 2 ^ 32 }
         requires words { All (λ words. length words < 2 ^ 32) plan.layouts.now }
+        requires pools { length plan.pools.now ≡ length plan.layouts.now }
         ensures { (s : Setup) (starts : ℕ → M) → IsPlanOf s plan.entry → IsSetup s → s.late ≡ map (λ (thread : NewThread M). thread.is_late) threads.items → s.threads ≡ length threads.items → s.values ≡ values.now
             → ((t : ℕ) (thread : NewThread M) → slice_get threads.items t ≡ Some thread → (starts t ≡ thread.machine) × M.fits s thread.machine)
             → IfOk result (AreBehindSteps s (machine_of M.action M.after_answer M.roots) (M.fits s) starts []) }
     {
         let shared = shared_at_start(alloc, plan, values, threads.as_slice())?;
         let collector = Collector::new(plan.pools, plan.layouts, plan.globals, threads.len());
-        let threads = stands_at_start(alloc, threads)?;
+        let threads = stands_at_start(alloc, plan.layouts.count(), threads)?;
         Ok(Actors {
             plan,
             threads,

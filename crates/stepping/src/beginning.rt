@@ -108,24 +108,41 @@ fn value_at_start(values: &[u64], cell: u32, word: usize) -> u64
     }
 }
 
-/// The threads before the first step.
+/// The threads before the first step, with a hint for each of this number of layouts.
 pub(crate) fn stands_at_start<M: Drop>(
     alloc: Global,
+    layouts: usize,
     threads: Vec<NewThread<M>>,
 ) -> Result<Vec<Stand<M>>, AllocError>
-    ensures { IfOk result (λ stands. stands.items ≡ map starts.stand_at_start threads.items) }
+    ensures { IfOk result (λ stands. stands.items ≡ map (starts.stand_at_start layouts) threads.items) }
 {
-    threads
-        .into_iter()
-        .map(|NewThread { machine, is_late }| Stand {
-            state: machine,
-            stage: 0,
-            stance: if is_late {
-                Stance::Absent
-            } else {
-                Stance::Ready
-            },
-            replaced: NULL,
-        })
-        .collect(alloc)
+    let mut stands = Vec::new(alloc);
+    for thread in threads {
+        let stand = stand_at_start(alloc, layouts, thread)?;
+        stands.push(stand)?;
+    }
+    Ok(stands)
+}
+
+/// A thread before its first move.
+fn stand_at_start<M: Drop>(
+    alloc: Global,
+    layouts: usize,
+    thread: NewThread<M>,
+) -> Result<Stand<M>, AllocError>
+    ensures { IfOk result (λ stand. stand ≡ starts.stand_at_start layouts thread) }
+{
+    let hints = vec![in alloc; 0_u32; layouts]?;
+    let NewThread { machine, is_late } = thread;
+    Ok(Stand {
+        state: machine,
+        stage: 0,
+        stance: if is_late {
+            Stance::Absent
+        } else {
+            Stance::Ready
+        },
+        replaced: NULL,
+        hints: Items::from_vec(hints),
+    })
 }

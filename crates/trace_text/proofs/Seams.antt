@@ -4,10 +4,10 @@ use Rattle.std.specs.Prelude.{◌==◌, ◌||◌}
 use Rattle.std.specs.List.{list_all}
 use Rattle.std.specs.Fmt.{decimal}
 use Rattle.std.proofs.Math.Seq.{take-append_seam}
-use Rattle.lemmas.specs.Bools.{and_parts, not_true, or_neither}
+use Rattle.lemmas.specs.Bools.{and_parts, not_true}
 use Rattle.ir_tokens.specs.Bytes.{Text}
-use Rattle.name_text.specs.Words.{ends_word, past_word, word_at, past_blanks, ends_line, stops}
-use Rattle.name_text.specs.Seams.{past_word_on, is_word_byte, bytes_close}
+use Rattle.name_text.specs.Words.{may_end, past_word, word_at, past_blanks, ends_line, stops}
+use Rattle.name_text.specs.Seams.{inner_byte, past_word_on, is_word_byte, bytes_close}
 use Rattle.name_text.specs.Spelled.{number_is_one, number_is}
 use Rattle.name_text.specs.Numbers.{is_nil}
 use Rattle.trace_text.specs.Numbers.{count_of_word, capped}
@@ -31,20 +31,16 @@ pub inner_stays : (w rest : Text) → 0 < length w → list_all is_word_byte w �
 inner_stays [] rest some e = absurd (omega (arith, some))
 inner_stays (byte ∷ w) rest some e =
     let parts = and_parts (is_word_byte byte) (list_all is_word_byte w) e in
-    let inside = not_true (ends_word byte) (and_parts (not (ends_word byte)) (not (byte == 34)) parts.0).0 in
-    let last = or_neither (byte == 32 || byte == 9 || byte == 10 || byte == 13) (byte == 59) inside in
-    let first = (or_neither (byte == 32) (byte == 9) (or_neither (byte == 32 || byte == 9) (byte == 10) (or_neither (byte == 32 || byte == 9 || byte == 10) (byte == 13) last.0).0).0).0 in
-    rw (last.1, first) refl
+    let no = inner_byte byte (not_true (may_end byte) (and_parts (not (may_end byte)) (not (byte == 34)) parts.0).0) in
+    rw (no.3, no.0) refl
 
 -- no line ends before an inner byte, nor does the text
 pub inner_goes_on : (w rest : Text) → 0 < length w → list_all is_word_byte w ≡ true → (is_nil (w ++ rest) || ends_line (w ++ rest)) ≡ false
 inner_goes_on [] rest some e = absurd (omega (arith, some))
 inner_goes_on (byte ∷ w) rest some e =
     let parts = and_parts (is_word_byte byte) (list_all is_word_byte w) e in
-    let inside = not_true (ends_word byte) (and_parts (not (ends_word byte)) (not (byte == 34)) parts.0).0 in
-    let front = or_neither (byte == 32 || byte == 9 || byte == 10) (byte == 13) (or_neither (byte == 32 || byte == 9 || byte == 10 || byte == 13) (byte == 59) inside).0 in
-    let line = (or_neither (byte == 32 || byte == 9) (byte == 10) front.0).1 in
-    rw (line, front.1) refl
+    let no = inner_byte byte (not_true (may_end byte) (and_parts (not (may_end byte)) (not (byte == 34)) parts.0).0) in
+    rw (no.1, no.2) refl
 
 -- ---- numbers
 

@@ -8,8 +8,8 @@ use Rattle.runs.proofs.laws.next_move_law.Goals as goal
 pub returns-clause-next : goal.returns-clause-next
 returns-clause-next g c s = next_is s (machine_of g.M.Machine.action g.M.Machine.after_answer g.M.Machine.roots)
 
-pub returns-clause-lowest : goal.returns-clause-lowest
-returns-clause-lowest g c s = keeps_order s (machine_of g.M.Machine.action g.M.Machine.after_answer g.M.Machine.roots)
+pub returns-clause-hints : goal.returns-clause-hints
+returns-clause-hints g c s = keeps_order s (machine_of g.M.Machine.action g.M.Machine.after_answer g.M.Machine.roots)
 
 pub returns-clause-sight : goal.returns-clause-sight
 returns-clause-sight g c s run order = record {

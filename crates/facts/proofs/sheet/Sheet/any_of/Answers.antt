@@ -9,4 +9,4 @@ use Rattle.facts.proofs.sheet.Sheet.any_of.Goals as goal
 
 pub returns : goal.returns
 returns c = c.any_of.ensures ∙ ap (λ (rows : List Row). list_any (row_is_of c.args.c rows) c.deref-2.result.now) c.deref.ensures.value ∙ ap (λ (marked : List ℕ). list_any (row_is_of c.args.c c.self.inside.rows.items) marked) c.deref-2.ensures.value
-    ∙ any_marked c.args.c c.self.inside.marked.items c.self.inside.rows.items c.self.invariant ∙ ap (λ (rows : List Row). list_any (is_of c.args.c) (map known_of rows)) c.self.view_is
+    ∙ any_marked c.args.c c.self.inside.marked.items c.self.inside.rows.items c.self.invariant.0 ∙ ap (λ (rows : List Row). list_any (is_of c.args.c) (map known_of rows)) c.self.view_is

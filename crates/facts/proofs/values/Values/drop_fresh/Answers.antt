@@ -1,21 +1,41 @@
-use Rattle.std.proofs.Common.{◌≡◌, ◌∙◌, ◌-◌, ap, sym, subst, arith, false, List, ℕ, length, slice_set}
+use Rattle.std.proofs.Common.{◌≡◌, ◌<◌, ◌∙◌, ◌-◌, ◌++◌, ap, sym, subst, arith, true, false, List, ℕ, length, slice_set}
 use Rattle.facts.specs.declared.known.Class.{Class}
 use Rattle.facts.specs.declared.row.Row.{Row}
-use Rattle.facts.specs.Sheets.{OnlyNamed, row_at}
+use Rattle.std.proofs.Math.ListN.{get_or-map}
+use Rattle.std.proofs.lemmas.List.{get_or_append_left, length-map}
+use Rattle.std.specs.Prelude.{map}
+use Rattle.facts.specs.Facts.{lost_class, class_at}
+use Rattle.facts.specs.Sheets.{blank, row_at, class_of, is_settled_as, is_settled}
+use Rattle.facts.specs.Uses.{OnlyUsers}
+use Rattle.facts.proofs.Current.{stale_settled}
 use Rattle.facts.specs.Values.{ValueFacts, facts_of_rows}
-use Rattle.facts.proofs.Named.{class_row_facts, class_added_facts, class_only}
+use Rattle.facts.proofs.Says.{class_row_facts, class_added_facts}
+use Rattle.facts.proofs.Users.{class_users}
 use Rattle.facts.proofs.values.Values.drop_fresh.Goals as goal
 
 -- a class that is fresh no more
 abbrev stale : Class → Class
 stale class = record class { fresh = false }
 
+own_class : (rows : List Row) (added : List Class) (v : ℕ) → v < length rows → class_at (map class_of rows ++ added) v ≡ (row_at rows v).class
+own_class rows added v lt = get_or_append_left (map class_of rows) added lost_class v (rw length-map lt) ∙ get_or-map class_of rows v blank
+
+still_settled : (at : ℕ) (row before : Row) (class : Class) → row ≡ before → class ≡ before.class → is_settled at before ≡ true → is_settled at (record row { class = stale class }) ≡ true
+still_settled at row before class e f h = subst (λ (c : Class). is_settled_as at row.aside (stale c) row.known ≡ true) (sym (f ∙ ap class_of (sym e))) (stale_settled at row.aside row.class row.known (subst (λ (r : Row). is_settled at r ≡ true) (sym e) h))
+
+pub change-requires-clause-settled : goal.change-requires-clause-settled
+change-requires-clause-settled c =
+    let rows : List Row = c.self.inside.sheet in
+    let same : c.class.result ≡ (row_at rows c.number-at.result).class = c.class.ensures ∙ ap (λ (f : ValueFacts). class_at f.classes c.args.c) (sym c.self.view_is)
+    ∙ own_class rows c.self.inside.added.items c.args.c (omega (arith, c.number-at.ensures, c.len-own.ensures.count, c.if-at-own.true)) ∙ ap (λ (at : ℕ). (row_at rows at).class) (sym c.number-at.ensures) in
+    still_settled c.number-at.result c.row-row.result (row_at rows c.number-at.result) c.class.result c.row-row.ensures same
+
 changed : (c : goal.After-change) → c.change.new.self ≡ slice_set c.self.inside.sheet c.args.c (record (row_at c.self.inside.sheet c.args.c) { class = stale c.class.result })
 changed c = c.change.ensures ∙ ap (λ (row : Row). slice_set c.self.inside.sheet c.number-at.result (record row { class = stale c.class.result })) c.row-row.ensures
     ∙ ap (λ (at : ℕ). slice_set c.self.inside.sheet at (record (row_at c.self.inside.sheet at) { class = stale c.class.result })) c.number-at.ensures
 
 pub invariant_of-self : goal.invariant_of-self
-invariant_of-self c = subst (λ (rows : List Row). OnlyNamed rows) (sym (changed c)) (class_only (stale c.class.result) c.self.inside.sheet c.args.c c.self.invariant)
+invariant_of-self c = subst (λ (rows : List Row). OnlyUsers c.self.inside.uses.items rows) (sym (changed c)) (class_users c.self.inside.uses.items c.self.inside.sheet c.args.c c.self.invariant (stale c.class.result))
 
 pub returns-then-at-own : goal.returns-then-at-own
 returns-then-at-own c =

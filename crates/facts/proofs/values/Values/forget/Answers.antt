@@ -1,21 +1,21 @@
 use Rattle.std.proofs.Common.{◌≡◌, ◌∙◌, ap, sym, subst, List, ℕ, slice_set}
 use Rattle.facts.specs.declared.row.Row.{Row}
-use Rattle.facts.specs.declared.sweeps.Change.TheVariants.{Off}
+use Rattle.facts.specs.declared.uses.Use.{Use}
 use Rattle.facts.specs.Facts.{values_without, tests_without}
-use Rattle.facts.specs.Sheets.{EachRow, OnlyNamed, changed, row_at}
+use Rattle.facts.specs.Sheets.{row_at}
+use Rattle.facts.specs.Uses.{OnlyUsers}
 use Rattle.facts.specs.Values.{ValueFacts, facts_of_rows, ended_row}
 use Rattle.facts.proofs.Changes.{ended_facts, ended_only}
 use Rattle.facts.proofs.values.Values.forget.Goals as goal
 
-module _ (c : goal.After-change) where
-  off : EachRow (changed (Off c.args.v)) c.self.inside.sheet c.end_names.new.sheet
-  off = c.end_names.ensures c.self.invariant
+pub end_names-requires : goal.end_names-requires
+end_names-requires c = subst (λ (uses : List Use). OnlyUsers uses c.self.inside.sheet) (sym c.deref.ensures.value) c.self.invariant
 
-  now_changed : c.change.new.self ≡ slice_set c.end_names.new.sheet c.args.v (ended_row (row_at c.end_names.new.sheet c.args.v))
-  now_changed = c.change.ensures ∙ ap (λ (row : Row). slice_set c.end_names.new.sheet c.number-at.result (ended_row row)) c.row-row.ensures ∙ ap (λ (at : ℕ). slice_set c.end_names.new.sheet at (ended_row (row_at c.end_names.new.sheet at))) c.number-at.ensures
+now_changed : (c : goal.After-change) → c.change.new.self ≡ slice_set c.end_names.new.self c.args.v (ended_row (row_at c.end_names.new.self c.args.v))
+now_changed c = c.change.ensures ∙ ap (λ (row : Row). slice_set c.end_names.new.self c.number-at.result (ended_row row)) c.row-row.ensures ∙ ap (λ (at : ℕ). slice_set c.end_names.new.self at (ended_row (row_at c.end_names.new.self at))) c.number-at.ensures
 
 pub invariant_of-self : goal.invariant_of-self
-invariant_of-self c = subst (λ (rows : List Row). OnlyNamed rows) (sym (now_changed c)) (ended_only c.args.v c.self.inside.sheet c.end_names.new.sheet (off c) c.self.invariant)
+invariant_of-self c = subst (λ (rows : List Row). OnlyUsers c.self.inside.uses.items rows) (sym (now_changed c)) (ended_only c.args.v c.self.inside.sheet c.end_names.new.self c.end_names.ensures c.self.inside.uses.items c.self.invariant)
 
 pub returns : goal.returns
-returns c = ap (λ (rows : List Row). facts_of_rows rows c.self.inside.added.items) (now_changed c) ∙ ended_facts c.args.v c.self.inside.sheet c.end_names.new.sheet (off c) c.self.inside.added.items ∙ ap (λ (f : ValueFacts). record f { values = values_without c.args.v f.values; tests = tests_without c.args.v f.tests }) c.self.view_is
+returns c = ap (λ (rows : List Row). facts_of_rows rows c.self.inside.added.items) (now_changed c) ∙ ended_facts c.args.v c.self.inside.sheet c.end_names.new.self c.end_names.ensures c.self.inside.added.items ∙ ap (λ (f : ValueFacts). record f { values = values_without c.args.v f.values; tests = tests_without c.args.v f.tests }) c.self.view_is

@@ -4,8 +4,11 @@ use Rattle.facts.specs.declared.known.Class.{Class}
 use Rattle.facts.specs.Facts.{stale_of, stale_class}
 use Rattle.facts.specs.Sheets.{EachRow, class_of, stale_row}
 use Rattle.facts.specs.Values.{ValueFacts}
-use Rattle.facts.proofs.Changes.{stale_facts}
+use Rattle.facts.proofs.Changes.{stale_facts, stale_only}
 use Rattle.facts.proofs.values.Values.make_stale.Goals as goal
+
+pub invariant_of-self : goal.invariant_of-self
+invariant_of-self c = stale_only c.self.inside.sheet c.make_stale.new.self c.self.inside.added.items (subst (λ (added : List Class). EachRow (stale_row (map class_of c.self.inside.sheet ++ added)) c.self.inside.sheet c.make_stale.new.self) c.deref.ensures.value c.make_stale.ensures) c.self.inside.uses.items c.self.invariant
 
 pub returns : goal.returns
 returns c = stale_facts c.self.inside.sheet c.make_stale.new.self c.self.inside.added.items (subst (λ (added : List Class). EachRow (stale_row (map class_of c.self.inside.sheet ++ added)) c.self.inside.sheet c.make_stale.new.self) c.deref.ensures.value c.make_stale.ensures) c.clear.new.self.items c.clear.ensures.items

@@ -3,7 +3,7 @@ use Rattle.facts.specs.declared.known.Class.{Class}
 use Rattle.facts.specs.declared.row.Row.{Row}
 use Rattle.facts.specs.Sheets.{row_at}
 use Rattle.facts.specs.Values.{ValueFacts, facts_of_rows}
-use Rattle.facts.proofs.Named.{class_row_facts, class_added_facts}
+use Rattle.facts.proofs.Says.{class_row_facts, class_added_facts}
 use Rattle.facts.proofs.values.Values.set_class.Goals as goal
 
 pub returns-in_ok-set-clause-ok : goal.returns-in_ok-set-clause-ok

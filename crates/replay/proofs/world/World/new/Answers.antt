@@ -1,4 +1,4 @@
-use Rattle.std.proofs.Common.{[], map, refl, sym, ap, ◌∙◌}
+use Rattle.std.proofs.Common.{[], length, map, refl, sym, ap, ◌∙◌}
 use Rattle.ir_ast.specs.declared.module.Module.{Module}
 use Rattle.program_runner.specs.Heaps.{heap_of, value_of_global}
 use Rattle.replay.specs.Setups.{starts_of}
@@ -8,6 +8,9 @@ use Rattle.replay.proofs.world.World.new.Goals as goal
 
 pub new-requires-clause-words : goal.new-requires-clause-words
 new-requires-clause-words c = few_words c.args.program.now.of_module c.layouts.result.now c.layouts.ensures.laid_out
+
+pub new-requires-clause-pools : goal.new-requires-clause-pools
+new-requires-clause-pools c = c.requires.one_each ∙ ap length (sym c.layouts.ensures.layouts)
 
 pub invariant_of-result : goal.invariant_of-result
 invariant_of-result c =

@@ -1,8 +1,9 @@
 -- The actors before their first step.
-use Rattle.std.proofs.Common.{◌≤◌, ◌^◌, ap, sym, ◌∙◌, map, length, subst, arith}
+use Rattle.std.proofs.Common.{ℕ, ◌≤◌, ◌^◌, ap, sym, ◌∙◌, map, length, subst, arith}
 use Rattle.pools.specs.Heap.{cells_in}
 use Rattle.runs.specs.Machine.{machine_of}
 use Rattle.stepping.specs.declared.beginning.NewThread.{NewThread}
+use Rattle.stepping.specs.Starts.{stand_at_start}
 use Rattle.stepping.proofs.Beginnings.{begun-of, actors-first}
 use Rattle.stepping.proofs.acting.Actors.new.Goals as goal
 
@@ -12,6 +13,6 @@ returns g c s starts plan setup late count values begin =
     let few : cells_in c.args.plan.pools.now ≤ 2 ^ 32 = omega (arith, c.shared_at_start.ensures.limit) in
     actors-first s m (g.M.Runner.fits s) starts
     (record { plan = c.args.plan; threads = c.in_ok-threads.threads; shared = c.in_ok-shared.shared; collector = c.new-collector.result }) c.args.threads.items
-    plan setup late (subst (λ pools. cells_in pools ≤ 2 ^ 32) (sym plan.pools) few) count begin c.in_ok-threads.ensures
+    plan setup late (subst (λ pools. cells_in pools ≤ 2 ^ 32) (sym plan.pools) few) count begin (c.in_ok-threads.ensures ∙ ap (λ (layouts : ℕ). map (stand_at_start layouts) c.args.threads.items) (c.count.ensures ∙ sym c.requires.pools ∙ ap length (sym plan.pools)))
     (c.in_ok-shared.ensures.behind s plan setup (late ∙ ap (map (λ (thread : NewThread g.row.M.Denot). thread.is_late)) (sym c.as_slice.ensures.value)) (count ∙ ap length (sym c.as_slice.ensures.value)) values)
     (c.new-collector.ensures.begun ∙ begun-of s c.len.result c.args.plan.layouts.now c.args.plan.pools.now c.args.plan.globals.now (count ∙ sym c.args.threads.ok.0 ∙ sym c.len.ensures) plan.layouts plan.pools plan.globals)

@@ -12,7 +12,7 @@ use Rattle.moves.specs.declared.stand.Stand.{Stand}
 use Rattle.moves.specs.declared.actor.Actor.TheVariants as actor
 use Rattle.moves.specs.Calls.{move_in, made_by}
 use Rattle.moves.specs.Kinds.{MayAnswer}
-use Rattle.moves.specs.Moving.{HasRoom, HasRoomForNext, MayMake}
+use Rattle.moves.specs.Moving.{HasHint, HasRoom, HasRoomForNext, MayMake}
 use Rattle.moves.specs.Runs.{run_by}
 use Rattle.moves.specs.Stands.{standing, HasTryLeft}
 use Rattle.stepping.specs.Reach.{AddsNothing}
@@ -64,6 +64,20 @@ go_on-requires-clause-room g c =
     subst (λ (v : Stand g.row.M.Denot). HasRoom v.stance c.in-Some.made) (one-element stand c.index_mut.result.now (sym is ∙ at))
     (subst (λ (o : Option Move). HasRoomForNext stand.stance o) c.in-Some.is c.in_ok-made.ensures.room)
 
+pub go_on-requires-clause-hint : goal.go_on-requires-clause-hint
+go_on-requires-clause-hint g c =
+    let m = machine_of g.M.Machine.action g.M.Machine.after_answer g.M.Machine.roots in
+    let r = c.requires in
+    let stand = c.index-stand.result.now in
+    let move = c.in-Some.made in
+    let is : slice_get c.args.self.now.threads.items c.args.thread ≡ Some stand = slice_get_read _ _ _ _ (sym r.3.is_behind.is_end.count) r.4 c.index-stand.ensures in
+    let at : slice_get c.args.self.now.threads.items c.args.thread ≡ Some c.index_mut.result.now = slice_get_read _ _ _ _ (sym r.3.is_behind.is_end.count) r.4 c.index_mut.ensures.value in
+    let grows = c.growth_law.ensures.threads r.0 r.1 (run_by r.0 m r.1 r.2) c.args.thread stand c.args.self.now.shared
+    (thread_is_behind r.0 m (g.M.Runner.fits r.0) r.1 r.2 c.args.self.now r.3 c.args.thread r.4 stand is) in
+    let moves = grows.move move (c.in_ok-made.ensures.next r.0 r.3.plan.pools ∙ ap (λ (o : Option Move). made_by (m.roots stand.state) o) c.in-Some.is) in
+    subst (λ (v : Stand g.row.M.Denot). HasHint c.args.self.now.plan.pools.now v.hints move (m.action v.state)) (one-element stand c.index_mut.result.now (sym is ∙ at))
+    (subst (λ (pools : List ℕ). HasHint pools stand.hints move (m.action stand.state)) r.3.plan.pools moves.hint)
+
 pub go_on-requires-clause-answer : goal.go_on-requires-clause-answer
 go_on-requires-clause-answer g c =
     let m = machine_of g.M.Machine.action g.M.Machine.after_answer g.M.Machine.roots in
@@ -111,10 +125,10 @@ returns-clause-ok g c s starts before b lt =
     let grows = c.growth_law.ensures.threads s starts (run_by s m starts before) c.args.thread stand a.shared (thread_is_behind s m (g.M.Runner.fits s) starts before a b c.args.thread lt stand is) in
     let asked = c.in_ok-made.ensures.next s b.plan.pools ∙ ap (λ (o : Option Move). made_by (m.roots stand.state) o) c.in-Some.is in
     let moves = grows.move move asked in
-    let behind : standing m.roots c.go_on.new.stand ≡ moved s m (standing m.roots stand) (move_in (m.roots stand.state) move) =
-    subst (λ (v : Stand g.row.M.Denot). standing m.roots c.go_on.new.stand ≡ moved s m (standing m.roots v) (move_in (m.roots v.state) move)) (sym same)
+    let behind : standing s m c.go_on.new.stand ≡ moved s m (standing s m stand) (move_in (m.roots stand.state) move) =
+    subst (λ (v : Stand g.row.M.Denot). standing s m c.go_on.new.stand ≡ moved s m (standing s m v) (move_in (m.roots v.state) move)) (sym same)
     (c.in_ok-roots_change.ensures.ok s (call-of (m.action c.index_mut.result.now.state)) b.plan.pools (asks-for (m.action c.index_mut.result.now.state))
-    (subst (λ (v : Stand g.row.M.Denot). MayMake s (m.roots v.state) (call-of (m.action v.state)) v.stance move) same (moves.may_make (call-of (m.action stand.state)) (asks-for (m.action stand.state))))) in
+    (subst (λ (v : Stand g.row.M.Denot). MayMake s v.hints (m.roots v.state) (call-of (m.action v.state)) v.stance move) same (moves.may_make (call-of (m.action stand.state)) (asks-for (m.action stand.state))))) in
     let loses : c.if-roots_change.result ≡ false → AddsNothing (move_in (m.roots stand.state) move) × (m.roots c.go_on.new.stand.state ≡ m.roots stand.state) = elim c.if-roots_change.branch [
       | then-roots_change w ↦ λ lossless. absurd (true-is-not-false (sym w.if-roots_change.true ∙ sym w.result-is ∙ lossless))
       | else-roots_change w ↦ λ lossless. (w.may_lose.ensures (m.roots stand.state) (sym w.result-is ∙ lossless), c.in_ok-roots_change.ensures.roots w.if-roots_change.false ∙ ap (λ (v : Stand g.row.M.Denot). m.roots v.state) (sym same))

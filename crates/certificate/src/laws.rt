@@ -1,0 +1,9 @@
+//! What is read fits, and what is printed is read again.
+ghost use Rattle.certificate.specs.Laws.{AreFitting, ArePrintedAgain};
+
+/// Certificates that are read fit their module. What is printed of certificates that fit is a text of them, where each of
+/// the module's names is found as what it names.
+pub fn cert_law()
+    ensures fit { AreFitting }
+    ensures printed { ArePrintedAgain }
+{}

@@ -1,0 +1,13 @@
+%Node = type { i64, %Node* }
+@g = global %Node* null
+declare i8* @dg_alloc(i32)
+declare void @dg_safepoint()
+declare void @llvm.gcroot(i8**, i8*)
+declare i8* @llvm.gcread(i8*, i8**)
+declare void @llvm.gcwrite(i8*, i8*, i8**)
+define void @far() {
+entry:
+  %p = getelementptr [100 x i64], [100 x i64]* null, i32 0, i32 70
+  %q = getelementptr [2 x [100 x i64]], [2 x [100 x i64]]* null, i32 0, i32 1, i32 99
+  ret void
+}

@@ -1,0 +1,218 @@
+-- Which rows a safepoint changes.
+use Rattle.std.proofs.Common.{◌≡◌, ◌<◌, ◌≤◌, ◌⊎◌, ℕ, length, List, [], ◌∷◌, ◌++◌, map, refl, sym, ap, subst, inl, inr, ◌∙◌, ◌+◌, add-one, drop-cons, drop, get_or, true, false, Bool, slice_set}
+use Rattle.std.proofs.lemmas.Bool.{cases_lt}
+use Rattle.std.proofs.lemmas.List.{get_or_past, get_or-set_other}
+use Rattle.std.specs.Prelude.{not, ◌&&◌, ◌==◌, if◌then◌else◌, replicate}
+use Rattle.lemmas.specs.Bools.{yes_or_no, not_true}
+use Rattle.lemmas.specs.Numbers.{test_true, test_same}
+use Rattle.facts.specs.declared.known.Class.{Class}
+use Rattle.facts.specs.declared.known.Known.{Known}
+use Rattle.facts.specs.declared.known.Known.TheVariants.{Nothing, Number, Cell, Null, Address, GlobalAddress}
+use Rattle.facts.specs.declared.row.Row.{Row}
+use Rattle.facts.specs.Facts.{class_at, is_of, is_on, off_base, stale_of}
+use Rattle.facts.specs.Lines.{moved, move}
+use Rattle.facts.specs.Sheets.{blank, row_at, IsOne, OnlyMarked, OnlyCurrent, EachRow, each, is_settled_as, is_settled, with_current, known_nonnull, settled_class, off_row, move_row, keep_row, settle_row, stale_row, row_is_of, with_row_of}
+use Rattle.facts.proofs.Sets.{set_is}
+use Rattle.facts.proofs.Sheets.{same_or_not, length_each, each_row, one_more, one_last, blank_at}
+
+-- ---- rows that a safepoint leaves
+
+settled_parts : (same stale fresh nonnull aside : Bool) → (same && stale && not fresh && (if nonnull then aside else not aside)) ≡ true → (same ≡ true) × (stale ≡ true) × (fresh ≡ false) × (aside ≡ nonnull)
+settled_parts true true false true true e = (refl, refl, refl, refl)
+settled_parts true true false false false e = (refl, refl, refl, refl)
+settled_parts same stale fresh nonnull aside e = absurd cc
+
+abbrev the_class : Bool → Bool → Class
+the_class nonnull fresh = record { nonnull = nonnull; fresh = fresh }
+
+module _ (u : ℕ) (aside : Bool) (own : Class) where
+  noted : (classes : List Class) (known : Known) → class_at classes u ≡ own → is_settled_as u aside own known ≡ true → known_nonnull classes known ≡ aside
+  noted classes (Cell c layout stale) e h = let parts = settled_parts (c == u) stale own.fresh own.nonnull aside h in ap (λ x. (class_at classes x).nonnull) (test_true c u parts.0) ∙ ap (λ (class : Class). class.nonnull) e ∙ sym parts.3
+  noted classes Nothing e h = sym (not_true aside h)
+  noted classes (Number bits below) e h = sym (not_true aside h)
+  noted classes Null e h = sym (not_true aside h)
+  noted classes (Address base words) e h = sym (not_true aside h)
+  noted classes (GlobalAddress g) e h = sym (not_true aside h)
+
+  stale_known : (known : Known) → is_settled_as u aside own known ≡ true → stale_of (u, known) ≡ known
+  stale_known (Cell c layout stale) h = let parts = settled_parts (c == u) stale own.fresh own.nonnull aside h in ap (λ x. Cell x layout true) (sym (test_true c u parts.0)) ∙ ap (λ b. Cell c layout b) (sym parts.1)
+  stale_known Nothing h = refl
+  stale_known (Number bits below) h = refl
+  stale_known Null h = refl
+  stale_known (Address base words) h = refl
+  stale_known (GlobalAddress g) h = refl
+
+  own_settled : (known : Known) → is_settled_as u aside own known ≡ true → settled_class aside own known ≡ own
+  own_settled (Cell c layout stale) h = let parts = settled_parts (c == u) stale own.fresh own.nonnull aside h in ap (λ b. the_class b false) parts.3 ∙ ap (λ b. the_class own.nonnull b) (sym parts.2)
+  own_settled Nothing h = refl
+  own_settled (Number bits below) h = refl
+  own_settled Null h = refl
+  own_settled (Address base words) h = refl
+  own_settled (GlobalAddress g) h = refl
+
+keep_settled : (classes : List Class) (u : ℕ) (row : Row) → class_at classes u ≡ row.class → is_settled u row ≡ true → keep_row classes u row ≡ row
+keep_settled classes u row e h = ap (λ (b : Bool). record row { aside = b }) (noted u row.aside row.class classes row.known e h)
+
+settle_settled : (u : ℕ) (row : Row) → is_settled u row ≡ true → settle_row u row ≡ row
+settle_settled u row h = ap (λ (k : Known). record row { known = k; class = settled_class row.aside row.class row.known }) (stale_known u row.aside row.class row.known h) ∙ ap (λ (c : Class). record row { class = c }) (own_settled u row.aside row.class row.known h)
+
+as_noted : (b : Bool) → (if b then b else not b) ≡ true
+as_noted true = refl
+as_noted false = refl
+
+settled_as : (classes : List Class) (u : ℕ) (own : Class) (known : Known) → is_settled_as u (known_nonnull classes known) (settled_class (known_nonnull classes known) own known) (stale_of (u, known)) ≡ true
+settled_as classes u own (Cell c layout stale) = let b = (class_at classes c).nonnull in ap (λ same. same && true && not false && (if b then b else not b)) (test_same u) ∙ as_noted b
+settled_as classes u own Nothing = refl
+settled_as classes u own (Number bits below) = refl
+settled_as classes u own Null = refl
+settled_as classes u own (Address base words) = refl
+settled_as classes u own (GlobalAddress g) = refl
+
+-- a safepoint leaves what it made
+settled_after : (classes : List Class) (u : ℕ) (row : Row) → is_settled u (stale_row classes u row) ≡ true
+settled_after classes u row = settled_as classes u row.class row.known
+
+-- a row whose class is fresh no more
+pub stale_settled : (u : ℕ) (aside : Bool) (own : Class) (known : Known) → is_settled_as u aside own known ≡ true → is_settled_as u aside (record own { fresh = false }) known ≡ true
+stale_settled u aside own (Cell c layout stale) h = let parts = settled_parts (c == u) stale own.fresh own.nonnull aside h in ap (λ b. is_settled_as u aside (the_class own.nonnull b) (Cell c layout stale)) (sym parts.2) ∙ h
+stale_settled u aside own Nothing h = h
+stale_settled u aside own (Number bits below) h = h
+stale_settled u aside own Null h = h
+stale_settled u aside own (Address base words) h = h
+stale_settled u aside own (GlobalAddress g) h = h
+
+-- a row that names a value no more
+pub off_settled : (v u : ℕ) (row : Row) → is_settled u row ≡ true → is_settled u (off_row v row) ≡ true
+off_settled v u row = by row.known where
+  by : (known : Known) → is_settled_as u row.aside row.class known ≡ true → is_settled_as u row.aside row.class (off_base v known) ≡ true
+  by (Address base words) h = pick (base == v) where
+    pick : (b : Bool) → is_settled_as u row.aside row.class (if b then Nothing else Address base words) ≡ true
+    pick true = h
+    pick false = h
+  by (Cell c layout stale) h = h
+  by Nothing h = h
+  by (Number bits below) h = h
+  by Null h = h
+  by (GlobalAddress g) h = h
+
+-- ---- all rows
+
+module _ (change : ℕ → Row → Row) (leaves : (v : ℕ) → change v blank ≡ blank) (before after : List Row) (each : EachRow change before after) where
+  at : (v : ℕ) → row_at after v ≡ change v (row_at before v)
+  at v = elim (cases_lt v (length before)) [ inl lt ↦ each.1 v lt | inr past ↦ get_or_past after v blank (rw each.0 past) ∙ sym (ap (change v) (get_or_past before v blank past) ∙ leaves v) ]
+
+  pub marked_after : (marked : List ℕ) → OnlyMarked marked before → OnlyMarked marked after
+  marked_after marked only v = elim (only v) [ inl one ↦ inl one | inr e ↦ inr (at v ∙ ap (change v) e ∙ leaves v) ]
+
+  pub current_after : (current : List ℕ) → ((v : ℕ) (row : Row) → is_settled v row ≡ true → is_settled v (change v row) ≡ true) → OnlyCurrent current before → OnlyCurrent current after
+  current_after current keeps only v = elim (only v) [ inl one ↦ inl one | inr e ↦ inr (subst (λ (row : Row). is_settled v row ≡ true) (sym (at v)) (keeps v (row_at before v) e)) ]
+
+  -- no row, once all are as a safepoint leaves them
+  pub none_after : ((v : ℕ) (row : Row) → is_settled v (change v row) ≡ true) → OnlyCurrent [] after
+  none_after settles v = inr (subst (λ (row : Row). is_settled v row ≡ true) (sym (at v)) (settles v (row_at before v)))
+
+-- a change that leaves the rows that are not listed is one of all rows
+pub each_listed : (change : ℕ → Row → Row) → ((v : ℕ) (row : Row) → change v (change v row) ≡ change v row) → (listed : List ℕ) (rows : List Row) → ((v : ℕ) → v < length rows → IsOne v listed ⊎ (change v (row_at rows v) ≡ row_at rows v)) → EachRow change rows (each change listed rows)
+each_listed change twice listed rows seen = (length_each change listed rows, each_row change twice listed rows seen)
+
+-- ---- a row that is written
+
+module _ (v : ℕ) (row : Row) (current : List ℕ) (rows : List Row) (only : OnlyCurrent current rows) where
+  abbrev after : List Row
+  after = slice_set rows v row
+
+  now_settled : is_settled v row ≡ true → is_settled v (row_at after v) ≡ true
+  now_settled e = set_is (is_settled v) rows v row blank true e refl
+
+  as_before : (u : ℕ) → (v ≡ u → ⊥) → IsOne u current ⊎ (is_settled u (row_at after u) ≡ true)
+  as_before u ne = elim (only u) [ inl one ↦ inl one | inr e ↦ inr (subst (λ (r : Row). is_settled u r ≡ true) (sym (get_or-set_other rows v u row blank (λ x. ne (sym x)))) e) ]
+
+  pub set_current : OnlyCurrent (with_current v (row_at rows v) row current) after
+  set_current u = pick (is_settled v (row_at rows v)) refl (is_settled v row) refl (same_or_not v u) where
+    one_of : (b : Bool) → IsOne u current → IsOne u (if b then current ++ v ∷ [] else current)
+    one_of true one = one_more u v current one
+    one_of false one = one
+
+    old : IsOne u current ⊎ (is_settled u (row_at after u) ≡ true) → IsOne u (with_current v (row_at rows v) row current) ⊎ (is_settled u (row_at after u) ≡ true)
+    old (inl one) = inl (one_of (is_settled v (row_at rows v) && not (is_settled v row)) one)
+    old (inr e) = inr e
+
+    was : is_settled v (row_at rows v) ≡ false → v ≡ u → IsOne u current ⊎ (is_settled v (row_at rows v) ≡ true) → IsOne u current
+    was e same (inl one) = one
+    was e same (inr h) = absurd cc
+
+    pick : (a : Bool) → is_settled v (row_at rows v) ≡ a → (b : Bool) → is_settled v row ≡ b → (v ≡ u) ⊎ (v ≡ u → ⊥) → IsOne u (with_current v (row_at rows v) row current) ⊎ (is_settled u (row_at after u) ≡ true)
+    pick a e b h (inr ne) = old (as_before u ne)
+    pick a e true h (inl same) = inr (subst (λ x. is_settled x (row_at after x) ≡ true) same (now_settled h))
+    pick true e false h (inl same) = inl (rw (e, h) (subst (λ x. IsOne x (current ++ v ∷ [])) same (one_last v current)))
+    pick false e false h (inl same) = old (inl (was e same (subst (λ x. IsOne x current ⊎ (is_settled v (row_at rows v) ≡ true)) same (only v))))
+
+  pub change_current : (is_settled v (row_at rows v) ≡ true → is_settled v row ≡ true) → OnlyCurrent current after
+  change_current keeps u = pick (same_or_not v u) where
+    pick : (v ≡ u) ⊎ (v ≡ u → ⊥) → IsOne u current ⊎ (is_settled u (row_at after u) ≡ true)
+    pick (inr ne) = as_before u ne
+    pick (inl same) = elim (only v) [ inl one ↦ inl (subst (λ x. IsOne x current) same one) | inr e ↦ inr (subst (λ x. is_settled x (row_at after x) ≡ true) same (now_settled (keeps e))) ]
+
+-- blank rows stay blank at a safepoint
+pub blank_current : (current : List ℕ) (count : ℕ) (rows : List Row) → rows ≡ replicate count blank → OnlyCurrent current rows
+blank_current current count rows e v = inr (ap (is_settled v) (ap (λ l. row_at l v) e ∙ blank_at count v))
+
+-- ---- rows of a class
+
+module _ (c : ℕ) (rows : List Row) (marked : List ℕ) (i : ℕ) (lt : i < length marked) (current next : List ℕ) (is : next ≡ with_row_of c rows (get_or marked i 0) current) where
+  abbrev u : ℕ
+  u = get_or marked i 0
+
+  pub kept_of : (v : ℕ) → IsOne v current → IsOne v next
+  kept_of v one = subst (IsOne v) (sym is) (pick (row_is_of c rows u)) where
+    pick : (b : Bool) → IsOne v (if b then current ++ u ∷ [] else current)
+    pick true = one_more v u current one
+    pick false = one
+
+  pub noted_of : (v : ℕ) → row_is_of c rows v ≡ true → IsOne v current ⊎ IsOne v (drop i marked) → IsOne v next ⊎ IsOne v (drop (i + 1) marked)
+  noted_of v of (inl one) = inl (kept_of v one)
+  noted_of v of (inr one) = elim (subst (IsOne v) (drop-cons marked i 0 lt) one) [
+    | inl same ↦ inl (subst (IsOne v) (sym (is ∙ ap (λ b. if b then current ++ u ∷ [] else current) (subst (λ x. row_is_of c rows x ≡ true) (sym same) of))) (subst (λ x. IsOne x (current ++ u ∷ [])) same (one_last u current)))
+    | inr rest ↦ inr (subst (λ n. IsOne v (drop n marked)) (sym (add-one i)) rest)
+  ]
+
+-- ---- a class is another now
+
+unmoved : (from to : ℕ) (known : Known) → is_of from known ≡ false → move from to known ≡ known
+unmoved from to (Cell c layout stale) e = ap (λ b. Cell (if b then to else c) layout stale) e
+unmoved from to Nothing e = refl
+unmoved from to (Number bits below) e = refl
+unmoved from to Null e = refl
+unmoved from to (Address base words) e = refl
+unmoved from to (GlobalAddress g) e = refl
+
+pub moved_current : (from to : ℕ) (rows next : List Row) → EachRow (λ u. move_row from to) rows next → (marked current noted : List ℕ) → OnlyMarked marked rows → OnlyCurrent current rows
+    → ((v : ℕ) → IsOne v current → IsOne v noted) → ((v : ℕ) → IsOne v marked → row_is_of from rows v ≡ true → IsOne v noted) → OnlyCurrent noted next
+moved_current from to rows next each marked current noted filled only kept listed v = elim (only v) [ inl one ↦ inl (kept v one) | inr e ↦ pick e (yes_or_no (is_of from (row_at rows v).known)) ] where
+  pick : is_settled v (row_at rows v) ≡ true → (is_of from (row_at rows v).known ≡ true) ⊎ (is_of from (row_at rows v).known ≡ false) → IsOne v noted ⊎ (is_settled v (row_at next v) ≡ true)
+  pick e (inl of) = elim (filled v) [ inl one ↦ inl (listed v one of) | inr empty ↦ absurd (let none = ap (λ (row : Row). is_of from row.known) empty in cc) ]
+  pick e (inr off) = inr (subst (λ (row : Row). is_settled v row ≡ true) (sym (at (λ u. move_row from to) (λ u. refl) rows next each v ∙ ap (λ (k : Known). record (row_at rows v) { known = k }) (unmoved from to (row_at rows v).known off))) e)
+
+-- ---- a safepoint
+
+module _ (classes : List Class) (current : List ℕ) (rows : List Row) (own : (v : ℕ) → v < length rows → class_at classes v ≡ (row_at rows v).class) (only : OnlyCurrent current rows) (twice : (v : ℕ) (row : Row) → settle_row v (settle_row v row) ≡ settle_row v row) where
+  abbrev between : List Row
+  between = each (keep_row classes) current rows
+
+  kept : EachRow (keep_row classes) rows between
+  kept = each_listed (keep_row classes) (λ v row. refl) current rows (λ v lt. elim (only v) [ inl one ↦ inl one | inr e ↦ inr (keep_settled classes v (row_at rows v) (own v lt) e) ])
+
+  settled : EachRow settle_row between (each settle_row current between)
+  settled = each_listed settle_row twice current between (λ v lt. elim (only v) [ inl one ↦ inl one | inr e ↦ inr (leave v (rw (← kept.0) lt) e) ]) where
+    leave : (v : ℕ) → v < length rows → is_settled v (row_at rows v) ≡ true → settle_row v (row_at between v) ≡ row_at between v
+    leave v lt e = let same = kept.1 v lt ∙ keep_settled classes v (row_at rows v) (own v lt) e in ap (settle_row v) same ∙ settle_settled v (row_at rows v) e ∙ sym same
+
+  -- a safepoint that changes the rows that are listed changes all rows
+  pub stale_all : EachRow (stale_row classes) rows (each settle_row current between)
+  stale_all = (settled.0 ∙ kept.0, λ v lt. settled.1 v (rw kept.0 lt) ∙ ap (settle_row v) (kept.1 v lt))
+
+  pub stale_marked : (marked : List ℕ) → OnlyMarked marked rows → OnlyMarked marked (each settle_row current between)
+  stale_marked = marked_after (stale_row classes) (λ v. refl) rows (each settle_row current between) stale_all
+
+  pub stale_none : OnlyCurrent [] (each settle_row current between)
+  stale_none = none_after (stale_row classes) (λ v. refl) rows (each settle_row current between) stale_all (settled_after classes)

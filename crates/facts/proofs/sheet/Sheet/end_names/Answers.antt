@@ -1,0 +1,26 @@
+use Rattle.std.proofs.Common.{◌≡◌, sym, subst, refl, List, ℕ}
+use Rattle.facts.specs.declared.row.Row.{Row}
+use Rattle.facts.specs.declared.sweeps.Change.TheVariants.{Off}
+use Rattle.facts.specs.Sheets.{EachRow, OnlyMarked, changed}
+use Rattle.facts.specs.Uses.{OnlyUsers}
+use Rattle.facts.proofs.Current.{marked_after, current_after, off_settled}
+use Rattle.facts.proofs.sheet.Sheet.end_names.Goals as goal
+
+module _ (c : goal.After-end_names) where
+  abbrev before : List Row
+  before = c.self.inside.rows.items
+
+  abbrev after : List Row
+  after = c.end_names.new.rows.items
+
+  off : EachRow (changed (Off c.args.v)) before after
+  off = c.end_names.ensures (subst (λ (rows : List Row). OnlyUsers c.args.uses.now rows) (sym c.self.view_is) c.requires) (subst (λ (us : List ℕ). OnlyMarked us before) (sym c.deref.ensures.value) c.self.invariant.0)
+
+pub invariant_of-self : goal.invariant_of-self
+invariant_of-self c = (
+  marked_after (changed (Off c.args.v)) (λ u. refl) (before c) (after c) (off c) c.self.inside.marked.items c.self.invariant.0,
+  current_after (changed (Off c.args.v)) (λ u. refl) (before c) (after c) (off c) c.self.inside.current.items (off_settled c.args.v) c.self.invariant.1,
+)
+
+pub returns : goal.returns
+returns c = subst (λ (rows : List Row). EachRow (changed (Off c.args.v)) rows (after c)) c.self.view_is (off c)
