@@ -112,38 +112,6 @@ frame_action p frame below None = End
 frame_action p frame below (Some f) = step_action p f frame below (instr_at f frame)
 
 -- what a thread asks for
-
--- the instruction at a place of a block
-abbrev pub instr_in : (place : ℕ) → Option Block → Option Instr
-instr_in place None = None
-instr_in place (Some block) = slice_get block.instructions place
-
--- the instruction at which a frame is
-abbrev pub instr_at : Function → Frame → Option Instr
-instr_at f frame = instr_in frame.place (slice_get f.blocks frame.block)
-
--- what an instruction asks for; where there is none, the thread ends
-abbrev pub instr_action : LaidOut → Function → Frame → Option Instr → Action
-instr_action p f frame None = End
-instr_action p f frame (Some instr) = op_action p f (slots_of p.of_module f) frame.block frame.registers instr.op
-
--- what is asked for above this number of other frames: a return to one of them is one step, and a call for whose frame there is no room ends the thread
-abbrev pub above : Onward → (below : ℕ) → Action → Action
-above Back (suc below) End = Local
-above (Into function) below Local = if has_room below then Local else End
-above onward below asked = asked
-
--- what an instruction asks for above this number of other frames
-abbrev pub step_action : LaidOut → Function → Frame → (below : ℕ) → Option Instr → Action
-step_action p f frame below None = End
-step_action p f frame below (Some instr) = above (onward_of p.of_module instr.op) below (instr_action p f frame (Some instr))
-
--- what a frame of this function asks for above this number of other frames
-abbrev pub frame_action : LaidOut → Frame → (below : ℕ) → Option Function → Action
-frame_action p frame below None = End
-frame_action p frame below (Some f) = step_action p f frame below (instr_at f frame)
-
--- what a thread asks for
 abbrev pub action : LaidOut → State → Action
 action p s = frames_action s.frames
   where

@@ -12,7 +12,7 @@ use Rattle.ir_ast.specs.declared.instr.Instr.{Instr}
 use Rattle.ir_ast.specs.declared.items_of_module.SymbolSort.{SymbolSort}
 use Rattle.ir_ast.specs.declared.items_of_module.SymbolSort.TheVariants as symbol
 use Rattle.ir_ast.specs.declared.module.Module.{Module}
-use Rattle.ir_ast.specs.declared.op.Argument.{Argument}
+use Rattle.ir_ast.specs.declared.argument.Argument.{Argument}
 use Rattle.ir_ast.specs.declared.op.Op.{Op}
 use Rattle.ir_ast.specs.declared.op.Op.TheVariants.{Call, Unreachable, ReturnVoid, Return}
 use Rattle.ir_ast.specs.declared.runtime.Runtime.{Runtime}
