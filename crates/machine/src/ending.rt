@@ -1,7 +1,7 @@
 ghost use Rattle.std.specs.Prelude.{◌≡◌};
 ghost use Rattle.machine.specs.Endings.{ending_by};
 
-use crate::results::result_of;
+use crate::ends::result_of;
 use crate::value::Value;
 use ir_ast::{End, Module};
 

@@ -4,8 +4,8 @@ ghost use Rattle.shadow_stack.specs.Slots.{slots_of};
 ghost use Rattle.machine.specs.Jumps.{phis_of};
 ghost use Rattle.machine.specs.Machine.{initial, with_arguments, entry_frame};
 
+use crate::elements::address_of;
 use crate::frame::{Frame, initial, put};
-use crate::results::address_of;
 use crate::value::{Place, Value};
 use ir_ast::{FuncId, Function, Module, TypeId, ValueId};
 use items::Items;

@@ -5,13 +5,14 @@ ghost use Rattle.machine.specs.Jumps.{put_register, put_each, phi_value, phis_of
 ghost use Rattle.machine.specs.Machine.{initial, set_register, set_slot, loaded_from, after_call, after_cast, after_memory, after_op, enter};
 
 use crate::answer::Answer;
+use crate::calls::{alloc_value, layout_of_call, place_of_call, root_of_call};
+use crate::choices::choice_value;
+use crate::elements::element_address;
 use crate::jumps::{phi_value, phis_of};
 use crate::kinds::is_integer;
+use crate::memory::{loaded_from, read_at};
+use crate::numbers::number_value;
 use crate::operands::{address_at_place, operand_slot, slot_at_place, value_of};
-use crate::results::{
-    alloc_value, choice_value, element_address, layout_of_call, loaded_from, number_value,
-    place_of_call, read_at, root_of_call,
-};
 use crate::scene::Scene;
 use crate::value::Value;
 use ir_ast::{

@@ -7,12 +7,11 @@ ghost use Rattle.machine.specs.Entered.{WasEntered, WereEntered};
 
 use crate::action::Action;
 use crate::answer::Answer;
-use crate::asks::target_of_way;
-use crate::calls::number_called;
+use crate::calls::{number_called, values_of};
+use crate::ends::{result_of, target_of_way};
 use crate::entered::Entered;
 use crate::entry::entry_frame;
 use crate::frame::Frame;
-use crate::results::{result_of, values_of};
 use crate::value::Value;
 use ir_ast::{Argument, End, FuncId, Function, Instr, Module, Op, ValueId};
 use std::alloc::{AllocError, Global};
@@ -35,16 +34,6 @@ pub fn above_callers(end: &End, below: usize, asked: Action) -> Action
     match (end, asked) {
         (End::ReturnVoid | End::Return(_), Action::End) if below > 0 => Action::Local,
         (_, asked) => asked,
-    }
-}
-
-/// The number of the defined function that an instruction calls, if it calls one.
-pub fn function_called(of_module: &Module, op: &Op) -> Option<FuncId>
-    ensures { result ≡ function_called of_module.now op.now }
-{
-    match op {
-        Op::Call(call) => number_called(of_module, call.callee),
-        _ => None,
     }
 }
 

@@ -7,12 +7,14 @@ ghost use Rattle.machine.specs.declared.thread.StartFault.TheVariants.{Reference
 
 use crate::action::Action;
 use crate::answer::Answer;
-use crate::asks::{end_action, op_action};
+use crate::asks::op_action;
+use crate::calls::function_called;
 use crate::ending::{Ending, ending_by};
+use crate::ends::end_action;
 use crate::entered::{Entered, function_of};
 use crate::entry::entry_frame;
 use crate::frame::Frame;
-use crate::frames::{above_callers, after_end, after_instr, function_called, with_room};
+use crate::frames::{above_callers, after_end, after_instr, with_room};
 use crate::integers::wrapped;
 use crate::kinds::{bits_at, is_integer};
 use crate::value::Value;

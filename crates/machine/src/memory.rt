@@ -1,17 +1,22 @@
-//! What loads and stores ask for.
+//! Slots, loads and stores: what they ask for, and what is read.
 ghost use Rattle.std.specs.Prelude.{◌≡◌};
 ghost use Rattle.machine.specs.Elements.{is_read_as, takes_value};
 ghost use Rattle.machine.specs.Kinds.{slot_at_place, address_at_place, is_usable, value_of};
-ghost use Rattle.machine.specs.Asks.{is_slot_type, is_held_as, fits_type, fits_held, read_action, load_action, plain_action, barrier_action, store_action};
+ghost use Rattle.machine.specs.Asks.{is_slot_type, is_held_as, fits_type, fits_held, read_action, load_action, plain_action, barrier_action, store_action, memory_action};
+ghost use Rattle.machine.specs.Machine.{slot_value, read_at, loaded_from};
 
 use crate::action::{Action, only_if};
-use crate::elements::{global_kind, globals_cell, is_read_as, kind_of_word, takes_value};
+use crate::answer::Answer;
+use crate::elements::{
+    global_kind, globals_cell, is_read_as, kind_of_word, read_value, takes_value,
+};
 use crate::kinds::{fits_layout_of, is_byte_pointer};
 use crate::operands::{address_at_place, is_usable, slot_at_place, value_of};
 use crate::scene::Scene;
 use crate::value::{Place, Value};
-use ir_ast::{Module, Operand, TypeId};
+use ir_ast::{MemoryOp, Module, Operand, TypeId};
 use layout::Program;
+use shadow_stack::SlotId;
 use types::is_reference;
 
 fn is_slot_type(of_module: &Module, held: TypeId, written: TypeId) -> bool
@@ -72,7 +77,7 @@ pub fn read_action(program: &Program, loaded: TypeId, address: Option<Place>) ->
 }
 
 /// What a load asks for: nothing of a slot, the word of an address.
-pub fn load_action(scene: &Scene<'_>, loaded: TypeId, place_type: TypeId, place: &Operand) -> Action
+fn load_action(scene: &Scene<'_>, loaded: TypeId, place_type: TypeId, place: &Operand) -> Action
     ensures { let m = scene.now.program.now.of_module in let f = scene.now.function.now in let slots = scene.now.slots.now in result ≡ load_action scene.now.program.now slots loaded (slot_at_place m f slots place_type place.now) (address_at_place m f slots scene.now.registers.now place_type place.now) }
 {
     match slot_at_place(scene, place_type, place) {
@@ -163,7 +168,7 @@ pub fn barrier_action(
 }
 
 /// What a store asks for: nothing of a slot, a plain store of the word of an address.
-pub fn store_action(
+fn store_action(
     scene: &Scene<'_>,
     stored: TypeId,
     operand: &Operand,
@@ -196,5 +201,66 @@ pub fn store_action(
                 Action::Wrong
             }
         }
+    }
+}
+
+/// What an operation on memory asks for.
+pub fn memory_action(scene: &Scene<'_>, op: &MemoryOp) -> Action
+    ensures { result ≡ memory_action scene.now.program.now scene.now.function.now scene.now.slots.now scene.now.registers.now op.now }
+{
+    match op {
+        MemoryOp::Alloca(_) => Action::Local,
+        MemoryOp::Load {
+            loaded,
+            place_type,
+            place,
+        } => load_action(scene, *loaded, *place_type, place),
+        MemoryOp::Store {
+            stored,
+            value,
+            place_type,
+            place,
+        } => store_action(scene, *stored, value, *place_type, place),
+    }
+}
+
+/// What a slot holds.
+pub fn slot_value(slots: &[Value], slot: SlotId) -> Value
+    ensures { result ≡ slot_value slots.now slot }
+{
+    match slots.get(slot.number()) {
+        Some(value) => *value,
+        None => Value::Unset,
+    }
+}
+
+/// What is read at an address.
+pub fn read_at(program: &Program, address: Option<Place>, answer: Answer) -> Value
+    ensures { result ≡ read_at program.now address answer }
+{
+    match &address {
+        Some(Place::Word { layout, word, .. }) => {
+            read_value(kind_of_word(program, *layout, *word), answer)
+        }
+        Some(Place::Global(global)) => {
+            read_value(global_kind(program.module(), *global), answer)
+        }
+        _ => Value::Unset,
+    }
+}
+
+/// What a load gives: what the slot holds, or what is read at the address.
+pub fn loaded_from(
+    program: &Program,
+    slots: &[Value],
+    slot: Option<SlotId>,
+    address: Option<Place>,
+    answer: Answer,
+) -> Value
+    ensures { result ≡ loaded_from program.now slots.now slot address answer }
+{
+    match slot {
+        Some(slot) => slot_value(slots, slot),
+        None => read_at(program, address, answer),
     }
 }
