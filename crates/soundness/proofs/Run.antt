@@ -171,7 +171,7 @@ module _ (heap : Setup) (program : LaidOut) (heap_is : IsHeapFor heap program) (
   first_certified : (function : ℕ) (f : Function) → slice_get program.of_module.functions function ≡ Some f → IsCertified (scene function f) 0
   first_certified function f there = by f.blocks refl where
     -- where there is no block
-    abbrev Missing : List Block → Type 0
+    Missing : List Block → Type 0
     Missing blocks =
         PhisPass (scene function f) 0 0 (block_phis (slice_get blocks 0))
         × Follows (scene function f) 0 (phi_count (scene function f) 0) (given_at (scene function f) 0) (block_body (slice_get blocks 0)) (given_at (scene function f) 0)
@@ -602,8 +602,8 @@ module _ (heap : Setup) (program : LaidOut) (heap_is : IsHeapFor heap program) (
           (subst (λ g. EndPasses s frame.block (end_place s frame.block) g (end_of f frame.block)) same x.standing.ends)
 
       by : (q : Option AnEnd) → EndPasses s frame.block (end_place s frame.block) facts q → Onward log roots (mc.last_action program f frame (length below) q) (λ given. mc.after_last program f frame below q)
-      by None pass = end_onward log roots End (frame ∷ below) refl x
-      by (Some y) pass = end_goes y pass
+      by None passed = end_onward log roots End (frame ∷ below) refl x
+      by (Some y) passed = end_goes y passed
 
   -- ---- a step of the thread
 
