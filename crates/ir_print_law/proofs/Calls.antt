@@ -1,5 +1,5 @@
 -- Calls, as they are read.
-use Rattle.std.proofs.Common.{inl, inr, ◌≡◌, ℕ, Bool, true, false, not, slice_get, refl, sym, ap, subst, ◌∙◌}
+use Rattle.std.proofs.Common.{inl, inr, ◌≡◌, ℕ, Bool, true, false, not, List, slice_get, refl, sym, ap, subst, ◌∙◌}
 use Rattle.ir_ast.specs.declared.calls.Call.{Call}
 use Rattle.ir_ast.specs.declared.function.Function.{Function}
 use Rattle.ir_ast.specs.declared.function.LocalSort.TheVariants as local

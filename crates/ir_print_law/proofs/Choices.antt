@@ -8,10 +8,11 @@ use Rattle.ir_ast.specs.declared.function.LocalSort.TheVariants as local
 use Rattle.ir_ast.specs.declared.module.Module.{Module}
 use Rattle.ir_tokens.specs.declared.token.Kind.{Kind}
 use Rattle.ir_tokens.specs.declared.token.Kind.TheVariants as k
-use Rattle.ir_forms.specs.Choices.{select, separated, incoming, entry, ends_entries, behind_entry, all_entries, phi_value_by, phi_value, phi, at_no_phi, phis}
+use Rattle.ir_forms.specs.Choices.{select, separated, incoming, entry, ends_entries, behind_entry, all_entries, phi_value_by, phi_value, phi_behind, phi, at_no_phi, phis}
 use Rattle.ir_forms.specs.Cursor.{kind}
 use Rattle.ir_forms.specs.ManyWith.{Follows}
-use Rattle.ir_forms.specs.Written.{bits_of}
+use Rattle.ir_forms.specs.Written.{is_scalar, bits_of}
+use Rattle.ir_forms.specs.declared.written.WrittenType.{WrittenType}
 use Rattle.ir_forms.specs.declared.choices.Entries.{Entries}
 use Rattle.ir_forms.specs.declared.decorating.Trail.TheVariants as trail
 use Rattle.ir_forms.specs.declared.input.Input.{Input}
@@ -25,7 +26,7 @@ use Rattle.ir_print_law.proofs.Looks.{bits_are}
 use Rattle.ir_print_law.proofs.Operands.{AreBits, operand_keeps, label_keeps}
 use Rattle.ir_print_law.proofs.Passes.{Passes, skip_passes, expect_passes, pure_passes}
 use Rattle.ir_print_law.proofs.Reading.{Within, Naming, Builder, Progress, with_named_value, within_of, naming_of}
-use Rattle.ir_print_law.proofs.TypesThat.{scalar_of, scalar_keeps}
+use Rattle.ir_print_law.proofs.TypesThat.{IsFit, scalar_of, scalar_keeps}
 use Rattle.ir_print_law.proofs.ValueLists.{with_values, values_from}
 use Rattle.ir_print_law.proofs.ValueSorts.{Gives, sort_keeps, ends}
 
@@ -109,6 +110,16 @@ module _ {m : Module} {f : Function} (v : Within m f) where
       (λ c j a p said fore. let y = entry_keeps c j a p said fore in (y.0, λ b. let z = y.1 b in (z.0, λ xs rest fit. (z.1 fit, rest fit)))) (record { bits = bits; is_further = false }) i xs o h fore in
       (x.0.1, λ b. let c = x.1 b in (c.0, (some_entry bits i xs o h, c.1)))
 
+  -- a type and entries that make a phi
+  phi_is : (n : ℕ) (w : WrittenType) (xs : List Incoming) → IsFit m is_scalar w → (0 < length xs) × (AreBits (bits_of w) → AllByRecursion (IsIncoming m f (bits_of w)) xs)
+      → IsPhi m f (record { value = n; written = w.id; incoming = xs })
+  phi_is n w xs fit entries =
+      let shape = fit.0.0 in
+      let own = fit.0.1 in
+      let bits = bits_are m 64 w shape own in
+      let are = entries.1 (subst AreBits (sym bits) (bits_written (defined_structs m) shape own.is_written)) in
+      (shape, scalar_of m w fit, entries.0, subst (λ (y : Option ℕ). AllByRecursion (IsIncoming m f y) xs) bits are)
+
 module _ {m : Module} {f : Function} {Back : Input → Type 0} {Fore : Progress → Input → Type 0} {Open : Progress → ℕ → Input → Type 0} (b : Builder m f Back Fore Open) where
   phi_value_by_keeps : (g : Progress) (x : Kind) (i : Input) → kind i.cursor ≡ x → Keeps (Fore g) (Open g) Back (phi_value_by x) Any i
   phi_value_by_keeps g k.LocalName i is = b.named g i is
@@ -119,43 +130,39 @@ module _ {m : Module} {f : Function} {Back : Input → Type 0} {Fore : Progress 
   unfolding phi_value
   phi_value_keeps g i = phi_value_by_keeps g (kind i.cursor) i refl
 
-  phi_keeps : (g : Progress) (i : Input) → Keeps (Fore g) (λ x. Fore (with_named_value g x.value)) Back phi (IsPhi m f) i
-  unfolding phi
-  phi_keeps g i x o h fore =
-      let n = h.0 in
-      let t1 = h.3 in
-      let t2 = t1.3 in
-      let t3 = t2.3 in
-      let t4 = t3.3 in
-      let t5 = t4.3 in
-      let t6 = t5.3 in
+  -- what follows the name of the value of a phi
+  phi_behind_keeps : (g : Progress) (n : ℕ) (i : Input) (x : Phi) (o : Input) → (phi_behind n).says i x o → Open g n i
+      → Fore (with_named_value g x.value) o × (Back o → Back i × IsPhi m f x)
+  phi_behind_keeps g n i x o h fore =
       let naming = naming_of b g n in
       let r = naming.within.reading in
-      let after = (within_of (b.kit (with_named_value g n))).reading in
-      let a = phi_value_keeps g i n h.1 h.2 fore in
-      let c = expect_passes r k.Equals h.1 t1.0 t1.1 t1.2 a.0 in
-      let d = expect_passes r k.Phi t1.1 t2.0 t2.1 t2.2 c.0 in
-      let e = scalar_keeps r t2.1 t3.0 t3.1 t3.2 d.0 in
-      let w = t3.0 in
-      let s = entries_keep naming.within (bits_of w) t3.1 t4.0 t4.1 t4.2 e.0 in
-      let q = sort_keeps naming (local.Value w.id) tt t4.1 t5.0 t5.1 t5.2 s.0 in
-      let l = trailing_passes after trail.Other t5.1 t6.0 t6.1 t6.2 q.0 in (
-        subst (λ (y : Phi). Fore (with_named_value g y.value) o) t6.3.0 (subst (Fore (with_named_value g n)) t6.3.1 l.0),
+      let t = h.3 in
+      let u = t.3 in
+      let w = u.3 in
+      let y = w.3 in
+      let z = y.3 in
+      let a = expect_passes r k.Equals i h.0 h.1 h.2 fore in
+      let c = expect_passes r k.Phi h.1 t.0 t.1 t.2 a.0 in
+      let d = scalar_keeps r t.1 u.0 u.1 u.2 c.0 in
+      let e = entries_keep naming.within (bits_of u.0) u.1 w.0 w.1 w.2 d.0 in
+      let s = sort_keeps naming (local.Value u.0.id) tt w.1 y.0 y.1 y.2 e.0 in
+      let q = trailing_passes (within_of (b.kit (with_named_value g n))).reading trail.Other y.1 z.0 z.1 z.2 s.0 in (
+        subst (λ (p : Phi). Fore (with_named_value g p.value) o) z.3.0 (subst (Fore (with_named_value g n)) z.3.1 q.0),
         λ back.
-            let lb = l.1 (subst Back (sym t6.3.1) back) in
-            let qb = q.1 lb.0 in
+            let qb = q.1 (subst Back (sym z.3.1) back) in
             let sb = s.1 qb.0 in
             let eb = e.1 sb.0 in
             let db = d.1 eb.0 in
             let cb = c.1 db.0 in
-            let ab = a.1 cb.0 in
-            let shape = eb.1.0.0 in
-            let own = eb.1.0.1 in
-            let bits = bits_are m 64 w shape own in
-            let fit = subst AreBits (sym bits) (bits_written (defined_structs m) shape own.is_written) in
-            let entries = subst (λ (y : Option ℕ). AllByRecursion (IsIncoming m f y) t4.0) bits (sb.1.1 fit) in
-            (ab.0, subst (IsPhi m f) t6.3.0 (shape, scalar_of m w eb.1, sb.1.0, entries)),
+            ((a.1 cb.0).0, subst (IsPhi m f) z.3.0 (phi_is naming.within n u.0 w.0 db.1 eb.1)),
       )
+
+  phi_keeps : (g : Progress) (i : Input) → Keeps (Fore g) (λ x. Fore (with_named_value g x.value)) Back phi (IsPhi m f) i
+  unfolding phi
+  phi_keeps g i x o h fore =
+      let a = phi_value_keeps g i h.0 h.1 h.2 fore in
+      let c = phi_behind_keeps g h.0 h.1 x o h.3 a.0 in
+      (c.0, λ back. let cb = c.1 back in ((a.1 cb.0).0, cb.1))
 
   -- the phis of a block
   pub phis_keep : (g : Progress) (i : Input) → Keeps (Fore g) (λ xs. Fore (with_phis g xs)) Back phis (AllByRecursion (IsPhi m f)) i
