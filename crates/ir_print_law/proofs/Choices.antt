@@ -34,6 +34,16 @@ use Rattle.ir_print_law.proofs.ValueSorts.{Gives, sort_keeps, ends}
 abbrev pub with_phis : Progress → List Phi → Progress
 with_phis = with_values (λ (x : Phi). x.value)
 
+-- a type and entries that make a phi
+phi_is : (m : Module) (f : Function) (n : ℕ) (w : WrittenType) (xs : List Incoming) → IsFit m is_scalar w → (0 < length xs) × (AreBits (bits_of w) → AllByRecursion (IsIncoming m f (bits_of w)) xs)
+    → IsPhi m f (record { value = n; written = w.id; incoming = xs })
+phi_is m f n w xs fit entries =
+    let shape = fit.0.0 in
+    let own = fit.0.1 in
+    let bits = bits_are m 64 w shape own in
+    let are = entries.1 (subst AreBits (sym bits) (bits_written (defined_structs m) shape own.is_written)) in
+    (shape, scalar_of m w fit, entries.0, subst (λ (y : Option ℕ). AllByRecursion (IsIncoming m f y) xs) bits are)
+
 module _ {m : Module} {f : Function} {value : ℕ} (n : Naming m f value) where
   pub select_keeps : Gives n (select value) (IsChoice m f)
   unfolding select
@@ -110,16 +120,6 @@ module _ {m : Module} {f : Function} (v : Within m f) where
       (λ c j a p said fore. let y = entry_keeps c j a p said fore in (y.0, λ b. let z = y.1 b in (z.0, λ xs rest fit. (z.1 fit, rest fit)))) (record { bits = bits; is_further = false }) i xs o h fore in
       (x.0.1, λ b. let c = x.1 b in (c.0, (some_entry bits i xs o h, c.1)))
 
-  -- a type and entries that make a phi
-  phi_is : (n : ℕ) (w : WrittenType) (xs : List Incoming) → IsFit m is_scalar w → (0 < length xs) × (AreBits (bits_of w) → AllByRecursion (IsIncoming m f (bits_of w)) xs)
-      → IsPhi m f (record { value = n; written = w.id; incoming = xs })
-  phi_is n w xs fit entries =
-      let shape = fit.0.0 in
-      let own = fit.0.1 in
-      let bits = bits_are m 64 w shape own in
-      let are = entries.1 (subst AreBits (sym bits) (bits_written (defined_structs m) shape own.is_written)) in
-      (shape, scalar_of m w fit, entries.0, subst (λ (y : Option ℕ). AllByRecursion (IsIncoming m f y) xs) bits are)
-
 module _ {m : Module} {f : Function} {Back : Input → Type 0} {Fore : Progress → Input → Type 0} {Open : Progress → ℕ → Input → Type 0} (b : Builder m f Back Fore Open) where
   phi_value_by_keeps : (g : Progress) (x : Kind) (i : Input) → kind i.cursor ≡ x → Keeps (Fore g) (Open g) Back (phi_value_by x) Any i
   phi_value_by_keeps g k.LocalName i is = b.named g i is
@@ -154,7 +154,7 @@ module _ {m : Module} {f : Function} {Back : Input → Type 0} {Fore : Progress 
             let eb = e.1 sb.0 in
             let db = d.1 eb.0 in
             let cb = c.1 db.0 in
-            ((a.1 cb.0).0, subst (IsPhi m f) z.3.0 (phi_is naming.within n u.0 w.0 db.1 eb.1)),
+            ((a.1 cb.0).0, subst (IsPhi m f) z.3.0 (phi_is m f n u.0 w.0 db.1 eb.1)),
       )
 
   phi_keeps : (g : Progress) (i : Input) → Keeps (Fore g) (λ x. Fore (with_named_value g x.value)) Back phi (IsPhi m f) i
