@@ -1,5 +1,5 @@
 -- How blocks end, as it is read.
-use Rattle.std.proofs.Common.{◌≡◌, ℕ, Bool, true, false, [], Option, refl, sym, subst, ◌∙◌}
+use Rattle.std.proofs.Common.{◌≡◌, ℕ, Bool, true, false, [], Option, sym, subst, ◌∙◌}
 use Rattle.lemmas.specs.Bools.{not_true}
 use Rattle.grammar.specs.Grammar.{pure, ◌>>◌}
 use Rattle.ir_ast.specs.declared.function.Function.{Function}

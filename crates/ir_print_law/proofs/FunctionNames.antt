@@ -21,7 +21,7 @@ use Rattle.ir_print_law.proofs.FunctionEnds.{nothing, whole_of}
 use Rattle.ir_print_law.proofs.FunctionPlaces.{Places, AreFirst, key_there}
 use Rattle.ir_print_law.proofs.LocalNames.{Locals, keys_at}
 use Rattle.ir_print_law.proofs.Progresses.{parameters_labels}
-use Rattle.ir_print_law.proofs.Reading.{Progress, with_named_value, with_named_label}
+use Rattle.ir_print_law.proofs.Reading.{Progress, with_named_value}
 
 -- ---- keys
 
