@@ -9,9 +9,15 @@ pub mod TypesThat
 pub mod Decorations
 pub mod Operands
 pub mod Arguments
-pub mod Operations
+pub mod ValueSorts
+pub mod ValueLists
+pub mod Numbers
+pub mod Memory
+pub mod Elements
+pub mod Casts
+pub mod Choices
 pub mod Calls
-pub mod Branches
+pub mod Ends
 pub mod Instructions
 pub mod Blocks
 pub mod DefinedNames
