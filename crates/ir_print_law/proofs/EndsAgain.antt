@@ -255,12 +255,12 @@ module _ {m : Module} {f : Function} (v : Invariant m f) where
       (λ _ a ready h5 e.
       on v v target (λ two. pure (end.Branch b.written b.operand one two)) a rest rest s s (HasLabel (name_at f.locals other)) good
       (target_reads v other a (32 ∷ []) rest s at_other refl seam ready)
-      (λ two end ready h6 second. given v (end.Branch b.written b.operand one two) end rest s good ready
+      (λ two u ready h6 second. given v (end.Branch b.written b.operand one two) u rest s good ready
       (λ n others later.
-      let latery = later_before y end n others (grows_further y a end h5 h6) later in
+      let latery = later_before y u n others (grows_further y a u h5 h6) later in
       let laterq = later_before q y n others (grows_further q z y h3 h4) latery in
       let bit = again n others laterq in
-      (bit.0, bit.1, label_later v taken one y n others first latery, label_later v other two end n others second later)))))))))
+      (bit.0, bit.1, label_later v taken one y n others first latery, label_later v other two u n others second later)))))))))
     where
       front : (a b c : Text) → (codes "br " ++ a ++ codes ", " ++ b ++ codes ", " ++ c) ++ rest ≡ codes "br" ++ (32 ∷ (a ++ (codes ", " ++ (b ++ (codes ", " ++ (c ++ rest))))))
       front a b c = simp append_assoc

@@ -79,6 +79,7 @@ pub mod Empty
 pub mod InnerLines
 pub mod Steady
 pub mod Begins
+pub mod PhiLines
 pub mod Bodies
 pub mod NewLabels
 pub mod LabelLines
