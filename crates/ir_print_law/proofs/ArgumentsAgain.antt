@@ -29,7 +29,7 @@ use Rattle.ir_print_law.proofs.WholeTypes.{type_begins}
 use Rattle.ir_print_law.proofs.PrintedTypes.{type_shown, read_again, scalar_reads}
 use Rattle.ir_print_law.proofs.OperandsAgain.{OperandAgain, ends_operand}
 use Rattle.ir_print_law.proofs.Parts.{ArgumentAgain, operand_at}
-use Rattle.ir_print_law.proofs.OperationsAgain.{on, said_on}
+use Rattle.ir_print_law.proofs.Setting.{on, said_on}
 use Rattle.std.specs.List.{flat_map, AllByRecursion}
 use Rattle.ir_forms.specs.Cursor.{begins_line}
 use Rattle.ir_forms.specs.Decorations.{decorations, begins_decoration}

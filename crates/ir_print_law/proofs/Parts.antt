@@ -7,6 +7,7 @@ use Rattle.ir_ast.specs.declared.function.Function.{Function}
 use Rattle.ir_ast.specs.declared.function.LocalSort.{LocalSort}
 use Rattle.ir_ast.specs.declared.module.Module.{Module}
 use Rattle.ir_ast.specs.declared.argument.Argument.{Argument}
+use Rattle.ir_ast.specs.declared.op.Op.{Op}
 use Rattle.ir_ast.specs.declared.operand.Operand.{Operand}
 use Rattle.ir_tokens.specs.declared.token.Kind.{Kind}
 use Rattle.ir_tokens.specs.declared.token.Kind.TheVariants as k
@@ -31,7 +32,7 @@ use Rattle.ir_print.specs.Parts.{typed, pair_text}
 use Rattle.ir_print.specs.Standing.{IsSeam, AreBlanks}
 use Rattle.ir_print_law.proofs.NamesRead.{locals_are_read}
 use Rattle.ir_print_law.proofs.Words.{sign_comes}
-use Rattle.ir_print_law.specs.Again.{IsNameAgain, IsArgumentAgain, ArePairAgain}
+use Rattle.ir_print_law.specs.Again.{IsNameAgain, IsArgumentAgain, ArePairAgain, IsOpAgain}
 use Rattle.ir_print_law.specs.Printable.{IsOperand, IsArgument, ArePair, IsTarget}
 use Rattle.ir_print_law.specs.Shapes.{IsIn, Shape, HasShape, bits_of_shape}
 use Rattle.ir_print_law.proofs.Tables.{stays}
@@ -60,6 +61,10 @@ ends_again rest ends = (ends.0, λ i at. round_of (kind i.cursor) (ends.1 i at))
 -- what is read is this again, in each module later on
 abbrev pub IsLaterAgain : {A B : Type 0} → (Module → List Text → A → B → Type 0) → A → B → Input → Type 0
 IsLaterAgain Again x y o = (n : Module) (others : List Text) → IsLater o n others → Again n others x y
+
+-- what an instruction does is this again
+abbrev pub OpAgain : Module → (locals : List Text) → Op → Op → Input → Type 0
+OpAgain m locals = IsLaterAgain (λ n others. IsOpAgain m n locals others)
 
 -- an argument is this one again
 abbrev pub ArgumentAgain : Module → (locals : List Text) → Argument → Argument → Input → Type 0
