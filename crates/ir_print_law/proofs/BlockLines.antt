@@ -1,5 +1,5 @@
 -- The blocks of a function are read as these blocks again.
-use Rattle.std.proofs.Common.{◌≡◌, ℕ, ◌+◌, ◌<◌, ◌≤◌, List, [], ◌∷◌, ◌++◌, length, map, refl, sym, subst, ◌∙◌, ap, arith, append_assoc, length-append}
+use Rattle.std.proofs.Common.{◌≡◌, ℕ, suc, ◌+◌, ◌<◌, ◌≤◌, List, [], ◌∷◌, ◌++◌, length, map, refl, sym, subst, ◌∙◌, ap, arith, append_assoc, length-append}
 use Rattle.std.specs.Prelude.{codes}
 use Rattle.std.specs.List.{AllByRecursion, flat_map}
 use Rattle.std.proofs.lemmas.List.{append-nil}
@@ -35,18 +35,20 @@ use Rattle.ir_print_law.proofs.Parts.{IsLaterAgain}
 use Rattle.ir_print_law.proofs.PhiLines.{phi_lines, phis_end, phis_go}
 use Rattle.ir_print_law.proofs.Steady.{Steady, Onward, onward_further, next_key, steady_label}
 
+-- the lines after the label of a block, and what follows them
+abbrev pub block_lines : Module → (locals : List Text) → Block → (rest : Text) → Text
+block_lines m locals b rest = flat_map (phi_line m locals) b.phis ++ (flat_map (instruction_line m locals) b.body ++ (end_line m locals b.end ++ rest))
+
 -- the text of a block, and what follows it
-block_is : (m : Module) (locals : List Text) (b : Block) (rest : Text)
-    → block_text m locals b ++ rest
-    ≡ key_text (name_at locals b.label) ++ 58 ∷ 10 ∷ (flat_map (phi_line m locals) b.phis ++ (flat_map (instruction_line m locals) b.body ++ (end_line m locals b.end ++ rest)))
+pub block_is : (m : Module) (locals : List Text) (b : Block) (rest : Text) → block_text m locals b ++ rest ≡ key_text (name_at locals b.label) ++ 58 ∷ 10 ∷ block_lines m locals b rest
 block_is m locals b rest = parts (key_text (name_at locals b.label)) (flat_map (phi_line m locals) b.phis) (flat_map (instruction_line m locals) b.body) (end_line m locals b.end) where
   parts : (a b c d : Text) → (a ++ codes ":\n" ++ b ++ c ++ d) ++ rest ≡ a ++ 58 ∷ 10 ∷ (b ++ (c ++ (d ++ rest)))
   parts a b c d = simp append_assoc
 
--- how many phis and values there are
+-- each phi has a value
 keys_long : (locals : List Text) (xs : List Phi) → length (map (phi_key locals) xs) ≡ length xs
 keys_long locals [] = refl
-keys_long locals (x ∷ xs) = ap (λ (n : ℕ). n + 1) (keys_long locals xs)
+keys_long locals (x ∷ xs) = ap suc (keys_long locals xs)
 
 module _ (m : Module) (f : Function) (named : AreNamed m f) (ops : OpsRead m f named) where
   -- the block is this one again, and reading has gone on after it

@@ -137,7 +137,8 @@ module _ (m : Module) (f : Function) (named : AreNamed m f) (ops : OpsRead m f n
           record { values_are = refl; labels_are = sym (append-nil far.labels); steady = steady_value far key more is steady next.1.1; same_outside = refl },
           λ later_m others later.
               let there = stays o.locals.names others n key later.locals (stays p.locals.names o.locals.names n key wide.locals w.1.5) in
-              (subst (λ (v : ℕ). slice_get others v ≡ Some key) (sym r.5.0) there, r.5.1 later_m others later),
+              let parts = r.5.1 later_m others later in
+              (subst (λ (v : ℕ). slice_get others v ≡ Some key) (sym r.5.0) there, parts.0, parts.1),
         ),
       )
 

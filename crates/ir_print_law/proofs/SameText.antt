@@ -238,11 +238,11 @@ module _ (m n : Module) (locals others : List Text) where
 
   number_op_same : (x y : NumberOp) → IsNumberOpAgain m n locals others x y → number_op_text m locals x ≡ number_op_text n others y
   number_op_same (number.Arithmetic kind t a b) (number.Arithmetic other u x y) h =
-      same2 (λ c d. c ++ d) (ap arithmetic_word h.0) (pair_same (typed t a) (typed u x) b y (h.1, h.2) h.3)
+      same2 (λ c d. c ++ d) (ap arithmetic_word h.0) (pair_same (typed t a) (typed u x) b y (h.1.0, h.1.1) h.1.2)
   number_op_same (number.Resize kind t x to) (number.Resize other u y into) h =
       same2 (λ a b. a ++ b) (ap resize_word h.0) (converted_same (typed t x) (typed u y) to into (h.1, h.2) h.3)
   number_op_same (number.Compare kind t a b) (number.Compare other u x y) h =
-      same2 (λ c d. codes "icmp " ++ c ++ d) (ap comparison_word h.0) (pair_same (typed t a) (typed u x) b y (h.1, h.2) h.3)
+      same2 (λ c d. codes "icmp " ++ c ++ d) (ap comparison_word h.0) (pair_same (typed t a) (typed u x) b y (h.1.0, h.1.1) h.1.2)
   number_op_same _ _ h = absurd h
 
   memory_op_same : (x y : MemoryOp) → IsMemoryOpAgain m n locals others x y → memory_op_text m locals x ≡ memory_op_text n others y
@@ -263,7 +263,7 @@ module _ (m n : Module) (locals others : List Text) where
   choice_same : (x y : Choice) → IsChoiceAgain m n locals others x y → choice_text m locals x ≡ choice_text n others y
   choice_same x y h =
       same3 (λ k l o. codes "select " ++ k ++ codes ", " ++ l ++ codes ", " ++ o) (typed_same x.condition_type y.condition_type x.condition y.condition h.0 h.1)
-      (typed_same x.written y.written x.chosen y.chosen h.2 h.3) (typed_same x.written y.written x.other y.other h.2 h.4)
+      (typed_same x.written y.written x.chosen y.chosen h.2.0 h.2.1) (typed_same x.written y.written x.other y.other h.2.0 h.2.2)
 
   call_same : (x y : Call) → IsCallAgain m n locals others x y → call_text m locals x ≡ call_text n others y
   call_same x y h =
