@@ -1,6 +1,6 @@
 -- Values that are one of several: select and phi.
 use Rattle.std.specs.Prelude.{ℕ, Bool, true, false, not, ◌&&◌, List, Option}
-use Rattle.grammar.specs.Grammar.{pure, checked, refuse, look, ◌>>=◌, ◌>>◌}
+use Rattle.grammar.specs.Grammar.{pure, refuse, look, ◌>>=◌, ◌>>◌}
 use Rattle.grammar.specs.Many.{many}
 use Rattle.grammar.specs.Takes.{Takes, TakesWhere, first_takes, second_takes, look_takes}
 use Rattle.ir_tokens.specs.declared.token.Kind.{Kind}

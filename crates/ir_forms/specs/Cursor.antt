@@ -33,7 +33,7 @@ kind c = kind_first c.rest
 unfoldable pub kind_behind : Place → Kind
 kind_behind c = kind_first (rest_of c.rest)
 
--- what the token after that is
+-- what the third token is
 unfoldable pub kind_third : Place → Kind
 kind_third c = kind_first (rest_of (rest_of c.rest))
 

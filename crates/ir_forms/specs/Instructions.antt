@@ -1,7 +1,7 @@
 -- The instructions of the body of a block.
 use Rattle.std.specs.Prelude.{◌≢◌, ℕ, nat_lt, Bool, List}
 use Rattle.grammar.specs.Grammar.{pure, checked, refuse, look, ◌>>=◌, ◌>>◌}
-use Rattle.grammar.specs.Takes.{Takes, TakesWhere, first_takes, first_takes_where, second_takes, look_takes}
+use Rattle.grammar.specs.Takes.{Takes, TakesWhere, first_takes_where, second_takes, look_takes}
 use Rattle.ir_tokens.specs.declared.token.Kind.{Kind}
 use Rattle.ir_tokens.specs.declared.token.Kind.TheVariants as k
 use Rattle.ir_ast.specs.declared.op.Op.{Op}

@@ -145,6 +145,6 @@ abbrev pub arithmetic_by : ℕ → Option Arithmetic → Form NumberOp
 arithmetic_by value None = resized value
 arithmetic_by value (Some x) = arithmetic x value
 
--- an instruction of integers
+-- an operation on integers
 unfoldable pub integer_op : ℕ → Form NumberOp
 integer_op value = look (λ i. arithmetic_of (kind i.cursor)) (arithmetic_by value)

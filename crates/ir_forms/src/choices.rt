@@ -178,7 +178,7 @@ fn phi(alloc: Global, input: &mut Input<'_>) -> Result<Phi, Fault>
     })
 }
 
-/// The phis of a block.
+/// Phis, up to where none begins.
 struct PhiList;
 
 impl Listed for PhiList {

@@ -104,7 +104,7 @@ impl<'a> Cursor<'a> {
         }
     }
 
-    /// What the token after that is.
+    /// What the third token is.
     #[tactic(auto, unfolding(crate::specs::Cursor::kind_third))]
     pub fn kind_third(&self) -> Kind
         ensures { result ≡ spec.kind_third self.now }

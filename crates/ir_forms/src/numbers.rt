@@ -197,7 +197,7 @@ fn resized(alloc: Global, input: &mut Input<'_>, value: ValueId) -> Result<Numbe
     }
 }
 
-/// An instruction of integers that is named by its word.
+/// An operation on integers that is named by its word.
 #[tactic(auto, unfolding(crate::specs::Numbers::integer_op))]
 pub fn integer_op(alloc: Global, input: &mut Input<'_>, value: ValueId) -> Result<NumberOp, Fault>
     ensures { Reads ((form.integer_op value).read input.old) result input.new }
