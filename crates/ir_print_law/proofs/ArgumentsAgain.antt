@@ -4,7 +4,7 @@ use Rattle.std.specs.Prelude.{codes}
 use Rattle.grammar.specs.Grammar.{pure, ◌>>=◌, ◌>>◌}
 use Rattle.ir_ast.specs.declared.function.Function.{Function}
 use Rattle.ir_ast.specs.declared.module.Module.{Module}
-use Rattle.ir_ast.specs.declared.op.Argument.{Argument}
+use Rattle.ir_ast.specs.declared.argument.Argument.{Argument}
 use Rattle.ir_ast.specs.declared.operand.Operand.{Operand}
 use Rattle.ir_tokens.specs.declared.token.Kind.{Kind}
 use Rattle.ir_tokens.specs.declared.token.Kind.TheVariants as k
@@ -29,7 +29,7 @@ use Rattle.ir_print_law.proofs.WholeTypes.{type_begins}
 use Rattle.ir_print_law.proofs.PrintedTypes.{type_shown, read_again, scalar_reads}
 use Rattle.ir_print_law.proofs.OperandsAgain.{OperandAgain, ends_operand}
 use Rattle.ir_print_law.proofs.Parts.{ArgumentAgain, operand_at}
-use Rattle.ir_print_law.proofs.OperationsAgain.{on, said_on}
+use Rattle.ir_print_law.proofs.Setting.{on, said_on}
 use Rattle.std.specs.List.{flat_map, AllByRecursion}
 use Rattle.ir_forms.specs.Cursor.{begins_line}
 use Rattle.ir_forms.specs.Decorations.{decorations, begins_decoration}

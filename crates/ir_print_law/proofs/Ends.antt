@@ -1,52 +1,50 @@
--- Instructions that end a block, as they are read.
-use Rattle.std.proofs.Common.{◌≡◌, ℕ, Bool, true, false, [], Option, refl, sym, subst, ◌∙◌}
+-- How blocks end, as it is read.
+use Rattle.std.proofs.Common.{◌≡◌, ℕ, Bool, true, false, [], Option, sym, subst, ◌∙◌}
 use Rattle.lemmas.specs.Bools.{not_true}
 use Rattle.grammar.specs.Grammar.{pure, ◌>>◌}
 use Rattle.ir_ast.specs.declared.function.Function.{Function}
 use Rattle.ir_ast.specs.declared.module.Module.{Module}
-use Rattle.ir_ast.specs.declared.op.Op.{Op}
-use Rattle.ir_ast.specs.declared.op.Op.TheVariants as op
+use Rattle.ir_ast.specs.declared.ends.Case.{Case}
+use Rattle.ir_ast.specs.declared.ends.End.{End}
+use Rattle.ir_ast.specs.declared.ends.End.TheVariants as end
 use Rattle.ir_tokens.specs.declared.token.Kind.{Kind}
 use Rattle.ir_tokens.specs.declared.token.Kind.TheVariants as k
 use Rattle.ir_forms.specs.Cursor.{kind, sees}
 use Rattle.ir_forms.specs.declared.input.Input.{Input}
 use Rattle.ir_forms.specs.declared.written.WrittenType.{WrittenType}
 use Rattle.ir_forms.specs.Input.{Form, skip}
-use Rattle.ir_print.specs.Instructions.{ends_block}
-use Rattle.ir_print_law.specs.Printable.{IsOp, IsTarget}
+use Rattle.ir_print_law.specs.Printable.{IsTarget, IsEnd}
 use Rattle.ir_print_law.proofs.Forms.{Keeps, Same, each_with}
 use Rattle.ir_print_law.proofs.Passes.{skip_passes, expect_passes}
 use Rattle.ir_print_law.proofs.Reading.{Within}
-use Rattle.ir_ast.specs.declared.op.Case.{Case}
 use Rattle.ir_ast.specs.declared.operand.Constant.{Constant}
 use Rattle.ir_forms.specs.Written.{bits_of}
-use Rattle.ir_forms.specs.Branches.{jump, branch, br, case_constant, case, at_square, behind_case, all_cases, bracketed_cases, switch, returned_value, ret, terminator_by, terminator}
+use Rattle.ir_forms.specs.Ends.{jump, branch, br, case_constant, case, at_square, behind_case, all_cases, bracketed_cases, switch, returned_value, ret, terminator_by, terminator, block_end}
 use Rattle.ir_forms.specs.CaseValues.{value_of, is_among}
 use Rattle.ir_forms.specs.Decorations.{either}
-use Rattle.ir_forms.specs.declared.branches.Cases.{Cases}
+use Rattle.ir_forms.specs.declared.decorating.Trail.TheVariants as trail
+use Rattle.ir_forms.specs.declared.ends.Cases.{Cases}
 use Rattle.ir_print.specs.Fits.{FitsType}
 use Rattle.ir_print_law.specs.Definitions.{defined_structs}
 use Rattle.ir_print_law.specs.Printable.{AreCases}
 use Rattle.ir_print_law.specs.Shapes.{bits_of_shape}
 use Rattle.ir_print_law.proofs.Arguments.{operand_at, bits_written, typed_keeps, condition_keeps}
+use Rattle.ir_print_law.proofs.Decorations.{trailing_passes}
 use Rattle.ir_print_law.proofs.Looks.{bits_are}
 use Rattle.ir_print_law.proofs.Operands.{AreBits, operand_keeps, constant_keeps, target_keeps}
 use Rattle.ir_print_law.proofs.Passes.{again_passes}
 use Rattle.ir_print_law.proofs.TypesThat.{scalar_of, scalar_keeps}
 
 module _ {m : Module} {f : Function} (v : Within m f) where
-  -- an operation that ends its block
-  abbrev pub IsEnd : Op → Type 0
-  IsEnd x = IsOp m f x × (ends_block x ≡ true)
-
-  abbrev Ends : Form Op → Type 0
-  Ends form = (i : Input) → Keeps v.reading.Fore (Same v.reading.Fore) v.reading.Back form IsEnd i
+  -- what this form reads is the end of a block
+  abbrev Ends : Form End → Type 0
+  Ends form = (i : Input) → Keeps v.reading.Fore (Same v.reading.Fore) v.reading.Back form (IsEnd m f) i
 
   jump_keeps : Ends jump
   jump_keeps i x o h fore =
       let r = v.reading in
       let a = target_keeps v i h.0 h.1 h.2 fore in
-      (subst r.Fore h.3.1 a.0, λ back. let ab = a.1 (subst r.Back (sym h.3.1) back) in (ab.0, subst IsEnd h.3.0 (ab.1, refl)))
+      (subst r.Fore h.3.1 a.0, λ back. let ab = a.1 (subst r.Back (sym h.3.1) back) in (ab.0, subst (IsEnd m f) h.3.0 ab.1))
 
   branch_keeps : Ends branch
   unfolding branch
@@ -68,7 +66,7 @@ module _ {m : Module} {f : Function} (v : Within m f) where
             let cb = c.1 db.0 in
             let bb = b.1 cb.0 in
             let ab = a.1 bb.0 in
-            (ab.0, subst IsEnd z.3.0 ((ab.1, cb.1, eb.1), refl)),
+            (ab.0, subst (IsEnd m f) z.3.0 (ab.1, cb.1, eb.1)),
       )
 
   br_keeps : Ends br
@@ -158,7 +156,7 @@ module _ {m : Module} {f : Function} (v : Within m f) where
             let fit = subst AreBits (sym bits) (bits_written (defined_structs m) shape own.is_written) in
             let cases = subst (λ (q : Option ℕ). AreCases f q [] s1.0) bits (jb.1 fit) in
             let same_cases = subst (AreCases f (bits_of_shape shape) []) s2.3.0 cases in
-            (ab.0, subst IsEnd t4.3.0 ((shape, scalar_of m w bb.1, operand_at v w bb.1 t1.0 cb.1, eb.1, same_cases), refl)),
+            (ab.0, subst (IsEnd m f) t4.3.0 (shape, scalar_of m w bb.1, operand_at v w bb.1 t1.0 cb.1, eb.1, same_cases)),
       )
 
   -- ---- ret
@@ -170,21 +168,21 @@ module _ {m : Module} {f : Function} (v : Within m f) where
       let b = by (sees k.Void h.1.cursor) h.1 x o h.3 a.0 in
       (b.0, λ back. let bb = b.1 back in ((a.1 bb.0).0, bb.1))
     where
-      by : (t : Bool) → Ends (either (skip >> pure op.ReturnVoid) returned_value t)
+      by : (t : Bool) → Ends (either (skip >> pure end.ReturnVoid) returned_value t)
       by true i x o h fore =
           let r = v.reading in
           let a = skip_passes r i h.0 h.1 h.2 fore in
-          (subst r.Fore h.3.1 a.0, λ back. let ab = a.1 (subst r.Back (sym h.3.1) back) in (ab.0, subst IsEnd h.3.0 (tt, refl)))
+          (subst r.Fore h.3.1 a.0, λ back. let ab = a.1 (subst r.Back (sym h.3.1) back) in (ab.0, subst (IsEnd m f) h.3.0 tt))
       by false i x o h fore =
           let r = v.reading in
           let a = typed_keeps v i h.0 h.1 h.2 fore in
-          (subst r.Fore h.3.1 a.0, λ back. let ab = a.1 (subst r.Back (sym h.3.1) back) in (ab.0, subst IsEnd h.3.0 (ab.1, refl)))
+          (subst r.Fore h.3.1 a.0, λ back. let ab = a.1 (subst r.Back (sym h.3.1) back) in (ab.0, subst (IsEnd m f) h.3.0 ab.1))
 
-  unreachable_keeps : Ends (skip >> pure op.Unreachable)
+  unreachable_keeps : Ends (skip >> pure end.Unreachable)
   unreachable_keeps i x o h fore =
       let r = v.reading in
       let a = skip_passes r i h.0 h.1 h.2 fore in
-      (subst r.Fore h.3.1 a.0, λ back. let ab = a.1 (subst r.Back (sym h.3.1) back) in (ab.0, subst IsEnd h.3.0 (tt, refl)))
+      (subst r.Fore h.3.1 a.0, λ back. let ab = a.1 (subst r.Back (sym h.3.1) back) in (ab.0, subst (IsEnd m f) h.3.0 tt))
 
   terminator_by_keeps : (x : Kind) → Ends (terminator_by x)
   terminator_by_keeps k.Ret = ret_keeps
@@ -193,6 +191,21 @@ module _ {m : Module} {f : Function} (v : Within m f) where
   terminator_by_keeps k.Unreachable = unreachable_keeps
   terminator_by_keeps _ = λ i x o h f. absurd h
 
-  pub terminator_keeps : Ends terminator
+  terminator_keeps : Ends terminator
   unfolding terminator
   terminator_keeps i = terminator_by_keeps (kind i.cursor) i
+
+  -- the end of a block, and the decorations after it
+  pub block_end_keeps : Ends block_end
+  unfolding block_end
+  block_end_keeps i x o h fore =
+      let r = v.reading in
+      let t = h.3 in
+      let a = terminator_keeps i h.0 h.1 h.2 fore in
+      let b = trailing_passes r trail.Other h.1 t.0 t.1 t.2 a.0 in (
+        subst r.Fore t.3.1 b.0,
+        λ back.
+            let bb = b.1 (subst r.Back (sym t.3.1) back) in
+            let ab = a.1 bb.0 in
+            (ab.0, subst (IsEnd m f) t.3.0 ab.1),
+      )
