@@ -95,7 +95,7 @@ again =
       globals = tt;
       declares = tt;
       functions = (
-        record { symbol = refl; returned = inr word; parameters = ((word, refl), tt); collector = refl; blocks = ((refl, tt, ((refl, (refl, word, refl, refl)), tt), (word, refl)), tt) },
+        record { symbol = refl; returned = inr word; parameters = ((word, refl), tt); collector = refl; blocks = ((refl, tt, ((refl, (refl, (word, refl, refl))), tt), (word, refl)), tt) },
         tt,
       );
     }
