@@ -5,7 +5,8 @@ use Rattle.lemmas.specs.Lists.{at_map}
 use Rattle.lemmas.specs.Numbers.{test_true, test_false}
 use Rattle.lemmas.specs.Bools.{and_parts, or_first}
 use Rattle.ir_ast.specs.declared.function.Function.{Function}
-use Rattle.ir_ast.specs.declared.op.Op.TheVariants.{Bitcast}
+use Rattle.ir_ast.specs.declared.casts.Cast.{Cast}
+use Rattle.ir_ast.specs.declared.op.Op.TheVariants as op
 use Rattle.ir_ast.specs.declared.operand.Constant.{Constant}
 use Rattle.ir_ast.specs.declared.operand.Constant.TheVariants as constant
 use Rattle.ir_ast.specs.declared.operand.Operand.{Operand}
@@ -49,6 +50,10 @@ use Rattle.soundness.specs.Goes.{Goes}
 use Rattle.soundness.proofs.Globals.{word_is, word_casts_to}
 use Rattle.soundness.proofs.SameKinds.{first_holds, part_refers, null_casts, layout_refers, held_casts, word_casts}
 use Rattle.soundness.proofs.Steps.{goes_local, chosen, below_itself, available, base_is, known_set}
+
+-- a bitcast of an operand
+abbrev pub bitcast : (from : ℕ) → Operand → (to : ℕ) → Cast
+bitcast from x to = record { from = from; operand = x; to = to }
 
 module _ (heap : Setup) (p : LaidOut) (certs : List Section) (reaches : Bool) (f : Function) (table : SlotTable) (guarded : Guarded) (log : Log) (cells : Cells) (facts : FactSet) (frame : Frame) (h : Holds heap p table guarded log cells facts frame.registers frame.slots) where
   -- v is a reference of a new class that is not fresh, where a layout is known
@@ -102,23 +107,23 @@ module _ (heap : Setup) (p : LaidOut) (certs : List Section) (reaches : Bool) (f
     constant_casts constant.Null k2 e = chosen (from == to) (c.casts_null p.of_module from to) _ e (null_casts p.of_module from to)
 
     pub constant_goes : (result : Option ℕ) (x : Constant) → o.constant_fits x (kind_of p.of_module from) ≡ true → c.may_cast p table facts from to (operand.Constant x) ≡ true
-        → Goes heap p table frame.slots reaches guarded log (after_op p certs table result (Bitcast from (operand.Constant x) to) facts) (a.cast_action p f table frame.registers from (operand.Constant x) to None) (λ given. mc.set_register result (constant_value p.of_module from x) frame)
+        → Goes heap p table frame.slots reaches guarded log (after_op p certs table result (op.Cast (bitcast from (operand.Constant x) to)) facts) (a.cast_of p f table frame.registers (bitcast from (operand.Constant x) to) None) (λ given. mc.set_register result (constant_value p.of_module from x) frame)
     constant_goes result x k2 k19 = goes_local heap p table frame.slots reaches guarded log _ _ _ (rw (constant_passes p.of_module from x k2, constant_casts x k2 k19) refl) (kept result) where
-      kept : (result : Option ℕ) → (more : Cells) × Holds heap p table guarded log more (after_op p certs table result (Bitcast from (operand.Constant x) to) facts) (mc.set_register result (constant_value p.of_module from x) frame).registers (mc.set_register result (constant_value p.of_module from x) frame).slots
+      kept : (result : Option ℕ) → (more : Cells) × Holds heap p table guarded log more (after_op p certs table result (op.Cast (bitcast from (operand.Constant x) to)) facts) (mc.set_register result (constant_value p.of_module from x) frame).registers (mc.set_register result (constant_value p.of_module from x) frame).slots
       kept None = (cells, h)
       kept (Some v) = constant_keeps v x k19
 
     -- ---- slots
 
     pub slot_goes : (result : Option ℕ) (u s : ℕ) → slot_of table u ≡ Some s → has_type p.of_module f from u ≡ true → c.may_cast p table facts from to (operand.Local u) ≡ true
-        → Goes heap p table frame.slots reaches guarded log (after_op p certs table result (Bitcast from (operand.Local u) to) facts) (a.cast_action p f table frame.registers from (operand.Local u) to (slot_of table u)) (λ given. mc.after_cast result (register_at frame.registers u) (slot_of table u) frame)
+        → Goes heap p table frame.slots reaches guarded log (after_op p certs table result (op.Cast (bitcast from (operand.Local u) to)) facts) (a.cast_of p f table frame.registers (bitcast from (operand.Local u) to) (slot_of table u)) (λ given. mc.cast_from result (register_at frame.registers u) (slot_of table u) frame)
     slot_goes result u s is k2 k19 =
-        subst (λ x. Goes heap p table frame.slots reaches guarded log (after_op p certs table result (Bitcast from (operand.Local u) to) facts) (a.cast_action p f table frame.registers from (operand.Local u) to x) (λ given. mc.after_cast result (register_at frame.registers u) x frame)) (sym is)
+        subst (λ x. Goes heap p table frame.slots reaches guarded log (after_op p certs table result (op.Cast (bitcast from (operand.Local u) to)) facts) (a.cast_of p f table frame.registers (bitcast from (operand.Local u) to) x) (λ given. mc.cast_from result (register_at frame.registers u) x frame)) (sym is)
         (goes_local heap p table frame.slots reaches guarded log _ _ _ (rw (k2, casts (rw is at k19)) refl) (kept result)) where
           casts : ((from == to) || c.casts_held p.of_module to (held_type table s)) ≡ true → a.may_cast_slot p.of_module (held_type table s) from to ≡ true
           casts e = chosen (from == to) (c.casts_held p.of_module to (held_type table s)) _ e (held_casts p.of_module to (held_type table s))
 
-          kept : (result : Option ℕ) → (more : Cells) × Holds heap p table guarded log more (after_op p certs table result (Bitcast from (operand.Local u) to) facts) frame.registers frame.slots
+          kept : (result : Option ℕ) → (more : Cells) × Holds heap p table guarded log more (after_op p certs table result (op.Cast (bitcast from (operand.Local u) to)) facts) frame.registers frame.slots
           kept None = (cells, h)
           kept (Some v) = rw is (cells, h)
 
@@ -175,9 +180,9 @@ module _ (heap : Setup) (p : LaidOut) (certs : List Section) (reaches : Bool) (f
           (means_without heap p table guarded log cells (length facts.classes) frame.registers v (register_at frame.registers u) (known_at facts.values u) (register_at frame.registers u) (h.values u)) beside
 
     pub value_goes : (result : Option ℕ) (u : ℕ) → slot_of table u ≡ None → o.is_available table facts (operand.Local u) ≡ true → has_type p.of_module f from u ≡ true → c.may_cast p table facts from to (operand.Local u) ≡ true
-        → Goes heap p table frame.slots reaches guarded log (after_op p certs table result (Bitcast from (operand.Local u) to) facts) (a.cast_action p f table frame.registers from (operand.Local u) to (slot_of table u)) (λ given. mc.after_cast result (register_at frame.registers u) (slot_of table u) frame)
+        → Goes heap p table frame.slots reaches guarded log (after_op p certs table result (op.Cast (bitcast from (operand.Local u) to)) facts) (a.cast_of p f table frame.registers (bitcast from (operand.Local u) to) (slot_of table u)) (λ given. mc.cast_from result (register_at frame.registers u) (slot_of table u) frame)
     value_goes result u none k1 k2 k19 =
-        subst (λ x. Goes heap p table frame.slots reaches guarded log (after_op p certs table result (Bitcast from (operand.Local u) to) facts) (a.cast_action p f table frame.registers from (operand.Local u) to x) (λ given. mc.after_cast result (register_at frame.registers u) x frame)) (sym none)
+        subst (λ x. Goes heap p table frame.slots reaches guarded log (after_op p certs table result (op.Cast (bitcast from (operand.Local u) to)) facts) (a.cast_of p f table frame.registers (bitcast from (operand.Local u) to) x) (λ given. mc.cast_from result (register_at frame.registers u) x frame)) (sym none)
         (goes_local heap p table frame.slots reaches guarded log _ _ _ (rw (k2, none, set, casts (rw none at k19)) refl) (kept result)) where
           known : o.is_known facts (known_at facts.values u) ≡ true
           known = available heap p certs reaches f table guarded log cells facts frame h u none k1
@@ -194,7 +199,7 @@ module _ (heap : Setup) (p : LaidOut) (certs : List Section) (reaches : Bool) (f
               (subst (λ xs. Holds heap p table guarded log cells facts xs frame.slots) (sym (same_written frame.registers u value.Unset)) h)
           named_so v false e = copy_keeps u v (test_false u v e)
 
-          kept : (result : Option ℕ) → (more : Cells) × Holds heap p table guarded log more (after_op p certs table result (Bitcast from (operand.Local u) to) facts) (mc.set_register result (register_at frame.registers u) frame).registers (mc.set_register result (register_at frame.registers u) frame).slots
+          kept : (result : Option ℕ) → (more : Cells) × Holds heap p table guarded log more (after_op p certs table result (op.Cast (bitcast from (operand.Local u) to)) facts) (mc.set_register result (register_at frame.registers u) frame).registers (mc.set_register result (register_at frame.registers u) frame).slots
           kept None = (cells, h)
           kept (Some v) = rw none (cells, named_so v (u == v) refl)
 
@@ -203,7 +208,7 @@ module _ (heap : Setup) (p : LaidOut) (certs : List Section) (reaches : Bool) (f
     -- a global as an operand
     pub global_goes : (result : Option ℕ) (x : Operand) (symbol : ℕ) (next : Option ℕ → FactSet) → next None ≡ facts → ((v : ℕ) → next (Some v) ≡ define v (GlobalAddress symbol) facts)
         → k.is_typed p.of_module f table from x ≡ true → IsGlobal p.of_module symbol (value_of p.of_module frame.registers from x) → ((from == to) || c.casts_global p.of_module to symbol) ≡ true
-        → Goes heap p table frame.slots reaches guarded log (next result) (a.cast_action p f table frame.registers from x to None) (λ given. mc.set_register result (value_of p.of_module frame.registers from x) frame)
+        → Goes heap p table frame.slots reaches guarded log (next result) (a.cast_of p f table frame.registers (bitcast from x to) None) (λ given. mc.set_register result (value_of p.of_module frame.registers from x) frame)
     global_goes result x symbol next none some typed global k19 = goes_local heap p table frame.slots reaches guarded log _ _ _ (rw (typed, ap k.is_set global.2, casts) refl) (kept result) where
       new : Value
       new = value_of p.of_module frame.registers from x

@@ -4,7 +4,8 @@ use Rattle.std.specs.Prelude.{◌==◌, ◌&&◌, if◌then◌else◌}
 use Rattle.lemmas.specs.Numbers.{test_true, test_yes}
 use Rattle.lemmas.specs.Bools.{and_parts, or_second, or_first}
 use Rattle.ir_ast.specs.declared.function.Function.{Function}
-use Rattle.ir_ast.specs.declared.op.Op.TheVariants.{Select}
+use Rattle.ir_ast.specs.declared.choices.Choice.{Choice}
+use Rattle.ir_ast.specs.declared.op.Op.TheVariants as op
 use Rattle.ir_ast.specs.declared.operand.Constant.TheVariants as constant
 use Rattle.ir_ast.specs.declared.operand.Operand.{Operand}
 use Rattle.ir_ast.specs.declared.operand.Operand.TheVariants as operand
@@ -41,6 +42,10 @@ use Rattle.soundness.proofs.Steps.{goes_local, no_value, no_number, null_fits, a
 use Rattle.soundness.proofs.Sums.{defines, numbers_usable, references_usable}
 
 -- a kind that passes as one of some bits is it
+-- a select between two operands
+abbrev pub select : (condition_type : ℕ) (condition : Operand) (written : ℕ) (chosen other : Operand) → Choice
+select condition_type condition written chosen other = record { condition_type = condition_type; condition = condition; written = written; chosen = chosen; other = other }
+
 bits_are_so : (n : ℕ) (x : TypeKind) → is_bits n x ≡ true → x ≡ Bits n
 bits_are_so n NoValue e = absurd cc
 bits_are_so n (Bits bits) e = ap Bits (test_true bits n e)
@@ -195,8 +200,8 @@ module _ (heap : Setup) (p : LaidOut) (certs : List Section) (reaches : Bool) (f
   pub select_goes : (result : Option ℕ) (condition_type : ℕ) (condition : Operand) (written : ℕ) (chosen other : Operand) → o.is_available table facts condition ≡ true → is_bits 1 (kind_of p.of_module condition_type) ≡ true
       → o.is_value p.of_module f facts condition_type condition ≡ true → o.slot_named table condition ≡ None → r.may_choose (kind_of p.of_module written) ≡ true → IsChoice written chosen → IsChoice written other
       → r.one_layout (r.known_layout (o.known_of facts chosen)) (r.known_layout (o.known_of facts other)) ≡ true
-      → Goes heap p table frame.slots reaches guarded log (after_op p certs table result (Select condition_type condition written chosen other) facts) (a.op_action p f table frame.block frame.registers (Select condition_type condition written chosen other))
-      (λ given. mc.after_op p f table result (Select condition_type condition written chosen other) given frame)
+      → Goes heap p table frame.slots reaches guarded log (after_op p certs table result (op.Choice (select condition_type condition written chosen other)) facts) (a.op_action p f table frame.registers (op.Choice (select condition_type condition written chosen other)))
+      (λ given. mc.after_op p f table result (op.Choice (select condition_type condition written chosen other)) given frame)
   select_goes result condition_type condition written chosen other k1 bit k2 none may x y one =
       goes_local heap p table frame.slots reaches guarded log _ _ _ (rw (sym (bits_same p.of_module 1 condition_type) ∙ bit, number_usable heap p certs reaches f table guarded log cells facts frame h condition_type 1 condition (bits_are_so 1 (kind_of p.of_module condition_type) bit) k1 k2 none, selects (kind_of p.of_module written) refl may) refl) (kept result) where
         of_references : (may_be_reference (kind_of p.of_module written) ≡ true) → a.may_select p.of_module f table frame.registers written chosen other ≡ true
@@ -244,7 +249,7 @@ module _ (heap : Setup) (p : LaidOut) (certs : List Section) (reaches : Bool) (f
         by_kind v AddressKind is e first = absurd cc
         by_kind v Other is e first = absurd cc
 
-        kept : (result : Option ℕ) → (more : Cells) × Holds heap p table guarded log more (after_op p certs table result (Select condition_type condition written chosen other) facts)
+        kept : (result : Option ℕ) → (more : Cells) × Holds heap p table guarded log more (after_op p certs table result (op.Choice (select condition_type condition written chosen other)) facts)
             (mc.set_register result (mc.selected (value_of p.of_module frame.registers condition_type condition) (value_of p.of_module frame.registers written chosen) (value_of p.of_module frame.registers written other)) frame).registers frame.slots
         kept None = (cells, h)
         kept (Some v) = by_kind v (kind_of p.of_module written) refl may (number_in (value_of p.of_module frame.registers condition_type condition) == 0)

@@ -10,8 +10,9 @@ use Rattle.lemmas.specs.Bools.{and_parts}
 use Rattle.ir_ast.specs.declared.function.Function.{Function}
 use Rattle.ir_ast.specs.declared.ir_type.IrType.{IrType}
 use Rattle.ir_ast.specs.declared.ir_type.IrType.TheVariants.{Void, Integer, Pointer, Array, EmptyStruct, Struct, Named}
-use Rattle.ir_ast.specs.declared.op.Argument.{Argument}
-use Rattle.ir_ast.specs.declared.op.Op.TheVariants.{Element}
+use Rattle.ir_ast.specs.declared.argument.Argument.{Argument}
+use Rattle.ir_ast.specs.declared.elements.Element.{Element}
+use Rattle.ir_ast.specs.declared.op.Op.TheVariants as op
 use Rattle.ir_ast.specs.declared.operand.Constant.TheVariants as constant
 use Rattle.ir_ast.specs.declared.operand.Operand.{Operand}
 use Rattle.ir_ast.specs.declared.operand.Operand.TheVariants as operand
@@ -63,6 +64,10 @@ use Rattle.soundness.specs.Goes.{Goes}
 use Rattle.soundness.proofs.Globals.{has_address}
 use Rattle.soundness.proofs.Touches.{typed_so}
 use Rattle.soundness.proofs.Steps.{goes_local, no_value, no_pointer, none_of, available, base_is, integer_is, number_usable, kind_bits}
+
+-- a getelementptr from a base
+abbrev pub getelementptr : (source base_type : ℕ) → Operand → List Argument → Element
+getelementptr source base_type base indices = record { source = source; base_type = base_type; base = base; indices = indices }
 
 -- ---- the numbers of indices, read with their sign
 
@@ -558,13 +563,13 @@ module _ (heap : Setup) (p : LaidOut) (certs : List Section) (reaches : Bool) (f
     placed_goes : k.is_typed p.of_module f table base_type base ≡ true → is_some (t.element_type p.of_module source indices) ≡ true
         → (at : Place) → element_place p (element_offset p frame.registers source indices) (value_of p.of_module frame.registers base_type base) ≡ Some at
         → ((v : ℕ) → Holds heap p table guarded log cells (r.after_element p v source base indices facts) (slice_set frame.registers v (value.Address at)) frame.slots)
-        → Goes heap p table frame.slots reaches guarded log (after_op p certs table result (Element source base_type base indices) facts) (a.op_action p f table frame.block frame.registers (Element source base_type base indices))
-        (λ given. mc.after_op p f table result (Element source base_type base indices) given frame)
+        → Goes heap p table frame.slots reaches guarded log (after_op p certs table result (op.Element (getelementptr source base_type base indices)) facts) (a.op_action p f table frame.registers (op.Element (getelementptr source base_type base indices)))
+        (λ given. mc.after_op p f table result (op.Element (getelementptr source base_type base indices)) given frame)
     placed_goes typed has_type at is holds = goes_local heap p table frame.slots reaches guarded log _ _ _ (rw (typed, usable_indices indices fit, has_type, is) refl) (kept result) where
       new : Value
       new = address_of (element_place p (element_offset p frame.registers source indices) (value_of p.of_module frame.registers base_type base))
 
-      kept : (result : Option ℕ) → (more : Cells) × Holds heap p table guarded log more (after_op p certs table result (Element source base_type base indices) facts) (mc.set_register result new frame).registers (mc.set_register result new frame).slots
+      kept : (result : Option ℕ) → (more : Cells) × Holds heap p table guarded log more (after_op p certs table result (op.Element (getelementptr source base_type base indices)) facts) (mc.set_register result new frame).registers (mc.set_register result new frame).slots
       kept None = (cells, h)
       kept (Some v) = (cells, subst (λ x. Holds heap p table guarded log cells (r.after_element p v source base indices facts) (slice_set frame.registers v (address_of x)) frame.slots) (sym is) (holds v))
 
@@ -582,8 +587,8 @@ module _ (heap : Setup) (p : LaidOut) (certs : List Section) (reaches : Bool) (f
   pub element_goes : (result : Option ℕ) (source base_type : ℕ) (base : Operand) (indices : List Argument) → o.is_available table facts base ≡ true → list_all (λ index. o.is_available table facts index.operand) indices ≡ true
       → o.is_typed p.of_module f base_type base ≡ true → is_pointer (kind_of p.of_module base_type) ≡ true → r.may_be_base (o.known_of facts base) ≡ true → r.are_indices p.of_module f facts indices ≡ true → no_slots table indices ≡ true
       → r.may_lead p facts source indices (o.known_of facts base) ≡ true → o.slot_named table base ≡ None → casts_operand p.of_module base ≡ true
-      → Goes heap p table frame.slots reaches guarded log (after_op p certs table result (Element source base_type base indices) facts) (a.op_action p f table frame.block frame.registers (Element source base_type base indices))
-      (λ given. mc.after_op p f table result (Element source base_type base indices) given frame)
+      → Goes heap p table frame.slots reaches guarded log (after_op p certs table result (op.Element (getelementptr source base_type base indices)) facts) (a.op_action p f table frame.registers (op.Element (getelementptr source base_type base indices)))
+      (λ given. mc.after_op p f table result (op.Element (getelementptr source base_type base indices)) given frame)
   element_goes result source base_type base indices k1 k1s k2 pointer may k2s nones k5 none k19 = by base k1 k2 may k5 none k19 where
     fit : AllFit p f table facts indices
     fit = all_fit p f table facts indices k1s k2s nones
@@ -591,8 +596,8 @@ module _ (heap : Setup) (p : LaidOut) (certs : List Section) (reaches : Bool) (f
     -- a global as the base
     of_global : (x : Operand) (symbol : ℕ) → k.is_typed p.of_module f table base_type x ≡ true → IsGlobal p.of_module symbol (value_of p.of_module frame.registers base_type x) → r.may_lead p facts source indices (GlobalAddress symbol) ≡ true
         → ((v : ℕ) → r.after_element p v source x indices facts ≡ define v (GlobalAddress symbol) facts)
-        → Goes heap p table frame.slots reaches guarded log (after_op p certs table result (Element source base_type x indices) facts) (a.op_action p f table frame.block frame.registers (Element source base_type x indices))
-        (λ given. mc.after_op p f table result (Element source base_type x indices) given frame)
+        → Goes heap p table frame.slots reaches guarded log (after_op p certs table result (op.Element (getelementptr source base_type x indices)) facts) (a.op_action p f table frame.registers (op.Element (getelementptr source base_type x indices)))
+        (λ given. mc.after_op p f table result (op.Element (getelementptr source base_type x indices)) given frame)
     of_global x symbol typed global k5 next =
         let w = first_words (r.element_words p facts source indices (r.start_of (GlobalAddress symbol))) k5 in
         let l = led source indices (r.start_of (GlobalAddress symbol)) w.0 fit w.1 in
@@ -601,8 +606,8 @@ module _ (heap : Setup) (p : LaidOut) (certs : List Section) (reaches : Bool) (f
         (λ v. subst (λ y. Holds heap p table guarded log cells y (slice_set frame.registers v new) frame.slots) (sym (next v)) (global_address v symbol new (global.0, global.1, refl)))
 
     by : (base : Operand) → o.is_available table facts base ≡ true → o.is_typed p.of_module f base_type base ≡ true → r.may_be_base (o.known_of facts base) ≡ true → r.may_lead p facts source indices (o.known_of facts base) ≡ true → o.slot_named table base ≡ None → casts_operand p.of_module base ≡ true
-        → Goes heap p table frame.slots reaches guarded log (after_op p certs table result (Element source base_type base indices) facts) (a.op_action p f table frame.block frame.registers (Element source base_type base indices))
-        (λ given. mc.after_op p f table result (Element source base_type base indices) given frame)
+        → Goes heap p table frame.slots reaches guarded log (after_op p certs table result (op.Element (getelementptr source base_type base indices)) facts) (a.op_action p f table frame.registers (op.Element (getelementptr source base_type base indices)))
+        (λ given. mc.after_op p f table result (op.Element (getelementptr source base_type base indices)) given frame)
     by (operand.Constant (constant.Number n)) k1 k2 may k5 none k19 = absurd (no_pointer n (kind_of p.of_module base_type) k2 pointer)
     by (operand.Constant (constant.Truth b)) k1 k2 may k5 none k19 = absurd cc
     by (operand.Constant constant.Null) k1 k2 may k5 none k19 =
@@ -615,15 +620,15 @@ module _ (heap : Setup) (p : LaidOut) (certs : List Section) (reaches : Bool) (f
       goes : (known : Known) → known_at facts.values u ≡ known → is_some (t.element_type p.of_module source indices) ≡ true
           → (at : Place) → element_place p (element_offset p frame.registers source indices) (register_at frame.registers u) ≡ Some at
           → ((v : ℕ) → Holds heap p table guarded log cells (r.define_words v u known (r.element_words p facts source indices (r.start_of known)) facts) (slice_set frame.registers v (value.Address at)) frame.slots)
-          → Goes heap p table frame.slots reaches guarded log (after_op p certs table result (Element source base_type (operand.Local u) indices) facts) (a.op_action p f table frame.block frame.registers (Element source base_type (operand.Local u) indices))
-          (λ given. mc.after_op p f table result (Element source base_type (operand.Local u) indices) given frame)
+          → Goes heap p table frame.slots reaches guarded log (after_op p certs table result (op.Element (getelementptr source base_type (operand.Local u) indices)) facts) (a.op_action p f table frame.registers (op.Element (getelementptr source base_type (operand.Local u) indices)))
+          (λ given. mc.after_op p f table result (op.Element (getelementptr source base_type (operand.Local u) indices)) given frame)
       goes known is has at there holds =
           placed_goes result source base_type (operand.Local u) indices fit typed has at there
           (λ v. subst (λ x. Holds heap p table guarded log cells (r.define_words v u x (r.element_words p facts source indices (r.start_of x)) facts) (slice_set frame.registers v (value.Address at)) frame.slots) (sym is) (holds v))
 
       of_known : (known : Known) → known_at facts.values u ≡ known → o.is_known facts known ≡ true → r.may_be_base known ≡ true → r.may_lead p facts source indices known ≡ true
-          → Goes heap p table frame.slots reaches guarded log (after_op p certs table result (Element source base_type (operand.Local u) indices) facts) (a.op_action p f table frame.block frame.registers (Element source base_type (operand.Local u) indices))
-          (λ given. mc.after_op p f table result (Element source base_type (operand.Local u) indices) given frame)
+          → Goes heap p table frame.slots reaches guarded log (after_op p certs table result (op.Element (getelementptr source base_type (operand.Local u) indices)) facts) (a.op_action p f table frame.registers (op.Element (getelementptr source base_type (operand.Local u) indices)))
+          (λ given. mc.after_op p f table result (op.Element (getelementptr source base_type (operand.Local u) indices)) given frame)
       of_known Nothing is has may k5 = absurd cc
       of_known (Number bits below) is has may k5 = absurd cc
       of_known (Cell c layout stale) is has may k5 =

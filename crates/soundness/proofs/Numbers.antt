@@ -4,10 +4,10 @@ use Rattle.std.proofs.lemmas.Nat.{and_le_l, and_le_r}
 use Rattle.std.proofs.lemmas.Bool.{cases_lt}
 use Rattle.std.specs.Prelude.{◌⊎◌, if◌then◌else◌, nat_lt, bit_and}
 use Rattle.lemmas.specs.Numbers.{lt_yes, lt_no}
-use Rattle.ir_ast.specs.declared.op.Arithmetic.{Arithmetic}
-use Rattle.ir_ast.specs.declared.op.Arithmetic.TheVariants.{Add, Sub, Mul, And, Or, Xor}
-use Rattle.ir_ast.specs.declared.op.Resize.{Resize}
-use Rattle.ir_ast.specs.declared.op.Resize.TheVariants.{ZeroExtend, SignExtend, Truncate}
+use Rattle.ir_ast.specs.declared.numbers.Arithmetic.{Arithmetic}
+use Rattle.ir_ast.specs.declared.numbers.Arithmetic.TheVariants.{Add, Sub, Mul, And, Or, Xor}
+use Rattle.ir_ast.specs.declared.numbers.Resize.{Resize}
+use Rattle.ir_ast.specs.declared.numbers.Resize.TheVariants.{ZeroExtend, SignExtend, Truncate}
 use Rattle.block_rules.specs.Integers.{smaller, larger, resized_below}
 use Rattle.machine.specs.declared.value.Value.TheVariants as value
 use Rattle.machine.specs.Kinds.{wrapped}

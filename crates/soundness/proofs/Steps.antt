@@ -4,7 +4,7 @@ use Rattle.std.specs.Prelude.{◌||◌, ◌&&◌, not, is_some, if◌then◌else
 use Rattle.lemmas.specs.Numbers.{test_true}
 use Rattle.lemmas.specs.Bools.{and_parts}
 use Rattle.ir_ast.specs.declared.function.Function.{Function}
-use Rattle.ir_ast.specs.declared.op.Op.TheVariants.{Alloca}
+use Rattle.ir_ast.specs.declared.memory.MemoryOp.TheVariants as memory
 use Rattle.ir_ast.specs.declared.operand.Constant.{Constant}
 use Rattle.ir_ast.specs.declared.operand.Constant.TheVariants as constant
 use Rattle.ir_ast.specs.declared.operand.Operand.{Operand}
@@ -22,7 +22,7 @@ use Rattle.block_rules.specs.declared.type_kind.TypeKind.TheVariants.{NoValue, B
 use Rattle.block_rules.specs.Bounds.{below_next}
 use Rattle.block_rules.specs.Integers.{below_of, below_known}
 use Rattle.block_rules.specs.Operands as o
-use Rattle.block_rules.specs.Rules.{after_op, after_alloca}
+use Rattle.block_rules.specs.Rules.{after_memory, after_alloca}
 use Rattle.block_rules.specs.TypeKinds.{kind_of, is_integer, is_pointer, may_be_reference}
 use Rattle.machine.specs.declared.value.Reference.{Reference as Ref}
 use Rattle.machine.specs.declared.value.Value.{Value}
@@ -238,12 +238,12 @@ module _ (heap : Setup) (p : LaidOut) (certs : List Section) (reaches : Bool) (f
   -- ---- alloca
 
   -- what was known of the slot ends
-  pub alloca_goes : (result : Option ℕ) (held : ℕ) → Goes heap p table frame.slots reaches guarded log (after_op p certs table result (Alloca held) facts) Local (λ given. frame)
+  pub alloca_goes : (result : Option ℕ) (held : ℕ) → Goes heap p table frame.slots reaches guarded log (after_memory p table result (memory.Alloca held) facts) Local (λ given. frame)
   alloca_goes result held = goes_local heap p table frame.slots reaches guarded log _ Local (λ given. frame) refl (cells, by result) where
     of_slot : (slot : Option ℕ) → Holds heap p table guarded log cells (after_alloca slot facts) frame.registers frame.slots
     of_slot None = h
     of_slot (Some s) = end_keeps heap p table guarded log cells facts frame.registers frame.slots h s
 
-    by : (result : Option ℕ) → Holds heap p table guarded log cells (after_op p certs table result (Alloca held) facts) frame.registers frame.slots
+    by : (result : Option ℕ) → Holds heap p table guarded log cells (after_memory p table result (memory.Alloca held) facts) frame.registers frame.slots
     by None = h
     by (Some v) = of_slot (slot_of table v)

@@ -5,13 +5,14 @@ use Rattle.std.specs.Prelude.{◌==◌, ◌&&◌, if◌then◌else◌}
 use Rattle.lemmas.specs.Numbers.{test_false}
 use Rattle.lemmas.specs.Bools.{and_parts, or_second, or_first}
 use Rattle.ir_ast.specs.declared.function.Function.{Function}
-use Rattle.ir_ast.specs.declared.op.Arithmetic.{Arithmetic as Operation}
-use Rattle.ir_ast.specs.declared.op.Arithmetic.TheVariants as operation
-use Rattle.ir_ast.specs.declared.op.Comparison.{Comparison}
-use Rattle.ir_ast.specs.declared.op.Comparison.TheVariants as compare
-use Rattle.ir_ast.specs.declared.op.Op.TheVariants.{Arithmetic, Resize, Compare}
-use Rattle.ir_ast.specs.declared.op.Resize.{Resize as Width}
-use Rattle.ir_ast.specs.declared.op.Resize.TheVariants as width
+use Rattle.ir_ast.specs.declared.numbers.Arithmetic.{Arithmetic as Operation}
+use Rattle.ir_ast.specs.declared.numbers.Arithmetic.TheVariants as operation
+use Rattle.ir_ast.specs.declared.numbers.Comparison.{Comparison}
+use Rattle.ir_ast.specs.declared.numbers.Comparison.TheVariants as compare
+use Rattle.ir_ast.specs.declared.numbers.NumberOp.TheVariants as number
+use Rattle.ir_ast.specs.declared.op.Op.TheVariants as op
+use Rattle.ir_ast.specs.declared.numbers.Resize.{Resize as Width}
+use Rattle.ir_ast.specs.declared.numbers.Resize.TheVariants as width
 use Rattle.ir_ast.specs.declared.operand.Constant.{Constant}
 use Rattle.ir_ast.specs.declared.operand.Constant.TheVariants as constant
 use Rattle.ir_ast.specs.declared.operand.Operand.{Operand}
@@ -125,8 +126,8 @@ module _ (heap : Setup) (p : LaidOut) (certs : List Section) (reaches : Bool) (f
   -- an arithmetic instruction
   pub arithmetic_goes : (result : Option ℕ) (kind : Operation) (written : ℕ) (first second : Operand) → o.is_available table facts first ≡ true → o.is_available table facts second ≡ true → o.is_value p.of_module f facts written first ≡ true
       → o.is_value p.of_module f facts written second ≡ true → is_integer (kind_of p.of_module written) ≡ true → o.slot_named table first ≡ None → o.slot_named table second ≡ None
-      → Goes heap p table frame.slots reaches guarded log (after_op p certs table result (Arithmetic kind written first second) facts) (a.op_action p f table frame.block frame.registers (Arithmetic kind written first second))
-      (λ given. mc.after_op p f table result (Arithmetic kind written first second) given frame)
+      → Goes heap p table frame.slots reaches guarded log (after_op p certs table result (op.Number (number.Arithmetic kind written first second)) facts) (a.op_action p f table frame.registers (op.Number (number.Arithmetic kind written first second)))
+      (λ given. mc.after_op p f table result (op.Number (number.Arithmetic kind written first second)) given frame)
   arithmetic_goes result kind written first second k1 k1s k2 k2s integer none nones =
       goes_local heap p table frame.slots reaches guarded log _ _ _
       (rw (number_usable heap p certs reaches f table guarded log cells facts frame h written b.0 first b.1 k1 k2 none, number_usable heap p certs reaches f table guarded log cells facts frame h written b.0 second b.1 k1s k2s nones) refl)
@@ -137,7 +138,7 @@ module _ (heap : Setup) (p : LaidOut) (certs : List Section) (reaches : Bool) (f
         new : Value
         new = value.Number (i.computed kind (bits_at p.of_module written) (number_in (value_of p.of_module frame.registers written first)) (number_in (value_of p.of_module frame.registers written second)))
 
-        kept : (result : Option ℕ) → (more : Cells) × Holds heap p table guarded log more (after_op p certs table result (Arithmetic kind written first second) facts) (mc.set_register result new frame).registers (mc.set_register result new frame).slots
+        kept : (result : Option ℕ) → (more : Cells) × Holds heap p table guarded log more (after_op p certs table result (op.Number (number.Arithmetic kind written first second)) facts) (mc.set_register result new frame).registers (mc.set_register result new frame).slots
         kept None = (cells, h)
         kept (Some v) = rw b.1 (
           cells,
@@ -154,7 +155,7 @@ module _ (heap : Setup) (p : LaidOut) (certs : List Section) (reaches : Bool) (f
 
   -- a change of width
   pub resize_goes : (result : Option ℕ) (kind : Width) (from : ℕ) (x : Operand) (to : ℕ) → o.is_available table facts x ≡ true → o.is_value p.of_module f facts from x ≡ true → r.may_resize kind (kind_of p.of_module from) (kind_of p.of_module to) ≡ true → o.slot_named table x ≡ None
-      → Goes heap p table frame.slots reaches guarded log (after_op p certs table result (Resize kind from x to) facts) (a.op_action p f table frame.block frame.registers (Resize kind from x to)) (λ given. mc.after_op p f table result (Resize kind from x to) given frame)
+      → Goes heap p table frame.slots reaches guarded log (after_op p certs table result (op.Number (number.Resize kind from x to)) facts) (a.op_action p f table frame.registers (op.Number (number.Resize kind from x to))) (λ given. mc.after_op p f table result (op.Number (number.Resize kind from x to)) given frame)
   resize_goes result kind from x to k1 k2 changes none =
       goes_local heap p table frame.slots reaches guarded log _ _ _ (rw (number_usable heap p certs reaches f table guarded log cells facts frame h from b.0 x b.2 k1 k2 none, sym (integer_same p.of_module to) ∙ ap is_integer b.3, same) refl) (kept result) where
         b : (n : ℕ) × (m : ℕ) × (kind_of p.of_module from ≡ Bits n) × (kind_of p.of_module to ≡ Bits m) × (r.changes_width kind n m ≡ true)
@@ -169,7 +170,7 @@ module _ (heap : Setup) (p : LaidOut) (certs : List Section) (reaches : Bool) (f
         new : Value
         new = value.Number (i.resized kind (bits_at p.of_module from) (bits_at p.of_module to) (number_in (value_of p.of_module frame.registers from x)))
 
-        kept : (result : Option ℕ) → (more : Cells) × Holds heap p table guarded log more (after_op p certs table result (Resize kind from x to) facts) (mc.set_register result new frame).registers (mc.set_register result new frame).slots
+        kept : (result : Option ℕ) → (more : Cells) × Holds heap p table guarded log more (after_op p certs table result (op.Number (number.Resize kind from x to)) facts) (mc.set_register result new frame).registers (mc.set_register result new frame).slots
         kept None = (cells, h)
         kept (Some v) = rw b.3 (
           cells,
@@ -288,8 +289,8 @@ module _ (heap : Setup) (p : LaidOut) (certs : List Section) (reaches : Bool) (f
   -- a comparison
   pub compare_goes : (result : Option ℕ) (kind : Comparison) (written : ℕ) (first second : Operand) → o.is_available table facts first ≡ true → o.is_available table facts second ≡ true → o.is_value p.of_module f facts written first ≡ true
       → o.is_value p.of_module f facts written second ≡ true → r.may_compare kind (kind_of p.of_module written) ≡ true → o.slot_named table first ≡ None → o.slot_named table second ≡ None
-      → Goes heap p table frame.slots reaches guarded log (after_op p certs table result (Compare kind written first second) facts) (a.op_action p f table frame.block frame.registers (Compare kind written first second))
-      (λ given. mc.after_op p f table result (Compare kind written first second) given frame)
+      → Goes heap p table frame.slots reaches guarded log (after_op p certs table result (op.Number (number.Compare kind written first second)) facts) (a.op_action p f table frame.registers (op.Number (number.Compare kind written first second)))
+      (λ given. mc.after_op p f table result (op.Number (number.Compare kind written first second)) given frame)
   compare_goes result kind written first second k1 k1s k2 k2s may none nones = goes_local heap p table frame.slots reaches guarded log _ _ _ (rw (compares (kind_of p.of_module written) refl may) refl) (kept result) where
     of_references : (x : TypeKind) → kind_of p.of_module written ≡ x → may_be_reference x ≡ true → r.is_equality kind ≡ true → a.may_compare p.of_module f table frame.registers kind written first second ≡ true
     of_references x is refers e = or_second (a.are_numbers p.of_module f table frame.registers written first second) (i.is_equality kind && a.are_references p.of_module f table frame.registers written first second)
@@ -304,7 +305,7 @@ module _ (heap : Setup) (p : LaidOut) (certs : List Section) (reaches : Bool) (f
     compares AddressKind is e = absurd cc
     compares Other is e = absurd cc
 
-    kept : (result : Option ℕ) → (more : Cells) × Holds heap p table guarded log more (after_op p certs table result (Compare kind written first second) facts)
+    kept : (result : Option ℕ) → (more : Cells) × Holds heap p table guarded log more (after_op p certs table result (op.Number (number.Compare kind written first second)) facts)
         (mc.set_register result (compared kind (bits_at p.of_module written) (value_of p.of_module frame.registers written first) (value_of p.of_module frame.registers written second)) frame).registers frame.slots
     kept None = (cells, h)
     kept (Some v) = (cells, compared_keeps v kind written first second)

@@ -1,13 +1,12 @@
 -- The edges out of a block: a thread takes one that the rules looked at, and what its target begins with holds there.
 use Rattle.std.proofs.Common.{◌≡◌, ℕ, ◌<◌, List, [], ◌∷◌, length, map, refl, sym, ap, ◌∙◌, true, false, Bool, Option, Some, None}
 use Rattle.std.specs.Prelude.{◌==◌, ◌&&◌, not, if◌then◌else◌, nat_lt}
-use Rattle.std.specs.List.{take_while}
 use Rattle.lemmas.specs.Numbers.{test_true, test_yes, lt_true}
 use Rattle.lemmas.specs.Bools.{and_parts, not_true}
 use Rattle.ir_ast.specs.declared.function.Function.{Function}
-use Rattle.ir_ast.specs.declared.op.Case.{Case}
-use Rattle.ir_ast.specs.declared.op.Op.{Op}
-use Rattle.ir_ast.specs.declared.op.Op.TheVariants.{Jump, Branch, Switch, Call}
+use Rattle.ir_ast.specs.declared.ends.Case.{Case}
+use Rattle.ir_ast.specs.declared.ends.End.{End}
+use Rattle.ir_ast.specs.declared.ends.End.TheVariants.{Jump, Branch, Switch}
 use Rattle.ir_ast.specs.declared.operand.Operand.{Operand}
 use Rattle.ir_ast.specs.declared.operand.Operand.TheVariants as operand
 use Rattle.pools.specs.Heap.{Setup}
@@ -22,9 +21,9 @@ use Rattle.block_rules.specs.declared.type_kind.TypeKind.TheVariants.{NoValue, B
 use Rattle.block_rules.specs.Operands as o
 use Rattle.block_rules.specs.FirstFailing.{first_failing}
 use Rattle.block_rules.specs.TypeKinds.{kind_of, is_bits, is_integer}
-use Rattle.block_rules.specs.Standing.{instructions_of}
+use Rattle.block_rules.specs.Standing.{phis_of}
 use Rattle.block_rules.specs.Rules as r
-use Rattle.block_rules.specs.Rules.{op_conditions, names_target, is_target, is_case, are_cases}
+use Rattle.block_rules.specs.Rules.{end_conditions, names_target, is_target, is_case, are_cases}
 use Rattle.block_rules.specs.declared.block_fault.Detail.{Detail}
 use Rattle.block_rules.specs.Certified.{scene_of}
 use Rattle.block_rules.specs.Ways as w
@@ -33,7 +32,6 @@ use Rattle.machine.specs.Asks as a
 use Rattle.machine.specs.Jumps as j
 use Rattle.machine.specs.Kinds.{register_at, number_in, value_of, constant_value}
 use Rattle.machine.specs.Log.{Log}
-use Rattle.machine.specs.Machine as mc
 use Rattle.soundness.specs.Meaning.{Cells, Guarded, Holds}
 use Rattle.soundness.proofs.Edges.{edge_holds}
 use Rattle.soundness.proofs.KindLemmas.{bits_same, constant_passes}
@@ -50,11 +48,6 @@ bits_integer n (Reference layout) e = absurd cc
 bits_integer n AnyReference e = absurd cc
 bits_integer n Address e = absurd cc
 bits_integer n Other e = absurd cc
-
--- a call leads to no block
-no_way : (called : Option ℕ) → mc.onward_of_call called ≡ mc.Way → ⊥
-no_way None e = absurd cc
-no_way (Some n) e = absurd cc
 
 -- ---- an edge that a thread takes
 
@@ -77,10 +70,10 @@ module _ (heap : Setup) (program : LaidOut) (certs : List Section) (f : Function
     pub shown : w.unshown_at scene frame.block known (target_of f label) ≡ None
 
   -- the edge that a thread takes: where it leads, and what is known on it
-  pub record Taken (op : Op) : Type 0 where
+  pub record Taken (x : End) : Type 0 where
     pub label : ℕ
-    pub leads : a.way_of program.of_module frame.registers op ≡ Some label
-    pub acts : a.op_action program f table frame.block frame.registers op ≡ a.enter_action program.of_module f table frame.block (target_of f label)
+    pub leads : a.way_of program.of_module frame.registers x ≡ Some label
+    pub acts : a.end_action program.of_module f table frame.block frame.registers x ≡ a.enter_action program.of_module f table frame.block (target_of f label)
     pub known : FactSet
     pub holds : Known known
     pub opened : IsOpen known label
@@ -97,10 +90,10 @@ module _ (heap : Setup) (program : LaidOut) (certs : List Section) (f : Function
   -- ---- br
 
   -- a br without a condition has one edge
-  jump_taken : (here : Standing) (result : Option ℕ) (label : ℕ) → first_failing (op_conditions program certs f table here facts result (Jump label)) ≡ None
+  pub jump_taken : (here : Standing) (label : ℕ) → first_failing (end_conditions program f table here facts (Jump label)) ≡ None
       → w.unshown_on scene frame.block facts (w.ways (Jump label)) ≡ None → Taken (Jump label)
-  jump_taken here result label allowed shown =
-      let all = rules_hold (op_conditions program certs f table here facts result (Jump label)) allowed in
+  jump_taken here label allowed shown =
+      let all = rules_hold (end_conditions program f table here facts (Jump label)) allowed in
       let s = shown_first (w.open_way label) [] shown in
       record { label = label; leads = refl; acts = refl; known = facts; holds = h; opened = record { named = (all K2); shown = s.0 } }
 
@@ -120,7 +113,7 @@ module _ (heap : Setup) (program : LaidOut) (certs : List Section) (f : Function
       → (Decides (value_of program.of_module frame.registers written x) true → Known known_taken) → (Decides (value_of program.of_module frame.registers written x) false → Known known_other) → IsOpen known_taken taken → IsOpen known_other other → Taken (Branch written x taken other)
   branch_by written x taken other known_taken known_other is on_taken on_other open_taken open_other = pick (number_in (value_of program.of_module frame.registers written x) == 0) refl where
     acts_to : (label : ℕ) → a.way_of program.of_module frame.registers (Branch written x taken other) ≡ Some label
-        → a.op_action program f table frame.block frame.registers (Branch written x taken other) ≡ a.enter_action program.of_module f table frame.block (target_of f label)
+        → a.end_action program.of_module f table frame.block frame.registers (Branch written x taken other) ≡ a.enter_action program.of_module f table frame.block (target_of f label)
     acts_to label e = rw is (ap (λ way. a.enter_action program.of_module f table frame.block (a.target_at f way)) e)
 
     pick : (b : Bool) → (number_in (value_of program.of_module frame.registers written x) == 0) ≡ b → Taken (Branch written x taken other)
@@ -139,10 +132,10 @@ module _ (heap : Setup) (program : LaidOut) (certs : List Section) (f : Function
         }
 
   -- a condition that is a local name shows what its comparison says; any other shows nothing
-  branch_taken : (here : Standing) (result : Option ℕ) (written : ℕ) (x : Operand) (taken other : ℕ) → first_failing (op_conditions program certs f table here facts result (Branch written x taken other)) ≡ None
+  pub branch_taken : (here : Standing) (written : ℕ) (x : Operand) (taken other : ℕ) → first_failing (end_conditions program f table here facts (Branch written x taken other)) ≡ None
       → w.unshown_on scene frame.block facts (w.branch_ways x taken other) ≡ None → Taken (Branch written x taken other)
-  branch_taken here result written x taken other allowed shown =
-      let all = rules_hold (op_conditions program certs f table here facts result (Branch written x taken other)) allowed in
+  branch_taken here written x taken other allowed shown =
+      let all = rules_hold (end_conditions program f table here facts (Branch written x taken other)) allowed in
       let b1 = and_parts (r.is_condition program.of_module f facts written x && names_target f taken && names_target f other) (o.is_no_slot table x) (all K2) in
       let b2 = and_parts (r.is_condition program.of_module f facts written x && names_target f taken) (names_target f other) b1.0 in
       let b3 = and_parts (r.is_condition program.of_module f facts written x) (names_target f taken) b2.0 in
@@ -188,10 +181,10 @@ module _ (heap : Setup) (program : LaidOut) (certs : List Section) (f : Function
       let c = and_parts (o.constant_fits first.constant (kind_of program.of_module written)) (names_target f first.target) b.0 in
       rw (constant_passes program.of_module written first.constant c.0, cases_fit_so written cases b.1) refl
 
-  switch_taken : (here : Standing) (result : Option ℕ) (written : ℕ) (x : Operand) (otherwise : ℕ) (cases : List Case) → first_failing (op_conditions program certs f table here facts result (Switch written x otherwise cases)) ≡ None
+  pub switch_taken : (here : Standing) (written : ℕ) (x : Operand) (otherwise : ℕ) (cases : List Case) → first_failing (end_conditions program f table here facts (Switch written x otherwise cases)) ≡ None
       → w.unshown_on scene frame.block facts (w.ways (Switch written x otherwise cases)) ≡ None → Taken (Switch written x otherwise cases)
-  switch_taken here result written x otherwise cases allowed shown =
-      let all = rules_hold (op_conditions program certs f table here facts result (Switch written x otherwise cases)) allowed in
+  switch_taken here written x otherwise cases allowed shown =
+      let all = rules_hold (end_conditions program f table here facts (Switch written x otherwise cases)) allowed in
       let b1 = and_parts (o.is_value program.of_module f facts written x && is_integer (kind_of program.of_module written) && names_target f otherwise && are_cases program.of_module f written cases) (o.is_no_slot table x) (all K2) in
       let b2 = and_parts (o.is_value program.of_module f facts written x && is_integer (kind_of program.of_module written) && names_target f otherwise) (are_cases program.of_module f written cases) b1.0 in
       let b3 = and_parts (o.is_value program.of_module f facts written x && is_integer (kind_of program.of_module written)) (names_target f otherwise) b2.0 in
@@ -208,15 +201,6 @@ module _ (heap : Setup) (program : LaidOut) (certs : List Section) (f : Function
         opened = switch_open written (number_in (value_of program.of_module frame.registers written x)) otherwise cases b2.1 s.1 (record { named = b3.1; shown = s.0 });
       }
 
-  -- the edge that an instruction takes which leads to a block
-  pub taken : (here : Standing) (result : Option ℕ) (op : Op) → mc.onward_of program.of_module op ≡ mc.Way → first_failing (op_conditions program certs f table here facts result op) ≡ None
-      → w.unshown_on scene frame.block facts (w.ways op) ≡ None → Taken op
-  taken here result (Jump label) is allowed shown = jump_taken here result label allowed shown
-  taken here result (Branch written x label other) is allowed shown = branch_taken here result written x label other allowed shown
-  taken here result (Switch written x otherwise cases) is allowed shown = switch_taken here result written x otherwise cases allowed shown
-  taken here result (Call returned callee arguments) is allowed shown = absurd (no_way (a.number_called program.of_module callee) is)
-  taken here result _ is allowed shown = absurd cc
-
   -- ---- the target
 
   -- the block to which an open edge leads, and what holds after its phis
@@ -227,7 +211,7 @@ module _ (heap : Setup) (program : LaidOut) (certs : List Section) (f : Function
     pub begins : w.given_at scene to ≡ w.line_facts scene to
     pub more : Cells
     pub holds : Holds heap program table guarded log more (w.line_facts scene to)
-        (j.put_phis program.of_module f frame.registers frame.block (take_while j.is_phi (instructions_of f to)) frame.registers) frame.slots
+        (j.put_phis program.of_module f frame.registers frame.block (phis_of f to) frame.registers) frame.slots
 
   pub target : (known : FactSet) (label : ℕ) → Known known → IsOpen known label → length frame.registers ≡ length f.locals → Target label
   target known label holds opened size = by (target_of f label) refl opened.named opened.shown where
