@@ -14,10 +14,10 @@ use Rattle.colours.specs.Mutator.{Phase, Ready, Trying, IsAmong, MayFollow, afte
 use Rattle.collector_law.proofs.Claiming.{claim_cell}
 use Rattle.heap_words.specs.Tokens.{Shared}
 use Rattle.heap_table.specs.declared.mutator.Mutator.TheInside.{Inside}
-use Rattle.heap_table.specs.Holders.{Holder, MayCall, IsNow, with_log}
+use Rattle.heap_table.specs.Holders.{Holder, IsOf, MayCall, IsNow, with_log}
 use Rattle.heap_table.specs.MutatorView.{IsMutator, holder_of}
 use Rattle.heap_table.specs.Nexts.{IsStage, IsNext}
-use Rattle.heap_table.specs.Allocs.{AreOfPool, Allocates, lost}
+use Rattle.heap_table.specs.Allocs.{AreOfPool, Allocates, IsPoolFrom, lost}
 
 pub claim_next : (s : Setup) (t : ℕ) (log : List Step) (c : ℕ) → ((won : Bool) → MayFollow s (stage_of log) (phase_of s t log) (Claim c won)) → IsNext s t log (λ n. Claim c (n == 0)) (CompareExchange (Colour c) 0 (claim_at (stage_of log)))
 claim_next s t log c may = record {
@@ -164,36 +164,29 @@ module _ (heap : Shared) (m me : Holder) (layout : ℕ) (tried : List ℕ) (call
 
 -- ---- the two loops
 
--- the pool of a layout as the code sees it, with the cell where the tries begin
-pub record IsPoolOf (s : Setup) (layout first count hinted : ℕ) : Type 0 where
-  pub is_layout : layout < length s.pools
-  pub first_is : first ≡ first_cell s.pools layout
-  pub count_is : count ≡ slice_index s.pools layout
-  pub low : first ≤ hinted
-  pub high : hinted ≤ first + count
-
-pub pool_known : (heap : Shared) (m : Holder) (words : Shared) (pools : List ℕ) (layout first count hinted : ℕ) → MayCall heap m → layout < length m.setup.pools → words ≡ heap → pools ≡ words.setup.pools
-    → first ≡ first_cell pools layout → count ≡ unwrap_or (slice_get pools layout) 0 → first ≤ hinted → hinted ≤ first + count → IsPoolOf m.setup layout first count hinted
-pool_known heap m words pools layout first count hinted call is_layout view same first_is count_is low high = record {
+-- the pool of a layout, as the heap knows it
+pub pool_known : (heap : Shared) (m : Holder) (words : Shared) (pools : List ℕ) (layout first count hinted : ℕ) → IsOf heap m → layout < length m.setup.pools → words ≡ heap → pools ≡ words.setup.pools
+    → first ≡ first_cell pools layout → count ≡ unwrap_or (slice_get pools layout) 0 → first ≤ hinted → hinted ≤ first + count → IsPoolFrom m.setup layout first hinted (first + count)
+pool_known heap m words pools layout first count hinted of is_layout view same first_is count_is low high = record {
   is_layout = is_layout;
   first_is = first_is ∙ ap (λ (x : List ℕ). first_cell x layout) pools_are;
-  count_is = count_is ∙ (unwrap_or-slice_get pools layout 0 ∙ ap (λ (x : List ℕ). get_or x layout 0) pools_are);
+  end_is = ap (λ (n : ℕ). first + n) (count_is ∙ (unwrap_or-slice_get pools layout 0 ∙ ap (λ (x : List ℕ). get_or x layout 0) pools_are));
   low = low;
   high = high;
 } where
   pools_are : pools ≡ m.setup.pools
-  pools_are = same ∙ (ap (λ (x : Shared). x.setup.pools) view ∙ ap (λ (x : Setup). x.pools) (sym call.of.setup))
+  pools_are = same ∙ (ap (λ (x : Shared). x.setup.pools) view ∙ ap (λ (x : Setup). x.pools) (sym of.setup))
 
-module _ (s : Setup) (layout first count hinted : ℕ) (pool : IsPoolOf s layout first count hinted) where
-  pub of_pool : (c : ℕ) → first ≤ c → c < first + count → IsOfLayout s layout c
+module _ (s : Setup) (layout first hinted stop : ℕ) (pool : IsPoolFrom s layout first hinted stop) where
+  -- it ends below the limit of cells
+  pub pool_fits : cells s ≤ 2 ^ 20 → stop ≤ 2 ^ 20
+  pool_fits few = let ends = pool_ends s.pools layout pool.is_layout in let at = pool.first_is in let many = pool.end_is in omega (arith, few, ends, at, many)
+
+  of_pool : (c : ℕ) → first ≤ c → c < stop → IsOfLayout s layout c
   unfolding layout_of
   of_pool c low high =
-      let ends = pool_ends s.pools layout pool.is_layout in let at = pool.first_is in let many = pool.count_is in
+      let ends = pool_ends s.pools layout pool.is_layout in let at = pool.first_is in let many = pool.end_is in
       (omega (arith, low, at), omega (arith, high, at, many, ends), in_pool s.pools layout (c - 1) pool.is_layout (omega (arith, low, at)) (omega (arith, low, high, at, many)))
-
-  -- the pool ends below the limit of cells
-  pub pool_fits : cells s ≤ 2 ^ 20 → first + count ≤ 2 ^ 20
-  pool_fits few = let ends = pool_ends s.pools layout pool.is_layout in let at = pool.first_is in let many = pool.count_is in omega (arith, few, ends, at, many)
 
   -- the cells tried before this one in the first loop
   abbrev pub first_tries : ℕ → List ℕ
@@ -201,45 +194,47 @@ module _ (s : Setup) (layout first count hinted : ℕ) (pool : IsPoolOf s layout
 
   -- and in the second
   abbrev pub second_tries : ℕ → List ℕ
-  second_tries c = tried_up first (c - first) (first_tries (first + count))
+  second_tries c = tried_up first (c - first) (first_tries stop)
 
-  pub first_are : (c : ℕ) → c ≤ first + count → AreOfPool s layout (first_tries c)
-  first_are c high = up_of_pool s layout hinted (c - hinted) [] tt (λ d l h. let low = pool.low in (of_pool d (omega (arith, l, low)) (omega (arith, l, h, high)), λ a. a))
+  pub first_are : (c : ℕ) → hinted ≤ c → c ≤ stop → AreOfPool s layout (first_tries c)
+  first_are c from high = up_of_pool s layout hinted (c - hinted) [] tt (λ d l h. let low = pool.low in (of_pool d (omega (arith, l, low)) (omega (arith, l, h, high, from)), λ a. a))
 
-  pub second_are : (c : ℕ) → c ≤ hinted → AreOfPool s layout (second_tries c)
-  second_are c high = up_of_pool s layout first (c - first) (first_tries (first + count)) (first_are (first + count) (omega arith))
-      (λ d l h. let top = pool.high in (of_pool d l (omega (arith, l, h, high, top)), λ a. elim (up_among hinted (first + count - hinted) [] d a) [ inl w ↦ let low = w.0 in omega (arith, low, l, h, high) | inr b ↦ b ]))
+  pub second_are : (c : ℕ) → first ≤ c → c ≤ hinted → AreOfPool s layout (second_tries c)
+  second_are c from high = up_of_pool s layout first (c - first) (first_tries stop) (first_are stop pool.high (omega arith))
+      (λ d l h. let top = pool.high in (of_pool d l (omega (arith, l, h, high, top, from)), λ a. elim (up_among hinted (stop - hinted) [] d a) [ inl w ↦ let low = w.0 in omega (arith, low, l, h, high, from) | inr b ↦ b ]))
 
-  pub first_next : (c : ℕ) → hinted ≤ c → c < first + count → AreOfPool s layout (c ∷ first_tries c) × (length (first_tries c) < slice_index s.pools layout)
-  first_next c low high = let start = pool.low in let many = pool.count_is in let n = up_length hinted (c - hinted) [] in (
-    (of_pool c (omega (arith, low, start)) high, (λ a. elim (up_among hinted (c - hinted) [] c a) [ inl w ↦ let top = w.1 in omega (arith, top, low) | inr b ↦ b ]), first_are c (omega (arith, high))),
+  pub first_next : (c : ℕ) → hinted ≤ c → c < stop → AreOfPool s layout (c ∷ first_tries c) × (length (first_tries c) < slice_index s.pools layout)
+  first_next c low high = let start = pool.low in let many = pool.end_is in let n = up_length hinted (c - hinted) [] in (
+    (of_pool c (omega (arith, low, start)) high, (λ a. elim (up_among hinted (c - hinted) [] c a) [ inl w ↦ let top = w.1 in omega (arith, top, low) | inr b ↦ b ]), first_are c low (omega (arith, high))),
     omega (arith, n, many, low, high, start),
   )
 
   pub second_next : (c : ℕ) → first ≤ c → c < hinted → AreOfPool s layout (c ∷ second_tries c) × (length (second_tries c) < slice_index s.pools layout)
-  second_next c low high = let top = pool.high in let many = pool.count_is in
-      let n = up_length first (c - first) (first_tries (first + count)) in let k = up_length hinted (first + count - hinted) [] in (
-    (
-      of_pool c low (omega (arith, high, top)),
-      (λ a. elim (up_among first (c - first) (first_tries (first + count)) c a) [
-        | inl w ↦ let over = w.1 in omega (arith, over, low)
-        | inr b ↦ elim (up_among hinted (first + count - hinted) [] c b) [ inl w ↦ let under = w.0 in omega (arith, under, high) | inr d ↦ d ]
-      ]),
-      second_are c (omega (arith, high)),
-    ),
-    omega (arith, n, k, many, low, high, top),
-  )
+  second_next c low high = let top = pool.high in let many = pool.end_is in
+      let n = up_length first (c - first) (first_tries stop) in let k = up_length hinted (stop - hinted) [] in (
+        (
+          of_pool c low (omega (arith, high, top)),
+          (λ a. elim (up_among first (c - first) (first_tries stop) c a) [
+            | inl w ↦ let over = w.1 in omega (arith, over, low)
+            | inr b ↦ elim (up_among hinted (stop - hinted) [] c b) [ inl w ↦ let under = w.0 in omega (arith, under, high) | inr d ↦ d ]
+          ]),
+          second_are c low (omega (arith, high)),
+        ),
+        omega (arith, n, k, many, low, high, top),
+      )
 
-  pub second_all : length (second_tries hinted) ≡ slice_index s.pools layout
-  second_all = let top = pool.high in let low = pool.low in let many = pool.count_is in
-      let n = up_length first (hinted - first) (first_tries (first + count)) in let k = up_length hinted (first + count - hinted) [] in omega (arith, n, k, many, low, top)
+  -- both loops are over
+  pub second_all : (c : ℕ) → c ≡ hinted → AreOfPool s layout (second_tries c) × (length (second_tries c) ≡ slice_index s.pools layout)
+  second_all c is = let top = pool.high in let low = pool.low in let many = pool.end_is in
+      let n = up_length first (c - first) (first_tries stop) in let k = up_length hinted (stop - hinted) [] in
+      (second_are c (omega (arith, is, low)) (omega (arith, is)), omega (arith, n, k, many, low, top, is))
 
 -- one lost try more
 pub lost_more : (m me after : Holder) (c from : ℕ) (b : Bool) (tried : List ℕ) → from ≤ c → IsNow m (lost (tried_up from (c - from) tried) ++ m.log) me → IsNow me (Claim c b ∷ me.log) after → b ≡ false
     → IsNow m (lost (tried_up from (c + 1 - from) tried) ++ m.log) after
 lost_more m me after c from b tried low is e so =
     e ∙ (ap (λ (x : Bool). with_log me (Claim c x ∷ me.log)) so ∙ (ap (λ (x : Holder). with_log x (Claim c false ∷ x.log)) is
-        ∙ ap (λ (x : List ℕ). with_log m (lost x ++ m.log)) more))
+    ∙ ap (λ (x : List ℕ). with_log m (lost x ++ m.log)) more))
   where
     at : from + (c - from) ≡ c
     at = omega (arith, low)
@@ -249,3 +244,11 @@ lost_more m me after c from b tried low is e so =
 
     more : (c ∷ tried_up from (c - from) tried) ≡ tried_up from (c + 1 - from) tried
     more = subst (λ (n : ℕ). (c ∷ tried_up from (c - from) tried) ≡ tried_up from n tried) (sym one) (ap (λ (x : ℕ). x ∷ tried_up from (c - from) tried) (sym at))
+
+pub none_tried : (m : Holder) (from : ℕ) → IsNow m (lost (tried_up from (from - from) []) ++ m.log) m
+none_tried m from = let none : from - from ≡ 0 = omega arith in subst (λ (n : ℕ). IsNow m (lost (tried_up from n []) ++ m.log) m) (sym none) refl
+
+-- the second loop goes on where the first one ended
+pub first_done : (m me : Holder) (c stop hinted first : ℕ) → c ≡ stop → IsNow m (lost (tried_up hinted (c - hinted) []) ++ m.log) me → IsNow m (lost (tried_up first (first - first) (tried_up hinted (stop - hinted) [])) ++ m.log) me
+first_done m me c stop hinted first end is = let none : first - first ≡ 0 = omega arith in
+    subst (λ (n : ℕ). IsNow m (lost (tried_up first n (tried_up hinted (stop - hinted) [])) ++ m.log) me) (sym none) (subst (λ (n : ℕ). IsNow m (lost (tried_up hinted (n - hinted) []) ++ m.log) me) end is)

@@ -1,6 +1,5 @@
 -- The steps that store the own stage, and the try of a late thread.
-use Rattle.std.proofs.Common.{◌≡◌, ◌≢◌, ℕ, ◌<◌, ◌^◌, ◌==◌, true, false, Bool, List, [], ◌∷◌, if◌then◌else◌, refl, sym, ap, subst, ◌∙◌, arith}
-use Rattle.std.specs.Prelude.{IsTrue, IsFalse}
+use Rattle.std.proofs.Common.{◌≡◌, ◌≢◌, ℕ, ◌<◌, ◌^◌, List, [], ◌∷◌, refl, sym, ap, subst, ◌∙◌, arith}
 use Rattle.pools.specs.Heap.{Setup}
 use Rattle.lemmas.specs.Numbers.{test_yes, test_no}
 use Rattle.colours.specs.declared.place.Place.TheVariants.{Posted}
@@ -9,7 +8,7 @@ use Rattle.colours.specs.Colours.{done}
 use Rattle.colours.specs.Steps.{Step, ReadPostedFirst, EnterStage, ReadPostedAgain, StoreStage}
 use Rattle.colours.specs.Mutator.{Phase, Ready, Absent, Arriving, Entering, Leaving, IsAmong, stage_of, phase_of, MayFollow, MayUse}
 use Rattle.heap_words.specs.Tokens.{Shared}
-use Rattle.heap_table.specs.Holders.{Holder, IsOf, MayCall, MayBegin, IsNow, with_log}
+use Rattle.heap_table.specs.Holders.{Holder, IsOf, MayCall, MayBegin, with_log}
 use Rattle.heap_table.specs.Nexts.{IsNext, StoresStage}
 
 -- ---- steps that store a stage

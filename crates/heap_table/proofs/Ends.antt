@@ -1,5 +1,5 @@
 -- Tokens before the first step, and at the end.
-use Rattle.std.proofs.Common.{◌≡◌, ◌≢◌, ℕ, suc, ◌+◌, ◌<◌, ◌^◌, true, false, Bool, List, [], ◌∷◌, ◌++◌, length, if◌then◌else◌, refl, sym, ap, subst, ◌∙◌, arith, length-append}
+use Rattle.std.proofs.Common.{◌≡◌, ℕ, suc, ◌+◌, ◌<◌, true, false, Bool, List, [], ◌∷◌, ◌++◌, length, refl, sym, ap, subst, ◌∙◌, arith, length-append}
 use Rattle.std.specs.Prelude.{MatchBool, slice_index_or}
 use Rattle.pools.specs.Heap.{Setup, IsSetup, is_late}
 use Rattle.colours.specs.Steps.{Step}
@@ -13,7 +13,7 @@ use Rattle.heap_words.specs.Endings.{Closing, AreSharesOf, Ends}
 use Rattle.heap_table.specs.Holders.{Holder, IsOf, IsOfRun, MayCall, MayBegin}
 use Rattle.heap_table.specs.Nexts.{HoldsCells, IsStage}
 use Rattle.heap_table.specs.Sweepers.{SweeperLog, IsInRange}
-use Rattle.heap_table.specs.Opening.{fresh_holder, MayStart, IsNew, AreNew}
+use Rattle.heap_table.specs.Opening.{fresh_holder, IsNew, AreNew}
 use Rattle.heap_table.specs.Closing.{AreOf, HaveLogs, EndsSo}
 
 pub no_cells : (s : Setup) → HoldsCells s []

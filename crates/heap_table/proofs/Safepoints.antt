@@ -7,8 +7,7 @@ use Rattle.colours.specs.declared.ask.Ask.TheVariants.{Load}
 use Rattle.colours.specs.Colours.{done, is_async}
 use Rattle.colours.specs.Steps.{Step, Mark, ReadPosted, StoreStage}
 use Rattle.colours.specs.Calls.{marks}
-use Rattle.colours.specs.Collector.{posted_of}
-use Rattle.colours.specs.Runs.{Event, turns_of, word_after, IsRun}
+use Rattle.colours.specs.Runs.{Event, word_after, IsRun}
 use Rattle.colours.specs.Mutator.{Phase, Ready, Answering, IsAmong, non_null, stage_of, phase_of, phase_after, MayFollow, MayUse, Held}
 use Rattle.lemmas.specs.Numbers.{test_no}
 use Rattle.std.proofs.lemmas.Grind.{reverse_onto}

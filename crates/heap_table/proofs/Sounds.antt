@@ -7,7 +7,7 @@ use Rattle.pools.specs.Layouts.{is_reference_kind}
 use Rattle.lemmas.specs.Bools.{and_parts}
 use Rattle.lemmas.specs.Numbers.{test_true, not_null}
 use Rattle.colours.specs.Steps.{Step, ReadWord, ReadOldValue, Claim}
-use Rattle.colours.specs.Mutator.{stage_of, phase_of, MayFollow, MayFind, IsPossible, IsPossibleLog, gains, Held}
+use Rattle.colours.specs.Mutator.{stage_of, phase_of, MayFollow, MayFind, IsPossible, IsPossibleLog, gains}
 use Rattle.colours.specs.Runs.{ByThread}
 use Rattle.collector_law.proofs.Safeties.{answers_possible}
 use Rattle.collector_law.proofs.Claiming.{claim_cell}

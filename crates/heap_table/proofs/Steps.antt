@@ -1,5 +1,5 @@
 -- The token after a step, and when a step comes next.
-use Rattle.std.proofs.Common.{◌≡◌, ◌≢◌, ℕ, zero, suc, ◌<◌, ◌^◌, inl, inr, None, List, ◌∷◌, length, refl, sym, ap, subst, ◌∙◌, arith}
+use Rattle.std.proofs.Common.{◌≡◌, ◌≢◌, ℕ, zero, suc, ◌<◌, ◌^◌, inl, inr, None, List, [], ◌∷◌, length, refl, sym, ap, subst, ◌∙◌, arith}
 use Rattle.std.specs.Prelude.{slice_get}
 use Rattle.pools.specs.Heap.{Setup, cells, kind_of, words_of_cell}
 use Rattle.pools.specs.declared.word_kind.WordKind.{WordKind}
@@ -16,12 +16,12 @@ use Rattle.heap_words.specs.Tokens as words
 use Rattle.heap_table.specs.declared.mutator.Mutator.TheInside.{Inside}
 use Rattle.heap_table.specs.Holders.{Holder, IsOfRun, with_log}
 use Rattle.heap_table.specs.MutatorView.{IsMutator, log_in, holder_of}
-use Rattle.heap_table.specs.Nexts.{HoldsCells, IsStage, IsNext, StoresStage}
+use Rattle.heap_table.specs.Nexts.{HoldsCells, IsStage, IsNext}
 use Rattle.heap_table.proofs.Sounds.{cells_next, of_run_next, stage_stays}
 
 module _ (m : Inside) (s : Setup) (held : Holder) (after : words.Holding) (step : Step) (stage : ℕ) (k : IsMutator m) (view : holder_of m ≡ held) (set : held.setup ≡ s)
     (is : after ≡ record { table = m.token.table; setup = m.token.setup; share = grown (ByThread m.thread step) m.token.share }) (h : Happens s m.token.share (ByThread m.thread step)) where
-  log : List Step
+  abbrev log : List Step
   log = log_in m.token.share
 
   log_was : log ≡ held.log

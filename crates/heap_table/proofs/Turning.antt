@@ -1,5 +1,5 @@
 -- The collector's next step, as the sweeper makes it.
-use Rattle.std.proofs.Common.{◌≡◌, ℕ, ◌<◌, ◌≤◌, ◌^◌, nat_lt, inl, inr, true, false, Some, List, ◌∷◌, length, refl, sym, ap, subst, ◌∙◌, arith}
+use Rattle.std.proofs.Common.{◌≡◌, ℕ, ◌<◌, nat_lt, inl, inr, true, false, Some, List, ◌∷◌, length, refl, sym, ap, subst, ◌∙◌, arith}
 use Rattle.pools.specs.Heap.{Setup, cells, words_of_cell}
 use Rattle.colours.specs.declared.place.Place.TheVariants.{Word}
 use Rattle.colours.specs.declared.ask.Ask.{Ask}

@@ -1,14 +1,21 @@
-ghost use Rattle.std.specs.Prelude.{◌≡◌, ◌≢◌, ◌<◌, Bool, ◌∷◌, length};
+ghost use Rattle.std.specs.Prelude.{◌≡◌, ◌≢◌, ◌<◌, ◌≤◌, ◌^◌, Bool, ◌∷◌, length};
 ghost use Rattle.colours.specs.Colours.{done};
 ghost use Rattle.colours.specs.Steps.{Claim};
 ghost use Rattle.colours.specs.Mutator.{stage_of, phase_of, MayFollow, IsPossibleLog};
-ghost use Rattle.heap_table.specs.Allocs.{Allocates};
+ghost use Rattle.heap_table.specs.Allocs.{Allocates, IsPoolFrom};
 
 use crate::heap::Heap;
 use crate::mutator::Mutator;
 use colours::{Ask, Place, claim_at};
 use pools::LayoutId;
 use std::marker::Brand;
+
+/// The cells of a pool in the order in which a thread tries them: from `hinted` up to `end`, and then from `first` up to `hinted`.
+struct Tries {
+    first: u32,
+    hinted: u32,
+    end: u32,
+}
 
 impl<'a> Heap<'a> {
     ghost use Rattle.heap_table.specs.Holders.{IsOf, MayCall, IsNow, IsOfRun};
@@ -25,10 +32,8 @@ impl<'a> Heap<'a> {
         ensures possible { IsPossibleLog me.new.setup me.new.log }
         ensures run { IsOfRun me.new }
     {
-        let first = self.pools.first_cell(layout);
-        let count = self.pools.count(layout);
-        let hinted = first + me.hint(layout).min(count);
-        for cell in hinted..first + count {
+        let Tries { first, hinted, end } = self.tries(me, layout);
+        for cell in hinted..end {
             if self.try_claim(me, cell) {
                 me.set_hint(layout, cell + 1 - first);
                 return cell;
@@ -40,7 +45,23 @@ impl<'a> Heap<'a> {
                 return cell;
             }
         }
+        me.is_of_run();
         0
+    }
+
+    fn tries(&self, me: &Mutator, layout: LayoutId) -> Tries
+        requires token { IsOf self.now me.now }
+        requires layout { layout < length me.now.setup.pools }
+        ensures pool { IsPoolFrom me.now.setup layout result.first result.hinted result.end }
+        ensures few { result.end ≤ 2 ^ 20 }
+    {
+        let first = self.pools.first_cell(layout);
+        let count = self.pools.count(layout);
+        Tries {
+            first,
+            hinted: first + me.hint(layout).min(count),
+            end: first + count,
+        }
     }
 
     /// Tries to take a free cell, once.

@@ -77,7 +77,7 @@ impl<'a> Heap<'a> {
         let thread = me.thread;
         let ask = Ask::Store(Place::Stage(thread), stage);
         self.words
-            .perform::<Brand, usize>(&mut me.token, ask, thread);
+            .perform::<Brand, (usize, u64)>(&mut me.token, ask, (thread, stage));
         me.stage = stage;
     }
 

@@ -6,4 +6,4 @@ pub step-requires-clause-next : goal.step-requires-clause-next
 step-requires-clause-next c = first_next _ _ _ c.requires.token.absent
 
 pub returns-clause-low : goal.returns-clause-low
-returns-clause-low c = posted_low _ _ _ c.step.ensures.happens c.step.ensures.happens.is_run.run_of.1.2
+returns-clause-low c = posted_low _ _ _ _ c.step.ensures.happens c.step.ensures.happens.is_run.run_of.1.2
