@@ -29,7 +29,7 @@ impl<'a> Model for Closed<'a> {
 impl<'a> Heap<'a> {
     /// Gives back the words, at the end of the run whose shares the tokens logged. Tokens may be missing: nothing is said then of
     /// what their threads did. It takes no memory and can't fail.
-    pub fn close(self, mut mutators: Vec<Mutator>, sweeper: Sweeper<'a>) -> Closed<'a>
+    pub fn close(self, mut mutators: Vec<Mutator>, sweeper: Sweeper<'_>) -> Closed<'a>
         requires mutators { AreOf self mutators.items }
         requires sweeper { IsSweeperOf self sweeper }
         ensures setup { result.setup ≡ self.entry.setup }

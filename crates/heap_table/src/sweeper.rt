@@ -35,7 +35,7 @@ impl<'a> Sweeper<'a> {
 
     /// Makes the collector's next step, and returns it; None where no further cycle may begin. The stages, the marks of the
     /// globals, the trace and the sweep are those of Doligez and Gonthier; the order of cells and the list of grey ones are not.
-    pub fn turn(&mut self, heap: &Heap<'a>) -> Option<Turn>
+    pub fn turn(&mut self, heap: &Heap<'_>) -> Option<Turn>
         requires token { IsSweeperOf heap.now self.old }
         ensures log { IfSome result (λ turn. IsNowAt self.old (turn ∷ self.old.log) self.new) }
         // It is a step of a run in which the log was the collector's share.
