@@ -13,13 +13,16 @@ use Rattle.block_rules.specs.Ways.{Scene, given_at}
 use Rattle.block_rules.specs.declared.block_fault.Breach.{Breach}
 use Rattle.block_rules.specs.Certified.{stands, phi_breach, breach, end_breach, PhisPass, Passes, Follows, EndPasses, phi_count, end_place, IsCertified, BreaksAt, AtPhi, InBody, AtEnd}
 
+-- the element that is read at a place is there
+pub got_at : {A : Type 0} (xs : List A) (i : ℕ) (x : A) → i < length xs → x ≡ get_or xs i x → slice_get xs i ≡ Some x
+got_at [] i x lt is = absurd (omega (arith, lt))
+got_at (y ∷ ys) zero x lt is = ap Some (sym is)
+got_at (y ∷ ys) (suc i) x lt is = got_at ys i x (omega (arith, lt)) is
+
 -- the element at a place of a list is the one at that place of a longer front of it
 got_in_front : {A : Type 0} (xs : List A) (i n : ℕ) → i < n → slice_get (take n xs) i ≡ slice_get xs i
-got_in_front [] i n lt = ap (λ (ys : List A). slice_get ys i) (nothing n)
-  where
-    nothing : (n : ℕ) → take n ([] : List A) ≡ []
-    nothing zero = refl
-    nothing (suc n) = refl
+got_in_front [] i zero lt = refl
+got_in_front [] i (suc n) lt = refl
 got_in_front (x ∷ xs) i zero lt = absurd (omega (arith, lt))
 got_in_front (x ∷ xs) zero (suc n) lt = refl
 got_in_front (x ∷ xs) (suc i) (suc n) lt = got_in_front xs i n (omega (arith, lt))
@@ -116,7 +119,11 @@ module _ (s : Scene) (b : ℕ) where
   one_phi i j x y r t passes is k passes_too is_too k_too = pick (cases_order i j)
     where
       pick : (i ≡ j) ⊎ ((i < j) ⊎ (j < i)) → (i ≡ j) × (r ≡ t)
-      pick (inl e) = (e, cc)
+      pick (inl e) =
+          let there : Some x ≡ Some y = sym is ∙ ap (λ n. slice_get phis n) e ∙ is_too in
+          let same : x ≡ y = cc in
+          let broken : Some r ≡ Some t = sym k ∙ ap (λ n. phi_breach s b (stands s b n) x) e ∙ ap (λ z. phi_breach s b (stands s b j) z) same ∙ k_too in
+          (e, cc)
       pick (inr (inl lt)) = absurd (phi_order i j x r lt is k passes_too)
       pick (inr (inr lt)) = absurd (phi_order j i y t lt is_too k_too passes)
 
@@ -133,7 +140,11 @@ module _ (s : Scene) (b : ℕ) where
     where
       pick : (i ≡ j) ⊎ ((i < j) ⊎ (j < i)) → (first + i ≡ first + j) × (r ≡ t)
       pick (inl e) =
-          let same : d ≡ c = same_facts first given (take i body) d c (subst (λ n. Follows s b first given (take n body) d) (sym e) follows_too) follows in
+          let there : Some x ≡ Some y = sym is ∙ ap (λ n. slice_get body n) e ∙ is_too in
+          let same : x ≡ y = cc in
+          let known : c ≡ d = same_facts first given (take i body) c d follows (subst (λ n. Follows s b first given (take n body) d) (sym e) follows_too) in
+          let broken : Some r ≡ Some t =
+          sym k ∙ ap (λ n. breach s (stands s b (first + n)) c x) e ∙ ap (λ z. breach s (stands s b (first + j)) c z) same ∙ ap (λ z. breach s (stands s b (first + j)) z y) known ∙ k_too in
           (ap (λ n. first + n) e, cc)
       pick (inr (inl lt)) = absurd (body_order i j x c d r lt follows is k follows_too)
       pick (inr (inr lt)) = absurd (body_order j i y d c t lt follows_too is_too k_too follows)
@@ -141,8 +152,10 @@ module _ (s : Scene) (b : ℕ) where
   one_end : (x y : End) (c d : FactSet) (r t : Breach) → Follows s b first given body c → end_of s.function b ≡ Some x → end_breach s b (stands s b (end_place s b)) c x ≡ Some r
       → Follows s b first given body d → end_of s.function b ≡ Some y → end_breach s b (stands s b (end_place s b)) d y ≡ Some t → r ≡ t
   one_end x y c d r t follows is k follows_too is_too k_too =
-      let same : c ≡ d = same_facts first given body c d follows follows_too in
-      let as_well : x ≡ y = cc in
+      let there : Some x ≡ Some y = sym is ∙ is_too in
+      let same : x ≡ y = cc in
+      let known : c ≡ d = same_facts first given body c d follows follows_too in
+      let broken : Some r ≡ Some t = sym k ∙ ap (λ z. end_breach s b (stands s b (end_place s b)) c z) same ∙ ap (λ z. end_breach s b (stands s b (end_place s b)) z y) known ∙ k_too in
       cc
 
   -- a block breaks at one place, and in one way
@@ -166,11 +179,36 @@ module _ (s : Scene) (b : ℕ) where
       let more : take (i + 1) items ≡ take i items ++ phi ∷ [] = take_more items i phi lt ∙ ap (λ x. take i items ++ x ∷ []) (sym is) in
       subst (λ ps. PhisPass s b 0 ps) (sym more) (phis_more 0 i (take i items) phi (omega (arith, len)) h none)
 
+  -- a phi breaks a rule
+  pub breaks_at_phi : (items : List Phi) (i : ℕ) (phi : Phi) (broken : Breach) → i < length items → phi ≡ get_or items i phi → items ≡ phis → PhisPass s b 0 (take i items) → Some broken ≡ phi_breach s b (stands s b i) phi → BreaksAt s b i broken
+  breaks_at_phi items i phi broken lt is all passes found =
+      AtPhi i phi broken (subst (λ ps. PhisPass s b 0 (take i ps)) all passes) (subst (λ ps. slice_get ps i ≡ Some phi) all (got_at items i phi lt is)) (sym found)
+
   -- one instruction more of a list
   pub step_here : (place : ℕ) (start before next : FactSet) (items : List Instr) (i : ℕ) (instr : Instr) → i < length items → instr ≡ get_or items i instr → Follows s b place start (take i items) before → None ≡ breach s (stands s b (place + i)) before instr → next ≡ after s.program s.certs s.slots before instr
       → Follows s b place start (take (i + 1) items) next
-  step_here place start before next items i instr lt is h none then =
+  step_here place start before next items i instr lt is h none changed =
       let len : length (take i items) ≡ i = length-take-le i items (omega (arith, lt)) in
-      let k = follows_more place (place + i) start before (take i items) instr next (ap (λ n. place + n) (sym len)) h (record { keeps = sym none; facts_after = then }) in
+      let k = follows_more place (place + i) start before (take i items) instr next (ap (λ n. place + n) (sym len)) h (record { keeps = sym none; facts_after = changed }) in
       let more : take (i + 1) items ≡ take i items ++ instr ∷ [] = take_more items i instr lt ∙ ap (λ x. take i items ++ x ∷ []) (sym is) in
       subst (λ xs. Follows s b place start xs next) (sym more) k
+
+  -- an instruction of the body breaks a rule
+  pub breaks_in_body : (items : List Instr) (i : ℕ) (instr : Instr) (before : FactSet) (broken : Breach) → i < length items → instr ≡ get_or items i instr → items ≡ body → PhisPass s b 0 phis → Follows s b first given (take i items) before
+      → Some broken ≡ breach s (stands s b (first + i)) before instr → BreaksAt s b (first + i) broken
+  breaks_in_body items i instr before broken lt is all passes follows found =
+      InBody i instr before broken passes (subst (λ xs. Follows s b first given (take i xs) before) all follows) (subst (λ xs. slice_get xs i ≡ Some instr) all (got_at items i instr lt is)) (sym found)
+
+  -- the end breaks a rule
+  pub breaks_at_end : (x : End) (before : FactSet) (broken : Breach) → PhisPass s b 0 phis → Follows s b first given body before → end_of s.function b ≡ Some x → Some broken ≡ end_breach s b (stands s b (end_place s b)) before x → BreaksAt s b (end_place s b) broken
+  breaks_at_end x before broken passes follows is found = AtEnd x before broken passes follows is (sym found)
+
+  -- the end breaks none
+  pub certified_to_end : (x : End) (last : FactSet) → PhisPass s b 0 phis → Follows s b first given body last → end_of s.function b ≡ Some x → None ≡ end_breach s b (stands s b (end_place s b)) last x → IsCertified s b
+  certified_to_end x last passes follows is none =
+      record { phis = passes; last = last; body = follows; end = subst (λ found. EndPasses s b (end_place s b) last found) (sym is) (sym none) }
+
+  -- there is no end, since there is no block
+  pub certified_nowhere : (last : FactSet) → PhisPass s b 0 phis → Follows s b first given body last → end_of s.function b ≡ None → IsCertified s b
+  certified_nowhere last passes follows is =
+      record { phis = passes; last = last; body = follows; end = subst (λ found. EndPasses s b (end_place s b) last found) (sym is) tt }

@@ -83,11 +83,7 @@ fn note_blocks(lists: &mut [BlockSet], function: &Function, count: u32) -> Resul
     Ok(())
 }
 
-fn note_block(
-    lists: &mut [BlockSet],
-    function: &Function,
-    from: BlockId,
-) -> Result<(), AllocError>
+fn note_block(lists: &mut [BlockSet], function: &Function, from: BlockId) -> Result<(), AllocError>
     ensures { OnOk result (Adds lists.old lists.new from (λ to. is_predecessor function.now to from)) }
 {
     match end_of(function, from) {

@@ -65,10 +65,11 @@ impl<'a> Walk<'a> {
         requires { IsFound self.now }
         ensures { let s = seen self.now.subject.now in MatchOption result (PhisPass s self.now.block 0 (phis_of s.function self.now.block)) (λ broken. BreaksAt s self.now.block broken.0 broken.1) }
     {
-        let phis = phis_of(self.subject.scene.function, self.block);
+        let subject = self.subject;
+        let phis = phis_of(subject.scene.function, self.block);
         for (place, phi) in phis.iter().enumerate() {
             let here = self.standing(place);
-            if let Some(broken) = phi_breach(self.subject, here, self.block, place, phi) {
+            if let Some(broken) = phi_breach(subject, here, self.block, place, phi) {
                 return Some((place, broken));
             }
         }
@@ -82,13 +83,14 @@ impl<'a> Walk<'a> {
         requires given { facts.old ≡ given_at (seen self.now.subject.now) self.now.block }
         ensures { let s = seen self.now.subject.now in let b = self.now.block in IfOk result (λ found. MatchOption found (Follows s b (phi_count s b) (given_at s b) (body_of s.function b) facts.new) (λ broken. BreaksAt s b broken.0 broken.1)) }
     {
-        let function = self.subject.scene.function;
+        let subject = self.subject;
+        let function = subject.scene.function;
         let first = phis_of(function, self.block).len();
         for (index, instr) in body_of(function, self.block).iter().enumerate() {
             let place = first + index;
-            match breach(self.subject, self.standing(place), facts, instr) {
+            match breach(subject, self.standing(place), facts, instr) {
                 Some(broken) => return Ok(Some((place, broken))),
-                None => advance(&self.subject.scene, facts, instr)?,
+                None => advance(&subject.scene, facts, instr)?,
             }
         }
         Ok(None)
@@ -105,7 +107,8 @@ impl<'a> Walk<'a> {
         requires body { let s = seen self.now.subject.now in let b = self.now.block in Follows s b (phi_count s b) (given_at s b) (body_of s.function b) facts.now }
         ensures { IfOk result (λ found. MatchOption found (IsCertified (seen self.now.subject.now) self.now.block) (λ broken. BreaksAt (seen self.now.subject.now) self.now.block broken.0 broken.1)) }
     {
-        let function = self.subject.scene.function;
+        let subject = self.subject;
+        let function = subject.scene.function;
         let Some(end) = end_of(function, self.block) else {
             return Ok(None);
         };
@@ -115,7 +118,7 @@ impl<'a> Walk<'a> {
             facts,
         };
         let here = self.standing(place);
-        match end_breach(alloc, self.subject, rooms, here, &exit, end)? {
+        match end_breach(alloc, subject, rooms, here, &exit, end)? {
             Some(broken) => Ok(Some((place, broken))),
             None => Ok(None),
         }
