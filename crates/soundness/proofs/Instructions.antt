@@ -1,8 +1,6 @@
 -- The step of any instruction that the rules allow, and that calls no defined function.
 use Rattle.std.proofs.Common.{◌≡◌, ℕ, List, true, Option, None, Bool}
 use Rattle.ir_ast.specs.declared.function.Function.{Function}
-use Rattle.ir_ast.specs.declared.elements.Element.{Element}
-use Rattle.ir_ast.specs.declared.choices.Choice.{Choice}
 use Rattle.ir_ast.specs.declared.op.Op.{Op}
 use Rattle.ir_ast.specs.declared.op.Op.TheVariants as op
 use Rattle.pools.specs.Heap.{Setup}

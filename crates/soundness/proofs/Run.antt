@@ -602,8 +602,8 @@ module _ (heap : Setup) (program : LaidOut) (heap_is : IsHeapFor heap program) (
           (subst (λ g. EndPasses s frame.block (end_place s frame.block) g (end_of f frame.block)) same x.standing.ends)
 
       by : (q : Option AnEnd) → EndPasses s frame.block (end_place s frame.block) facts q → Onward log roots (mc.last_action program f frame (length below) q) (λ given. mc.after_last program f frame below q)
-      by None passed = end_onward log roots End (frame ∷ below) refl x
-      by (Some y) passed = end_goes y passed
+      by None obeys = end_onward log roots End (frame ∷ below) refl x
+      by (Some y) obeys = end_goes y obeys
 
   -- ---- a step of the thread
 
