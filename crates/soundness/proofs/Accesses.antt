@@ -36,7 +36,6 @@ use Rattle.machine.specs.declared.answer.Answer.{Answer}
 use Rattle.machine.specs.declared.frame.Frame.{Frame}
 use Rattle.machine.specs.Asks as a
 use Rattle.machine.specs.Kinds as k
-use Rattle.machine.specs.Kinds.{value_of}
 use Rattle.machine.specs.Log.{Log, IsFresh}
 use Rattle.machine.specs.Machine as mc
 use Rattle.soundness.specs.Meaning.{Cells, Guarded, Holds}

@@ -1,5 +1,5 @@
 -- An edge from block to block: what is known after it holds of the frame that entered.
-use Rattle.std.proofs.Common.{◌≡◌, ℕ, suc, ◌+◌, ◌<◌, ◌≤◌, ◌^◌, List, [], ◌∷◌, length, refl, sym, ap, ◌∙◌, subst, arith, true, false, Bool, Option, Some, None, slice_get, slice_set, take, inl, inr}
+use Rattle.std.proofs.Common.{◌≡◌, ℕ, suc, ◌+◌, ◌<◌, ◌≤◌, ◌^◌, List, [], ◌∷◌, length, refl, sym, ap, ◌∙◌, subst, arith, true, false, Bool, Option, Some, None, slice_get, slice_set, inl, inr}
 use Rattle.std.proofs.lemmas.List.{length-set}
 use Rattle.std.proofs.lemmas.Nat.{mod_below, pow_pos}
 use Rattle.std.proofs.lemmas.Bool.{cases_lt}
@@ -33,7 +33,7 @@ use Rattle.block_rules.specs.TypeKinds.{kind_of, kind_in, pointer_kind, struct_p
 use Rattle.block_rules.specs.Standing.{phis_of}
 use Rattle.block_rules.specs.Bounds.{below_next}
 use Rattle.block_rules.specs.Ways as w
-use Rattle.block_rules.specs.Ways.{Scene, operand_from, constant_comes_in, number_comes_in, known_comes_in, phi_comes_in, comes_in}
+use Rattle.block_rules.specs.Ways.{Scene, operand_from, number_comes_in, known_comes_in, phi_comes_in, comes_in}
 use Rattle.machine.specs.WrappedFits.{wrapped_fits}
 use Rattle.machine.specs.declared.value.Value.{Value}
 use Rattle.machine.specs.declared.value.Value.TheVariants as value

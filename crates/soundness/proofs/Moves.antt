@@ -30,7 +30,7 @@ use Rattle.machine.specs.declared.value.Value.TheVariants as value
 use Rattle.machine.specs.declared.frame.Frame.{Frame}
 use Rattle.machine.specs.Asks as a
 use Rattle.machine.specs.Kinds as k
-use Rattle.machine.specs.Kinds.{register_at, bits_at, value_of, fits_layout_of}
+use Rattle.machine.specs.Kinds.{register_at, value_of, fits_layout_of}
 use Rattle.machine.specs.Machine as mc
 use Rattle.machine.specs.Machine.{slot_value}
 use Rattle.machine.specs.Log.{Log}

@@ -1,10 +1,9 @@
--- The phis of a certified block may take their entries; and what its end shows.
-use Rattle.std.proofs.Common.{◌≡◌, ℕ, suc, List, [], ◌∷◌, refl, sym, subst, true, false, Bool, Option, Some, None, is_some, slice_get}
+-- The phis of a certified block may take their entries.
+use Rattle.std.proofs.Common.{◌≡◌, ℕ, suc, List, [], ◌∷◌, refl, subst, true, false, Bool, Option, Some, None, is_some, slice_get}
 use Rattle.std.specs.Prelude.{◌||◌, ◌++◌, not, if◌then◌else◌}
 use Rattle.lemmas.specs.Bools.{and_parts}
 use Rattle.ir_ast.specs.declared.choices.Incoming.{Incoming}
 use Rattle.ir_ast.specs.declared.choices.Phi.{Phi}
-use Rattle.ir_ast.specs.declared.ends.End.{End}
 use Rattle.ir_ast.specs.declared.function.Function.{Function}
 use Rattle.ir_ast.specs.declared.function.LocalSort.{LocalSort}
 use Rattle.ir_ast.specs.declared.function.LocalSort.TheVariants as sort
@@ -13,54 +12,22 @@ use Rattle.ir_ast.specs.declared.operand.Operand.{Operand}
 use Rattle.ir_ast.specs.declared.operand.Operand.TheVariants as operand
 use Rattle.types.specs.ValueTypes.{is_value_of, target_of}
 use Rattle.shadow_stack.specs.Slots.{SlotTable, slot_of}
-use Rattle.facts.specs.Facts.{FactSet}
 use Rattle.block_rules.specs.declared.rule.Rule.{Rule}
 use Rattle.block_rules.specs.declared.rule.Rule.TheVariants.{K2, K16}
 use Rattle.block_rules.specs.declared.standing.Standing.{Standing}
 use Rattle.block_rules.specs.declared.type_kind.TypeKind.{TypeKind}
 use Rattle.block_rules.specs.declared.type_kind.TypeKind.TheVariants.{NoValue, Bits, Reference, AnyReference, Address, Other}
-use Rattle.block_rules.specs.declared.block_fault.Detail.{Detail}
 use Rattle.block_rules.specs.FirstFailing.{first_failing}
 use Rattle.block_rules.specs.TypeKinds.{kind_of, is_integer, may_be_reference}
 use Rattle.block_rules.specs.Integers.{may_choose}
-use Rattle.block_rules.specs.Rules.{phi_conditions, end_conditions, is_entry, may_come_in, all_come_in}
-use Rattle.block_rules.specs.Certified.{breach_by, breach_of, end_breach, PhisPass, stands}
-use Rattle.block_rules.specs.Ways.{Scene, ways, unshown_on, are_entries}
+use Rattle.block_rules.specs.Rules.{phi_conditions, is_entry, may_come_in, all_come_in}
+use Rattle.block_rules.specs.Certified.{PhisPass, stands}
+use Rattle.block_rules.specs.Ways.{Scene, are_entries}
 use Rattle.machine.specs.Jumps as j
 use Rattle.machine.specs.Kinds as k
 use Rattle.soundness.proofs.KindLemmas.{constant_passes, integer_same, refers_same}
 use Rattle.soundness.proofs.Steps.{none_of}
-use Rattle.soundness.proofs.RulesHold.{rules_hold}
-
--- ---- what follows where no rule is broken
-
--- where no condition of a list fails, none of its front does
-first_passes : (first rest : List (Rule × Bool)) → first_failing (first ++ rest) ≡ None → first_failing first ≡ None
-first_passes [] rest e = refl
-first_passes (condition ∷ first) rest e = pick condition.1 (first_passes first rest) e where
-  pick : (b : Bool) → (first_failing (first ++ rest) ≡ None → first_failing first ≡ None) → (if b then first_failing (first ++ rest) else Some condition.0) ≡ None → (if b then first_failing first else Some condition.0) ≡ None
-  pick true others e = others e
-  pick false others e = absurd cc
-
--- where no rule is broken, none is failed
-pub unbroken : (rule : Option Rule) → breach_by rule ≡ None → rule ≡ None
-unbroken None e = refl
-unbroken (Some rule) e = absurd cc
-
--- no condition of the end of a block fails, and each of its edges shows the lines of its target
-pub record Kept (s : Scene) (block : ℕ) (here : Standing) (facts : FactSet) (x : End) : Type 0 where
-  pub allowed : first_failing (end_conditions s.program s.function s.slots here facts x) ≡ None
-  pub shown : unshown_on s block facts (ways x) ≡ None
-
--- an end that breaks no rule is such a one
-pub kept : (s : Scene) (block : ℕ) (here : Standing) (facts : FactSet) (x : End) → end_breach s block here facts x ≡ None → Kept s block here facts x
-kept s block here facts x e = by (first_failing (end_conditions s.program s.function s.slots here facts x)) refl (unshown_on s block facts (ways x)) refl e where
-  by : (rule : Option Rule) → first_failing (end_conditions s.program s.function s.slots here facts x) ≡ rule → (detail : Option Detail) → unshown_on s block facts (ways x) ≡ detail → breach_of rule detail ≡ None → Kept s block here facts x
-  by None passes None shown e = record { allowed = passes; shown = shown }
-  by None passes (Some detail) shown e = absurd cc
-  by (Some rule) passes detail shown e = absurd cc
-
--- ---- the phis of a block
+use Rattle.soundness.proofs.RulesHold.{rules_hold, first_passes, unbroken}
 
 -- what may be chosen is an integer or a reference
 scalar_kind : (x : TypeKind) → may_choose x ≡ true → (is_integer x || may_be_reference x) ≡ true

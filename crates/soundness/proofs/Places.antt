@@ -1,5 +1,5 @@
 -- Where a frame is after an instruction, and which of its slots are roots.
-use Rattle.std.proofs.Common.{◌≡◌, ℕ, zero, suc, ◌<◌, List, [], ◌∷◌, length, drop, refl, ap, ◌∙◌, subst, arith, true, false, Bool, Option, Some, None, slice_get}
+use Rattle.std.proofs.Common.{◌≡◌, ℕ, zero, suc, ◌<◌, List, [], ◌∷◌, length, drop, refl, ap, subst, arith, true, false, Bool, Option, Some, None, slice_get}
 use Rattle.std.proofs.lemmas.List.{length-set}
 use Rattle.std.specs.Prelude.{if◌then◌else◌}
 use Rattle.ir_ast.specs.declared.block.Block.{Block}
@@ -32,9 +32,8 @@ use Rattle.machine.specs.declared.value.Value.{Value}
 use Rattle.machine.specs.Jumps as j
 use Rattle.machine.specs.Kinds as k
 use Rattle.machine.specs.Machine as mc
-use Rattle.soundness.proofs.RulesHold.{rules_hold}
+use Rattle.soundness.proofs.RulesHold.{rules_hold, unbroken}
 use Rattle.block_rules.specs.declared.rule.Rule.TheVariants.{K8}
-use Rattle.soundness.proofs.Phis.{unbroken}
 use Rattle.soundness.proofs.Slots.{AllocaIs, AllNamed, BlocksNamed, NamesRoots, AreRooted, rooted_set}
 
 -- ---- the instruction at a place

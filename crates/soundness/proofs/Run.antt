@@ -63,20 +63,20 @@ use Rattle.soundness.proofs.KindLemmas.{void_same}
 use Rattle.soundness.specs.Goes.{HaveMembers, HasRoots}
 use Rattle.soundness.proofs.Callees.{IsDefined, callee_is, defined_is}
 use Rattle.soundness.proofs.Members.{members_stay, line_members, parameter_members, arguments_members, mark_members, result_members}
-use Rattle.soundness.proofs.Rows.{instructions_go}
+use Rattle.soundness.proofs.Instructions.{instructions_go}
 use Rattle.soundness.proofs.Steps.{none_of, usable}
-use Rattle.soundness.proofs.RulesHold.{RulesHold, rules_hold}
+use Rattle.soundness.proofs.RulesHold.{RulesHold, rules_hold, unbroken}
 use Rattle.block_rules.specs.declared.rule.Rule.TheVariants.{K1, K2, K3, K10, K13, K14, K17, K18}
 use Rattle.soundness.specs.Discipline.{AreCertified, CertifiedIsNeverWrong}
 use Rattle.soundness.proofs.Calls.{Waits, waits, waiting_fresh, Waiting, AllPass, all_pass, machine_pass, arguments_given}
 use Rattle.soundness.proofs.Edges.{put_size}
-use Rattle.soundness.proofs.Phis.{unbroken, kept, phis_fit_so}
+use Rattle.soundness.proofs.Phis.{phis_fit_so}
 use Rattle.soundness.proofs.Places.{instruction_in, no_instruction_in, same_phis, same_end, follows_named, blocks_named, SamePlace, op_place}
 use Rattle.soundness.proofs.Receive.{IsGiven, Passes, received, value_given}
 use Rattle.soundness.proofs.Slots.{NamesRoots, names_roots, rooted_first, has_roots}
 use Rattle.soundness.proofs.Stack.{Saved, FreshIn, GuardedBy, IsAt, Suspended, Below, Live, IsSound, Grows, log_after, below_keeps, below_stays, no_guards, all_rooted, sound_keeps}
 use Rattle.soundness.proofs.Start.{AllGiven, all_fewer, arguments_size, entry_holds, integers_given}
-use Rattle.soundness.proofs.Ways.{Taken, jump_taken, branch_taken, switch_taken, target}
+use Rattle.soundness.proofs.Ends.{kept, Taken, jump_taken, branch_taken, switch_taken, target}
 
 -- what a return asks for above this number of other frames
 abbrev return_action : (below : ℕ) → Action
@@ -602,8 +602,8 @@ module _ (heap : Setup) (program : LaidOut) (heap_is : IsHeapFor heap program) (
           (subst (λ g. EndPasses s frame.block (end_place s frame.block) g (end_of f frame.block)) same x.standing.ends)
 
       by : (q : Option AnEnd) → EndPasses s frame.block (end_place s frame.block) facts q → Onward log roots (mc.last_action program f frame (length below) q) (λ given. mc.after_last program f frame below q)
-      by None passed = end_onward log roots End (frame ∷ below) refl x
-      by (Some y) passed = end_goes y passed
+      by None obeys = end_onward log roots End (frame ∷ below) refl x
+      by (Some y) obeys = end_goes y obeys
 
   -- ---- a step of the thread
 

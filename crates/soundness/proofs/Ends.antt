@@ -1,4 +1,4 @@
--- The edges out of a block: a thread takes one that the rules looked at, and what its target begins with holds there.
+-- The ends of blocks, and the edges out of them: a thread takes one that the rules looked at, and what its target begins with holds there.
 use Rattle.std.proofs.Common.{◌≡◌, ℕ, ◌<◌, List, [], ◌∷◌, length, map, refl, sym, ap, ◌∙◌, true, false, Bool, Option, Some, None}
 use Rattle.std.specs.Prelude.{◌==◌, ◌&&◌, not, if◌then◌else◌, nat_lt}
 use Rattle.lemmas.specs.Numbers.{test_true, test_yes, lt_true}
@@ -24,8 +24,9 @@ use Rattle.block_rules.specs.TypeKinds.{kind_of, is_bits, is_integer}
 use Rattle.block_rules.specs.Standing.{phis_of}
 use Rattle.block_rules.specs.Rules as r
 use Rattle.block_rules.specs.Rules.{end_conditions, names_target, is_target, is_case, are_cases}
+use Rattle.block_rules.specs.declared.rule.Rule.{Rule}
 use Rattle.block_rules.specs.declared.block_fault.Detail.{Detail}
-use Rattle.block_rules.specs.Certified.{scene_of}
+use Rattle.block_rules.specs.Certified.{breach_of, end_breach, scene_of}
 use Rattle.block_rules.specs.Ways as w
 use Rattle.machine.specs.declared.frame.Frame.{Frame}
 use Rattle.machine.specs.Asks as a
@@ -48,6 +49,21 @@ bits_integer n (Reference layout) e = absurd cc
 bits_integer n AnyReference e = absurd cc
 bits_integer n Address e = absurd cc
 bits_integer n Other e = absurd cc
+
+-- ---- what an end that obeys the rules shows
+
+-- no condition of the end of a block fails, and each of its edges shows the lines of its target
+pub record Kept (s : w.Scene) (block : ℕ) (here : Standing) (facts : FactSet) (x : End) : Type 0 where
+  pub allowed : first_failing (end_conditions s.program s.function s.slots here facts x) ≡ None
+  pub shown : w.unshown_on s block facts (w.ways x) ≡ None
+
+-- an end that breaks no rule is such a one
+pub kept : (s : w.Scene) (block : ℕ) (here : Standing) (facts : FactSet) (x : End) → end_breach s block here facts x ≡ None → Kept s block here facts x
+kept s block here facts x e = by (first_failing (end_conditions s.program s.function s.slots here facts x)) refl (w.unshown_on s block facts (w.ways x)) refl e where
+  by : (rule : Option Rule) → first_failing (end_conditions s.program s.function s.slots here facts x) ≡ rule → (detail : Option Detail) → w.unshown_on s block facts (w.ways x) ≡ detail → breach_of rule detail ≡ None → Kept s block here facts x
+  by None passes None shown e = record { allowed = passes; shown = shown }
+  by None passes (Some detail) shown e = absurd cc
+  by (Some rule) passes detail shown e = absurd cc
 
 -- ---- an edge that a thread takes
 
