@@ -1,5 +1,5 @@
 -- What a thread holds after an answer that fits what it asked for: it fits the heap.
-use Rattle.std.proofs.Common.{ℕ, List, [], ◌∷◌, length, true, false, Bool, Option, Some, None, slice_get, inl, inr}
+use Rattle.std.proofs.Common.{ℕ, List, [], ◌∷◌, length, true, false, Bool, Option, Some, None, slice_get, slice_set, inl, inr}
 use Rattle.std.specs.Prelude.{◌⊎◌, if◌then◌else◌}
 use Rattle.ir_ast.specs.declared.argument.Argument.{Argument}
 use Rattle.ir_ast.specs.declared.choices.Phi.{Phi}
