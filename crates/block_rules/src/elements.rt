@@ -451,13 +451,20 @@ pub fn element_refusal(
 ) -> Option<Rule>
     ensures { result ≡ first_failing (element_conditions scene.now.program.now scene.now.function.now scene.now.slots.now here facts.now element.now) }
 {
-    let Element {
-        source,
-        base_type,
-        base,
-        indices,
-    } = element;
-    let indices = indices.as_slice();
+    refusal_by_indices(scene, here, facts, element, element.indices.as_slice())
+}
+
+/// The same, given the indices.
+fn refusal_by_indices(
+    scene: &Scene,
+    here: Standing,
+    facts: &Facts,
+    element: &Element,
+    indices: &[Argument],
+) -> Option<Rule>
+    ensures { result ≡ first_failing (element_conditions scene.now.program.now scene.now.function.now scene.now.slots.now here facts.now (record element.now { indices = indices.now })) }
+{
+    let base = &element.base;
     let known = known_of(facts, base);
     first_failing(&[
         (
@@ -467,14 +474,17 @@ pub fn element_refusal(
         ),
         (
             Rule::K2,
-            is_typed(scene, *base_type, base)
-                && TypeKind::of(scene.module(), *base_type).is_pointer()
+            is_typed(scene, element.base_type, base)
+                && TypeKind::of(scene.module(), element.base_type).is_pointer()
                 && may_be_base(&known)
                 && are_indices(scene, facts, indices)
                 && no_slots(scene.slots, indices),
         ),
         (Rule::K3, is_operand_current(facts, base)),
-        (Rule::K5, may_lead(scene, facts, *source, indices, &known)),
+        (
+            Rule::K5,
+            may_lead(scene, facts, element.source, indices, &known),
+        ),
         (Rule::K10, is_no_slot(scene.slots, base)),
         (Rule::K12, here.collected),
         (Rule::K19, casts_operand(scene.module(), base)),

@@ -1,5 +1,6 @@
-ghost use Rattle.std.specs.Prelude.{◌≡◌, true};
-ghost use Rattle.block_rules.specs.Standing.{is_parameter, is_given, is_gcroot, is_memory_of_head, is_of_head, head_of};
+ghost use Rattle.std.specs.Prelude.{◌≡◌, true, length};
+ghost use Rattle.std.specs.List.{take_while};
+ghost use Rattle.block_rules.specs.Standing.{is_parameter, is_given, is_gcroot, is_memory_of_head, is_of_head, is_head_instruction, head_of};
 
 use crate::operands::slot_named;
 use crate::scene::Scene;
@@ -10,9 +11,16 @@ use types::runtime_called;
 pub fn head_of(scene: &Scene, phis: &[Phi], body: &[Instr]) -> usize
     ensures { result ≡ head_of scene.now.program.now.of_module scene.now.function.now scene.now.slots.now phis.now body.now }
 {
-    if !phis.is_empty() {
-        return 0;
+    match phis {
+        [] => front_of_head(scene, body),
+        [_, ..] => 0,
     }
+}
+
+/// How many instructions at the front of a body may be of the head.
+fn front_of_head(scene: &Scene, body: &[Instr]) -> usize
+    ensures { result ≡ length (take_while (is_head_instruction scene.now.program.now.of_module scene.now.function.now scene.now.slots.now) body.now) }
+{
     body.iter()
         .take_while(|instr| is_of_head(scene, &instr.op))
         .count()

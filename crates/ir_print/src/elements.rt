@@ -39,7 +39,7 @@ fn put_indices(
 }
 
 /// The word of a getelementptr.
-#[tactic(auto, unfolding(crate::specs::Instructions::element_word))]
+#[tactic(auto, unfolding(crate::specs::Elements::element_word))]
 fn element_word() -> &'static [u8]
     ensures { result.now ≡ spec.element_word }
 {

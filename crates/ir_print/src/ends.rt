@@ -55,6 +55,7 @@ fn put_cases(
     Ok(())
 }
 
+/// A br that has a condition.
 fn put_branch(
     alloc: Global,
     out: &mut Vec<u8>,
@@ -74,6 +75,7 @@ fn put_branch(
     put_target(out, locals, other)
 }
 
+/// A switch.
 fn put_switch(
     alloc: Global,
     out: &mut Vec<u8>,
@@ -94,6 +96,7 @@ fn put_switch(
     out.extend_from_slice(b" ]")
 }
 
+/// How a block ends.
 fn put_end(
     alloc: Global,
     out: &mut Vec<u8>,

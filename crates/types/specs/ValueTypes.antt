@@ -16,7 +16,7 @@ abbrev pub instruction_in : Option ABlock → (place : ℕ) → Option Instr
 instruction_in None place = None
 instruction_in (Some block) place = slice_get block.body place
 
--- the instruction at a place of a block's body, of a function
+-- the instruction at a place of the body of a function's block
 abbrev pub instruction_at : Function → (block place : ℕ) → Option Instr
 instruction_at f block place = instruction_in (slice_get f.blocks block) place
 

@@ -5,8 +5,13 @@ use crate::element::element_type;
 use crate::reference::pointee;
 use ir_ast::{BlockId, Function, LocalSort, Module, Op, TypeId, ValueId};
 
-/// The type that the getelementptr at a place of a block selects.
-fn element_of(module: &Module, function: &Function, block: BlockId, place: u32) -> Option<TypeId>
+/// The type that the getelementptr at a place of a block's body selects.
+pub fn element_of(
+    module: &Module,
+    function: &Function,
+    block: BlockId,
+    place: u32,
+) -> Option<TypeId>
     ensures { result ≡ element_of «module».now (instruction_at function.now block place) }
 {
     let block = function.blocks.get(block.number() as usize)?;

@@ -1,4 +1,4 @@
-//! The text of parameters.
+//! The text of parameters, and of the types of parameters.
 ghost use Rattle.std.specs.Prelude.{◌≡◌, ◌++◌, ◌∷◌, [], OnOk, codes};
 ghost use Rattle.std.specs.List.{flat_map};
 ghost use Rattle.ir_print.specs.Operands as spec;
