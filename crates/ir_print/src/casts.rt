@@ -16,13 +16,7 @@ pub fn put_cast(
 ) -> Result<(), AllocError>
     ensures { OnOk result (out.new.items ≡ out.old.items ++ spec.cast_text «module».now locals.now cast.now) }
 {
+    let operand = typed(cast.from, cast.operand);
     out.extend_from_slice(b"bitcast ")?;
-    put_converted(
-        alloc,
-        out,
-        module,
-        locals,
-        &typed(cast.from, cast.operand),
-        cast.to,
-    )
+    put_converted(alloc, out, module, locals, &operand, cast.to)
 }

@@ -4,8 +4,7 @@ ghost use Rattle.std.specs.List.{flat_map};
 ghost use Rattle.ir_print.specs.Operands.{listed};
 ghost use Rattle.ir_print.specs.Choices as spec;
 
-use crate::operands::{put_argument, put_operand, put_typed};
-use crate::parts::typed;
+use crate::operands::{put_operand, put_typed};
 use crate::types::put_type;
 use ir_ast::{Choice, Incoming, Module, Names, Phi, TypeId};
 use name_text::{Blank, put_local};
@@ -21,9 +20,15 @@ pub fn put_choice(
 ) -> Result<(), AllocError>
     ensures { OnOk result (out.new.items ≡ out.old.items ++ spec.choice_text «module».now locals.now choice.now) }
 {
-    let condition = typed(choice.condition_type, choice.condition);
     out.extend_from_slice(b"select ")?;
-    put_argument(alloc, out, module, locals, &condition)?;
+    put_typed(
+        alloc,
+        out,
+        module,
+        locals,
+        choice.condition_type,
+        choice.condition,
+    )?;
     out.extend_from_slice(b", ")?;
     put_typed(alloc, out, module, locals, choice.written, choice.chosen)?;
     out.extend_from_slice(b", ")?;

@@ -2,7 +2,7 @@
 ghost use Rattle.std.specs.Prelude.{◌≡◌, ◌++◌, OnOk};
 ghost use Rattle.ir_print.specs.Memory as spec;
 
-use crate::operands::put_argument;
+use crate::operands::put_typed;
 use crate::parts::{put_placed, typed};
 use crate::types::put_type;
 use ir_ast::{MemoryOp, Module, Names};
@@ -28,15 +28,9 @@ pub fn put_memory(
             place_type,
             place,
         } => {
+            let place = typed(place_type, place);
             out.extend_from_slice(b"load ")?;
-            put_placed(
-                alloc,
-                out,
-                module,
-                locals,
-                loaded,
-                &typed(place_type, place),
-            )
+            put_placed(alloc, out, module, locals, loaded, &place)
         }
         MemoryOp::Store {
             stored,
@@ -45,9 +39,9 @@ pub fn put_memory(
             place,
         } => {
             out.extend_from_slice(b"store ")?;
-            put_argument(alloc, out, module, locals, &typed(stored, value))?;
+            put_typed(alloc, out, module, locals, stored, value)?;
             out.extend_from_slice(b", ")?;
-            put_argument(alloc, out, module, locals, &typed(place_type, place))
+            put_typed(alloc, out, module, locals, place_type, place)
         }
     }
 }
