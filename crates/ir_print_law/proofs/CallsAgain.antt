@@ -73,7 +73,7 @@ unfolding type_within
 void_shown n t e = ap (type_by (type_within 63 n) n) e
 
 -- the name of a function ends a type
-ends_callee : (name behind : Text) → AreBytes name → IsSeam behind → EndsType (32 ∷ 64 ∷ (name_text blank.Kept name ++ behind))
+pub ends_callee : (name behind : Text) → AreBytes name → IsSeam behind → EndsType (32 ∷ 64 ∷ (name_text blank.Kept name ++ behind))
 unfolding class_of
 ends_callee name behind own seam = (refl, λ i at. ap ends_type (global_comes i.cursor (32 ∷ []) name behind refl own seam at).0)
 
@@ -157,7 +157,7 @@ module _ {m : Module} {f : Function} (v : Invariant m f) where
       let t2 = 32 ∷ (global_text m x.callee ++ (40 ∷ (listed (argument_text m f.locals) x.arguments ++ 41 ∷ rest))) in
       let t1 = codes "void" ++ t2 in
       let ready = subst (λ (y : Text). Ready v s i (gap ++ y)) (call_front (type_text m x.returned) (global_text m x.callee) (listed (argument_text m f.locals) x.arguments) rest) ready in
-      let ready = subst (λ (y : Text). Ready v s i (gap ++ (codes "call" ++ (32 ∷ (y ++ t2))))) (void_text m x.returned is_void) ready in
+      let ready = subst (λ (y : Text). Ready v s i (gap ++ (codes "call" ++ (32 ∷ (y ++ t2))))) (void_shown m x.returned is_void) ready in
       on v v skip (λ _. calls.call_statement_behind) i (32 ∷ t1) rest s s (λ _ o. advanced i ≡ o) good
       (word_skipped v (codes "call") i gap (32 ∷ t1) s s blanks refl refl (omega arith) ready)
       (λ _ o ready g e.
@@ -174,9 +174,6 @@ module _ {m : Module} {f : Function} (v : Invariant m f) where
       (λ later_module others later. inl (is_void, stays q.types later_module.types n type.Void later.types is_there)) ends ready))
       (λ y q ready h again. given v (op.Call y) q rest s (OpAgain m f.locals (op.Call x)) ready again))
       (λ y q ready h again. unnamed_reads (op.Call x) y q rest s ends again ready))))
-    where
-      void_text : (n : Module) (t : ℕ) → slice_get n.types t ≡ Some type.Void → type_text n t ≡ codes "void"
-      void_text n t e = void_shown n t e
 
 module _ {m : Module} {f : Function} (v u : Invariant m f) where
   -- `call T @f(T V, ..)`, whose value has a name
