@@ -32,7 +32,7 @@ use Rattle.ir_print_law.proofs.LabelLines.{far_label, label_goes}
 use Rattle.ir_print_law.proofs.NewValues.{unnamed_then}
 use Rattle.ir_print_law.proofs.OpNeeds.{EndsOp, OpsRead}
 use Rattle.ir_print_law.proofs.Parts.{IsLaterAgain}
-use Rattle.ir_print_law.proofs.PhiLines.{phi_lines, phis_end, phis_go}
+use Rattle.ir_print_law.proofs.PhiLines.{phi_lines, phis_go}
 use Rattle.ir_print_law.proofs.Steady.{Steady, Onward, onward_further, next_key, steady_label}
 
 -- the lines after the label of a block, and what follows them
@@ -118,12 +118,11 @@ module _ (m : Module) (f : Function) (named : AreNamed m f) (ops : OpsRead m f n
         widens_further i p o w.4 wide_p,
         (
           all,
-          λ n others later.
-              (
-                stays o.locals.names others w.0 key later.locals (stays p.locals.names o.locals.names w.0 key wide_p.locals w.5),
-                a.7 n others (later_widened q o n others wide_q later),
-                c.7 n others (later_widened r o n others wide_r later),
-                t.5 n others later,
-              ),
+          λ n others later. (
+            stays o.locals.names others w.0 key later.locals (stays p.locals.names o.locals.names w.0 key wide_p.locals w.5),
+            a.7 n others (later_widened q o n others wide_q later),
+            c.7 n others (later_widened r o n others wide_r later),
+            t.5 n others later,
+          ),
         ),
       )

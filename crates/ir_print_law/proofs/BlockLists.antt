@@ -1,6 +1,6 @@
 -- All blocks of a function, up to the brace that closes it.
 use Rattle.std.proofs.Common.{◌≡◌, ℕ, ◌+◌, ◌<◌, ◌≤◌, Bool, true, false, ◌&&◌, List, [], ◌∷◌, ◌++◌, length, map, refl, ap, subst, ◌∙◌, arith, append_assoc, length-append, inl, inr, ◌⊎◌}
-use Rattle.std.specs.Prelude.{codes, nat_lt}
+use Rattle.std.specs.Prelude.{nat_lt}
 use Rattle.std.specs.List.{AllByRecursion, flat_map}
 use Rattle.std.proofs.lemmas.Bool.Decides.{nat_tests}
 use Rattle.ir_ast.specs.declared.block.Block.{Block}
@@ -14,7 +14,7 @@ use Rattle.ir_forms.specs.declared.input.Input.{Input}
 use Rattle.ir_forms.specs.ManyWith.{Follows}
 use Rattle.ir_text.specs.Blocks.{further, at_close, behind_block}
 use Rattle.ir_print.specs.Blocks.{block_text}
-use Rattle.ir_print.specs.Names.{name_at, key_text}
+use Rattle.ir_print.specs.Names.{name_at}
 use Rattle.ir_print.specs.Standing.{Stands}
 use Rattle.ir_print_law.proofs.Words.{sign_comes, seen}
 use Rattle.ir_print_law.specs.Definitions.{block_keys, value_keys_of}

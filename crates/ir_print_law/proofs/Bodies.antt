@@ -1,5 +1,5 @@
 -- The instructions of the body of a block.
-use Rattle.std.proofs.Common.{◌≡◌, ℕ, ◌+◌, ◌<◌, ◌≤◌, Bool, true, false, ◌&&◌, List, [], ◌∷◌, ◌++◌, length, Option, None, Some, refl, sym, ap, subst, ◌∙◌, arith, append_assoc, length-append, inl, inr, ◌⊎◌}
+use Rattle.std.proofs.Common.{◌≡◌, ℕ, ◌+◌, ◌<◌, ◌≤◌, true, false, List, [], ◌∷◌, ◌++◌, length, Option, None, Some, refl, sym, ap, subst, ◌∙◌, arith, append_assoc, length-append, inl, inr, ◌⊎◌}
 use Rattle.std.specs.Prelude.{codes}
 use Rattle.std.specs.List.{AllByRecursion, flat_map}
 use Rattle.std.proofs.lemmas.List.{append-nil}
@@ -23,18 +23,18 @@ use Rattle.ir_print.specs.Instructions.{op_text, instruction_line}
 use Rattle.ir_print.specs.Ends.{end_text, end_line}
 use Rattle.ir_print.specs.Names.{name_at}
 use Rattle.ir_print_law.specs.Readings.{IsKey}
-use Rattle.ir_print.specs.Standing.{Stands, IsSeam}
+use Rattle.ir_print.specs.Standing.{Stands}
 use Rattle.ir_print_law.specs.Definitions.{result_keys}
 use Rattle.ir_print_law.specs.Printable.{IsInstr}
 use Rattle.ir_print_law.specs.Again.{AreAlike, IsInstrAgain}
-use Rattle.ir_print_law.proofs.State.{Ready, IsLater}
+use Rattle.ir_print_law.proofs.State.{Ready}
 use Rattle.ir_print_law.proofs.Begins.{plain_kind, end_kind, value_word, ends_begins}
 use Rattle.ir_print_law.proofs.CallsAgain.{plain}
 use Rattle.ir_print_law.proofs.Parts.{IsLaterAgain}
-use Rattle.ir_print_law.proofs.PhiLines.{BeginsNoPhi, local_passed, other_word, no_local}
+use Rattle.ir_print_law.proofs.PhiLines.{BeginsNoPhi, local_passed, other_word, no_local, seam_line}
 use Rattle.ir_print_law.proofs.Words.{sign_comes}
 use Rattle.ir_print_law.proofs.WholeForms.{Widens, widens_itself, widens_further, Leads, later_widened}
-use Rattle.ir_print_law.proofs.InnerLines.{IsInnerRead, plain_goes, value_goes_on, valued_line}
+use Rattle.ir_print_law.proofs.InnerLines.{plain_goes, value_goes_on, valued_line}
 use Rattle.ir_print_law.proofs.Known.{Far, AreNamed, known}
 use Rattle.ir_print_law.proofs.OpNeeds.{begins_body_line, EndsOp, OpsRead}
 use Rattle.ir_print_law.proofs.Steady.{Steady, Onward, onward_itself, onward_further, next_key, steady_value}
@@ -71,10 +71,6 @@ end_not_local : (x : Kind) → ends.ends_block x ≡ true → is_local x ≡ fal
 end_not_local k.LocalName e = absurd cc
 end_not_local k.LocalNumber e = absurd cc
 end_not_local _ e = refl
-
-seam_line : (rest : Text) → IsSeam (10 ∷ rest)
-unfolding class_of
-seam_line rest = refl
 
 module _ (m : Module) (f : Function) (named : AreNamed m f) (ops : OpsRead m f named) where
   -- which token an instruction's line begins with, and that no phi begins there

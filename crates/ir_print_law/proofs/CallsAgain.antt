@@ -1,5 +1,5 @@
 -- Printed calls are read as these calls again.
-use Rattle.std.proofs.Common.{◌≡◌, ℕ, ◌+◌, Bool, true, false, not, List, [], ◌∷◌, ◌++◌, slice_get, Option, None, Some, refl, ap, subst, arith, append_assoc, inl, inr}
+use Rattle.std.proofs.Common.{◌≡◌, ℕ, ◌+◌, true, false, List, [], ◌∷◌, ◌++◌, slice_get, None, Some, refl, ap, subst, arith, append_assoc, inl, inr}
 use Rattle.std.specs.Prelude.{codes}
 use Rattle.grammar.specs.Grammar.{pure, look, ◌>>=◌, ◌>>◌}
 use Rattle.ir_ast.specs.declared.calls.Call.{Call}
@@ -10,11 +10,10 @@ use Rattle.ir_ast.specs.declared.module.Module.{Module}
 use Rattle.ir_ast.specs.declared.argument.Argument.{Argument}
 use Rattle.ir_ast.specs.declared.op.Op.{Op}
 use Rattle.ir_ast.specs.declared.op.Op.TheVariants as op
-use Rattle.ir_tokens.specs.declared.token.Kind.{Kind}
 use Rattle.ir_tokens.specs.declared.token.Kind.TheVariants as k
 use Rattle.ir_tokens.specs.Bytes.{Text, class_of}
 use Rattle.ir_tokens.specs.Keywords.{word_kind, keywords}
-use Rattle.ir_forms.specs.Cursor.{kind, sees}
+use Rattle.ir_forms.specs.Cursor.{kind}
 use Rattle.ir_forms.specs.declared.input.Input.{Input}
 use Rattle.ir_forms.specs.declared.written.WrittenType.{WrittenType}
 use Rattle.ir_forms.specs.Input.{Form, advanced, skip, expect}
@@ -23,7 +22,6 @@ use Rattle.ir_forms.specs.Written as w
 use Rattle.ir_forms.specs.Lists as lists
 use Rattle.ir_print.specs.Operands.{argument_text}
 use Rattle.ir_print.specs.Calls.{call_text}
-use Rattle.ir_print.specs.Instructions.{op_text}
 use Rattle.ir_print.specs.Standing.{IsSeam, AreBlanks}
 use Rattle.ir_print.specs.Types.{type_text, type_within, type_by}
 use Rattle.ir_print_law.specs.Again.{IsResultAgain, IsCallAgain, IsInstrAgain}
@@ -32,7 +30,7 @@ use Rattle.ir_print_law.specs.Shapes.{IsIn, Shape}
 use Rattle.ir_print_law.proofs.Tables.{stays}
 use Rattle.ir_print_law.proofs.State.{Invariant, Ready, IsLater, Reads}
 use Rattle.ir_print_law.proofs.Shown.{shown, IsTypeRead}
-use Rattle.ir_print_law.proofs.Steps.{looked, given, sign_reads, word_skipped, word_seen, intern_reads, unlike, grows_itself, later_before}
+use Rattle.ir_print_law.proofs.Steps.{looked, given, sign_reads, word_skipped, word_seen, intern_reads, grows_itself, later_before}
 use Rattle.ir_print_law.proofs.Types.{EndsType, ends_type}
 use Rattle.ir_print_law.proofs.WholeTypes.{type_begins}
 use Rattle.ir_print_law.proofs.PrintedTypes.{type_shown, read_again, scalar_reads}
@@ -75,7 +73,7 @@ unfolding type_within
 void_shown n t e = ap (type_by (type_within 63 n) n) e
 
 -- the name of a function ends a type
-ends_callee : (name behind : Text) → AreBytes name → IsSeam behind → EndsType (32 ∷ 64 ∷ (name_text blank.Kept name ++ behind))
+pub ends_callee : (name behind : Text) → AreBytes name → IsSeam behind → EndsType (32 ∷ 64 ∷ (name_text blank.Kept name ++ behind))
 unfolding class_of
 ends_callee name behind own seam = (refl, λ i at. ap ends_type (global_comes i.cursor (32 ∷ []) name behind refl own seam at).0)
 
@@ -159,7 +157,7 @@ module _ {m : Module} {f : Function} (v : Invariant m f) where
       let t2 = 32 ∷ (global_text m x.callee ++ (40 ∷ (listed (argument_text m f.locals) x.arguments ++ 41 ∷ rest))) in
       let t1 = codes "void" ++ t2 in
       let ready = subst (λ (y : Text). Ready v s i (gap ++ y)) (call_front (type_text m x.returned) (global_text m x.callee) (listed (argument_text m f.locals) x.arguments) rest) ready in
-      let ready = subst (λ (y : Text). Ready v s i (gap ++ (codes "call" ++ (32 ∷ (y ++ t2))))) (void_text m x.returned is_void) ready in
+      let ready = subst (λ (y : Text). Ready v s i (gap ++ (codes "call" ++ (32 ∷ (y ++ t2))))) (void_shown m x.returned is_void) ready in
       on v v skip (λ _. calls.call_statement_behind) i (32 ∷ t1) rest s s (λ _ o. advanced i ≡ o) good
       (word_skipped v (codes "call") i gap (32 ∷ t1) s s blanks refl refl (omega arith) ready)
       (λ _ o ready g e.
@@ -176,9 +174,6 @@ module _ {m : Module} {f : Function} (v : Invariant m f) where
       (λ later_module others later. inl (is_void, stays q.types later_module.types n type.Void later.types is_there)) ends ready))
       (λ y q ready h again. given v (op.Call y) q rest s (OpAgain m f.locals (op.Call x)) ready again))
       (λ y q ready h again. unnamed_reads (op.Call x) y q rest s ends again ready))))
-    where
-      void_text : (n : Module) (t : ℕ) → slice_get n.types t ≡ Some type.Void → type_text n t ≡ codes "void"
-      void_text n t e = void_shown n t e
 
 module _ {m : Module} {f : Function} (v u : Invariant m f) where
   -- `call T @f(T V, ..)`, whose value has a name

@@ -1,5 +1,5 @@
 -- Printed ends of blocks are read as these ends again.
-use Rattle.std.proofs.Common.{◌≡◌, ℕ, ◌+◌, Bool, true, false, not, List, [], ◌∷◌, ◌++◌, Option, refl, sym, ap, subst, ◌∙◌, arith, append_assoc}
+use Rattle.std.proofs.Common.{◌≡◌, ℕ, ◌+◌, true, false, not, List, [], ◌∷◌, ◌++◌, Option, refl, sym, ap, subst, ◌∙◌, arith, append_assoc}
 use Rattle.std.specs.Prelude.{codes}
 use Rattle.grammar.specs.Grammar.{pure, ◌>>=◌, ◌>>◌}
 use Rattle.ir_ast.specs.declared.function.Function.{Function}
@@ -8,7 +8,6 @@ use Rattle.ir_ast.specs.declared.argument.Argument.{Argument}
 use Rattle.ir_ast.specs.declared.ends.End.{End}
 use Rattle.ir_ast.specs.declared.ends.End.TheVariants as end
 use Rattle.ir_ast.specs.declared.operand.Operand.{Operand}
-use Rattle.ir_tokens.specs.declared.token.Kind.{Kind}
 use Rattle.ir_tokens.specs.declared.token.Kind.TheVariants as k
 use Rattle.ir_tokens.specs.Bytes.{Text, class_of}
 use Rattle.ir_tokens.specs.Keywords.{word_kind, keywords}
@@ -29,9 +28,9 @@ use Rattle.ir_print.specs.Ends.{case_text, target_text, end_text}
 use Rattle.ir_print.specs.Parts.{typed}
 use Rattle.ir_print.specs.Standing.{Stands, IsSeam, AreBlanks}
 use Rattle.ir_print.specs.Types.{type_text}
-use Rattle.ir_print_law.specs.Printable.{IsType, IsScalar, IsOperand, IsArgument, IsCondition}
+use Rattle.ir_print_law.specs.Printable.{IsType, IsArgument, IsCondition}
 use Rattle.ir_print_law.specs.Shapes.{Shape, Integer, bits_of_shape}
-use Rattle.ir_print_law.proofs.State.{Invariant, Ready, Grows, IsLater, Reads}
+use Rattle.ir_print_law.proofs.State.{Invariant, Ready, Grows, Reads}
 use Rattle.ir_print_law.proofs.Shown.{shown, IsTypeRead, read_stays, bits_read}
 use Rattle.ir_print_law.proofs.Steps.{looked, given, sign_reads, word_skipped, word_seen, unlike, grows_itself, grows_further, later_before}
 use Rattle.ir_print_law.proofs.WholeTypes.{type_begins}

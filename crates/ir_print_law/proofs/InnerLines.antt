@@ -1,8 +1,7 @@
 -- The lines of the instructions of a block's body.
-use Rattle.std.proofs.Common.{◌≡◌, ℕ, ◌+◌, ◌<◌, true, false, List, [], ◌∷◌, ◌++◌, None, Some, refl, sym, ap, subst, ◌∙◌, arith, append_assoc, inl, inr}
+use Rattle.std.proofs.Common.{◌≡◌, ℕ, ◌+◌, ◌<◌, true, false, List, [], ◌∷◌, ◌++◌, Some, refl, sym, ap, subst, ◌∙◌, arith, append_assoc, inl, inr}
 use Rattle.std.specs.Prelude.{codes, nat_lt}
 use Rattle.std.proofs.lemmas.Bool.Decides.{nat_tests}
-use Rattle.grammar.specs.Grammar.{◌>>=◌}
 use Rattle.ir_ast.specs.declared.function.Function.{Function}
 use Rattle.ir_ast.specs.declared.instr.Instr.{Instr}
 use Rattle.ir_ast.specs.declared.module.Module.{Module}
@@ -12,10 +11,8 @@ use Rattle.ir_tokens.specs.declared.token.Kind.TheVariants as k
 use Rattle.ir_tokens.specs.Bytes.{Text, class_of}
 use Rattle.ir_forms.specs.Cursor.{kind, sees}
 use Rattle.ir_forms.specs.declared.input.Input.{Input}
-use Rattle.ir_forms.specs.Input.{Form}
 use Rattle.ir_forms.specs.declared.site.Site.{Site}
-use Rattle.ir_forms.specs.Calls.{valued}
-use Rattle.ir_forms.specs.Instructions.{named_op, named_behind, instruction, instruction_by, placed}
+use Rattle.ir_forms.specs.Instructions.{named_behind, instruction, instruction_by, placed}
 use Rattle.ir_print.specs.Instructions.{op_text, instruction_line}
 use Rattle.ir_print.specs.Names.{name_at, key_text, local_text}
 use Rattle.ir_print.specs.Standing.{Stands}
@@ -23,7 +20,7 @@ use Rattle.ir_print_law.specs.Again.{IsInstrAgain}
 use Rattle.ir_print_law.specs.Printable.{IsOp, gives_value}
 use Rattle.ir_print_law.specs.Shapes.{IsIn}
 use Rattle.ir_print_law.proofs.Tables.{stays}
-use Rattle.ir_print_law.proofs.State.{Ready, Reads, IsLater}
+use Rattle.ir_print_law.proofs.State.{Ready, Reads}
 use Rattle.ir_print_law.proofs.Steps.{sign_reads, unlike}
 use Rattle.ir_print_law.proofs.Empty.{not_trailed}
 use Rattle.ir_print_law.proofs.WholeForms.{widens_further, grows_widens, Leads}
@@ -43,9 +40,6 @@ few_places n less = grind (arith, nat_tests)
 
 placed_is : (site : Site) (i o : Input) (a : Instr) → site.place < 4294967295 → (instruction site).says i a o → (placed site).says i a o
 placed_is site i o a less h = (tt, i, (few_places site.place less, refl), h)
-
-no_comma : (x : Kind) → begins_body_line x ≡ true → x ≡ k.Comma → ⊥
-no_comma x e is = let h = sym (ap begins_body_line is) ∙ e in absurd cc
 
 -- no comma comes after a line
 pub comma_free : (rest : Text) (i : Input) → EndsOp rest → Stands i.cursor rest → sees k.Comma i.cursor ≡ false
@@ -76,10 +70,6 @@ module _ (m : Module) (f : Function) (named : AreNamed m f) (ops : OpsRead m f n
   plain_goes x site i rest less h = (h.0, h.1, far, placed_is site i h.1 h.0 less h.2, h.3, grows_widens i h.1 h.4, (refl, h.5))
 
   -- ---- an instruction with a value
-
-  -- the forms after the name of the value
-  abbrev Behind : Site → ℕ → Form Instr
-  Behind site value = named_op site value >>= valued value
 
   value_says : (site : Site) (key : Text) (is : IsNext far.unnamed key) (i p o : Input) (n : ℕ) (y : Op)
       → kind i.cursor ≡ kind_then k.LocalNumber k.LocalName far.unnamed key is → (value_by m f named far key is).says i n p → (named_behind site n).says p (record { result = Some n; op = y }) o

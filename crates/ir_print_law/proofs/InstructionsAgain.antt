@@ -1,10 +1,9 @@
 -- A printed instruction is read as this instruction again.
-use Rattle.std.proofs.Common.{◌≡◌, ℕ, true, false, List, [], ◌∷◌, ◌++◌, slice_get, Option, Some, refl, sym, ap, subst, ◌∙◌, append_assoc, inl, inr}
+use Rattle.std.proofs.Common.{◌≡◌, ℕ, true, false, List, ◌∷◌, ◌++◌, slice_get, Option, Some, refl, sym, ap, subst, ◌∙◌, append_assoc, inl, inr}
 use Rattle.std.specs.Prelude.{codes}
 use Rattle.std.specs.List.{flat_map}
 use Rattle.lemmas.specs.Bools.{not_true, not_false}
 use Rattle.ir_ast.specs.declared.calls.Call.{Call}
-use Rattle.ir_ast.specs.declared.elements.Element.{Element}
 use Rattle.ir_ast.specs.declared.function.Function.{Function}
 use Rattle.ir_ast.specs.declared.ir_type.IrType.{IrType}
 use Rattle.ir_ast.specs.declared.ir_type.IrType.TheVariants as type
@@ -12,14 +11,11 @@ use Rattle.ir_ast.specs.declared.memory.MemoryOp.{MemoryOp}
 use Rattle.ir_ast.specs.declared.memory.MemoryOp.TheVariants as memory
 use Rattle.ir_ast.specs.declared.module.Module.{Module}
 use Rattle.ir_ast.specs.declared.numbers.Arithmetic.TheVariants as arithmetic
-use Rattle.ir_ast.specs.declared.numbers.Comparison.{Comparison}
 use Rattle.ir_ast.specs.declared.numbers.NumberOp.{NumberOp}
 use Rattle.ir_ast.specs.declared.numbers.NumberOp.TheVariants as number
 use Rattle.ir_ast.specs.declared.numbers.Resize.TheVariants as resize
 use Rattle.ir_ast.specs.declared.op.Op.{Op}
 use Rattle.ir_ast.specs.declared.op.Op.TheVariants as op
-use Rattle.ir_tokens.specs.declared.token.Kind.{Kind}
-use Rattle.ir_tokens.specs.declared.token.Kind.TheVariants as k
 use Rattle.ir_tokens.specs.Bytes.{Text, class_of}
 use Rattle.ir_tokens.specs.Keywords.{word_kind, keywords}
 use Rattle.ir_forms.specs.Cursor.{kind}
@@ -34,7 +30,7 @@ use Rattle.ir_forms.specs.Instructions as whole
 use Rattle.ir_forms.specs.Memory as forms
 use Rattle.ir_forms.specs.Numbers as numbers
 use Rattle.ir_forms.specs.Ops.{as_op}
-use Rattle.ir_print.specs.Elements.{index_text, element_word, element_text}
+use Rattle.ir_print.specs.Elements.{index_text, element_word}
 use Rattle.ir_print.specs.Instructions.{op_text}
 use Rattle.ir_print.specs.Numbers.{comparison_word}
 use Rattle.ir_print.specs.Parts.{typed, pair_text, placed_text, converted_text}
@@ -42,7 +38,7 @@ use Rattle.ir_print.specs.Standing.{IsSeam, AreBlanks}
 use Rattle.ir_print.specs.Types.{type_text}
 use Rattle.name_text.specs.Names.{is_plain}
 use Rattle.ir_print_law.specs.Again.{IsNumberOpAgain, IsMemoryOpAgain, IsElementAgain, IsCastAgain, IsChoiceAgain, IsCallAgain}
-use Rattle.ir_print_law.specs.Printable.{IsReturned, IsNumberOp, IsMemoryOp, IsElement, IsCall, IsOp, is_void, gives_value}
+use Rattle.ir_print_law.specs.Printable.{IsReturned, IsNumberOp, IsMemoryOp, IsCall, IsOp, is_void, gives_value}
 use Rattle.ir_print_law.proofs.State.{Invariant, Ready, Reads}
 use Rattle.ir_print_law.proofs.Steps.{looked, word_seen}
 use Rattle.ir_print_law.proofs.ArgumentsAgain.{EndsLine, line_ends_type}

@@ -29,7 +29,7 @@ use Rattle.ir_print.specs.Parts.{typed}
 use Rattle.ir_print.specs.Standing.{IsSeam, AreBlanks}
 use Rattle.ir_print.specs.Types.{type_text}
 use Rattle.ir_print_law.specs.Again.{IsMemoryOpAgain}
-use Rattle.ir_print_law.specs.Printable.{IsType, IsScalar, IsOperand, IsPlaceType, IsMemoryOp}
+use Rattle.ir_print_law.specs.Printable.{IsType, IsOperand, IsPlaceType, IsMemoryOp}
 use Rattle.ir_print_law.specs.Shapes.{Shape, Pointer, HasShape}
 use Rattle.ir_print_law.proofs.State.{Invariant, Ready, Reads}
 use Rattle.ir_print_law.proofs.Shown.{shown, IsTypeRead, read_stays}

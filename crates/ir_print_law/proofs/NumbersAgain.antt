@@ -1,5 +1,5 @@
 -- Printed operations on integers, and conditions, are read as they were printed.
-use Rattle.std.proofs.Common.{◌≡◌, ℕ, ◌+◌, Bool, true, false, not, List, [], ◌∷◌, ◌++◌, slice_get, Option, None, Some, refl, ap, subst, ◌∙◌, arith, append_assoc}
+use Rattle.std.proofs.Common.{◌≡◌, ℕ, ◌+◌, Bool, true, false, not, List, [], ◌∷◌, ◌++◌, slice_get, None, Some, refl, ap, subst, ◌∙◌, arith, append_assoc}
 use Rattle.std.specs.Prelude.{codes}
 use Rattle.grammar.specs.Grammar.{pure, ◌>>=◌, ◌>>◌}
 use Rattle.ir_ast.specs.declared.argument.Argument.{Argument}
@@ -8,13 +8,11 @@ use Rattle.ir_ast.specs.declared.function.LocalSort.TheVariants as local
 use Rattle.ir_ast.specs.declared.ir_type.IrType.TheVariants as type
 use Rattle.ir_ast.specs.declared.module.Module.{Module}
 use Rattle.ir_ast.specs.declared.numbers.Arithmetic.{Arithmetic}
-use Rattle.ir_ast.specs.declared.numbers.Arithmetic.TheVariants as arithmetic
 use Rattle.ir_ast.specs.declared.numbers.Comparison.{Comparison}
 use Rattle.ir_ast.specs.declared.numbers.Comparison.TheVariants as comparison
 use Rattle.ir_ast.specs.declared.numbers.NumberOp.{NumberOp}
 use Rattle.ir_ast.specs.declared.numbers.NumberOp.TheVariants as number
 use Rattle.ir_ast.specs.declared.numbers.Resize.{Resize}
-use Rattle.ir_ast.specs.declared.numbers.Resize.TheVariants as resize
 use Rattle.ir_ast.specs.declared.operand.Operand.{Operand}
 use Rattle.ir_tokens.specs.declared.token.Kind.{Kind}
 use Rattle.ir_tokens.specs.declared.token.Kind.TheVariants as k
@@ -31,14 +29,14 @@ use Rattle.ir_forms.specs.Decorations.{flags}
 use Rattle.ir_forms.specs.Starts.{is_flag}
 use Rattle.ir_forms.specs.Lists as lists
 use Rattle.ir_forms.specs.Numbers as numbers
-use Rattle.ir_print.specs.Numbers.{arithmetic_word, comparison_word, number_op_text}
+use Rattle.ir_print.specs.Numbers.{arithmetic_word, comparison_word}
 use Rattle.ir_print.specs.Operands.{operand_text, typed_text}
 use Rattle.ir_print.specs.Parts.{typed, pair_text, converted_text}
 use Rattle.ir_print.specs.Standing.{Stands, IsSeam, AreBlanks}
 use Rattle.ir_print.specs.Types.{type_text}
 use Rattle.name_text.specs.Names.{is_plain}
 use Rattle.ir_print_law.specs.Again.{IsNumberOpAgain}
-use Rattle.ir_print_law.specs.Printable.{ArePair, IsConverted, IsCondition, IsNumberOp}
+use Rattle.ir_print_law.specs.Printable.{ArePair, IsConverted, IsCondition}
 use Rattle.ir_print_law.specs.Shapes.{Integer}
 use Rattle.ir_print_law.proofs.State.{Invariant, Ready, Reads, Any}
 use Rattle.ir_print_law.proofs.Shown.{shown}

@@ -1,5 +1,5 @@
 -- The lines of the phis of a block.
-use Rattle.std.proofs.Common.{◌≡◌, ℕ, ◌+◌, ◌<◌, ◌≤◌, Bool, true, false, ◌&&◌, List, [], ◌∷◌, ◌++◌, length, map, slice_get, Some, not, refl, sym, ap, subst, ◌∙◌, arith, append_assoc, length-append, inl, inr, ◌⊎◌}
+use Rattle.std.proofs.Common.{◌≡◌, ℕ, ◌+◌, ◌<◌, ◌≤◌, Bool, true, false, ◌&&◌, List, [], ◌∷◌, ◌++◌, length, map, slice_get, Some, not, refl, sym, ap, subst, ◌∙◌, arith, append_assoc, length-append, inl, inr}
 use Rattle.std.specs.Prelude.{codes}
 use Rattle.std.specs.List.{AllByRecursion, flat_map}
 use Rattle.std.proofs.lemmas.List.{append-nil}
@@ -14,7 +14,7 @@ use Rattle.ir_tokens.specs.Keywords.{word_kind, keywords}
 use Rattle.ir_forms.specs.Cursor.{kind, kind_behind, kind_third, next, same_kind}
 use Rattle.ir_forms.specs.Place.{Place}
 use Rattle.ir_forms.specs.declared.input.Input.{Input}
-use Rattle.ir_forms.specs.Choices.{is_local, begins_phi, at_no_phi, phi_value, phi_value_by, phi_behind, phi}
+use Rattle.ir_forms.specs.Choices.{is_local, begins_phi, at_no_phi, phi_value, phi_value_by, phi}
 use Rattle.ir_print.specs.Choices.{incoming_text, phi_line}
 use Rattle.ir_print.specs.Names.{name_at, key_text, local_text}
 use Rattle.ir_print.specs.Operands.{listed}
@@ -92,7 +92,8 @@ local_line : (x : Kind) → IsLocalKind x → begins_body_line x ≡ true
 local_line x (inl e) = ap begins_body_line e
 local_line x (inr e) = ap begins_body_line e
 
-seam_line : (rest : Text) → IsSeam (10 ∷ rest)
+-- a token ends before a new line
+pub seam_line : (rest : Text) → IsSeam (10 ∷ rest)
 unfolding class_of
 seam_line rest = refl
 
