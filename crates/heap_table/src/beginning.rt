@@ -1,4 +1,3 @@
-//! Late threads: the paper of Doligez and Gonthier has a fixed number of threads, and none of this.
 ghost use Rattle.std.specs.Prelude.{◌≡◌, ◌≢◌, ◌<◌, ◌^◌, ◌∷◌, [], IsTrue, IsFalse};
 ghost use Rattle.colours.specs.Colours.{done};
 ghost use Rattle.colours.specs.Steps.{ReadPostedFirst, EnterStage, ReadPostedAgain, StoreStage};
@@ -14,7 +13,7 @@ impl<'a> Heap<'a> {
     ghost use Rattle.heap_table.specs.Holders.{IsOf, MayCall, MayBegin, IsNow, IsOfRun};
 
     /// One try of a late thread to begin, and whether it has begun. It enters the posted stage, and reads the posted stage again:
-    /// where another one was posted meanwhile it leaves, and may try again.
+    /// where another one was posted meanwhile it leaves, and may try again. How a late thread begins is this project's own.
     pub fn begin(&self, me: &mut Mutator) -> bool
         requires token { MayBegin self.now me.old }
         ensures token { IsNow me.old me.new.log me.new }

@@ -11,7 +11,7 @@ use std::marker::Brand;
 impl<'a> Heap<'a> {
     ghost use Rattle.heap_table.specs.Holders.{MayCall, IsNow, IsOfRun};
 
-    /// What a word of a cell holds, in one step. As in the collector of Doligez and Gonthier (POPL 1994) a read has no barrier.
+    /// What a word of a cell holds, in one step. There is no read barrier, and no test of colours or stages.
     pub fn read(&self, me: &mut Mutator, cell: u32, word: u32) -> u64
         requires token { MayCall self.now me.old }
         requires cell { MayUse me.old.setup me.old.log cell }

@@ -13,9 +13,9 @@ use std::marker::Brand;
 impl<'a> Heap<'a> {
     ghost use Rattle.heap_table.specs.Holders.{IsOf, MayCall, IsNow, IsOfRun};
 
-    /// Answers the posted stage where it is another than the thread's, and returns whether it did. Before a thread enters the
-    /// stage of the trace it marks its roots, as in the third handshake of Doligez and Gonthier. Afterwards it holds the roots
-    /// that it named, and nothing else.
+    /// Answers the posted stage where it is another than the thread's, and returns whether it did. As in Doligez and Gonthier
+    /// (POPL 1994) a thread answers at points of its own choice, and marks its own roots at the third handshake. Afterwards it
+    /// holds the roots that it named, and nothing else.
     pub fn safepoint(&self, me: &mut Mutator, roots: &[u32]) -> bool
         requires token { MayCall self.now me.old }
         requires roots { (root : ℕ) → IsAmong root roots.now → MayUse me.old.setup me.old.log root }

@@ -12,8 +12,8 @@ use std::marker::Brand;
 impl<'a> Heap<'a> {
     ghost use Rattle.heap_table.specs.Holders.{MayCall, IsNow, IsOfRun};
 
-    /// Stores a value in one step, without the barrier: into a word of references only while its cell is fresh. No other thread
-    /// knows a fresh cell, so the collector needs no mark for it.
+    /// Stores a value in one step, without the barrier. A reference goes only into a fresh cell: no word of the heap names such a
+    /// cell, so nothing is lost with the old value, and only this thread can find the new one there.
     pub fn store_plain(&self, me: &mut Mutator, cell: u32, word: u32, value: u64)
         requires token { MayCall self.now me.old }
         requires cell { MayUse me.old.setup me.old.log cell }

@@ -33,10 +33,12 @@ impl<'a> Model for Sweeper<'a> {
 impl<'a> Sweeper<'a> {
     ghost use Rattle.heap_table.specs.Sweepers.{IsSweeperOf, IsNowAt};
 
-    /// Makes the collector's next step, and returns it; None where no further cycle may begin. The stages, the marks of the
-    /// globals, the trace and the sweep are those of Doligez and Gonthier; the order of cells and the list of grey ones are not.
+    /// Makes the collector's next step, and returns it; None where no further cycle may begin. The three handshakes, and a trace
+    /// that ends after a pass without grey, are from Doligez and Gonthier (POPL 1994). The steps of one word each, the looks out
+    /// of turn, and colours that grow with the cycle are this project's own.
     pub fn turn(&mut self, heap: &Heap<'_>) -> Option<Turn>
         requires token { IsSweeperOf heap.now self.old }
+        ensures token { IsSweeperOf heap.now self.new }
         ensures log { IfSome result (λ turn. IsNowAt self.old (turn ∷ self.old.log) self.new) }
         // It is a step of a run in which the log was the collector's share.
         ensures happens { IfSome result (λ turn. Happens self.old.setup (OfCollector self.old.log) (ByCollector turn)) }

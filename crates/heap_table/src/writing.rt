@@ -15,9 +15,9 @@ use std::marker::Brand;
 impl<'a> Heap<'a> {
     ghost use Rattle.heap_table.specs.Holders.{IsOf, MayCall, IsNow, IsOfRun};
 
-    /// Stores a reference after the write barrier of Doligez and Gonthier: the old value is marked, and until all threads have
-    /// answered the cycle's two sync stages the new one too. A mark is one fetch-max of a colour, where theirs moves a cell to
-    /// grey by steps of its own.
+    /// Stores a reference after the barrier. As in Doligez and Gonthier (POPL 1994) the old value is marked, and at the sync stages
+    /// the new one too, and only then comes the store. That the old value is marked at every stage, and that a mark is one
+    /// fetch-max of the colour, is this project's own.
     pub fn write(&self, me: &mut Mutator, cell: u32, word: u32, new: u32)
         requires token { MayCall self.now me.old }
         requires cell { MayUse me.old.setup me.old.log cell }
