@@ -1,5 +1,5 @@
 -- A block that is certified has no refusal, and a block has one at most.
-use Rattle.std.proofs.Common.{◌≡◌, ◌⊎◌, ◌<◌, ℕ, subst, refl, sym, ap, ◌∙◌, arith, Option, Some, None, List, Result, Ok, Err, MatchResult, IsOkUnless, inl, inr, slice_get}
+use Rattle.std.proofs.Common.{◌≡◌, ◌⊎◌, ◌<◌, ℕ, subst, refl, sym, ap, ◌∙◌, Option, Some, None, List, Result, Ok, Err, MatchResult, IsOkUnless, inl, inr, slice_get}
 use Rattle.std.proofs.lemmas.Bool.{cases_order}
 use Rattle.ir_ast.specs.declared.function.Function.{Function}
 use Rattle.certs.specs.declared.section.Section.{Section}

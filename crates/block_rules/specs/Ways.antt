@@ -1,5 +1,5 @@
 -- The edges out of a block: where they lead, what they show, and which lines of their targets are not shown.
-use Rattle.std.specs.Prelude.{ℕ, ◌==◌, Bool, true, false, not, ◌&&◌, ◌||◌, if◌then◌else◌, List, [], ◌∷◌, ◌++◌, map, length, position, slice_get, Option, Some, None}
+use Rattle.std.specs.Prelude.{ℕ, ◌==◌, Bool, true, false, not, ◌&&◌, ◌||◌, if◌then◌else◌, List, [], ◌∷◌, map, length, position, slice_get, Option, Some, None}
 use Rattle.std.specs.List.{list_all, list_any, range_with_len}
 use Rattle.ir_ast.specs.declared.choices.Incoming.{Incoming}
 use Rattle.ir_ast.specs.declared.choices.Phi.{Phi}

@@ -52,7 +52,7 @@ use Rattle.ir_print_law.proofs.NamesRead.{callees_are_read}
 use Rattle.ir_print_law.proofs.Words.{global_comes}
 use Rattle.ir_print_law.specs.Printable.{IsVoid}
 use Rattle.ir_print_law.specs.Definitions.{functions_of}
-use Rattle.ir_print_law.proofs.OperandsAgain.{symbol_ready, symbol_grows, symbol_few, symbol_there, sign_less}
+use Rattle.ir_print_law.proofs.OperandsAgain.{ends_global, symbol_ready, symbol_grows, symbol_few, symbol_there, sign_less}
 use Rattle.ir_ast.specs.declared.instr.Instr.{Instr}
 use Rattle.ir_forms.specs.Decorations.{trail_of}
 use Rattle.ir_forms.specs.Ops.{as_op}
@@ -71,11 +71,6 @@ call_front returned callee arguments rest = simp append_assoc
 pub void_shown : (n : Module) (t : ℕ) → slice_get n.types t ≡ Some type.Void → type_text n t ≡ codes "void"
 unfolding type_within
 void_shown n t e = ap (type_by (type_within 63 n) n) e
-
--- the name of a function ends a type
-pub ends_callee : (name behind : Text) → AreBytes name → IsSeam behind → EndsType (32 ∷ 64 ∷ (name_text blank.Kept name ++ behind))
-unfolding class_of
-ends_callee name behind own seam = (refl, λ i at. ap ends_type (global_comes i.cursor (32 ∷ []) name behind refl own seam at).0)
 
 -- a call is this one again, in each module later on
 abbrev pub CallAgain : Module → (locals : List Text) → Call → Call → Input → Type 0
@@ -195,7 +190,7 @@ module _ {m : Module} {f : Function} (v u : Invariant m f) where
       let begins = type_begins v shape o (32 ∷ []) t2 scalar.0.2 refl refl ready.stands in
       said_on u (decorations spot.Result) (λ _. calls.typed_call value) o tt rest s good (decorations_said spot.Result o (undecorated_type (begins_line o.cursor) (kind o.cursor) begins))
       (on v u w.scalar call_form o t2 rest s s (IsTypeRead shape 64) good
-      (scalar_reads v shape o (32 ∷ []) t2 s scalar.0.2 scalar.0.1 scalar.1 refl (ends_callee (name_at m.symbols x.callee) (40 ∷ (listed (argument_text m f.locals) x.arguments ++ 41 ∷ rest)) is.0 refl) ready)
+      (scalar_reads v shape o (32 ∷ []) t2 s scalar.0.2 scalar.0.1 scalar.1 refl (ends_global (name_at m.symbols x.callee) (40 ∷ (listed (argument_text m f.locals) x.arguments ++ 41 ∷ rest)) is.0 refl) ready)
       (λ p q ready h read.
       on v u (calls.call_behind p.id) (set_form p) q rest rest s s (CallAgain m f.locals x) good
       (call_behind_reads v x p.id q rest s there own (λ n others later. inr (read_again m shape x.returned p.id q n others scalar.0.0 read.has_shape later)) ends ready)

@@ -160,7 +160,7 @@ unfolding class_of
 ends_round behind = (refl, λ i at. ap ends_type (sign_comes i.cursor [] 41 behind k.CloseRound refl refl refl at).0)
 
 -- the name of a global ends a type
-ends_global : (name behind : Text) → AreBytes name → IsSeam behind → EndsType (32 ∷ 64 ∷ (name_text blank.Kept name ++ behind))
+pub ends_global : (name behind : Text) → AreBytes name → IsSeam behind → EndsType (32 ∷ 64 ∷ (name_text blank.Kept name ++ behind))
 unfolding class_of
 ends_global name behind own seam = (refl, λ i at. ap ends_type (global_comes i.cursor (32 ∷ []) name behind refl own seam at).0)
 

@@ -2,7 +2,8 @@
 use Rattle.std.proofs.Common.{◌≡◌, ℕ, Bool, true, false, not, List, [], ◌∷◌, ◌++◌, slice_get, Option, None, Some, refl, sym, ap, subst, ◌∙◌, arith, append_assoc, length-append, inl, inr, ◌⊎◌}
 use Rattle.std.specs.Prelude.{codes}
 use Rattle.ir_print_law.proofs.ArgumentsAgain.{decorations_said}
-use Rattle.ir_print_law.proofs.CallsAgain.{void_shown, ends_callee}
+use Rattle.ir_print_law.proofs.CallsAgain.{void_shown}
+use Rattle.ir_print_law.proofs.OperandsAgain.{ends_global}
 use Rattle.grammar.specs.Grammar.{pure, ◌>>=◌}
 use Rattle.ir_ast.specs.declared.function.Function.{Function}
 use Rattle.ir_ast.specs.declared.ir_type.IrType.TheVariants as type
@@ -142,7 +143,7 @@ module _ (m : Module) (f : Function) (v : Invariant m f) (types : TypesRead m) w
       let is_type = is_passed.1 in
       let begins = types.type_comes shape returned i.cursor gap behind is_type blanks refl ready.stands in
       let plain = decorations_said spot.Result i (result_plain (begins_line i.cursor) (kind i.cursor) begins) in
-      let a = types.passed v shape returned i gap behind 0 is_type is_passed.2 blanks (ends_callee name rest own seam) ready in
+      let a = types.passed v shape returned i gap behind 0 is_type is_passed.2 blanks (ends_global name rest own seam) ready in
       let o = a.1 in
       let w = a.0 in (
         a.0.id,
@@ -181,7 +182,7 @@ module _ (m : Module) (f : Function) (v : Invariant m f) (types : TypesRead m) w
       let begins = types.type_comes shape returned i.cursor gap behind is_type blanks refl ready.stands in
       let plain = decorations_said spot.Result i (result_plain (begins_line i.cursor) (kind i.cursor) begins) in
       let none = decorations_said spot.Declare i (declare_plain (begins_line i.cursor) (kind i.cursor) begins) in
-      let a = types.any v shape returned i gap behind 0 is_type refl blanks (ends_callee name rest own seam) ready in
+      let a = types.any v shape returned i gap behind 0 is_type refl blanks (ends_global name rest own seam) ready in
       let o = a.1 in
       let w = a.0 in (
         a.0.id,
