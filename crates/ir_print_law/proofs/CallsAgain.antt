@@ -22,7 +22,7 @@ use Rattle.ir_forms.specs.Written as w
 use Rattle.ir_forms.specs.Lists as lists
 use Rattle.ir_print.specs.Operands.{argument_text}
 use Rattle.ir_print.specs.Calls.{call_text}
-use Rattle.ir_print.specs.Standing.{IsSeam, AreBlanks}
+use Rattle.ir_print.specs.Standing.{AreBlanks}
 use Rattle.ir_print.specs.Types.{type_text, type_within, type_by}
 use Rattle.ir_print_law.specs.Again.{IsResultAgain, IsCallAgain, IsInstrAgain}
 use Rattle.ir_print_law.specs.Printable.{IsScalar, IsArgument}
@@ -31,7 +31,6 @@ use Rattle.ir_print_law.proofs.Tables.{stays}
 use Rattle.ir_print_law.proofs.State.{Invariant, Ready, IsLater, Reads}
 use Rattle.ir_print_law.proofs.Shown.{shown, IsTypeRead}
 use Rattle.ir_print_law.proofs.Steps.{looked, given, sign_reads, word_skipped, word_seen, intern_reads, grows_itself, later_before}
-use Rattle.ir_print_law.proofs.Types.{EndsType, ends_type}
 use Rattle.ir_print_law.proofs.WholeTypes.{type_begins}
 use Rattle.ir_print_law.proofs.PrintedTypes.{type_shown, read_again, scalar_reads}
 use Rattle.ir_print_law.proofs.Parts.{IsLaterAgain, OpAgain, Sets}
@@ -44,7 +43,6 @@ use Rattle.ir_forms.specs.declared.decorating.Spot.TheVariants as spot
 use Rattle.ir_forms.specs.Names.{callee, with_symbol_use}
 use Rattle.ir_ast.specs.Names.{number_of}
 use Rattle.name_text.specs.Names.{name_text}
-use Rattle.name_text.specs.Readings.{AreBytes}
 use Rattle.name_text.specs.declared.blank.Blank.TheVariants as blank
 use Rattle.ir_print.specs.Names.{name_at, global_text}
 use Rattle.ir_print.specs.Operands.{listed}
