@@ -1,12 +1,15 @@
 -- Each word of the heap has a place of its own in the table.
 use Rattle.std.proofs.Common.{◌≡◌, ℕ, zero, suc, ◌+◌, ◌<◌, ◌≤◌, ◌==◌, ◌&&◌, Bool, true, false, eq-eqb, refl, ap, length, arith, inl, inr, ◌⊎◌, ⊎_elim}
 use Rattle.std.proofs.lemmas.Bool.{eqb-true}
+use Rattle.lemmas.specs.Bools.{and_parts}
+use Rattle.lemmas.specs.Numbers.{test_true}
 use Rattle.pools.specs.Heap.{Setup, cells, words_of_cell}
 use Rattle.colours.specs.declared.place.Place.{Place}
 use Rattle.colours.specs.declared.place.Place.TheVariants.{Posted, Stage, Colour, Word}
 use Rattle.colours.specs.Steps.{same_place}
 use Rattle.heap_rule.specs.Rule.{start, size, HasPlace, index}
 
+-- a number below the next one is below this one or is it
 below_suc : (c d : ℕ) → c < suc d → (c < d) ⊎ (c ≡ d)
 below_suc zero zero h = inr refl
 below_suc zero (suc d) h = inl (omega arith)
@@ -37,20 +40,14 @@ within s (Stage t) h = let k = stages_before s (cells s) in omega arith
 within s (Colour c) h = let k = start_before s c (cells s) h in omega arith
 within s (Word c i) h = let k = start_before s c (cells s) h.0 in let l = h.1 in omega arith
 
+-- a place is the same as itself
 pub same_self : (p : Place) → same_place p p ≡ true
 same_self Posted = refl
 same_self (Stage t) = eq-eqb t t refl
 same_self (Colour c) = eq-eqb c c refl
 same_self (Word c i) = rw (eq-eqb c c refl) (eq-eqb i i refl)
 
-both : (a b c d : ℕ) → ((a == b) && (c == d)) ≡ true → (a ≡ b) × (c ≡ d)
-both a b c d e = parts (a == b) (c == d) refl refl e
-  where
-    parts : (x y : Bool) → (a == b) ≡ x → (c == d) ≡ y → (x && y) ≡ true → (a ≡ b) × (c ≡ d)
-    parts true true p q e = (eqb-true a b p, eqb-true c d q)
-    parts true false p q e = cc
-    parts false y p q e = cc
-
+-- places that are tested the same are one place
 pub same_true : (p q : Place) → same_place p q ≡ true → p ≡ q
 same_true Posted Posted e = refl
 same_true Posted (Stage u) e = cc
@@ -67,8 +64,9 @@ same_true (Colour c) (Word d j) e = cc
 same_true (Word c i) Posted e = cc
 same_true (Word c i) (Stage u) e = cc
 same_true (Word c i) (Colour d) e = cc
-same_true (Word c i) (Word d j) e = let k = both c d i j e in rw (k.0, k.1) refl
+same_true (Word c i) (Word d j) e = let k = and_parts (c == d) (i == j) e in rw (test_true c d k.0, test_true i j k.1) refl
 
+-- of two numbers one is the lower, or they are one
 three : (c d : ℕ) → (c < d) ⊎ ((c ≡ d) ⊎ (d < c))
 three zero zero = inr (inl refl)
 three zero (suc d) = inl (omega arith)

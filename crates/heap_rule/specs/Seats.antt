@@ -12,11 +12,13 @@ use Rattle.colours.specs.Runs.{Event, log_of, word_after, word_at_start}
 use Rattle.heap_rule.specs.View.{Actor, Thread, Collector, Share, View, actor_of, dealt, newcomer, joined, spent}
 use Rattle.heap_rule.specs.Rule.{index, size, HasPlace, AreSharesIn, Knows, Ruled, dealing}
 
+-- before the first step a word is as at the start
 nothing_written : (s : Setup) (p : Place) → word_after s [] p ≡ word_at_start s p
 unfolding word_after
 nothing_written s p = refl
 
 module _ {A : Type 0} where
+  -- an element of a list with one more is one of the list, or that one
   at_end : (l : List A) (a b : A) (j : ℕ) → get_elem? (l ++ a ∷ []) j ≡ some b → (get_elem? l j ≡ some b) ⊎ ((j ≡ length l) × (a ≡ b))
   at_end [] a b zero e = inr (refl, some-injective a b e)
   at_end [] a b (suc j) e = absurd (some-ne-none b (sym e))
@@ -45,10 +47,12 @@ shares_moved : (run : List Event) (owner after : Actor → ℕ) (j i : ℕ) → 
 shares_moved run owner after j i move [] h = tt
 shares_moved run owner after j i move (x ∷ xs) h = ((move (actor_of x) h.0.0, h.0.1), shares_moved run owner after j i move xs h.1)
 
+-- two lists of shares of one seat
 both_shares : (run : List Event) (owner : Actor → ℕ) (j : ℕ) (xs ys : List Share) → AreSharesIn run owner j xs → AreSharesIn run owner j ys → AreSharesIn run owner j (xs ++ ys)
 both_shares run owner j [] ys h k = k
 both_shares run owner j (x ∷ xs) ys h k = (h.0, both_shares run owner j xs ys h.1 k)
 
+-- what a seat knows stays true where its actors stay with it
 knows_moved : (run : List Event) (owner after : Actor → ℕ) (j : ℕ) (v : View) → ((a : Actor) → owner a ≡ j → after a ≡ j) → Knows run owner j v → Knows run after j v
 knows_moved run owner after j v move k = record {
   undealt = λ t low high. let u = k.undealt t low high in (move (Thread t) u.0, u.1);

@@ -142,6 +142,7 @@ becomes (Store q v) n = v
 becomes (FetchMax q v) n = max n v
 becomes (CompareExchange q old new) n = either (n == old) new n
 
+-- a choice, in the words of the table
 either_if : (b : Bool) (x y : ℕ) → either b x y ≡ (if b then x else y)
 either_if true x y = refl
 either_if false x y = refl
@@ -155,6 +156,7 @@ becomes_left (CompareExchange q old new) n = rw (same_self q) (either_if (n == o
 
 -- a seat of one actor may step by the operation, and then its log has the step
 module _ (s : Setup) (share : Share) (me : Me (Unit {0}) View) (event : ℕ → Event) (ask : Ask) (is : IsSeatOf share me.0) (here : HasPlace s (place_of ask)) (may : MayStep s share event ask) (labelled : me.0.setup ≡ s) where
+  -- the seat has logged the step, and it was a step of a run
   abbrev pub Then : ℕ → Me (Unit {0}) View → Type 0
   Then n after = (after ≡ (logged me.0 (event n), me.1)) × Happens me.0.setup (share_of me.0) (event n)
 

@@ -11,6 +11,7 @@ abbrev pub log_in : Share → List Step
 log_in (OfThread thread log) = log
 log_in (OfCollector log) = []
 
+-- the token, as contracts see it
 abbrev pub holder_of : Inside → Holder
 holder_of m = record { table = m.token.table; setup = m.token.setup; thread = m.thread; log = log_in m.token.share }
 

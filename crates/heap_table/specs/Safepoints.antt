@@ -1,4 +1,4 @@
--- What a safepoint logs and answers.
+-- What a safepoint logs and returns.
 use Rattle.std.specs.Prelude.{ℕ, ◌^◌, ◌<◌, ◌≡◌, ◌≢◌, Bool, MatchBool, List, [], ◌∷◌, ◌++◌, if◌then◌else◌}
 use Rattle.colours.specs.Colours.{is_async, done}
 use Rattle.colours.specs.Steps.{Step, ReadPosted, StoreStage}

@@ -12,6 +12,7 @@ abbrev pub turns_in : Share → List Turn
 turns_in (OfThread thread log) = []
 turns_in (OfCollector log) = log
 
+-- the token, as contracts see it
 abbrev pub sweeper_log : Inside → SweeperLog
 sweeper_log w = record { table = w.token.table; setup = w.token.setup; log = turns_in w.token.share }
 

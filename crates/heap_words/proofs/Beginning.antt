@@ -90,17 +90,17 @@ zero_there : (s : Setup) (at : ℕ) → IsSetup s → start s 1 ≤ at → openi
 zero_there s at ok h = let e : suc (suc s.threads + (at - s.threads - 2)) ≡ at = omega arith in
     subst (λ (x : ℕ). opening_word s x ≡ 0) e (value_there s (at - s.threads - 2) ∙ no_value s (at - s.threads - 2) ok (omega arith))
 
-behind_first : (s : Setup) (cell : ℕ) → start s 1 ≤ start s (suc cell)
-behind_first s zero = omega arith
-behind_first s (suc cell) = let k = behind_first s cell in omega (arith, k)
+after_first : (s : Setup) (cell : ℕ) → start s 1 ≤ start s (suc cell)
+after_first s zero = omega arith
+after_first s (suc cell) = let k = after_first s cell in omega (arith, k)
 
 pub opens_at : (s : Setup) (p : Place) → IsSetup s → HasPlace s p → opening_word s (index s p) ≡ word_at_start s p
 opens_at s Posted ok here = refl
 opens_at s (Stage t) ok here = stage_there s t here
 opens_at s (Colour zero) ok here = colour_there s
-opens_at s (Colour (suc cell)) ok here = zero_there s (start s (suc cell)) ok (behind_first s cell)
+opens_at s (Colour (suc cell)) ok here = zero_there s (start s (suc cell)) ok (after_first s cell)
 opens_at s (Word zero word) ok here = value_there s word
-opens_at s (Word (suc cell) word) ok here = let k = behind_first s cell in zero_there s (suc (start s (suc cell) + word)) ok (omega (arith, k))
+opens_at s (Word (suc cell) word) ok here = let k = after_first s cell in zero_there s (suc (start s (suc cell) + word)) ok (omega (arith, k))
 
 -- where the table ends
 pub size_found : (s : Setup) (starts : List ℕ) (count found : ℕ) → AreStarts s starts → count ≡ cells s → found ≡ get_or starts count found → found ≡ size s

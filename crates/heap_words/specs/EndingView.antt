@@ -3,6 +3,7 @@ use Rattle.std.specs.Prelude.{◌≡◌}
 use Rattle.heap_words.specs.declared.ending.Ending.TheInside.{Inside}
 use Rattle.heap_words.specs.Endings.{Gathered}
 
+-- the words and what came back, as contracts see them
 abbrev pub gathered_in : Inside → Gathered
 gathered_in e = record { setup = e.words.setup; table = e.words.table; shares = e.seat.me.0.shares }
 

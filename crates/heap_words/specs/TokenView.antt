@@ -4,6 +4,7 @@ use Rattle.heap_rule.specs.View.{share_of, IsSeatOf}
 use Rattle.heap_words.specs.declared.token.Token.TheInside.{Inside}
 use Rattle.heap_words.specs.Tokens.{Holding}
 
+-- the token, as contracts see it
 abbrev pub holding_in : Inside → Holding
 holding_in t = record { table = t.seat.table_id; setup = t.seat.me.0.setup; share = share_of t.seat.me.0 }
 
