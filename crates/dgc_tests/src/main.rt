@@ -12,8 +12,6 @@ mod collector_tests;
 mod command_tests;
 mod failure;
 #[cfg(test)]
-mod heap_tests;
-#[cfg(test)]
 mod machine_tests;
 #[cfg(test)]
 mod mutator_tests;
