@@ -1,0 +1,10 @@
+//! Threads of a machine on the shared heap: what each leaves is a share that its machine asks for.
+#![tactic(auto)]
+
+mod calls;
+mod collecting;
+mod serving;
+
+pub use calls::{alloc_for, read_for, safepoint_for, store_plain_for, write_for};
+pub use collecting::collect;
+pub use serving::{Outcome, Served, serve};
