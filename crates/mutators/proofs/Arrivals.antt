@@ -1,5 +1,6 @@
 -- The tries of a late thread to begin.
-use Rattle.std.proofs.Common.{◌≡◌, ◌≢◌, ℕ, suc, ◌+◌, ◌≤◌, inl, Bool, true, false, Some, List, [], ◌∷◌, length, refl, sym, ap, subst, ◌∙◌, arith}
+use Rattle.std.proofs.Common.{◌≡◌, ◌≢◌, ℕ, suc, ◌+◌, ◌*◌, ◌/◌, ◌%◌, min, ◌≤◌, inl, Bool, true, false, Some, List, [], ◌∷◌, length, refl, sym, ap, subst, ◌∙◌, arith}
+use Rattle.std.proofs.lemmas.Grind.{div_ceil_times}
 use Rattle.pools.specs.Heap.{Setup}
 use Rattle.colours.specs.Colours.{done}
 use Rattle.colours.specs.Steps.{Step, ReadPostedFirst, EnterStage, ReadPostedAgain, StoreStage}
@@ -13,7 +14,8 @@ use Rattle.heap_table.specs.Holders.{Holder, MayCall, MayBegin, IsNow, with_log}
 use Rattle.heap_table.specs.Begins.{Begins}
 use Rattle.mutators.specs.Serving.{MayBeServed, MayCallFirst}
 use Rattle.mutators.specs.Tries.{HasTried}
-use Rattle.mutators.specs.Endings.{IsAbsentAfter}
+use Rattle.mutators.specs.declared.serving.Outcome.{Outcome}
+use Rattle.mutators.specs.Endings.{IsAbsentAfter, EndsSo}
 
 -- the thread's moves are steps of tries so far, at least so many, and it stands so
 record Tries (s : Setup) (m : Machine) (t : ℕ) (start : m.State) (moves : ℕ) (log : List Step) (phase : Phase) : Type 0 where
@@ -64,6 +66,12 @@ module _ (s : Setup) (m : Machine) (t : ℕ) (start : m.State) where
         (ReadsPostedAgain found) (ReadPostedAgain found) refl tt tt tt Leaving (rw (test_no found posted other) refl) refl)
         (StoresStage done []) (StoreStage done []) refl (refl, refl) (refl, refl) tt Absent refl refl
 
+-- so many tries use up the limit
+pub all_used : (limit tries count : ℕ) → count ≡ limit / 4 + min 1 (limit % 4) → count ≤ tries → limit ≤ tries * 4
+all_used limit tries count is all =
+    let enough : limit ≤ count * 4 = subst (λ (n : ℕ). limit ≤ n * 4) (sym is) (div_ceil_times limit 4 (omega arith)).0 in
+    omega (arith, enough, all)
+
 -- ---- before the first step
 
 module _ (m : Machine) (Fits : Setup → m.State → Type 0) (heap : Shared) (token : Holder) (start : m.State) where
@@ -90,16 +98,26 @@ module _ (m : Machine) (Fits : Setup → m.State → Type 0) (heap : Shared) (fi
   }
 
   -- the token is still the first one's
-  pub same_token : (after : Holder) → IsNow token after.log after → IsNow first after.log after
+  same_token : (after : Holder) → IsNow token after.log after → IsNow first after.log after
   same_token after now = now ∙ ap (λ (x : Holder). with_log x after.log) k.token_is
+
+  -- what a thread leaves that began so
+  pub left_first : (after : Holder) → IsNow token after.log after → (log : List Step) (state : m.State) → state ≡ start → Left after.setup m after.thread state log → Left first.setup m first.thread start log
+  left_first after now log state same left = subst (λ (x : m.State). Left first.setup m first.thread x log) same (subst (λ (x : Holder). Left x.setup m x.thread state log) (same_token after now) left)
+
+  pub ends_first : (after : Holder) → IsNow token after.log after → (limit : ℕ) (outcome : Outcome) (last : m.State) (log : List Step) (state : m.State) → state ≡ start
+      → EndsSo after.setup m after.thread state limit outcome last log → EndsSo first.setup m first.thread start limit outcome last log
+  ends_first after now limit outcome last log state same end = subst (λ (x : m.State). EndsSo first.setup m first.thread x limit outcome last log) same
+      (subst (λ (x : Holder). EndsSo x.setup m x.thread state limit outcome last log) (same_token after now) end)
 
   module _ (after : Holder) (now : IsNow token after.log after) where
     -- the try was in vain
-    pub tried : MayBegin heap after → Begins token.log false after.log → (more : ℕ) → more ≡ moves + 4 → HasTried m Fits heap first start more after
-    tried may b more is = subst (λ (n : ℕ). HasTried m Fits heap first start n after) (let four : suc (suc (suc (suc moves))) ≡ more = omega (arith, is) in four)
+    pub tried : (begun : Bool) → begun ≡ false → (begun ≡ false → MayBegin heap after) → Begins token.log begun after.log → (more : ℕ) → more ≡ moves + 4 → HasTried m Fits heap first start more after
+    tried true e may b more is = cc
+    tried false e may b more is = subst (λ (n : ℕ). HasTried m Fits heap first start n after) (let four : suc (suc (suc (suc moves))) ≡ more = omega (arith, is) in four)
         (subst (HasTried m Fits heap first start (suc (suc (suc (suc moves))))) (sym whole) record {
           token_is = ap (λ (x : Holder). with_log x log) k.token_is;
-          absent = subst (MayBegin heap) whole may;
+          absent = subst (MayBegin heap) whole (may refl);
           fits = k.fits;
           careful = k.careful;
           real = record { share = t.share; asked = t.asked; no_births = t.no_births; steps = t.steps; leads_to = t.leads_to };
@@ -116,17 +134,18 @@ module _ (m : Machine) (Fits : Setup → m.State → Type 0) (heap : Shared) (fi
         t = leaves token.setup m token.thread start moves token.log so_far b.0 b.1.0 b.1.1
 
     -- the thread has begun
-    pub arrived : MayCall heap after → Begins token.log true after.log → (more : ℕ) → more ≡ moves + 3 → MayCallFirst m Fits heap after start more
-    arrived call b more is = subst (λ (n : ℕ). MayCallFirst m Fits heap after start n) (let three : suc (suc (suc moves)) ≡ more = omega (arith, is) in three)
+    pub arrived : (begun : Bool) → begun ≡ true → (begun ≡ true → MayCall heap after) → Begins token.log begun after.log → (more : ℕ) → more ≡ moves + 3 → (state : m.State) → state ≡ start → MayCallFirst m Fits heap after state more
+    arrived false e call b more is state same = cc
+    arrived true e call b more is state same = subst (λ (x : m.State). MayCallFirst m Fits heap after x more) (sym same) (subst (λ (n : ℕ). MayCallFirst m Fits heap after start n) (let three : suc (suc (suc moves)) ≡ more = omega (arith, is) in three)
         (subst (λ (x : Holder). MayCallFirst m Fits heap x start (suc (suc (suc moves)))) (sym whole) record {
-          ready = subst (MayCall heap) whole call;
+          ready = subst (MayCall heap) whole (call refl);
           fits = k.fits;
           serves = record {
             careful = k.careful;
             real = record { share = t.share; asked = t.asked; no_births = t.no_births; steps = t.steps; leads_to = t.leads_to };
             long = t.long;
           };
-        })
+        }))
       where
         log : List Step
         log = ReadPostedAgain b.0 ∷ EnterStage b.0 ∷ ReadPostedFirst b.0 ∷ token.log

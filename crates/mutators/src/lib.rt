@@ -7,4 +7,4 @@ mod serving;
 
 pub use calls::{alloc_for, read_for, safepoint_for, store_plain_for, write_for};
 pub use collecting::collect;
-pub use serving::{Outcome, Served, serve};
+pub use serving::{Outcome, serve};

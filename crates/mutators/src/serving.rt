@@ -1,4 +1,4 @@
-ghost use Rattle.std.specs.Prelude.{◌≡◌, ◌≢◌, IfOk, OnOk, OnErr};
+ghost use Rattle.std.specs.Prelude.{◌≡◌, ◌≢◌, ◌<◌, ◌^◌, IfOk, OnOk, OnErr};
 ghost use Rattle.runs.specs.Machine.{machine_of, End};
 ghost use Rattle.runs.specs.RealThreads.{Left};
 ghost use Rattle.moves.specs.Calls.{answer_in};
@@ -31,33 +31,27 @@ pub enum Outcome {
     Absent,
 }
 
-/// A thread's token, its machine and how far it was served.
-pub struct Served<R> {
-    pub me: Mutator,
-    pub machine: R,
-    pub outcome: Outcome,
-}
-
 /// Makes what the thread asks for, call by call, to its end or its limit; then the thread is finished. A late thread tries to
 /// begin before its first call. The limit is looked at before each try and each call, which is then made whole. Each step of a
 /// try counts, and a call counts as one step.
 pub fn serve<R: Runner>(
     alloc: Global,
     heap: &Heap<'_>,
-    me: Mutator,
-    machine: R,
+    me: &mut Mutator,
+    machine: &mut R,
     is_late: bool,
     limit: u32,
-) -> Served<R>
-    requires { MayBeServed (machine_of R.action R.after_answer R.roots) R.fits heap.now me is_late machine }
-    ensures token { IsNow me result.me.log result.me }
-    ensures left { Left me.setup (machine_of R.action R.after_answer R.roots) me.thread machine result.me.log }
-    ensures end { EndsSo me.setup (machine_of R.action R.after_answer R.roots) me.thread machine limit result.outcome result.machine result.me.log }
+) -> Outcome
+    requires { MayBeServed (machine_of R.action R.after_answer R.roots) R.fits heap.now me.old is_late machine.old }
+    ensures token { IsNow me.old me.new.log me.new }
+    ensures left { Left me.old.setup (machine_of R.action R.after_answer R.roots) me.old.thread machine.old me.new.log }
+    ensures end { EndsSo me.old.setup (machine_of R.action R.after_answer R.roots) me.old.thread machine.old limit result machine.new me.new.log }
 {
+    let limit = u64::from(limit);
     if is_late {
         serve_late(alloc, heap, me, machine, limit)
     } else {
-        serve_begun(alloc, heap, me, machine, 0, u64::from(limit))
+        serve_begun(alloc, heap, me, machine, 0, limit)
     }
 }
 
@@ -65,66 +59,50 @@ pub fn serve<R: Runner>(
 fn serve_late<R: Runner>(
     alloc: Global,
     heap: &Heap<'_>,
-    mut me: Mutator,
-    machine: R,
-    limit: u32,
-) -> Served<R>
-    requires may { HasTried (machine_of R.action R.after_answer R.roots) R.fits heap.now me machine 0 me }
-    ensures token { IsNow me result.me.log result.me }
-    ensures left { Left me.setup (machine_of R.action R.after_answer R.roots) me.thread machine result.me.log }
-    ensures end { EndsSo me.setup (machine_of R.action R.after_answer R.roots) me.thread machine limit result.outcome result.machine result.me.log }
+    me: &mut Mutator,
+    machine: &mut R,
+    limit: u64,
+) -> Outcome
+    requires late { HasTried (machine_of R.action R.after_answer R.roots) R.fits heap.now me.old machine.old 0 me.old }
+    requires few { limit < 2 ^ 32 }
+    ensures token { IsNow me.old me.new.log me.new }
+    ensures left { Left me.old.setup (machine_of R.action R.after_answer R.roots) me.old.thread machine.old me.new.log }
+    ensures end { EndsSo me.old.setup (machine_of R.action R.after_answer R.roots) me.old.thread machine.old limit result machine.new me.new.log }
 {
-    let limit = u64::from(limit);
     for tries in 0..limit.div_ceil(FAILED_TRY) {
-        let made = tries * FAILED_TRY;
-        if heap.begin(&mut me) {
-            return serve_begun(alloc, heap, me, machine, made + ARRIVAL, limit);
+        if heap.begin(me) {
+            let made = tries * FAILED_TRY + ARRIVAL;
+            return serve_begun(alloc, heap, me, machine, made, limit);
         }
     }
-    Served {
-        me,
-        machine,
-        outcome: Outcome::Absent,
-    }
+    Outcome::Absent
 }
 
 /// Serves a thread that has begun, after this number of steps.
 fn serve_begun<R: Runner>(
     alloc: Global,
     heap: &Heap<'_>,
-    mut me: Mutator,
-    mut machine: R,
+    me: &mut Mutator,
+    machine: &mut R,
     made: u64,
     limit: u64,
-) -> Served<R>
-    requires { MayCallFirst (machine_of R.action R.after_answer R.roots) R.fits heap.now me machine made }
-    ensures token { IsNow me result.me.log result.me }
-    ensures left { Left me.setup (machine_of R.action R.after_answer R.roots) me.thread machine result.me.log }
-    ensures end { EndsSo me.setup (machine_of R.action R.after_answer R.roots) me.thread machine limit result.outcome result.machine result.me.log }
+) -> Outcome
+    requires { MayCallFirst (machine_of R.action R.after_answer R.roots) R.fits heap.now me.old machine.old made }
+    ensures token { IsNow me.old me.new.log me.new }
+    ensures left { Left me.old.setup (machine_of R.action R.after_answer R.roots) me.old.thread machine.old me.new.log }
+    ensures end { EndsSo me.old.setup (machine_of R.action R.after_answer R.roots) me.old.thread machine.old limit result machine.new me.new.log }
 {
     for _made in made..limit {
         if let Call::End = machine.call() {
-            heap.finish(&mut me);
-            return Served {
-                me,
-                machine,
-                outcome: Outcome::Ended,
-            };
+            heap.finish(me);
+            return Outcome::Ended;
         }
-        if go_on(alloc, heap, &mut me, &mut machine).is_err() {
-            return Served {
-                me,
-                machine,
-                outcome: Outcome::Memory,
-            };
+        if go_on(alloc, heap, me, machine).is_err() {
+            return Outcome::Memory;
         }
     }
-    heap.finish(&mut me);
-    Served {
-        me,
-        machine,
-        outcome: Outcome::Stopped,
-    }
+    heap.finish(me);
+    Outcome::Stopped
 }
 
 /// Makes the call that the thread asks for, and hands it the answer. A thread that has no memory for the answer is finished.
