@@ -4,10 +4,14 @@ use Rattle.pools.specs.Heap.{Setup}
 use Rattle.runs.specs.Machine.{Machine}
 use Rattle.runs.specs.RealThreads.{Left}
 use Rattle.heap_words.specs.Tokens.{Shared}
-use Rattle.heap_table.specs.Holders.{IsNow}
+use Rattle.heap_table.specs.Holders.{Holder, IsNow}
 use Rattle.mutators.specs.declared.beside.Job.{Job}
 use Rattle.mutators.specs.Serving.{MayBeServed}
 use Rattle.mutators.specs.Endings.{EndsSo}
+
+-- a thread's token
+abbrev pub token_of : {State : Type 0} → Job State → Holder
+token_of job = job.me
 
 -- the thread may be served
 abbrev pub MayBegin : (m : Machine) (Fits : Setup → m.State → Type 0) → Shared → Job m.State → Type 0

@@ -16,6 +16,7 @@ use std::sync::atomic::{AtomicUsize, Ordering};
 use std::thread::{Threads, for_each_mut, join_mut};
 
 /// A thread that is to be served, and how far it was.
+#[derive(Drop)]
 pub struct Job<R> {
     pub me: Mutator,
     pub machine: R,
