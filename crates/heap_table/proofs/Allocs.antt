@@ -39,7 +39,7 @@ token_tries m held c value k view runs is may = subst (λ (v : ℕ). IsNext held
 
 -- ---- cells that were tried one after another
 
--- these cells were tried first, and then so many from this one up; the newest first
+-- these cells were tried first, and then this number of cells from this one up; the newest first
 abbrev pub tried_up : (first count : ℕ) → List ℕ → List ℕ
 tried_up first zero tried = tried
 tried_up first (suc count) tried = (first + count) ∷ tried_up first count tried

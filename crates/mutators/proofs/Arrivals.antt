@@ -17,7 +17,7 @@ use Rattle.mutators.specs.Tries.{HasTried}
 use Rattle.mutators.specs.declared.serving.Outcome.{Outcome}
 use Rattle.mutators.specs.Endings.{IsAbsentAfter, EndsSo}
 
--- the thread's moves are steps of tries so far, at least so many, and it stands so
+-- the thread's moves are steps of tries so far, at least this number, and this is its state
 record Tries (s : Setup) (m : Machine) (t : ℕ) (start : m.State) (moves : ℕ) (log : List Step) (phase : Phase) : Type 0 where
   share : List Move
   asked : IsShare s m t start share
@@ -66,7 +66,7 @@ module _ (s : Setup) (m : Machine) (t : ℕ) (start : m.State) where
         (ReadsPostedAgain found) (ReadPostedAgain found) refl tt tt tt Leaving (rw (test_no found posted other) refl) refl)
         (StoresStage done []) (StoreStage done []) refl (refl, refl) (refl, refl) tt Absent refl refl
 
--- so many tries use up the limit
+-- this number of tries uses up the limit
 pub all_used : (limit tries count : ℕ) → count ≡ limit / 4 + min 1 (limit % 4) → count ≤ tries → limit ≤ tries * 4
 all_used limit tries count is all =
     let enough : limit ≤ count * 4 = subst (λ (n : ℕ). limit ≤ n * 4) (sym is) (div_ceil_times limit 4 (omega arith)).0 in

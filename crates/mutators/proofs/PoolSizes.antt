@@ -48,7 +48,7 @@ is_gone c (d ∷ cells) apart a = go (is_gone c cells apart.1) (c == d) refl a
     go rest false e (inl same) = test_false c d e same
     go rest false e (inr a) = rest a
 
--- so many numbers of a stretch are no more than its length
+-- distinct numbers of a stretch are no more than its length
 few : (first count : ℕ) (cells : List ℕ) → AreApart cells → ((c : ℕ) → IsAmong c cells → (first ≤ c) × (c < first + count)) → length cells ≤ count
 few first zero [] apart within = omega arith
 few first zero (d ∷ cells) apart within = let low = (within d (inl refl)).0 in let high = (within d (inl refl)).1 in absurd (omega (arith, low, high))

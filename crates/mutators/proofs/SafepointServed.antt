@@ -22,7 +22,7 @@ use Rattle.mutators.proofs.ReadServed.{at_most}
 abbrev some_of : List Reference → List Reference
 some_of roots = filter (λ r. not (r.cell == 0)) roots
 
--- what comes after so many
+-- what comes after that number
 after_front : (front : List Reference) (r : Reference) (rest : List Reference) (n : ℕ) → n ≡ length front → slice_get (front ++ (r ∷ rest)) n ≡ Some r
 after_front [] r rest zero e = refl
 after_front [] r rest (suc n) e = absurd (omega arith)

@@ -25,7 +25,7 @@ pub struct Job<R> {
     pub outcome: Outcome,
 }
 
-/// At most so many turns of the collector, and so many steps of each thread.
+/// How many turns the collector makes at most, and how many steps each thread.
 #[derive(Clone, Copy, Debug, PartialEq, Eq)]
 pub struct Limits {
     pub turns: u32,

@@ -5,7 +5,7 @@ ghost use Rattle.heap_table.specs.Sweepers.{IsSweeperOf, IsNowAt};
 use heap_table::{Heap, Sweeper};
 use std::sync::atomic::{AtomicUsize, Ordering};
 
-/// Makes at most so many turns of the collector, and stops where the counter says after a turn that all threads have ended.
+/// Makes turns of the collector, at most as many as the limit, and stops where the counter says after a turn that all threads have ended.
 /// Returns how many were made.
 pub fn collect<'a>(
     heap: &Heap<'_>,
