@@ -10,7 +10,7 @@ use Rattle.runs.specs.Promises.{IsCareful}
 use Rattle.heap_table.specs.Holders.{Holder, IsNow}
 use Rattle.mutators.specs.Serving.{Serves}
 
--- the share so far leads to this state, which asks for this action; this is the thread's state, after at least n moves
+-- the share so far leads to this state, which asks for this action; this is the thread's state, after at least this number of moves
 pub record Under (s : Setup) (m : Machine) (t : ℕ) (start : m.State) (state : m.State) (action : Action) (moves : ℕ) (log : List Step) (phase : Phase) (old : Reference) : Type 0 where
   pub share : List Move
   pub asked : IsShare s m t start share

@@ -9,14 +9,14 @@ use Rattle.runs.specs.RealThreads.{IsRealShare, IsWholeShare}
 use Rattle.mutators.specs.declared.serving.Outcome.{Outcome}
 use Rattle.mutators.specs.declared.serving.Outcome.TheVariants.{Ended, Stopped, Memory, Absent as NeverBegan}
 
--- the log is that of at least n moves that lead to this state, and of the step that finishes the thread
+-- the log is that of at least this number of moves that lead to this state, and of the step that finishes the thread
 pub record IsFinishedAfter (s : Setup) (m : Machine) (thread : ℕ) (start : m.State) (moves : ℕ) (state : m.State) (log : List Step) : Type 0 where
   pub before : List Step
   pub real : IsRealShare s m thread start before state
   pub long : moves ≤ length real.share
   pub finished : log ≡ StoreStage done [] ∷ before
 
--- the log is that of whole tries to begin, by at least n moves
+-- the log is that of whole tries to begin, by at least this number of moves
 pub record IsAbsentAfter (s : Setup) (m : Machine) (thread : ℕ) (start : m.State) (moves : ℕ) (log : List Step) : Type 0 where
   pub real : IsRealShare s m thread start log start
   pub long : moves ≤ length real.share

@@ -16,13 +16,13 @@ pub record MayBeServed (m : Machine) (Fits : Setup → m.State → Type 0) (heap
   pub careful : IsCareful token.setup m token.thread start
   pub begun : IsRealShare token.setup m token.thread start token.log start
 
--- the thread keeps to the discipline as long as answers are possible, and its log is that of what its machine asks for, up to this state, by at least n moves
+-- the thread keeps to the discipline as long as answers are possible, and its log is that of what its machine asks for, up to this state, by at least this number of moves
 pub record Serves (m : Machine) (start : m.State) (moves : ℕ) (token : Holder) (state : m.State) : Type 0 where
   pub careful : IsCareful token.setup m token.thread start
   pub real : IsRealShare token.setup m token.thread start token.log state
   pub long : moves ≤ length real.share
 
--- the thread, which began in this state, may make its first call after at least n moves
+-- the thread, which began in this state, may make its first call after at least this number of moves
 pub record MayCallFirst (m : Machine) (Fits : Setup → m.State → Type 0) (heap : Shared) (token : Holder) (start : m.State) (moves : ℕ) : Type 0 where
   pub ready : MayCall heap token
   pub fits : Fits token.setup start

@@ -7,7 +7,7 @@ use Rattle.runs.specs.RealThreads.{IsRealShare}
 use Rattle.heap_words.specs.Tokens.{Shared}
 use Rattle.heap_table.specs.Holders.{Holder, MayBegin, IsNow}
 
--- the token is the thread's, which is absent after tries of at least n moves, and keeps to the discipline once it has begun in this state
+-- the token is the thread's, which is absent after tries of at least this number of moves, and keeps to the discipline once it has begun in this state
 pub record HasTried (m : Machine) (Fits : Setup → m.State → Type 0) (heap : Shared) (first : Holder) (start : m.State) (moves : ℕ) (token : Holder) : Type 0 where
   pub token_is : IsNow first token.log token
   pub absent : MayBegin heap token
