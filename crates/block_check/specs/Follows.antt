@@ -31,7 +31,7 @@ module _ (s : Scene) (b : ℕ) where
   -- ---- phis
 
   -- one phi more
-  pub phis_more : (place at : ℕ) (phis : List Phi) (phi : Phi) → at ≡ place + length phis → PhisPass s b place phis → None ≡ phi_breach s b (stands s b at) phi → PhisPass s b place (phis ++ phi ∷ [])
+  phis_more : (place at : ℕ) (phis : List Phi) (phi : Phi) → at ≡ place + length phis → PhisPass s b place phis → None ≡ phi_breach s b (stands s b at) phi → PhisPass s b place (phis ++ phi ∷ [])
   phis_more place at [] phi e h a =
       let e1 : at ≡ place = omega (arith, e) in
       (subst (λ p. phi_breach s b (stands s b p) phi ≡ None) e1 (sym a), tt)
@@ -51,7 +51,7 @@ module _ (s : Scene) (b : ℕ) where
   -- ---- the body
 
   -- one instruction more
-  pub follows_more : (place at : ℕ) (facts mid : FactSet) (instrs : List Instr) (instr : Instr) (next : FactSet) → at ≡ place + length instrs → Follows s b place facts instrs mid → Passes s (stands s b at) mid instr next → Follows s b place facts (instrs ++ instr ∷ []) next
+  follows_more : (place at : ℕ) (facts mid : FactSet) (instrs : List Instr) (instr : Instr) (next : FactSet) → at ≡ place + length instrs → Follows s b place facts instrs mid → Passes s (stands s b at) mid instr next → Follows s b place facts (instrs ++ instr ∷ []) next
   follows_more place at facts mid [] instr next e h a =
       let e1 : at ≡ place = omega (arith, e) in
       (next, subst (λ p. Passes s (stands s b p) facts instr next) e1 (subst (λ x. Passes s (stands s b at) x instr next) h a), refl)
@@ -202,13 +202,3 @@ module _ (s : Scene) (b : ℕ) where
   -- the end breaks a rule
   pub breaks_at_end : (x : End) (before : FactSet) (broken : Breach) → PhisPass s b 0 phis → Follows s b first given body before → end_of s.function b ≡ Some x → Some broken ≡ end_breach s b (stands s b (end_place s b)) before x → BreaksAt s b (end_place s b) broken
   breaks_at_end x before broken passes follows is found = AtEnd x before broken passes follows is (sym found)
-
-  -- the end breaks none
-  pub certified_to_end : (x : End) (last : FactSet) → PhisPass s b 0 phis → Follows s b first given body last → end_of s.function b ≡ Some x → None ≡ end_breach s b (stands s b (end_place s b)) last x → IsCertified s b
-  certified_to_end x last passes follows is none =
-      record { phis = passes; last = last; body = follows; end = subst (λ found. EndPasses s b (end_place s b) last found) (sym is) (sym none) }
-
-  -- there is no end, since there is no block
-  pub certified_nowhere : (last : FactSet) → PhisPass s b 0 phis → Follows s b first given body last → end_of s.function b ≡ None → IsCertified s b
-  certified_nowhere last passes follows is =
-      record { phis = passes; last = last; body = follows; end = subst (λ found. EndPasses s b (end_place s b) last found) (sym is) tt }

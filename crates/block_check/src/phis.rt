@@ -1,7 +1,6 @@
 //! What the phis of a block take where it is entered from another.
 ghost use Rattle.std.specs.Prelude.{◌≡◌, OnOk};
 ghost use Rattle.block_rules.specs.Standing.{phis_of};
-ghost use Rattle.block_rules.specs.TypeKinds.{kind_of};
 ghost use Rattle.block_rules.specs.Ways.{operand_from, number_comes_in, constant_comes_in, known_comes_in, comes_in};
 ghost use Rattle.block_check.specs.PhiOperands.{entries_at};
 ghost use Rattle.block_check.specs.Subject.{IsReady};
@@ -9,7 +8,7 @@ ghost use Rattle.block_check.specs.Subject.{IsReady};
 use crate::subject::{Subject, phis_of};
 use block_rules::{TypeKind, below_next, known_of};
 use facts::{Entry, Facts, Known};
-use ir_ast::{BlockId, Constant, Operand, Phi};
+use ir_ast::{BlockId, Constant, Operand};
 use items::Items;
 use std::alloc::AllocError;
 
@@ -53,17 +52,6 @@ fn operand_from(subject: &Subject, to: BlockId, place: usize, from: BlockId) -> 
     subject.noted_from(to, place, from)
 }
 
-/// A phi with what is known of what comes in to it.
-fn entry(subject: &Subject, facts: &Facts, phi: &Phi, operand: &Option<Operand>) -> Entry
-    ensures { result ≡ record { phi = phi.now.value; known = known_comes_in facts.now (kind_of subject.now.scene.program.now.of_module phi.now.written) operand.now } }
-{
-    let kind = TypeKind::of(subject.scene.module(), phi.written);
-    Entry {
-        phi: phi.value,
-        known: known_comes_in(facts, kind, operand),
-    }
-}
-
 /// The phis of a block, each with what is known of what comes in from another.
 pub fn note_entries(
     subject: &Subject,
@@ -79,7 +67,12 @@ pub fn note_entries(
     let phis = phis_of(subject.scene.function, to);
     for (place, phi) in phis.iter().enumerate() {
         let operand = operand_from(subject, to, place, from);
-        entries.push(entry(subject, facts, phi, &operand))?;
+        let kind = TypeKind::of(subject.scene.module(), phi.written);
+        let known = known_comes_in(facts, kind, &operand);
+        entries.push(Entry {
+            phi: phi.value,
+            known,
+        })?;
     }
     Ok(())
 }

@@ -86,9 +86,11 @@ impl<'a> Walk<'a> {
         let subject = self.subject;
         let function = subject.scene.function;
         let first = phis_of(function, self.block).len();
-        for (index, instr) in body_of(function, self.block).iter().enumerate() {
+        let body = body_of(function, self.block);
+        for (index, instr) in body.iter().enumerate() {
             let place = first + index;
-            match breach(subject, self.standing(place), facts, instr) {
+            let here = self.standing(place);
+            match breach(subject, here, facts, instr) {
                 Some(broken) => return Ok(Some((place, broken))),
                 None => advance(&subject.scene, facts, instr)?,
             }
