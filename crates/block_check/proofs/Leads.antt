@@ -1,12 +1,12 @@
 -- Lists of predecessors: what each step adds to them.
-use Rattle.std.proofs.Common.{◌≡◌, ◌<◌, ◌≤◌, ◌+◌, ◌⊎◌, inl, inr, ℕ, zero, suc, List, [], ◌∷◌, length, map, take, get_or, slice_get, refl, sym, ap, ◌∙◌, subst, arith, true, false, Bool, None}
+use Rattle.std.proofs.Common.{◌≡◌, ◌<◌, ◌≤◌, ◌+◌, ◌⊎◌, inl, inr, ℕ, zero, suc, List, [], ◌∷◌, length, map, take, get_or, slice_get, refl, sym, ap, ◌∙◌, subst, arith, true, false, Bool, Some, None}
 use Rattle.std.proofs.lemmas.Bool.{eq-eqb, ne_eqb, ltb-true, lt-ltb, le-ltb, cases_eq, cases_lt}
 use Rattle.std.proofs.lemmas.List.Folds.{list_any_more}
 use Rattle.std.specs.Prelude.{◌==◌, ◌&&◌, ◌||◌, nat_lt}
 use Rattle.std.specs.List.{list_any}
 use Rattle.ir_ast.specs.declared.function.Function.{Function}
-use Rattle.block_rules.specs.Standing.{block_instructions, instructions_of}
-use Rattle.block_rules.specs.Ways.{instruction_leads, is_predecessor}
+use Rattle.block_rules.specs.Standing.{block_end}
+use Rattle.block_rules.specs.Ways.{end_leads, is_predecessor}
 use Rattle.block_check.specs.Predecessors.{is_listed, Adds, ArePredecessors}
 
 -- ---- truth values
@@ -98,7 +98,7 @@ none_below f lists e = record {
 }
 
 -- one block more
-pub below_more : (f : Function) (n : ℕ) (a b : List (List ℕ)) → ListsBelow f a n → Adds a b n (λ to. list_any (instruction_leads f to) (instructions_of f n)) → ListsBelow f b (n + 1)
+pub below_more : (f : Function) (n : ℕ) (a b : List (List ℕ)) → ListsBelow f a n → Adds a b n (λ to. is_predecessor f to n) → ListsBelow f b (n + 1)
 below_more f n a b h k = record {
   as_many = k.as_many ∙ h.as_many;
   are = λ to other lt. k.adds to other (subst (λ x. to < x) (sym h.as_many) lt) ∙ ap (λ x. x || (is_predecessor f to n && (n == other))) (h.are to other lt) ∙ pick to other (cases_eq n other);
@@ -120,7 +120,7 @@ below_more f n a b h k = record {
 
 -- a block that does not exist leads nowhere
 pub beyond : (f : Function) (to from : ℕ) → length f.blocks ≤ from → is_predecessor f to from ≡ false
-beyond f to from ge = ap (λ b. list_any (instruction_leads f to) (block_instructions b)) (none_past f.blocks from ge)
+beyond f to from ge = ap (λ b. elim (block_end b) [ None ↦ false | Some x ↦ end_leads f to x ]) (none_past f.blocks from ge)
 
 -- at the end each is noted
 pub all_below : (f : Function) (lists : List (List ℕ)) (n : ℕ) → length f.blocks ≡ n → ListsBelow f lists n → ArePredecessors f lists

@@ -2,3 +2,4 @@ mod Leads
 mod NotedEntries
 mod Operands
 mod PhiSteps
+mod Refused

@@ -5,9 +5,9 @@ use Rattle.std.specs.Prelude.{◌==◌, ◌&&◌, ◌||◌, not, slice_get, slic
 use Rattle.std.specs.List.{list_all, range_with_len}
 use Rattle.ir_ast.specs.declared.block.Block.{Block}
 use Rattle.ir_ast.specs.declared.function.Function.{Function}
-use Rattle.ir_ast.specs.declared.op.Incoming.{Incoming}
+use Rattle.ir_ast.specs.declared.choices.Incoming.{Incoming}
 use Rattle.types.specs.ValueTypes.{target_of}
-use Rattle.block_rules.specs.Standing.{block_instructions, instructions_of}
+use Rattle.block_rules.specs.Standing.{block_phis, phis_of}
 use Rattle.block_rules.specs.Ways.{operand_from, is_operand, is_predecessor, precedes, agrees_from, is_entry_of, is_there, has_each, are_entries}
 use Rattle.block_check.specs.Entries.{noted_from, is_target_listed, is_noted, is_entry_noted, has_each_noted}
 use Rattle.block_check.specs.PhiOperands.{OperandTable, AreOperands, AreOperandTables, entries_at}
@@ -17,7 +17,7 @@ use Rattle.block_check.specs.declared.subject.Subject.{Subject}
 use Rattle.block_check.proofs.Leads.{same_truth, beyond}
 
 -- the table of a block; of a block that does not exist it is empty
-table_at : (f : Function) (blocks : List Block) (tables : List OperandTable) → AreOperandTables f blocks tables → (to : ℕ) → AreOperands f (block_instructions (slice_get blocks to)) (slice_index_or tables to [])
+table_at : (f : Function) (blocks : List Block) (tables : List OperandTable) → AreOperandTables f blocks tables → (to : ℕ) → AreOperands f (block_phis (slice_get blocks to)) (slice_index_or tables to [])
 table_at f [] [] h to = λ place from. refl
 table_at f [] (t ∷ ts) h to = absurd h
 table_at f (b ∷ bs) [] h to = absurd h
@@ -25,7 +25,7 @@ table_at f (b ∷ bs) (t ∷ ts) h zero = h.0
 table_at f (b ∷ bs) (t ∷ ts) h (suc to) = table_at f bs ts h.1 to
 
 -- what is noted is what comes in
-pub noted_is : (s : Subject) → IsReady s → (to place from : ℕ) → noted_from s to place from ≡ operand_from s.scene.function.now from (entries_at (instructions_of s.scene.function.now to) place)
+pub noted_is : (s : Subject) → IsReady s → (to place from : ℕ) → noted_from s to place from ≡ operand_from s.scene.function.now from (entries_at (phis_of s.scene.function.now to) place)
 noted_is s ready to place from = table_at s.scene.function.now s.scene.function.now.blocks s.operands.now ready.operands to place from
 
 -- each of these blocks has an entry
@@ -91,7 +91,7 @@ each_is f blocks to incoming same = same_truth (has_each_of f blocks incoming) (
         by from t (inr ge) = absurd (both_ways (is_predecessor f to from) (beyond f to from ge) t)
 
 -- K16 by what is noted
-pub entries_are : (s : Subject) (to place : ℕ) (incoming : List Incoming) → IsReady s → to < length s.scene.function.now.blocks → entries_at (instructions_of s.scene.function.now to) place ≡ incoming → (list_all (is_entry_noted s to place) incoming && has_each_noted s to place) ≡ are_entries s.scene.function.now to incoming
+pub entries_are : (s : Subject) (to place : ℕ) (incoming : List Incoming) → IsReady s → to < length s.scene.function.now.blocks → entries_at (phis_of s.scene.function.now to) place ≡ incoming → (list_all (is_entry_noted s to place) incoming && has_each_noted s to place) ≡ are_entries s.scene.function.now to incoming
 entries_are s to place incoming ready lt at =
     ap (λ x. x && has_each_noted s to place) (all_same (is_entry_noted s to place) (is_entry_of f to incoming) incoming entry_is)
     ∙ ap (λ x. list_all (is_entry_of f to incoming) incoming && x) (all_same (λ from. is_there (noted_from s to place from)) (λ from. is_there (operand_from f from incoming)) blocks (λ from. ap is_there (comes from)) ∙ each_is f blocks to incoming (λ from. ready.predecessors.are to from lt))

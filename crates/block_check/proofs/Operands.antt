@@ -5,13 +5,13 @@ use Rattle.std.proofs.lemmas.List.{take_more, length-take-le}
 use Rattle.std.specs.Prelude.{◌==◌, if◌then◌else◌}
 use Rattle.std.specs.Option.{option_or}
 use Rattle.ir_ast.specs.declared.block.Block.{Block}
+use Rattle.ir_ast.specs.declared.choices.Incoming.{Incoming}
+use Rattle.ir_ast.specs.declared.choices.Phi.{Phi}
 use Rattle.ir_ast.specs.declared.function.Function.{Function}
-use Rattle.ir_ast.specs.declared.instr.Instr.{Instr}
-use Rattle.ir_ast.specs.declared.op.Incoming.{Incoming}
 use Rattle.ir_ast.specs.declared.operand.Operand.{Operand}
 use Rattle.types.specs.ValueTypes.{target_of}
 use Rattle.block_rules.specs.Ways.{is_number, operand_from}
-use Rattle.block_check.specs.PhiOperands.{OperandTable, operand_at, AddsAt, AreOperands, AreOperandTables, entries_of, entries_at}
+use Rattle.block_check.specs.PhiOperands.{OperandTable, operand_at, AddsAt, AreOperands, AreOperandTables, entries_at}
 use Rattle.block_check.proofs.Leads.{same_truth}
 
 or_none : (a : Option Operand) → option_or a None ≡ a
@@ -104,45 +104,45 @@ adds_more f place entries i entry a b c lt is h k =
     subst (λ es. AddsAt a c place (λ from. operand_from f from es)) more
     (λ p from. adds_both a b c place _ _ h k p from ∙ ap (λ x. option_or (operand_at a p from) (if p == place then x else None)) (sym (comes_in_both f from (take i entries) (entry ∷ []))))
 
--- ---- instructions
+-- ---- phis
 
--- what comes in to the phis of one instruction more
-last_is : (f : Function) (instrs : List Instr) (instr : Instr) (p from : ℕ) → option_or (operand_from f from (entries_at instrs p)) (if p == length instrs then operand_from f from (entries_of instr.op) else None) ≡ operand_from f from (entries_at (instrs ++ instr ∷ []) p)
-last_is f [] instr zero from = refl
-last_is f [] instr (suc p) from = ap (λ b. option_or None (if b then operand_from f from (entries_of instr.op) else None)) (ne_eqb (suc p) 0 (λ e. omega (arith, e)))
-last_is f (x ∷ xs) instr zero from =
-    ap (λ b. option_or (operand_from f from (entries_of x.op)) (if b then operand_from f from (entries_of instr.op) else None)) (ne_eqb 0 (suc (length xs)) (λ e. omega (arith, e)))
-    ∙ or_none (operand_from f from (entries_of x.op))
-last_is f (x ∷ xs) instr (suc p) from =
-    ap (λ b. option_or (operand_from f from (entries_at xs p)) (if b then operand_from f from (entries_of instr.op) else None)) (same_truth (suc p == suc (length xs)) (p == length xs) (λ t. eq-eqb p (length xs) (omega (arith, eqb-true (suc p) (suc (length xs)) t))) (λ t. eq-eqb (suc p) (suc (length xs)) (omega (arith, eqb-true p (length xs) t))))
-    ∙ last_is f xs instr p from
+-- what comes in to one phi more
+last_is : (f : Function) (phis : List Phi) (phi : Phi) (p from : ℕ) → option_or (operand_from f from (entries_at phis p)) (if p == length phis then operand_from f from phi.incoming else None) ≡ operand_from f from (entries_at (phis ++ phi ∷ []) p)
+last_is f [] phi zero from = refl
+last_is f [] phi (suc p) from = ap (λ b. option_or None (if b then operand_from f from phi.incoming else None)) (ne_eqb (suc p) 0 (λ e. omega (arith, e)))
+last_is f (x ∷ xs) phi zero from =
+    ap (λ b. option_or (operand_from f from x.incoming) (if b then operand_from f from phi.incoming else None)) (ne_eqb 0 (suc (length xs)) (λ e. omega (arith, e)))
+    ∙ or_none (operand_from f from x.incoming)
+last_is f (x ∷ xs) phi (suc p) from =
+    ap (λ b. option_or (operand_from f from (entries_at xs p)) (if b then operand_from f from phi.incoming else None)) (same_truth (suc p == suc (length xs)) (p == length xs) (λ t. eq-eqb p (length xs) (omega (arith, eqb-true (suc p) (suc (length xs)) t))) (λ t. eq-eqb (suc p) (suc (length xs)) (omega (arith, eqb-true p (length xs) t))))
+    ∙ last_is f xs phi p from
 
 -- at first nothing is noted
 pub operands_none : (f : Function) (a : OperandTable) → a ≡ [] → AreOperands f [] a
 operands_none f a e = λ p from. ap (λ t. operand_at t p from) e
 
-pub operands_more : (f : Function) (instrs : List Instr) (i : ℕ) (instr : Instr) (a b : OperandTable) → i < length instrs → instr ≡ get_or instrs i instr → AreOperands f (take i instrs) a → AddsAt a b i (λ from. operand_from f from (entries_of instr.op)) → AreOperands f (take (i + 1) instrs) b
-operands_more f instrs i instr a b lt is h k =
-    let len : length (take i instrs) ≡ i = length-take-le i instrs (omega (arith, lt)) in
-    let more : take i instrs ++ instr ∷ [] ≡ take (i + 1) instrs = ap (λ z. take i instrs ++ z ∷ []) is ∙ sym (take_more instrs i instr lt) in
-    subst (λ is. AreOperands f is b) more
+pub operands_more : (f : Function) (phis : List Phi) (i : ℕ) (phi : Phi) (a b : OperandTable) → i < length phis → phi ≡ get_or phis i phi → AreOperands f (take i phis) a → AddsAt a b i (λ from. operand_from f from phi.incoming) → AreOperands f (take (i + 1) phis) b
+operands_more f phis i phi a b lt is h k =
+    let len : length (take i phis) ≡ i = length-take-le i phis (omega (arith, lt)) in
+    let more : take i phis ++ phi ∷ [] ≡ take (i + 1) phis = ap (λ z. take i phis ++ z ∷ []) is ∙ sym (take_more phis i phi lt) in
+    subst (λ ps. AreOperands f ps b) more
     (λ p from.
     k p from
-    ∙ ap (λ x. option_or x (if p == i then operand_from f from (entries_of instr.op) else None)) (h p from)
-    ∙ ap (λ n. option_or (operand_from f from (entries_at (take i instrs) p)) (if p == n then operand_from f from (entries_of instr.op) else None)) (sym len)
-    ∙ last_is f (take i instrs) instr p from)
+    ∙ ap (λ x. option_or x (if p == i then operand_from f from phi.incoming else None)) (h p from)
+    ∙ ap (λ n. option_or (operand_from f from (entries_at (take i phis) p)) (if p == n then operand_from f from phi.incoming else None)) (sym len)
+    ∙ last_is f (take i phis) phi p from)
 
 -- ---- blocks
 
 -- a table more
-last_table : (f : Function) (blocks : List Block) (tables : List OperandTable) (block : Block) (operands : OperandTable) → AreOperandTables f blocks tables → AreOperands f block.instructions operands → AreOperandTables f (blocks ++ block ∷ []) (tables ++ operands ∷ [])
+last_table : (f : Function) (blocks : List Block) (tables : List OperandTable) (block : Block) (operands : OperandTable) → AreOperandTables f blocks tables → AreOperands f block.phis operands → AreOperandTables f (blocks ++ block ∷ []) (tables ++ operands ∷ [])
 last_table f [] [] block operands h k = (k, tt)
 last_table f [] (t ∷ ts) block operands h k = absurd h
 last_table f (b ∷ bs) [] block operands h k = absurd h
 last_table f (b ∷ bs) (t ∷ ts) block operands h k = (h.0, last_table f bs ts block operands h.1 k)
 
 -- what comes in to the phis of one block more
-pub tables_more : (f : Function) (blocks : List Block) (i : ℕ) (block : Block) (a b : List OperandTable) (operands : OperandTable) → i < length blocks → block ≡ get_or blocks i block → AreOperandTables f (take i blocks) a → AreOperands f block.instructions operands → b ≡ a ++ operands ∷ [] → AreOperandTables f (take (i + 1) blocks) b
+pub tables_more : (f : Function) (blocks : List Block) (i : ℕ) (block : Block) (a b : List OperandTable) (operands : OperandTable) → i < length blocks → block ≡ get_or blocks i block → AreOperandTables f (take i blocks) a → AreOperands f block.phis operands → b ≡ a ++ operands ∷ [] → AreOperandTables f (take (i + 1) blocks) b
 tables_more f blocks i block a b operands lt is h k e =
     let more : take i blocks ++ block ∷ [] ≡ take (i + 1) blocks = ap (λ z. take i blocks ++ z ∷ []) is ∙ sym (take_more blocks i block lt) in
     subst (λ bs. AreOperandTables f bs b) more (subst (λ ts. AreOperandTables f (take i blocks ++ block ∷ []) ts) (sym e) (last_table f (take i blocks) a block operands h k))

@@ -1,7 +1,7 @@
 -- K16 by what is found of a function once: its predecessors, and what comes in to its phis.
 use Rattle.std.specs.Prelude.{ℕ, Bool, true, false, ◌&&◌, [], slice_index_or, Option, Some, None}
 use Rattle.std.specs.List.{list_all}
-use Rattle.ir_ast.specs.declared.op.Incoming.{Incoming}
+use Rattle.ir_ast.specs.declared.choices.Incoming.{Incoming}
 use Rattle.ir_ast.specs.declared.operand.Operand.{Operand}
 use Rattle.types.specs.ValueTypes.{target_of}
 use Rattle.block_rules.specs.Ways.{is_operand, is_there}

@@ -1,15 +1,13 @@
 -- A block that is certified has no refusal, and a block has one at most.
-use Rattle.std.proofs.Common.{◌≡◌, ◌⊎◌, ◌<◌, ℕ, subst, refl, sym, ap, ◌∙◌, arith, Option, Some, None, List, Result, Ok, Err, MatchResult, IsOkUnless, inl, inr, slice_get}
+use Rattle.std.proofs.Common.{◌≡◌, ◌⊎◌, ◌<◌, ℕ, subst, refl, sym, ap, ◌∙◌, Option, Some, None, List, Result, Ok, Err, MatchResult, IsOkUnless, inl, inr, slice_get}
 use Rattle.std.proofs.lemmas.Bool.{cases_order}
 use Rattle.ir_ast.specs.declared.function.Function.{Function}
 use Rattle.certs.specs.declared.section.Section.{Section}
 use Rattle.layout.specs.Layouts.{LaidOut}
-use Rattle.block_rules.specs.Standing.{instructions_of}
 use Rattle.block_rules.specs.declared.block_fault.BlockFault.{BlockFault}
 use Rattle.block_rules.specs.declared.block_fault.BlockFault.TheVariants.{Refused, Memory}
 use Rattle.block_rules.specs.declared.block_fault.Breach.{Breach}
 use Rattle.block_rules.specs.declared.block_fault.Refusal.{Refusal}
-use Rattle.block_rules.specs.Ways.{Scene, given_at}
 use Rattle.block_rules.specs.Certified.{scene_of, IsCertifiedIn, BreaksIn, BlockCertified, FirstRefusal, IfRefused}
 use Rattle.block_rules.specs.Functions.{AreBlocksCertified, IsFirstInFunction, IsFunctionFault}
 use Rattle.block_check.specs.Follows.{never_both, one_break}
@@ -17,14 +15,12 @@ use Rattle.block_check.specs.Follows.{never_both, one_break}
 not_both : (program : LaidOut) (certs : List Section) (section : Option Section) (f : Option Function) (b place : ℕ) (broken : Breach) → IsCertifiedIn program certs section f b → BreaksIn program certs section f b place broken → ⊥
 not_both program certs section None b place broken h k = h
 not_both program certs section (Some f) b place broken h k =
-    let s : Scene = scene_of program certs f section in
-    never_both s b 0 place place (instructions_of f b) (given_at s b) h.0 k.0 broken (omega arith) h.1 k.1 k.2
+    never_both (scene_of program certs f section) b place broken h k
 
 one_place : (program : LaidOut) (certs : List Section) (section : Option Section) (f : Option Function) (b p q : ℕ) (r t : Breach) → BreaksIn program certs section f b p r → BreaksIn program certs section f b q t → (p ≡ q) × (r ≡ t)
 one_place program certs section None b p q r t h k = absurd h
 one_place program certs section (Some f) b p q r t h k =
-    let s : Scene = scene_of program certs f section in
-    one_break s b 0 p q p q (instructions_of f b) (given_at s b) h.0 k.0 r t (omega arith) (omega arith) h.1 h.2 k.1 k.2
+    one_break (scene_of program certs f section) b p q r t h k
 
 same_refusal : (a b : Refusal) → a.func ≡ b.func → a.block ≡ b.block → a.instr ≡ b.instr → a.rule ≡ b.rule → a.detail ≡ b.detail → a ≡ b
 same_refusal a b func block instr rule detail =

@@ -4,5 +4,6 @@ pub mod Decided
 pub mod Predecessors
 pub mod PhiOperands
 pub mod Entries
+pub mod Walk
 pub mod Follows
 pub mod Exact

@@ -1,23 +1,19 @@
-ghost use Rattle.std.specs.Prelude.{◌≡◌, ◌==◌, ◌||◌, ◌<◌, ◌⊎◌, not, nat_lt, length, slice_get, Err, Some, IfOk, IsOkUnless, MatchOption, MatchResult};
-ghost use Rattle.block_rules.specs.Standing.{head_in, begins_collected};
-ghost use Rattle.block_rules.specs.Certified.{IsCertified, BreaksAt, BlockCertified, FirstRefusal, IfRefused};
+ghost use Rattle.std.specs.Prelude.{◌≡◌, ◌<◌, ◌⊎◌, length, slice_get, Err, Some, IsOkUnless, MatchOption, MatchResult};
+ghost use Rattle.block_rules.specs.Certified.{BlockCertified, FirstRefusal, IfRefused};
 ghost use Rattle.block_rules.specs.declared.block_fault.BlockFault.TheVariants.{Refused, Memory};
-ghost use Rattle.block_check.specs.Subject.{seen, IsReady};
+ghost use Rattle.block_check.specs.Subject.{IsReady};
 ghost use Rattle.block_rules.specs.Functions.{blocks_in, AreBlocksCertified, IsFunctionCertified, IsFirstInFunction, IsFunctionFault};
 
-use crate::breach::breach;
-use crate::given::begin_block;
-use crate::subject::{Subject, instructions_of};
+use crate::subject::Subject;
 use crate::tables::Tables;
-use crate::ways::{Exit, Rooms};
-use block_rules::{
-    BlockFault, Breach, Refusal, Scene, Standing, advance, head_of, keeps_shadow_stack,
-};
-use certs::{Certs, Mark, Promise};
+use crate::walk::Walk;
+use crate::ways::Rooms;
+use block_rules::{BlockFault, Refusal, Scene};
+use certs::Certs;
 use facts::Facts;
 use ir_ast::{BlockId, FuncId, Function, Module};
 use layout::Program;
-use std::alloc::{AllocError, Global};
+use std::alloc::Global;
 
 /// Whether a block obeys the rules. What is found of its function is found anew, in time linear in the function.
 pub fn check_block(
@@ -168,7 +164,7 @@ fn answer(
     requires { IsReady subject.now }
     ensures { MatchResult result (λ _. BlockCertified subject.now.scene.program.now subject.now.scene.certs.now subject.now.func block) (λ fault. IfRefused fault (FirstRefusal subject.now.scene.program.now subject.now.scene.certs.now subject.now.func block)) }
 {
-    match walk(alloc, subject, facts, rooms, block)? {
+    match Walk::over(subject, block).first_breach(alloc, facts, rooms)? {
         None => Ok(()),
         Some((instr, broken)) => Err(BlockFault::Refused(Refusal {
             func: subject.func,
@@ -177,76 +173,5 @@ fn answer(
             rule: broken.rule,
             detail: broken.detail,
         })),
-    }
-}
-
-/// The first place of a block that breaks a rule, with what it breaks.
-fn walk(
-    alloc: Global,
-    subject: &Subject,
-    facts: &mut Facts,
-    rooms: &mut Rooms,
-    block: BlockId,
-) -> Result<Option<(usize, Breach)>, AllocError>
-    requires { IsReady subject.now }
-    ensures { IfOk result (λ found. MatchOption found (IsCertified (seen subject.now) block) (λ broken. BreaksAt (seen subject.now) block broken.0 broken.1)) }
-{
-    let instructions = instructions_of(subject.scene.function, block);
-    let head = head_in(subject, block);
-    let begins = begins_collected(subject, block);
-    begin_block(alloc, subject, facts, block)?;
-    for (place, instr) in instructions.iter().enumerate() {
-        let here = standing(
-            block,
-            head,
-            begins,
-            subject.promised(),
-            subject.mark(),
-            place,
-        );
-        let exit = Exit { block, facts };
-        match breach(alloc, subject, rooms, here, &exit, place, instr)? {
-            Some(broken) => return Ok(Some((place, broken))),
-            None => advance(&subject.scene, facts, instr)?,
-        }
-    }
-    Ok(None)
-}
-
-fn head_in(subject: &Subject, block: BlockId) -> usize
-    ensures { result ≡ head_in subject.now.scene.program.now.of_module subject.now.scene.function.now subject.now.scene.slots.now block }
-{
-    if block.number() == 0 {
-        head_of(
-            &subject.scene,
-            instructions_of(subject.scene.function, block),
-        )
-    } else {
-        0
-    }
-}
-
-fn begins_collected(subject: &Subject, block: BlockId) -> bool
-    ensures { result ≡ begins_collected subject.now.scene.program.now.of_module subject.now.scene.function.now block }
-{
-    block.number() != 0 || keeps_shadow_stack(subject.scene.module(), subject.scene.function)
-}
-
-fn standing(
-    block: BlockId,
-    head: usize,
-    begins: bool,
-    promised: Option<Promise>,
-    mark: Mark,
-    place: usize,
-) -> Standing
-    ensures { result ≡ record { in_entry = block == 0; in_head = nat_lt place head; collected = not (place == 0) || begins; promised = promised; mark = mark } }
-{
-    Standing {
-        in_entry: block.number() == 0,
-        in_head: place < head,
-        collected: place != 0 || begins,
-        promised,
-        mark,
     }
 }

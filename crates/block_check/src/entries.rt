@@ -1,7 +1,7 @@
 //! K16: whether the entries of a phi are those of its block's predecessors.
 ghost use Rattle.std.specs.Prelude.{◌≡◌, ◌<◌, ◌&&◌, length};
 ghost use Rattle.std.specs.List.{list_all};
-ghost use Rattle.block_rules.specs.Standing.{instructions_of};
+ghost use Rattle.block_rules.specs.Standing.{phis_of};
 ghost use Rattle.block_rules.specs.Ways.{is_same_constant, is_same_operand, is_operand, are_entries};
 ghost use Rattle.block_check.specs.Entries.{noted_from, is_entry_noted, has_each_noted};
 ghost use Rattle.block_check.specs.PhiOperands.{entries_at};
@@ -15,7 +15,7 @@ use types::target_of;
 pub fn are_entries(subject: &Subject, to: BlockId, place: usize, incoming: &[Incoming]) -> bool
     requires ready { IsReady subject.now }
     requires within { to < length subject.now.scene.function.now.blocks }
-    requires at { entries_at (instructions_of subject.now.scene.function.now to) place ≡ incoming.now }
+    requires at { entries_at (phis_of subject.now.scene.function.now to) place ≡ incoming.now }
     ensures { result ≡ are_entries subject.now.scene.function.now to incoming.now }
 {
     are_noted(subject, to, place, incoming)

@@ -11,6 +11,7 @@ mod phis;
 mod predecessors;
 mod subject;
 mod tables;
+mod walk;
 mod ways;
 
 pub use block_rules::{BlockFault, Breach, Detail, Refusal, Rule};

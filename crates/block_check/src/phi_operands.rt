@@ -1,10 +1,10 @@
 //! The operands that come in to the phis of each block, looked up by their hashes.
 ghost use Rattle.std.specs.Prelude.{◌≡◌, ◌==◌, if◌then◌else◌, ◌∷◌, [], Some, None, OnOk, IfOk};
 ghost use Rattle.block_rules.specs.Ways.{operand_from};
-ghost use Rattle.block_check.specs.PhiOperands.{operand_at, entries_of, AddsAt, AreOperands, AreOperandTables};
+ghost use Rattle.block_check.specs.PhiOperands.{operand_at, AddsAt, AreOperands, AreOperandTables};
 
 use indexmap::IndexMap;
-use ir_ast::{BlockId, Function, Incoming, Instr, Op, Operand};
+use ir_ast::{BlockId, Function, Incoming, Operand, Phi};
 use std::alloc::{AllocError, Global};
 use std::marker::Model;
 use types::target_of;
@@ -25,18 +25,14 @@ impl Model for PhiOperands {
 
 impl PhiOperands {
     /// What comes in to the phis of a block.
-    fn of(
-        alloc: Global,
-        function: &Function,
-        instructions: &[Instr],
-    ) -> Result<PhiOperands, AllocError>
-        ensures { IfOk result (AreOperands function.now instructions.now) }
+    fn of(alloc: Global, function: &Function, phis: &[Phi]) -> Result<PhiOperands, AllocError>
+        ensures { IfOk result (AreOperands function.now phis.now) }
     {
         let mut operands = PhiOperands {
             each: IndexMap::new(alloc),
         };
-        for (place, instr) in instructions.iter().enumerate() {
-            operands.note_phi(function, place, &instr.op)?;
+        for (place, phi) in phis.iter().enumerate() {
+            operands.note_entries(function, place, phi.incoming.as_slice())?;
         }
         Ok(operands)
     }
@@ -46,15 +42,6 @@ impl PhiOperands {
         ensures { result ≡ operand_at self.now place from }
     {
         self.each.get(&(place, from.number())).copied()
-    }
-
-    fn note_phi(&mut self, function: &Function, place: usize, op: &Op) -> Result<(), AllocError>
-        ensures { OnOk result (AddsAt self.old self.new place (λ from. operand_from function.now from (entries_of op.now))) }
-    {
-        match op {
-            Op::Phi { incoming, .. } => self.note_entries(function, place, incoming.as_slice()),
-            _ => Ok(()),
-        }
     }
 
     fn note_entries(
@@ -105,7 +92,7 @@ pub fn operands_of(alloc: Global, function: &Function) -> Result<Vec<PhiOperands
 {
     let mut tables = Vec::new(alloc);
     for block in function.blocks.as_slice() {
-        let operands = PhiOperands::of(alloc, function, block.instructions.as_slice())?;
+        let operands = PhiOperands::of(alloc, function, block.phis.as_slice())?;
         tables.push(operands)?;
     }
     Ok(tables)

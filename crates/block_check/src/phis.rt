@@ -1,14 +1,14 @@
 //! What the phis of a block take where it is entered from another.
 ghost use Rattle.std.specs.Prelude.{◌≡◌, OnOk};
-ghost use Rattle.block_rules.specs.Standing.{instructions_of};
+ghost use Rattle.block_rules.specs.Standing.{phis_of};
 ghost use Rattle.block_rules.specs.Ways.{operand_from, number_comes_in, constant_comes_in, known_comes_in, comes_in};
 ghost use Rattle.block_check.specs.PhiOperands.{entries_at};
 ghost use Rattle.block_check.specs.Subject.{IsReady};
 
-use crate::subject::{Subject, instructions_of};
+use crate::subject::{Subject, phis_of};
 use block_rules::{TypeKind, below_next, known_of};
 use facts::{Entry, Facts, Known};
-use ir_ast::{BlockId, Constant, Op, Operand};
+use ir_ast::{BlockId, Constant, Operand};
 use items::Items;
 use std::alloc::AllocError;
 
@@ -47,12 +47,12 @@ fn known_comes_in(facts: &Facts, kind: TypeKind, operand: &Option<Operand>) -> K
 /// The operand that comes in from a block to the phi at a place of another: the first that is named for it.
 fn operand_from(subject: &Subject, to: BlockId, place: usize, from: BlockId) -> Option<Operand>
     requires { IsReady subject.now }
-    ensures { result ≡ operand_from subject.now.scene.function.now from (entries_at (instructions_of subject.now.scene.function.now to) place) }
+    ensures { result ≡ operand_from subject.now.scene.function.now from (entries_at (phis_of subject.now.scene.function.now to) place) }
 {
     subject.noted_from(to, place, from)
 }
 
-/// The phis at the front of a block, each with what is known of what comes in from another.
+/// The phis of a block, each with what is known of what comes in from another.
 pub fn note_entries(
     subject: &Subject,
     from: BlockId,
@@ -61,22 +61,18 @@ pub fn note_entries(
     entries: &mut Items<Entry>,
 ) -> Result<(), AllocError>
     requires { IsReady subject.now }
-    ensures { OnOk result (entries.new ≡ comes_in subject.now.scene.program.now.of_module subject.now.scene.function.now from facts.now (instructions_of subject.now.scene.function.now to)) }
+    ensures { OnOk result (entries.new ≡ comes_in subject.now.scene.program.now.of_module subject.now.scene.function.now from facts.now (phis_of subject.now.scene.function.now to)) }
 {
     entries.clear();
-    let instructions = instructions_of(subject.scene.function, to);
-    for (place, instr) in instructions.iter().enumerate() {
-        match &instr.op {
-            Op::Phi { written, .. } => {
-                if let Some(phi) = instr.result {
-                    let operand = operand_from(subject, to, place, from);
-                    let kind = TypeKind::of(subject.scene.module(), *written);
-                    let known = known_comes_in(facts, kind, &operand);
-                    entries.push(Entry { phi, known })?;
-                }
-            }
-            _ => return Ok(()),
-        }
+    let phis = phis_of(subject.scene.function, to);
+    for (place, phi) in phis.iter().enumerate() {
+        let operand = operand_from(subject, to, place, from);
+        let kind = TypeKind::of(subject.scene.module(), phi.written);
+        let known = known_comes_in(facts, kind, &operand);
+        entries.push(Entry {
+            phi: phi.value,
+            known,
+        })?;
     }
     Ok(())
 }

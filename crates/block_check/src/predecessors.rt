@@ -2,12 +2,12 @@
 ghost use Rattle.std.specs.Prelude.{◌≡◌, [], Some, map, length, slice_index_or, OnOk, IfOk};
 ghost use Rattle.std.specs.List.{list_any};
 ghost use Rattle.types.specs.ValueTypes.{target_of};
-ghost use Rattle.block_rules.specs.Ways.{is_number, ways, open_way, instruction_leads};
+ghost use Rattle.block_rules.specs.Ways.{is_number, open_way, end_leads, is_predecessor};
 ghost use Rattle.block_check.specs.Predecessors.{is_listed, Adds, ArePredecessors};
 
 use crate::block_set::BlockSet;
-use crate::subject::instructions_of;
-use ir_ast::{Block, BlockId, Case, Function, Instr, Op, ValueId};
+use crate::subject::end_of;
+use ir_ast::{Block, BlockId, Case, End, Function};
 use std::alloc::{AllocError, Global};
 use std::marker::Model;
 use types::target_of;
@@ -78,41 +78,35 @@ fn note_blocks(lists: &mut [BlockSet], function: &Function, count: u32) -> Resul
     ensures { OnOk result (ArePredecessors function.now lists.new) }
 {
     for number in 0..count {
-        let from = BlockId::new(number);
-        note_instructions(lists, function, from, instructions_of(function, from))?;
+        note_block(lists, function, BlockId::new(number))?;
     }
     Ok(())
 }
 
-fn note_instructions(
-    lists: &mut [BlockSet],
-    function: &Function,
-    from: BlockId,
-    instructions: &[Instr],
-) -> Result<(), AllocError>
-    ensures { OnOk result (Adds lists.old lists.new from (λ to. list_any (instruction_leads function.now to) instructions.now)) }
+fn note_block(lists: &mut [BlockSet], function: &Function, from: BlockId) -> Result<(), AllocError>
+    ensures { OnOk result (Adds lists.old lists.new from (λ to. is_predecessor function.now to from)) }
 {
-    for instr in instructions {
-        note_ways(lists, function, from, &instr.op)?;
+    match end_of(function, from) {
+        Some(end) => note_end(lists, function, from, end),
+        None => Ok(()),
     }
-    Ok(())
 }
 
-fn note_ways(
+fn note_end(
     lists: &mut [BlockSet],
     function: &Function,
     from: BlockId,
-    op: &Op,
+    end: &End,
 ) -> Result<(), AllocError>
-    ensures { OnOk result (Adds lists.old lists.new from (λ to. list_any (λ way. is_number to (target_of function.now way.target)) (ways op.now))) }
+    ensures { OnOk result (Adds lists.old lists.new from (λ to. end_leads function.now to end.now)) }
 {
-    match op {
-        Op::Jump(target) => note(lists, from, target_of(function, *target)),
-        Op::Branch { taken, other, .. } => {
+    match end {
+        End::Jump(target) => note(lists, from, target_of(function, *target)),
+        End::Branch { taken, other, .. } => {
             note(lists, from, target_of(function, *taken))?;
             note(lists, from, target_of(function, *other))
         }
-        Op::Switch {
+        End::Switch {
             otherwise,
             cases,
             ..
@@ -120,7 +114,7 @@ fn note_ways(
             note(lists, from, target_of(function, *otherwise))?;
             note_cases(lists, function, from, cases.as_slice())
         }
-        _ => Ok(()),
+        End::Unreachable | End::ReturnVoid | End::Return(_) => Ok(()),
     }
 }
 

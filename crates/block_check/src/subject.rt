@@ -1,5 +1,6 @@
 ghost use Rattle.std.specs.Prelude.{◌≡◌, slice_get};
-ghost use Rattle.block_rules.specs.Standing.{instructions_of};
+ghost use Rattle.std.specs.Option.{option_copied};
+ghost use Rattle.block_rules.specs.Standing.{phis_of, body_of, end_of};
 ghost use Rattle.block_rules.specs.Promises.{promises_in, promised_in, own_mark};
 ghost use Rattle.block_rules.specs.Ways.{lines_in};
 ghost use Rattle.block_check.specs.Entries.{noted_from};
@@ -9,7 +10,7 @@ use crate::predecessors::Predecessors;
 use block_rules::Scene;
 use certs::{Line, Mark, Promise};
 use facts::Facts;
-use ir_ast::{BlockId, FuncId, Function, Instr, Operand};
+use ir_ast::{BlockId, End, FuncId, Function, Instr, Operand, Phi};
 
 /// The function that is checked, with what is found of it once.
 #[derive(Clone, Copy)]
@@ -78,12 +79,32 @@ impl<'a> Subject<'a> {
     }
 }
 
-/// The instructions of a block; a block that does not exist has none.
-pub fn instructions_of(function: &Function, block: BlockId) -> &[Instr]
-    ensures { result.now ≡ instructions_of function.now block }
+/// The phis of a block; a block that does not exist has none.
+pub fn phis_of(function: &Function, block: BlockId) -> &[Phi]
+    ensures { result.now ≡ phis_of function.now block }
 {
     match function.blocks.get(block.number() as usize) {
-        Some(block) => block.instructions.as_slice(),
+        Some(block) => block.phis.as_slice(),
         None => &[],
+    }
+}
+
+/// The instructions of its body.
+pub fn body_of(function: &Function, block: BlockId) -> &[Instr]
+    ensures { result.now ≡ body_of function.now block }
+{
+    match function.blocks.get(block.number() as usize) {
+        Some(block) => block.body.as_slice(),
+        None => &[],
+    }
+}
+
+/// How it ends.
+pub fn end_of(function: &Function, block: BlockId) -> Option<&End>
+    ensures { option_copied result ≡ end_of function.now block }
+{
+    match function.blocks.get(block.number() as usize) {
+        Some(block) => Some(&block.end),
+        None => None,
     }
 }

@@ -13,7 +13,7 @@ use crate::subject::Subject;
 use block_rules::Detail;
 use certs::Line;
 use facts::{Entry, Facts};
-use ir_ast::{BlockId, Case, Op, Operand, ValueId};
+use ir_ast::{BlockId, Case, End, Operand, ValueId};
 use items::Items;
 use shadow_stack::Slots;
 use std::alloc::{AllocError, Global};
@@ -56,20 +56,20 @@ impl Rooms {
         alloc: Global,
         subject: &Subject,
         exit: &Exit,
-        op: &Op,
+        end: &End,
     ) -> Result<Option<Detail>, AllocError>
         requires { IsReady subject.now }
-        ensures { IfOk result (λ found. found ≡ unshown_on (seen subject.now) exit.now.block exit.now.facts.now (ways op.now)) }
+        ensures { IfOk result (λ found. found ≡ unshown_on (seen subject.now) exit.now.block exit.now.facts.now (ways end.now)) }
     {
-        match op {
-            Op::Jump(target) => self.unshown_at(alloc, subject, exit, *target, None),
-            Op::Branch {
+        match end {
+            End::Jump(target) => self.unshown_at(alloc, subject, exit, *target, None),
+            End::Branch {
                 condition,
                 taken,
                 other,
                 ..
             } => self.unshown_on_branch(alloc, subject, exit, condition, *taken, *other),
-            Op::Switch {
+            End::Switch {
                 otherwise,
                 cases,
                 ..
@@ -79,7 +79,7 @@ impl Rooms {
                 }
                 self.unshown_on_cases(alloc, subject, exit, cases.as_slice())
             }
-            _ => Ok(None),
+            End::Unreachable | End::ReturnVoid | End::Return(_) => Ok(None),
         }
     }
 

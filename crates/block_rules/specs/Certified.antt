@@ -1,9 +1,9 @@
 -- When a block is certified, and its first refusal.
-use Rattle.std.specs.Prelude.{◌≡◌, ℕ, suc, Bool, List, [], ◌∷◌, ◌++◌, take, slice_get, Option, Some, None}
+use Rattle.std.specs.Prelude.{◌≡◌, ℕ, suc, ◌+◌, List, [], ◌∷◌, ◌++◌, length, take, slice_get, Option, Some, None}
+use Rattle.ir_ast.specs.declared.choices.Phi.{Phi}
+use Rattle.ir_ast.specs.declared.ends.End.{End}
 use Rattle.ir_ast.specs.declared.function.Function.{Function}
 use Rattle.ir_ast.specs.declared.instr.Instr.{Instr}
-use Rattle.ir_ast.specs.declared.op.Op.{Op}
-use Rattle.ir_ast.specs.declared.op.Op.TheVariants.{Phi}
 use Rattle.certs.specs.declared.section.Section.{Section}
 use Rattle.layout.specs.Layouts.{LaidOut}
 use Rattle.shadow_stack.specs.Slots.{slots_of}
@@ -12,9 +12,9 @@ use Rattle.block_rules.specs.declared.rule.Rule.{Rule}
 use Rattle.block_rules.specs.declared.rule.Rule.TheVariants.{K15, K16}
 use Rattle.block_rules.specs.declared.standing.Standing.{Standing}
 use Rattle.block_rules.specs.FirstFailing.{first_failing}
-use Rattle.block_rules.specs.Standing.{instructions_of, standing}
+use Rattle.block_rules.specs.Standing.{phis_of, body_of, end_of, standing}
 use Rattle.block_rules.specs.Promises.{promised_in, own_mark}
-use Rattle.block_rules.specs.Rules.{conditions, after}
+use Rattle.block_rules.specs.Rules.{conditions, phi_conditions, end_conditions, after}
 use Rattle.block_rules.specs.declared.block_fault.BlockFault.{BlockFault}
 use Rattle.block_rules.specs.declared.block_fault.BlockFault.TheVariants.{Refused, Memory}
 use Rattle.block_rules.specs.declared.block_fault.Breach.{Breach}
@@ -26,16 +26,14 @@ use Rattle.block_rules.specs.Ways.{Scene, given_at, ways, unshown_on, are_entrie
 abbrev pub stands : Scene → (block place : ℕ) → Standing
 stands s block place = standing s.program.of_module s.function s.slots (promised_in s.section) (own_mark s.section) block place
 
--- K16, at a phi
-abbrev pub entry_conditions : Function → (block : ℕ) → Op → List (Rule × Bool)
-entry_conditions f block (Phi written incoming) = (K16, are_entries f block incoming) ∷ []
-entry_conditions f block _ = []
+-- ---- what breaks a rule
 
--- the first rule that an instruction of a block fails by what is known before it
-abbrev pub failing : Scene → (block : ℕ) → Standing → FactSet → Instr → Option Rule
-failing s block here facts instr = first_failing (conditions s.program s.certs s.function s.slots here facts instr ++ entry_conditions s.function block instr.op)
+-- a rule is failed, if one is
+abbrev pub breach_by : Option Rule → Option Breach
+breach_by None = None
+breach_by (Some rule) = Some (record { rule = rule; detail = None })
 
--- a fact of a target is not shown
+-- a fact of a target is not shown, if one is not
 abbrev pub unshown : Option Detail → Option Breach
 unshown None = None
 unshown (Some detail) = Some (record { rule = K15; detail = Some detail })
@@ -43,38 +41,75 @@ unshown (Some detail) = Some (record { rule = K15; detail = Some detail })
 -- a rule is failed, or else a fact of a target is not shown
 abbrev pub breach_of : Option Rule → Option Detail → Option Breach
 breach_of None detail = unshown detail
-breach_of (Some rule) detail = Some (record { rule = rule; detail = None })
+breach_of (Some rule) detail = breach_by (Some rule)
 
--- what the instruction at a place of a block breaks, if it breaks a rule
-abbrev pub breach : Scene → (block : ℕ) → Standing → FactSet → Instr → Option Breach
-breach s block here facts instr = breach_of (failing s block here facts instr) (unshown_on s block facts (ways instr.op))
+-- what a phi of a block breaks, if it breaks a rule: also K16 is asked of it
+abbrev pub phi_breach : Scene → (block : ℕ) → Standing → Phi → Option Breach
+phi_breach s block here phi =
+    breach_by (first_failing (phi_conditions s.program.of_module s.function s.slots here phi ++ (K16, are_entries s.function block phi.incoming) ∷ []))
 
--- an instruction of a block obeys the rules, and these are the facts after it
-pub record Passes (s : Scene) (block : ℕ) (here : Standing) (facts : FactSet) (instr : Instr) (next : FactSet) : Type 0 where
-  pub keeps : breach s block here facts instr ≡ None
+-- what an instruction of a block's body breaks by what is known before it, if it breaks a rule
+abbrev pub breach : Scene → Standing → FactSet → Instr → Option Breach
+breach s here facts instr = breach_by (first_failing (conditions s.program s.certs s.function s.slots here facts instr))
+
+-- what the end of a block breaks by what is known before it, if it breaks a rule: also the lines of its targets have to be shown
+abbrev pub end_breach : Scene → (block : ℕ) → Standing → FactSet → End → Option Breach
+end_breach s block here facts x =
+    breach_of (first_failing (end_conditions s.program s.function s.slots here facts x)) (unshown_on s block facts (ways x))
+
+-- ---- when a block is certified
+
+-- the phis from this place of a block on obey the rules
+abbrev pub PhisPass : Scene → (block place : ℕ) → List Phi → Type 0
+PhisPass s block place [] = Unit {0}
+PhisPass s block place (phi ∷ phis) = (phi_breach s block (stands s block place) phi ≡ None) × PhisPass s block (suc place) phis
+
+-- an instruction of a body obeys the rules, and these are the facts after it
+pub record Passes (s : Scene) (here : Standing) (facts : FactSet) (instr : Instr) (next : FactSet) : Type 0 where
+  pub keeps : breach s here facts instr ≡ None
   pub facts_after : next ≡ after s.program s.certs s.slots facts instr
 
 -- there is a list of fact sets, from before these instructions to after them, each next one by the rules; the first instruction is at this place of the block
 abbrev pub Follows : Scene → (block place : ℕ) → FactSet → List Instr → FactSet → Type 0
 Follows s block place facts [] last = last ≡ facts
 Follows s block place facts (instr ∷ instrs) last =
-    (next : FactSet) × Passes s block (stands s block place) facts instr next × Follows s block (suc place) next instrs last
+    (next : FactSet) × Passes s (stands s block place) facts instr next × Follows s block (suc place) next instrs last
 
--- the block is certified: the rules lead from what it begins with to its end
-abbrev pub IsCertified : Scene → (block : ℕ) → Type 0
-IsCertified s block = (last : FactSet) × Follows s block 0 (given_at s block) (instructions_of s.function block) last
+-- the end of a block obeys the rules, if there is one
+abbrev pub EndPasses : Scene → (block place : ℕ) → FactSet → Option End → Type 0
+EndPasses s block place facts None = Unit {0}
+EndPasses s block place facts (Some x) = end_breach s block (stands s block place) facts x ≡ None
 
--- the instruction at a place breaks a rule in this way
-abbrev pub BreaksRule : Scene → (block place : ℕ) → FactSet → Option Instr → Breach → Type 0
-BreaksRule s block place facts None broken = ⊥
-BreaksRule s block place facts (Some instr) broken = breach s block (stands s block place) facts instr ≡ Some broken
+-- how many phis a block has
+abbrev pub phi_count : Scene → (block : ℕ) → ℕ
+phi_count s block = length (phis_of s.function block)
 
--- the rules lead up to a place of the block, and there one is broken in this way
-abbrev pub BreaksAt : Scene → (block place : ℕ) → Breach → Type 0
-BreaksAt s block place broken =
-    (before : FactSet)
-    × Follows s block 0 (given_at s block) (take place (instructions_of s.function block)) before
-    × BreaksRule s block place before (slice_get (instructions_of s.function block) place) broken
+-- at which place of a block its end is
+abbrev pub end_place : Scene → (block : ℕ) → ℕ
+end_place s block = phi_count s block + length (body_of s.function block)
+
+-- the block is certified: its phis obey the rules, the rules lead from what it begins with through its body, and its end obeys them
+pub record IsCertified (s : Scene) (block : ℕ) : Type 0 where
+  pub phis : PhisPass s block 0 (phis_of s.function block)
+  pub last : FactSet
+  pub body : Follows s block (phi_count s block) (given_at s block) (body_of s.function block) last
+  pub end : EndPasses s block (end_place s block) last (end_of s.function block)
+
+-- ---- the first breach of a block
+
+-- the rules hold up to a place of the block, and what is there is broken in this way: a phi, an instruction of the body, or the end
+pub data BreaksAt (s : Scene) (block : ℕ) : (place : ℕ) → Breach → Type 0 where
+  AtPhi :
+      (place : ℕ) (phi : Phi) (broken : Breach) → PhisPass s block 0 (take place (phis_of s.function block)) → slice_get (phis_of s.function block) place ≡ Some phi
+      → phi_breach s block (stands s block place) phi ≡ Some broken → BreaksAt s block place broken
+  InBody :
+      (place : ℕ) (instr : Instr) (before : FactSet) (broken : Breach) → PhisPass s block 0 (phis_of s.function block)
+      → Follows s block (phi_count s block) (given_at s block) (take place (body_of s.function block)) before → slice_get (body_of s.function block) place ≡ Some instr
+      → breach s (stands s block (phi_count s block + place)) before instr ≡ Some broken → BreaksAt s block (phi_count s block + place) broken
+  AtEnd :
+      (x : End) (before : FactSet) (broken : Breach) → PhisPass s block 0 (phis_of s.function block)
+      → Follows s block (phi_count s block) (given_at s block) (body_of s.function block) before → end_of s.function block ≡ Some x
+      → end_breach s block (stands s block (end_place s block)) before x ≡ Some broken → BreaksAt s block (end_place s block) broken
 
 -- a function of a program, with its slots and its certificate, among the certificates of all
 abbrev pub scene_of : LaidOut → (certs : List Section) → Function → Option Section → Scene

@@ -1,11 +1,11 @@
 -- Arithmetic, changes of width, comparisons, and the choice between two values.
 use Rattle.std.specs.Prelude.{ℕ, ◌==◌, Bool, true, false, ◌&&◌, if◌then◌else◌, Option, Some, None, nat_lt}
-use Rattle.ir_ast.specs.declared.op.Arithmetic.{Arithmetic}
-use Rattle.ir_ast.specs.declared.op.Arithmetic.TheVariants as arithmetic
-use Rattle.ir_ast.specs.declared.op.Comparison.{Comparison}
-use Rattle.ir_ast.specs.declared.op.Comparison.TheVariants as comparison
-use Rattle.ir_ast.specs.declared.op.Resize.{Resize}
-use Rattle.ir_ast.specs.declared.op.Resize.TheVariants as resize
+use Rattle.ir_ast.specs.declared.numbers.Arithmetic.{Arithmetic}
+use Rattle.ir_ast.specs.declared.numbers.Arithmetic.TheVariants as arithmetic
+use Rattle.ir_ast.specs.declared.numbers.Comparison.{Comparison}
+use Rattle.ir_ast.specs.declared.numbers.Comparison.TheVariants as comparison
+use Rattle.ir_ast.specs.declared.numbers.Resize.{Resize}
+use Rattle.ir_ast.specs.declared.numbers.Resize.TheVariants as resize
 use Rattle.ir_ast.specs.declared.operand.Operand.{Operand}
 use Rattle.ir_ast.specs.declared.operand.Operand.TheVariants.{Constant as Written, Local}
 use Rattle.facts.specs.declared.known.Known.{Known}

@@ -14,7 +14,6 @@ pub mod Elements
 pub mod Barriers
 pub mod Calls
 pub mod Rules
-pub mod Groups
 pub mod Ways
 pub mod Certified
 pub mod Functions

@@ -1,15 +1,25 @@
 -- The rules: when an instruction is allowed, and what is known after it.
 use Rattle.std.specs.Prelude.{◌≡◌, ℕ, ◌==◌, Bool, false, not, ◌&&◌, ◌||◌, List, [], ◌∷◌, length, slice_get, nat_lt, Option, Some, None, is_some}
 use Rattle.std.specs.List.{list_all}
+use Rattle.ir_ast.specs.declared.casts.Cast.{Cast}
+use Rattle.ir_ast.specs.declared.choices.Choice.{Choice}
+use Rattle.ir_ast.specs.declared.choices.Incoming.{Incoming}
+use Rattle.ir_ast.specs.declared.choices.Phi.{Phi}
+use Rattle.ir_ast.specs.declared.elements.Element.{Element}
+use Rattle.ir_ast.specs.declared.ends.Case.{Case}
+use Rattle.ir_ast.specs.declared.ends.End.{End}
+use Rattle.ir_ast.specs.declared.ends.End.TheVariants as end
 use Rattle.ir_ast.specs.declared.function.Function.{Function}
 use Rattle.ir_ast.specs.declared.function.LocalSort.{LocalSort}
 use Rattle.ir_ast.specs.declared.function.LocalSort.TheVariants.{Value}
 use Rattle.ir_ast.specs.declared.instr.Instr.{Instr}
+use Rattle.ir_ast.specs.declared.memory.MemoryOp.{MemoryOp}
+use Rattle.ir_ast.specs.declared.memory.MemoryOp.TheVariants as memory
 use Rattle.ir_ast.specs.declared.module.Module.{Module}
-use Rattle.ir_ast.specs.declared.op.Case.{Case}
-use Rattle.ir_ast.specs.declared.op.Incoming.{Incoming}
+use Rattle.ir_ast.specs.declared.numbers.NumberOp.{NumberOp}
+use Rattle.ir_ast.specs.declared.numbers.NumberOp.TheVariants as number
 use Rattle.ir_ast.specs.declared.op.Op.{Op}
-use Rattle.ir_ast.specs.declared.op.Op.TheVariants.{Alloca, Bitcast, Load, Store, Element, Arithmetic, Resize, Compare, Select, Phi, Call, Jump, Branch, Switch, Unreachable, ReturnVoid, Return}
+use Rattle.ir_ast.specs.declared.op.Op.TheVariants as op
 use Rattle.ir_ast.specs.declared.operand.Operand.{Operand}
 use Rattle.ir_ast.specs.declared.operand.Operand.TheVariants.{Constant as Written, Local}
 use Rattle.layout.specs.Layouts.{LaidOut}
@@ -82,24 +92,37 @@ are_cases m f written cases = list_all (is_case m f written) cases
 abbrev pub is_condition : Module → Function → FactSet → (written : ℕ) → Operand → Bool
 is_condition m f facts written condition = is_bits 1 (kind_of m written) && is_value m f facts written condition
 
--- the conditions of what an instruction does, in the order of their numbers; those of a phi's entries and of the edges out of a block are with the blocks
-abbrev pub op_conditions : LaidOut → (certs : List Section) → Function → SlotTable → Standing → FactSet → (result : Option ℕ) → Op → List (Rule × Bool)
-op_conditions p certs f slots here facts result (Alloca held) =
-    (K8, may_hold p.of_module slots result held) ∷ (K11, here.in_entry) ∷ (K12, here.collected) ∷ []
-op_conditions p certs f slots here facts result (Bitcast from operand to) =
+-- ---- the conditions, in the order of their numbers
+
+-- of an operation on integers
+abbrev pub number_conditions : LaidOut → Function → SlotTable → Standing → FactSet → NumberOp → List (Rule × Bool)
+number_conditions p f slots here facts (number.Arithmetic kind written first second) =
+    (K1, is_available slots facts first && is_available slots facts second)
+    ∷ (K2, is_value p.of_module f facts written first && is_value p.of_module f facts written second && is_integer (kind_of p.of_module written) && is_no_slot slots first && is_no_slot slots second)
+    ∷ (K12, here.collected) ∷ []
+number_conditions p f slots here facts (number.Resize kind from operand to) =
     (K1, is_available slots facts operand)
-    ∷ (K2, is_typed p.of_module f from operand)
-    ∷ (K3, is_current facts (known_of facts operand))
-    ∷ (K12, here.collected)
-    ∷ (K19, casts_operand p.of_module operand && may_cast p slots facts from to operand) ∷ []
-op_conditions p certs f slots here facts result (Load loaded place_type place) =
+    ∷ (K2, is_value p.of_module f facts from operand && may_resize kind (kind_of p.of_module from) (kind_of p.of_module to) && is_no_slot slots operand)
+    ∷ (K12, here.collected) ∷ []
+number_conditions p f slots here facts (number.Compare kind written first second) =
+    (K1, is_available slots facts first && is_available slots facts second)
+    ∷ (K2, is_value p.of_module f facts written first && is_value p.of_module f facts written second && may_compare kind (kind_of p.of_module written))
+    ∷ (K3, is_current facts (known_of facts first) && is_current facts (known_of facts second))
+    ∷ (K10, is_no_slot slots first && is_no_slot slots second)
+    ∷ (K12, here.collected) ∷ []
+
+-- of an operation on memory
+abbrev pub memory_conditions : LaidOut → Function → SlotTable → Standing → FactSet → (result : Option ℕ) → MemoryOp → List (Rule × Bool)
+memory_conditions p f slots here facts result (memory.Alloca held) =
+    (K8, may_hold p.of_module slots result held) ∷ (K11, here.in_entry) ∷ (K12, here.collected) ∷ []
+memory_conditions p f slots here facts result (memory.Load loaded place_type place) =
     (K1, is_available slots facts place)
     ∷ (K2, is_typed p.of_module f place_type place && may_load p slots facts loaded place)
     ∷ (K3, is_current facts (known_of facts place))
     ∷ (K4, is_based facts place)
     ∷ (K12, here.collected)
     ∷ (K19, casts_operand p.of_module place) ∷ []
-op_conditions p certs f slots here facts result (Store stored value place_type place) =
+memory_conditions p f slots here facts result (memory.Store stored value place_type place) =
     (K1, is_available slots facts value && is_available slots facts place)
     ∷ (K2, is_value p.of_module f facts stored value && is_typed p.of_module f place_type place && may_store p slots facts stored (known_of facts value) place)
     ∷ (K3, is_current facts (known_of facts value) && is_current facts (known_of facts place))
@@ -108,58 +131,81 @@ op_conditions p certs f slots here facts result (Store stored value place_type p
     ∷ (K10, is_no_slot slots value)
     ∷ (K12, here.collected)
     ∷ (K19, casts_operand p.of_module place) ∷ []
-op_conditions p certs f slots here facts result (Element source base_type base indices) =
-    (K1, is_available slots facts base && list_all (λ index. is_available slots facts index.operand) indices)
-    ∷ (K2, is_typed p.of_module f base_type base && is_pointer (kind_of p.of_module base_type) && may_be_base (known_of facts base) && are_indices p.of_module f facts indices && no_slots slots indices)
-    ∷ (K3, is_current facts (known_of facts base))
-    ∷ (K5, may_lead p facts source indices (known_of facts base))
-    ∷ (K10, is_no_slot slots base)
-    ∷ (K12, here.collected)
-    ∷ (K19, casts_operand p.of_module base) ∷ []
-op_conditions p certs f slots here facts result (Arithmetic kind written first second) =
-    (K1, is_available slots facts first && is_available slots facts second)
-    ∷ (K2, is_value p.of_module f facts written first && is_value p.of_module f facts written second && is_integer (kind_of p.of_module written) && is_no_slot slots first && is_no_slot slots second)
-    ∷ (K12, here.collected) ∷ []
-op_conditions p certs f slots here facts result (Resize kind from operand to) =
-    (K1, is_available slots facts operand)
-    ∷ (K2, is_value p.of_module f facts from operand && may_resize kind (kind_of p.of_module from) (kind_of p.of_module to) && is_no_slot slots operand)
-    ∷ (K12, here.collected) ∷ []
-op_conditions p certs f slots here facts result (Compare kind written first second) =
-    (K1, is_available slots facts first && is_available slots facts second)
-    ∷ (K2, is_value p.of_module f facts written first && is_value p.of_module f facts written second && may_compare kind (kind_of p.of_module written))
-    ∷ (K3, is_current facts (known_of facts first) && is_current facts (known_of facts second))
-    ∷ (K10, is_no_slot slots first && is_no_slot slots second)
-    ∷ (K12, here.collected) ∷ []
-op_conditions p certs f slots here facts result (Select condition_type condition written chosen other) =
-    (K1, is_available slots facts condition && is_available slots facts chosen && is_available slots facts other)
+
+-- of a getelementptr
+abbrev pub element_conditions : LaidOut → Function → SlotTable → Standing → FactSet → Element → List (Rule × Bool)
+element_conditions p f slots here facts x =
+    (K1, is_available slots facts x.base && list_all (λ index. is_available slots facts index.operand) x.indices)
     ∷ (
       K2,
-      is_condition p.of_module f facts condition_type condition
-          && is_value p.of_module f facts written chosen && is_value p.of_module f facts written other
-          && may_choose (kind_of p.of_module written) && one_layout (known_layout (known_of facts chosen)) (known_layout (known_of facts other))
-          && is_no_slot slots condition,
+      is_typed p.of_module f x.base_type x.base && is_pointer (kind_of p.of_module x.base_type) && may_be_base (known_of facts x.base)
+          && are_indices p.of_module f facts x.indices && no_slots slots x.indices,
     )
-    ∷ (K3, is_current facts (known_of facts chosen) && is_current facts (known_of facts other))
-    ∷ (K10, is_no_slot slots chosen && is_no_slot slots other)
+    ∷ (K3, is_current facts (known_of facts x.base))
+    ∷ (K5, may_lead p facts x.source x.indices (known_of facts x.base))
+    ∷ (K10, is_no_slot slots x.base)
+    ∷ (K12, here.collected)
+    ∷ (K19, casts_operand p.of_module x.base) ∷ []
+
+-- of a bitcast
+abbrev pub cast_conditions : LaidOut → Function → SlotTable → Standing → FactSet → Cast → List (Rule × Bool)
+cast_conditions p f slots here facts x =
+    (K1, is_available slots facts x.operand)
+    ∷ (K2, is_typed p.of_module f x.from x.operand)
+    ∷ (K3, is_current facts (known_of facts x.operand))
+    ∷ (K12, here.collected)
+    ∷ (K19, casts_operand p.of_module x.operand && may_cast p slots facts x.from x.to x.operand) ∷ []
+
+-- of a select
+abbrev pub choice_conditions : LaidOut → Function → SlotTable → Standing → FactSet → Choice → List (Rule × Bool)
+choice_conditions p f slots here facts x =
+    (K1, is_available slots facts x.condition && is_available slots facts x.chosen && is_available slots facts x.other)
+    ∷ (
+      K2,
+      is_condition p.of_module f facts x.condition_type x.condition
+          && is_value p.of_module f facts x.written x.chosen && is_value p.of_module f facts x.written x.other
+          && may_choose (kind_of p.of_module x.written) && one_layout (known_layout (known_of facts x.chosen)) (known_layout (known_of facts x.other))
+          && is_no_slot slots x.condition,
+    )
+    ∷ (K3, is_current facts (known_of facts x.chosen) && is_current facts (known_of facts x.other))
+    ∷ (K10, is_no_slot slots x.chosen && is_no_slot slots x.other)
     ∷ (K12, here.collected) ∷ []
-op_conditions p certs f slots here facts result (Phi written incoming) =
-    (K2, may_choose (kind_of p.of_module written) && all_come_in p.of_module f slots written incoming) ∷ (K12, here.collected) ∷ []
-op_conditions p certs f slots here facts result (Call returned callee arguments) =
-    call_conditions p certs f slots here facts returned arguments (callee_of p.of_module callee (length arguments))
-op_conditions p certs f slots here facts result (Jump target) =
+
+-- of what an instruction of a body does
+abbrev pub op_conditions : LaidOut → (certs : List Section) → Function → SlotTable → Standing → FactSet → (result : Option ℕ) → Op → List (Rule × Bool)
+op_conditions p certs f slots here facts result (op.Number x) = number_conditions p f slots here facts x
+op_conditions p certs f slots here facts result (op.Memory x) = memory_conditions p f slots here facts result x
+op_conditions p certs f slots here facts result (op.Element x) = element_conditions p f slots here facts x
+op_conditions p certs f slots here facts result (op.Cast x) = cast_conditions p f slots here facts x
+op_conditions p certs f slots here facts result (op.Choice x) = choice_conditions p f slots here facts x
+op_conditions p certs f slots here facts result (op.Call x) =
+    call_conditions p certs f slots here facts x.returned x.arguments (callee_of p.of_module x.callee (length x.arguments))
+
+-- of an instruction of a body
+abbrev pub conditions : LaidOut → (certs : List Section) → Function → SlotTable → Standing → FactSet → Instr → List (Rule × Bool)
+conditions p certs f slots here facts instr = op_conditions p certs f slots here facts instr.result instr.op
+
+-- of a phi; where its entries come from is asked with the blocks
+abbrev pub phi_conditions : Module → Function → SlotTable → Standing → Phi → List (Rule × Bool)
+phi_conditions m f slots here phi =
+    (K2, may_choose (kind_of m phi.written) && all_come_in m f slots phi.written phi.incoming) ∷ (K12, here.collected) ∷ []
+
+-- of the end of a block; what the targets ask for is asked with the blocks
+abbrev pub end_conditions : LaidOut → Function → SlotTable → Standing → FactSet → End → List (Rule × Bool)
+end_conditions p f slots here facts (end.Jump target) =
     (K2, names_target f target) ∷ (K12, here.collected) ∷ []
-op_conditions p certs f slots here facts result (Branch condition_type condition taken other) =
+end_conditions p f slots here facts (end.Branch condition_type condition taken other) =
     (K1, is_available slots facts condition)
     ∷ (K2, is_condition p.of_module f facts condition_type condition && names_target f taken && names_target f other && is_no_slot slots condition)
     ∷ (K12, here.collected) ∷ []
-op_conditions p certs f slots here facts result (Switch written value otherwise cases) =
+end_conditions p f slots here facts (end.Switch written value otherwise cases) =
     (K1, is_available slots facts value)
     ∷ (K2, is_value p.of_module f facts written value && is_integer (kind_of p.of_module written) && names_target f otherwise && are_cases p.of_module f written cases && is_no_slot slots value)
     ∷ (K12, here.collected) ∷ []
-op_conditions p certs f slots here facts result Unreachable = (K12, here.collected) ∷ []
-op_conditions p certs f slots here facts result ReturnVoid =
+end_conditions p f slots here facts end.Unreachable = (K12, here.collected) ∷ []
+end_conditions p f slots here facts end.ReturnVoid =
     (K2, is_void (kind_of p.of_module f.returned)) ∷ (K12, here.collected) ∷ []
-op_conditions p certs f slots here facts result (Return argument) =
+end_conditions p f slots here facts (end.Return argument) =
     (K1, is_available slots facts argument.operand)
     ∷ (K2, is_value p.of_module f facts argument.written argument.operand && (argument.written == f.returned))
     ∷ (K3, is_current facts (known_of facts argument.operand))
@@ -167,33 +213,40 @@ op_conditions p certs f slots here facts result (Return argument) =
     ∷ (K12, here.collected)
     ∷ (K14, keeps_promise facts here.promised argument.operand) ∷ []
 
--- the conditions of an instruction
-abbrev pub conditions : LaidOut → (certs : List Section) → Function → SlotTable → Standing → FactSet → Instr → List (Rule × Bool)
-conditions p certs f slots here facts instr = op_conditions p certs f slots here facts instr.result instr.op
+-- ---- what is known after an instruction
 
 -- an alloca gives a slot: what was known of it ends
 abbrev pub after_alloca : (slot : Option ℕ) → FactSet → FactSet
 after_alloca None facts = facts
 after_alloca (Some s) facts = end_slot s facts
 
--- what is known after an instruction that defines this name
+-- an operation on integers that defines this name
+abbrev pub after_number : Module → (v : ℕ) → NumberOp → FactSet → FactSet
+after_number m v (number.Arithmetic kind written first second) facts = define_number v (kind_of m written) (arithmetic_below kind first second) facts
+after_number m v (number.Resize kind from operand to) facts = define_number v (kind_of m to) (resized_below kind (below_of facts operand)) facts
+after_number m v (number.Compare kind written first second) facts = after_compare v kind first second facts
+
+-- an operation on memory, by the name that it defines, if it does
+abbrev pub after_memory : LaidOut → SlotTable → (result : Option ℕ) → MemoryOp → FactSet → FactSet
+after_memory p slots result (memory.Store stored value place_type place) facts = after_store (known_of facts value) (slot_named slots place) facts
+after_memory p slots (Some v) (memory.Alloca held) facts = after_alloca (slot_of slots v) facts
+after_memory p slots (Some v) (memory.Load loaded place_type place) facts = after_load p slots v loaded place facts
+after_memory p slots None _ facts = facts
+
+-- any other operation that defines this name
 abbrev pub after_named : LaidOut → SlotTable → (v : ℕ) → Op → FactSet → FactSet
-after_named p slots v (Alloca held) facts = after_alloca (slot_of slots v) facts
-after_named p slots v (Bitcast from operand to) facts = after_cast p.of_module slots v from to operand facts
-after_named p slots v (Load loaded place_type place) facts = after_load p slots v loaded place facts
-after_named p slots v (Element source base_type base indices) facts = after_element p v source base indices facts
-after_named p slots v (Arithmetic kind written first second) facts = define_number v (kind_of p.of_module written) (arithmetic_below kind first second) facts
-after_named p slots v (Resize kind from operand to) facts = define_number v (kind_of p.of_module to) (resized_below kind (below_of facts operand)) facts
-after_named p slots v (Compare kind written first second) facts = after_compare v kind first second facts
-after_named p slots v (Select condition_type condition written chosen other) facts = after_select v (kind_of p.of_module written) chosen other facts
+after_named p slots v (op.Number x) facts = after_number p.of_module v x facts
+after_named p slots v (op.Element x) facts = after_element p v x.source x.base x.indices facts
+after_named p slots v (op.Cast x) facts = after_cast p.of_module slots v x.from x.to x.operand facts
+after_named p slots v (op.Choice x) facts = after_select v (kind_of p.of_module x.written) x.chosen x.other facts
 after_named p slots v _ facts = facts
 
--- after an instruction, by the name that it defines, if it does; a phi has its facts from the edge on which its block is entered
+-- by what the instruction does
 abbrev pub after_op : LaidOut → (certs : List Section) → SlotTable → (result : Option ℕ) → Op → FactSet → FactSet
-after_op p certs slots result (Store stored value place_type place) facts = after_store (known_of facts value) (slot_named slots place) facts
-after_op p certs slots result (Call returned callee arguments) facts = after_call p certs slots result returned arguments (callee_of p.of_module callee (length arguments)) facts
+after_op p certs slots result (op.Memory x) facts = after_memory p slots result x facts
+after_op p certs slots result (op.Call x) facts = after_call p certs slots result x.returned x.arguments (callee_of p.of_module x.callee (length x.arguments)) facts
 after_op p certs slots None _ facts = facts
-after_op p certs slots (Some v) op facts = after_named p slots v op facts
+after_op p certs slots (Some v) x facts = after_named p slots v x facts
 
 -- what is known after an instruction
 abbrev pub after : LaidOut → (certs : List Section) → SlotTable → FactSet → Instr → FactSet

@@ -3,10 +3,14 @@ use Rattle.std.specs.Prelude.{ℕ, ◌==◌, Bool, true, false, not, ◌&&◌, �
 use Rattle.std.specs.List.{list_any, take_while}
 use Rattle.std.specs.Str.{bytes_eq}
 use Rattle.ir_ast.specs.declared.block.Block.{Block}
+use Rattle.ir_ast.specs.declared.choices.Phi.{Phi}
+use Rattle.ir_ast.specs.declared.ends.End.{End}
 use Rattle.ir_ast.specs.declared.function.Function.{Function}
 use Rattle.ir_ast.specs.declared.instr.Instr.{Instr}
+use Rattle.ir_ast.specs.declared.memory.MemoryOp.{MemoryOp}
+use Rattle.ir_ast.specs.declared.memory.MemoryOp.TheVariants as memory
 use Rattle.ir_ast.specs.declared.op.Op.{Op}
-use Rattle.ir_ast.specs.declared.op.Op.TheVariants.{Alloca, Bitcast, Load, Store, Select, Phi, Call}
+use Rattle.ir_ast.specs.declared.op.Op.TheVariants as op
 use Rattle.ir_ast.specs.declared.module.Module.{Module}
 use Rattle.ir_ast.specs.declared.operand.Operand.{Operand}
 use Rattle.ir_ast.specs.declared.operand.Operand.TheVariants.{Constant as Written, Local}
@@ -35,42 +39,56 @@ abbrev pub is_gcroot : Option Runtime → Bool
 is_gcroot (Some GcRoot) = true
 is_gcroot _ = false
 
+-- an operation on memory that may be of the head
+abbrev pub is_memory_of_head : Function → SlotTable → MemoryOp → Bool
+is_memory_of_head f slots (memory.Alloca held) = true
+is_memory_of_head f slots (memory.Load loaded place_type place) = false
+is_memory_of_head f slots (memory.Store stored value place_type place) = is_given f value && is_some (slot_named slots place)
+
 -- what the head is made of: allocas, bitcasts of slots, calls of gcroot, and stores of constants and parameters into slots
 abbrev pub is_of_head : Module → Function → SlotTable → Op → Bool
-is_of_head m f slots (Alloca held) = true
-is_of_head m f slots (Bitcast from operand to) = is_some (slot_named slots operand)
-is_of_head m f slots (Store stored value place_type place) = is_given f value && is_some (slot_named slots place)
-is_of_head m f slots (Call returned callee arguments) = is_gcroot (runtime_called m callee)
+is_of_head m f slots (op.Memory x) = is_memory_of_head f slots x
+is_of_head m f slots (op.Cast x) = is_some (slot_named slots x.operand)
+is_of_head m f slots (op.Call x) = is_gcroot (runtime_called m x.callee)
 is_of_head m f slots _ = false
 
 -- an instruction may be of the head
 abbrev pub is_head_instruction : Module → Function → SlotTable → Instr → Bool
 is_head_instruction m f slots instr = is_of_head m f slots instr.op
 
--- how many instructions the head has: the longest front of the entry block that is made of these
-abbrev pub head_of : Module → Function → SlotTable → List Instr → ℕ
-head_of m f slots instructions = length (take_while (is_head_instruction m f slots) instructions)
+-- how many instructions the head has: the longest front of the entry block that is made of these; a phi is none of them
+abbrev pub head_of : Module → Function → SlotTable → List Phi → List Instr → ℕ
+head_of m f slots [] body = length (take_while (is_head_instruction m f slots) body)
+head_of m f slots (phi ∷ phis) body = 0
 
 -- a type that the collector has to know of: a reference, or i8*
 abbrev pub is_collected_type : Module → (written : ℕ) → Bool
 is_collected_type m written = may_be_reference (kind_of m written)
 
--- the value of a load, of a store, of a choice, of a phi or of a call, or an argument, is a reference
+-- an operation on memory moves a reference: the value of a load or of a store is one
+abbrev pub memory_moves : Module → MemoryOp → Bool
+memory_moves m (memory.Alloca held) = false
+memory_moves m (memory.Load loaded place_type place) = is_collected_type m loaded
+memory_moves m (memory.Store stored value place_type place) = is_collected_type m stored
+
+-- an operation moves a reference: also the value of a select or of a call, or an argument, is one
 abbrev pub moves_reference : Module → Op → Bool
-moves_reference m (Load loaded place_type place) = is_collected_type m loaded
-moves_reference m (Store stored value place_type place) = is_collected_type m stored
-moves_reference m (Select condition_type condition written chosen other) = is_collected_type m written
-moves_reference m (Phi written incoming) = is_collected_type m written
-moves_reference m (Call returned callee arguments) = is_collected_type m returned || list_any (λ argument. is_collected_type m argument.written) arguments
+moves_reference m (op.Memory x) = memory_moves m x
+moves_reference m (op.Choice x) = is_collected_type m x.written
+moves_reference m (op.Call x) = is_collected_type m x.returned || list_any (λ argument. is_collected_type m argument.written) x.arguments
 moves_reference m _ = false
 
 -- an instruction moves references
 abbrev pub instruction_moves : Module → Instr → Bool
 instruction_moves m instr = moves_reference m instr.op
 
+-- a phi does
+abbrev pub phi_moves : Module → Phi → Bool
+phi_moves m phi = is_collected_type m phi.written
+
 -- a block does
 abbrev pub block_moves : Module → Block → Bool
-block_moves m block = list_any (instruction_moves m) block.instructions
+block_moves m block = list_any (phi_moves m) block.phis || list_any (instruction_moves m) block.body
 
 -- a function does, or takes or returns one
 abbrev pub function_moves : Module → Function → Bool
@@ -90,24 +108,42 @@ is_shadow_stack (Some text) = bytes_eq text shadow_stack_text
 abbrev pub keeps_shadow_stack : Module → Function → Bool
 keeps_shadow_stack m f = is_shadow_stack f.collector || not (function_moves m f)
 
--- the instructions of a block of a function; a block that it does not have has none
-abbrev pub block_instructions : Option Block → List Instr
-block_instructions None = []
-block_instructions (Some block) = block.instructions
+-- the phis of a block; a block that a function does not have has none
+abbrev pub block_phis : Option Block → List Phi
+block_phis None = []
+block_phis (Some block) = block.phis
 
--- the instructions of a block by its number
-abbrev pub instructions_of : Function → (block : ℕ) → List Instr
-instructions_of f block = block_instructions (slice_get f.blocks block)
+-- the phis of a block by its number
+abbrev pub phis_of : Function → (block : ℕ) → List Phi
+phis_of f block = block_phis (slice_get f.blocks block)
+
+-- the instructions of a block's body
+abbrev pub block_body : Option Block → List Instr
+block_body None = []
+block_body (Some block) = block.body
+
+-- of a block by its number
+abbrev pub body_of : Function → (block : ℕ) → List Instr
+body_of f block = block_body (slice_get f.blocks block)
+
+-- the end of a block
+abbrev pub block_end : Option Block → Option End
+block_end None = None
+block_end (Some block) = Some block.end
+
+-- of a block by its number
+abbrev pub end_of : Function → (block : ℕ) → Option End
+end_of f block = block_end (slice_get f.blocks block)
 
 -- how far the head goes in a block: only the entry has one
 abbrev pub head_in : Module → Function → SlotTable → (block : ℕ) → ℕ
-head_in m f slots block = elim (block == 0) [ true ↦ head_of m f slots (instructions_of f block) | false ↦ 0 ]
+head_in m f slots block = elim (block == 0) [ true ↦ head_of m f slots (phis_of f block) (body_of f block) | false ↦ 0 ]
 
 -- whether the first instruction of a block may be there: that of the entry may not where a shadow stack is missing
 abbrev pub begins_collected : Module → Function → (block : ℕ) → Bool
 begins_collected m f block = not (block == 0) || keeps_shadow_stack m f
 
--- where the instruction at a place of a block is, in a function of whose result this is promised, and which is marked so
+-- where the instruction at a place of a block is, of its phis, its body and its end in this order, in a function of whose result this is promised, and which is marked so
 abbrev pub standing : Module → Function → SlotTable → (promised : Option Promise) → Mark → (block place : ℕ) → Standing
 standing m f slots promised mark block place = record {
   in_entry = block == 0;

@@ -1,13 +1,13 @@
 -- The edges out of a block: where they lead, what they show, and which lines of their targets are not shown.
-use Rattle.std.specs.Prelude.{ℕ, ◌==◌, Bool, true, false, not, ◌&&◌, ◌||◌, if◌then◌else◌, List, [], ◌∷◌, ◌++◌, map, length, position, slice_get, Option, Some, None}
+use Rattle.std.specs.Prelude.{ℕ, ◌==◌, Bool, true, false, not, ◌&&◌, ◌||◌, if◌then◌else◌, List, [], ◌∷◌, map, length, position, slice_get, Option, Some, None}
 use Rattle.std.specs.List.{list_all, list_any, range_with_len}
+use Rattle.ir_ast.specs.declared.choices.Incoming.{Incoming}
+use Rattle.ir_ast.specs.declared.choices.Phi.{Phi}
+use Rattle.ir_ast.specs.declared.ends.End.{End}
+use Rattle.ir_ast.specs.declared.ends.End.TheVariants.{Jump, Branch, Switch}
 use Rattle.ir_ast.specs.declared.function.Function.{Function}
 use Rattle.ir_ast.specs.declared.function.Parameter.{Parameter}
-use Rattle.ir_ast.specs.declared.instr.Instr.{Instr}
 use Rattle.ir_ast.specs.declared.module.Module.{Module}
-use Rattle.ir_ast.specs.declared.op.Incoming.{Incoming}
-use Rattle.ir_ast.specs.declared.op.Op.{Op}
-use Rattle.ir_ast.specs.declared.op.Op.TheVariants.{Phi, Jump, Branch, Switch}
 use Rattle.ir_ast.specs.declared.operand.Constant.{Constant}
 use Rattle.ir_ast.specs.declared.operand.Constant.TheVariants as constant
 use Rattle.ir_ast.specs.declared.operand.Operand.{Operand}
@@ -28,7 +28,7 @@ use Rattle.block_rules.specs.declared.type_kind.TypeKind.{TypeKind}
 use Rattle.block_rules.specs.declared.type_kind.TypeKind.TheVariants as kind
 use Rattle.block_rules.specs.Operands.{known_of}
 use Rattle.block_rules.specs.TypeKinds.{kind_of}
-use Rattle.block_rules.specs.Standing.{instructions_of}
+use Rattle.block_rules.specs.Standing.{phis_of, end_of}
 use Rattle.block_rules.specs.Bounds.{below_next}
 use Rattle.block_rules.specs.Promises.{promises_in, given_by}
 use Rattle.block_rules.specs.declared.block_fault.Detail.{Detail}
@@ -83,8 +83,8 @@ abbrev pub branch_ways : Operand → (taken other : ℕ) → List Way
 branch_ways (Local c) taken other = record { target = taken; decided = Some (c, true) } ∷ record { target = other; decided = Some (c, false) } ∷ []
 branch_ways _ taken other = open_way taken ∷ open_way other ∷ []
 
--- the edges that an instruction has, in the order in which it names them
-abbrev pub ways : Op → List Way
+-- the edges out of a block that ends so, in the order in which the end names them
+abbrev pub ways : End → List Way
 ways (Jump target) = open_way target ∷ []
 ways (Branch condition_type condition taken other) = branch_ways condition taken other
 ways (Switch written value otherwise cases) = open_way otherwise ∷ map (λ case. open_way case.target) cases
@@ -124,29 +124,17 @@ known_comes_in facts kind None = Nothing
 known_comes_in facts kind (Some (Written c)) = constant_comes_in c kind
 known_comes_in facts kind (Some operand) = known_of facts operand
 
--- an instruction is a phi
-abbrev pub is_phi : Op → Bool
-is_phi (Phi written incoming) = true
-is_phi _ = false
+-- a phi, with what is known of what comes in from a block
+abbrev pub phi_comes_in : Module → Function → (from : ℕ) → FactSet → Phi → Entry
+phi_comes_in m f from facts phi = record { phi = phi.value; known = known_comes_in facts (kind_of m phi.written) (operand_from f from phi.incoming) }
 
--- the phi that defines a name, with what is known of what comes in
-abbrev pub phi_comes_in : Module → Function → (from : ℕ) → FactSet → (v : ℕ) → Op → List Entry
-phi_comes_in m f from facts v (Phi written incoming) = record { phi = v; known = known_comes_in facts (kind_of m written) (operand_from f from incoming) } ∷ []
-phi_comes_in m f from facts v _ = []
-
--- by the name, if there is one
-abbrev pub named_comes_in : Module → Function → (from : ℕ) → FactSet → (result : Option ℕ) → Op → List Entry
-named_comes_in m f from facts None op = []
-named_comes_in m f from facts (Some v) op = phi_comes_in m f from facts v op
-
--- the phis at the front of a block, each with what is known of what comes in from a block
-abbrev pub comes_in : Module → Function → (from : ℕ) → FactSet → List Instr → List Entry
-comes_in m f from facts [] = []
-comes_in m f from facts (instr ∷ instrs) = if is_phi instr.op then named_comes_in m f from facts instr.result instr.op ++ comes_in m f from facts instrs else []
+-- each of these phis
+abbrev pub comes_in : Module → Function → (from : ℕ) → FactSet → List Phi → List Entry
+comes_in m f from facts phis = map (phi_comes_in m f from facts) phis
 
 -- what is known after the phis of a block that is entered from another
 abbrev pub entered : Scene → (from to : ℕ) → FactSet → FactSet
-entered s from to facts = after_phis (comes_in s.program.of_module s.function from facts (instructions_of s.function to)) facts
+entered s from to facts = after_phis (comes_in s.program.of_module s.function from facts (phis_of s.function to)) facts
 
 -- ---- what is shown
 
@@ -167,13 +155,13 @@ unshown_on s from facts (way ∷ ways) =
 
 -- ---- where the entries of a phi come from
 
--- an instruction leads to a block
-abbrev pub instruction_leads : Function → (to : ℕ) → Instr → Bool
-instruction_leads f to instr = list_any (λ way. is_number to (target_of f way.target)) (ways instr.op)
+-- a block that ends so leads to a block
+abbrev pub end_leads : Function → (to : ℕ) → End → Bool
+end_leads f to x = list_any (λ way. is_number to (target_of f way.target)) (ways x)
 
--- a block is entered from another: one of its instructions leads there
+-- a block is entered from another: that one's end leads there
 abbrev pub is_predecessor : Function → (to from : ℕ) → Bool
-is_predecessor f to from = list_any (instruction_leads f to) (instructions_of f from)
+is_predecessor f to from = elim (end_of f from) [ None ↦ false | Some x ↦ end_leads f to x ]
 
 -- a block that exists is entered from it
 abbrev pub precedes : Function → (to : ℕ) → (from : Option ℕ) → Bool

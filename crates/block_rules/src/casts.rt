@@ -1,14 +1,19 @@
 ghost use Rattle.std.specs.Prelude.{◌≡◌, OnOk};
 ghost use Rattle.facts.specs.Facts.{is_on, off_base};
+ghost use Rattle.block_rules.specs.FirstFailing.{first_failing};
+ghost use Rattle.block_rules.specs.Rules.{cast_conditions};
 ghost use Rattle.block_rules.specs.Casts.{casts_null, casts_constant, casts_slot, casts_held, casts_words, casts_base, casts_to, casts_global, casts_operand, casts_known, casts_other, may_cast, layout_of_null, cast_number, cast_constant, cast_local, after_cast};
 
-use crate::integers::below_next;
-use crate::operands::known_of;
+use crate::conditions::first_failing;
+use crate::numbers::below_next;
+use crate::operands::{is_available, is_operand_current, is_typed, known_of};
 use crate::places::{define_held, layout_of_word, loads_words};
+use crate::rule::Rule;
 use crate::scene::Scene;
+use crate::standing::Standing;
 use crate::type_kind::TypeKind;
 use facts::{Facts, Known};
-use ir_ast::{Constant, Module, Operand, SymbolId, TypeId, ValueId};
+use ir_ast::{Cast, Constant, Module, Operand, SymbolId, TypeId, ValueId};
 use layout::{Program, global_word};
 use pools::{LayoutId, Layouts, WordSet};
 use shadow_stack::SlotId;
@@ -223,4 +228,21 @@ pub fn after_cast(
             facts.define(v, known)
         }
     }
+}
+
+/// The rule that a bitcast breaks, if it breaks one.
+pub fn cast_refusal(scene: &Scene, here: Standing, facts: &Facts, cast: &Cast) -> Option<Rule>
+    ensures { result ≡ first_failing (cast_conditions scene.now.program.now scene.now.function.now scene.now.slots.now here facts.now cast.now) }
+{
+    let Cast { from, operand, to } = cast;
+    first_failing(&[
+        (Rule::K1, is_available(scene.slots, facts, operand)),
+        (Rule::K2, is_typed(scene, *from, operand)),
+        (Rule::K3, is_operand_current(facts, operand)),
+        (Rule::K12, here.collected),
+        (
+            Rule::K19,
+            casts_operand(scene.module(), operand) && may_cast(scene, facts, *from, *to, operand),
+        ),
+    ])
 }

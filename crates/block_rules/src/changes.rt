@@ -1,15 +1,12 @@
-ghost use Rattle.std.specs.Prelude.{◌≡◌, OnOk, false};
-ghost use Rattle.block_rules.specs.Groups.{makes_value};
-ghost use Rattle.block_rules.specs.Rules.{after_alloca, after_named, after_op, after};
+ghost use Rattle.std.specs.Prelude.{◌≡◌, OnOk};
+ghost use Rattle.block_rules.specs.Rules.{after_named, after};
 
 use crate::calls::after_call;
 use crate::casts::after_cast;
+use crate::choices::after_select;
 use crate::elements::after_element;
-use crate::integers::{
-    after_compare, after_select, arithmetic_below, below_of, define_number, resized_below,
-};
-use crate::operands::slot_named;
-use crate::places::{after_load, after_store};
+use crate::memory::after_memory;
+use crate::numbers::after_number;
 use crate::scene::Scene;
 use crate::signature::callee_of;
 use crate::type_kind::TypeKind;
@@ -22,17 +19,18 @@ pub fn advance(scene: &Scene, facts: &mut Facts, instr: &Instr) -> Result<(), Al
     ensures { OnOk result (facts.new ≡ after scene.now.program.now scene.now.certs.now scene.now.slots.now facts.old instr.now) }
 {
     match &instr.op {
-        Op::Store { value, place, .. } => {
-            after_store(facts, value, slot_named(scene.slots, place))
-        }
-        Op::Call {
-            returned,
-            callee,
-            arguments,
-        } => {
-            let called = callee_of(scene.module(), *callee, arguments.len());
-            let arguments = arguments.as_slice();
-            after_call(scene, facts, instr.result, *returned, arguments, &called)
+        Op::Memory(op) => after_memory(scene, facts, instr.result, op),
+        Op::Call(call) => {
+            let arguments = call.arguments.as_slice();
+            let called = callee_of(scene.module(), call.callee, arguments.len());
+            after_call(
+                scene,
+                facts,
+                instr.result,
+                call.returned,
+                arguments,
+                &called,
+            )
         }
         op => match instr.result {
             Some(v) => advance_named(scene, facts, v, op),
@@ -46,63 +44,16 @@ fn advance_named(scene: &Scene, facts: &mut Facts, v: ValueId, op: &Op) -> Resul
     ensures { OnOk result (facts.new ≡ after_named scene.now.program.now scene.now.slots.now v op.now facts.old) }
 {
     match op {
-        Op::Arithmetic {
-            kind,
-            written,
-            first,
-            second,
-        } => {
-            let below = arithmetic_below(*kind, first, second);
-            define_number(facts, v, TypeKind::of(scene.module(), *written), below)
+        Op::Number(op) => after_number(scene, facts, v, op),
+        Op::Element(element) => {
+            let indices = element.indices.as_slice();
+            after_element(scene, facts, v, element.source, &element.base, indices)
         }
-        Op::Resize {
-            kind,
-            operand,
-            to,
-            ..
-        } => {
-            let below = resized_below(*kind, below_of(facts, operand));
-            define_number(facts, v, TypeKind::of(scene.module(), *to), below)
+        Op::Cast(cast) => after_cast(scene, facts, v, cast.from, cast.to, &cast.operand),
+        Op::Choice(choice) => {
+            let kind = TypeKind::of(scene.module(), choice.written);
+            after_select(facts, v, kind, &choice.chosen, &choice.other)
         }
-        Op::Compare {
-            kind,
-            first,
-            second,
-            ..
-        } => after_compare(facts, v, *kind, first, second),
-        Op::Select {
-            written,
-            chosen,
-            other,
-            ..
-        } => {
-            let kind = TypeKind::of(scene.module(), *written);
-            after_select(facts, v, kind, chosen, other)
-        }
-        Op::Phi { .. } => Ok(()),
-        op => advance_place(scene, facts, v, op),
-    }
-}
-
-/// The same for an instruction that does not make its value of others.
-fn advance_place(scene: &Scene, facts: &mut Facts, v: ValueId, op: &Op) -> Result<(), AllocError>
-    ensures { makes_value op.now ≡ false → OnOk result (facts.new ≡ after_named scene.now.program.now scene.now.slots.now v op.now facts.old) }
-{
-    match op {
-        Op::Alloca(_) => {
-            if let Some(s) = scene.slots.slot_of(v) {
-                facts.end_slot(s);
-            }
-            Ok(())
-        }
-        Op::Bitcast { from, operand, to } => after_cast(scene, facts, v, *from, *to, operand),
-        Op::Load { loaded, place, .. } => after_load(scene, facts, v, *loaded, place),
-        Op::Element {
-            source,
-            base,
-            indices,
-            ..
-        } => after_element(scene, facts, v, *source, base, indices.as_slice()),
-        _ => Ok(()),
+        Op::Memory(_) | Op::Call(_) => Ok(()),
     }
 }

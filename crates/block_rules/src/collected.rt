@@ -1,9 +1,9 @@
 ghost use Rattle.std.specs.Prelude.{◌≡◌};
 ghost use Rattle.std.specs.List.{list_any};
-ghost use Rattle.block_rules.specs.Standing.{is_collected_type, moves_reference, instruction_moves, block_moves, function_moves, is_shadow_stack, keeps_shadow_stack};
+ghost use Rattle.block_rules.specs.Standing.{is_collected_type, memory_moves, moves_reference, instruction_moves, phi_moves, block_moves, function_moves, is_shadow_stack, keeps_shadow_stack};
 
 use crate::type_kind::TypeKind;
-use ir_ast::{Argument, Block, Function, Instr, Module, Op, Parameter, TypeId};
+use ir_ast::{Argument, Block, Function, Instr, MemoryOp, Module, Op, Parameter, Phi, TypeId};
 use items::Items;
 
 /// Whether a function that moves references has a shadow stack.
@@ -52,35 +52,47 @@ fn arguments_move(module: &Module, arguments: &[Argument]) -> bool
         .any(|argument| is_collected_type(module, argument.written))
 }
 
+fn memory_moves(module: &Module, op: &MemoryOp) -> bool
+    ensures { result ≡ memory_moves «module».now op.now }
+{
+    match op {
+        MemoryOp::Alloca(_) => false,
+        MemoryOp::Load { loaded, .. } => is_collected_type(module, *loaded),
+        MemoryOp::Store { stored, .. } => is_collected_type(module, *stored),
+    }
+}
+
 fn moves_reference(module: &Module, op: &Op) -> bool
     ensures { result ≡ moves_reference «module».now op.now }
 {
     match op {
-        Op::Load { loaded, .. } => is_collected_type(module, *loaded),
-        Op::Store { stored, .. } => is_collected_type(module, *stored),
-        Op::Select { written, .. } => is_collected_type(module, *written),
-        Op::Phi { written, .. } => is_collected_type(module, *written),
-        Op::Call {
-            returned,
-            arguments,
-            ..
-        } => is_collected_type(module, *returned) || arguments_move(module, arguments.as_slice()),
+        Op::Memory(op) => memory_moves(module, op),
+        Op::Choice(choice) => is_collected_type(module, choice.written),
+        Op::Call(call) => {
+            is_collected_type(module, call.returned)
+                || arguments_move(module, call.arguments.as_slice())
+        }
         _ => false,
     }
 }
 
-fn instructions_move(module: &Module, instructions: &[Instr]) -> bool
-    ensures { result ≡ list_any (instruction_moves «module».now) instructions.now }
+fn phis_move(module: &Module, phis: &[Phi]) -> bool
+    ensures { result ≡ list_any (phi_moves «module».now) phis.now }
 {
-    instructions
-        .iter()
-        .any(|instr| moves_reference(module, &instr.op))
+    phis.iter()
+        .any(|phi| is_collected_type(module, phi.written))
+}
+
+fn instructions_move(module: &Module, body: &[Instr]) -> bool
+    ensures { result ≡ list_any (instruction_moves «module».now) body.now }
+{
+    body.iter().any(|instr| moves_reference(module, &instr.op))
 }
 
 fn block_moves(module: &Module, block: &Block) -> bool
     ensures { result ≡ block_moves «module».now block.now }
 {
-    instructions_move(module, block.instructions.as_slice())
+    phis_move(module, block.phis.as_slice()) || instructions_move(module, block.body.as_slice())
 }
 
 fn blocks_move(module: &Module, blocks: &[Block]) -> bool

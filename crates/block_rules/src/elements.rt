@@ -1,17 +1,28 @@
 ghost use Rattle.std.specs.Prelude.{◌≡◌, OnOk, Some, slice_get};
-ghost use Rattle.block_rules.specs.Operands.{number_of};
+ghost use Rattle.std.specs.List.{list_all};
+ghost use Rattle.block_rules.specs.FirstFailing.{first_failing};
+ghost use Rattle.block_rules.specs.Operands.{is_available, number_of};
+ghost use Rattle.block_rules.specs.Rules.{element_conditions};
 ghost use Rattle.block_rules.specs.Elements.{constant_stride, places_below, bounded_stride, register_stride, operand_stride, array_stride, step_stride, step_part, members, reached, all_reached, gathered, empty_set, strode, words_behind, is_zero, element_words, counted_words, leads_into, part_led, part_reached, element_part, start_of, base_layout, lie_below, stays_in, stays_at_first, leads_from, may_lead, may_be_base, is_index, are_indices, define_element, define_words, after_element};
 
-use crate::casts::off_base;
-use crate::integers::{below_known, known_layout};
-use crate::operands::{is_value, known_of, number_of};
+use crate::calls::no_slots;
+use crate::casts::{casts_operand, off_base};
+use crate::choices::known_layout;
+use crate::conditions::first_failing;
+use crate::numbers::below_known;
+use crate::operands::{
+    is_available, is_no_slot, is_operand_current, is_typed, is_value, known_of, number_of,
+};
+use crate::rule::Rule;
 use crate::scene::Scene;
+use crate::standing::Standing;
 use crate::stride::Stride;
 use crate::type_kind::TypeKind;
 use facts::{Facts, Known};
-use ir_ast::{Argument, IrType, Operand, TypeId, ValueId};
+use ir_ast::{Argument, Element, IrType, Operand, TypeId, ValueId};
 use layout::{Program, Step};
 use pools::{CELL_WORDS, LayoutId, Layouts, WordSet};
+use shadow_stack::Slots;
 use std::alloc::AllocError;
 use types::part_at;
 
@@ -421,4 +432,61 @@ pub fn after_element(
             facts.define(v, known)
         }
     }
+}
+
+fn indices_available(slots: &Slots, facts: &Facts, indices: &[Argument]) -> bool
+    ensures { result ≡ list_all (λ index. is_available slots.now facts.now index.operand) indices.now }
+{
+    indices
+        .iter()
+        .all(|index| is_available(slots, facts, &index.operand))
+}
+
+/// The rule that a getelementptr breaks, if it breaks one.
+pub fn element_refusal(
+    scene: &Scene,
+    here: Standing,
+    facts: &Facts,
+    element: &Element,
+) -> Option<Rule>
+    ensures { result ≡ first_failing (element_conditions scene.now.program.now scene.now.function.now scene.now.slots.now here facts.now element.now) }
+{
+    refusal_by_indices(scene, here, facts, element, element.indices.as_slice())
+}
+
+/// The same, given the indices.
+fn refusal_by_indices(
+    scene: &Scene,
+    here: Standing,
+    facts: &Facts,
+    element: &Element,
+    indices: &[Argument],
+) -> Option<Rule>
+    ensures { result ≡ first_failing (element_conditions scene.now.program.now scene.now.function.now scene.now.slots.now here facts.now (record element.now { indices = indices.now })) }
+{
+    let base = &element.base;
+    let known = known_of(facts, base);
+    first_failing(&[
+        (
+            Rule::K1,
+            is_available(scene.slots, facts, base)
+                && indices_available(scene.slots, facts, indices),
+        ),
+        (
+            Rule::K2,
+            is_typed(scene, element.base_type, base)
+                && TypeKind::of(scene.module(), element.base_type).is_pointer()
+                && may_be_base(&known)
+                && are_indices(scene, facts, indices)
+                && no_slots(scene.slots, indices),
+        ),
+        (Rule::K3, is_operand_current(facts, base)),
+        (
+            Rule::K5,
+            may_lead(scene, facts, element.source, indices, &known),
+        ),
+        (Rule::K10, is_no_slot(scene.slots, base)),
+        (Rule::K12, here.collected),
+        (Rule::K19, casts_operand(scene.module(), base)),
+    ])
 }

@@ -1,31 +1,50 @@
-ghost use Rattle.std.specs.Prelude.{◌≡◌, true};
-ghost use Rattle.block_rules.specs.Standing.{is_parameter, is_given, is_gcroot, is_of_head, head_of};
+ghost use Rattle.std.specs.Prelude.{◌≡◌, true, length};
+ghost use Rattle.std.specs.List.{take_while};
+ghost use Rattle.block_rules.specs.Standing.{is_parameter, is_given, is_gcroot, is_memory_of_head, is_of_head, is_head_instruction, head_of};
 
 use crate::operands::slot_named;
 use crate::scene::Scene;
-use ir_ast::{Function, Instr, Op, Operand, Runtime, ValueId};
+use ir_ast::{Function, Instr, MemoryOp, Op, Operand, Phi, Runtime, ValueId};
 use types::runtime_called;
 
-/// How many instructions the head of these has.
-pub fn head_of(scene: &Scene, instructions: &[Instr]) -> usize
-    ensures { result ≡ head_of scene.now.program.now.of_module scene.now.function.now scene.now.slots.now instructions.now }
+/// How many instructions the head of a block with these phis and this body has.
+pub fn head_of(scene: &Scene, phis: &[Phi], body: &[Instr]) -> usize
+    ensures { result ≡ head_of scene.now.program.now.of_module scene.now.function.now scene.now.slots.now phis.now body.now }
 {
-    instructions
-        .iter()
+    match phis {
+        [] => front_of_head(scene, body),
+        [_, ..] => 0,
+    }
+}
+
+/// How many instructions at the front of a body may be of the head.
+fn front_of_head(scene: &Scene, body: &[Instr]) -> usize
+    ensures { result ≡ length (take_while (is_head_instruction scene.now.program.now.of_module scene.now.function.now scene.now.slots.now) body.now) }
+{
+    body.iter()
         .take_while(|instr| is_of_head(scene, &instr.op))
         .count()
+}
+
+fn is_memory_of_head(scene: &Scene, op: &MemoryOp) -> bool
+    ensures { result ≡ is_memory_of_head scene.now.function.now scene.now.slots.now op.now }
+{
+    match op {
+        MemoryOp::Alloca(_) => true,
+        MemoryOp::Load { .. } => false,
+        MemoryOp::Store { value, place, .. } => {
+            is_given(scene.function, value) && slot_named(scene.slots, place).is_some()
+        }
+    }
 }
 
 fn is_of_head(scene: &Scene, op: &Op) -> bool
     ensures { result ≡ is_of_head scene.now.program.now.of_module scene.now.function.now scene.now.slots.now op.now }
 {
     match op {
-        Op::Alloca(_) => true,
-        Op::Bitcast { operand, .. } => slot_named(scene.slots, operand).is_some(),
-        Op::Store { value, place, .. } => {
-            is_given(scene.function, value) && slot_named(scene.slots, place).is_some()
-        }
-        Op::Call { callee, .. } => is_gcroot(runtime_called(scene.module(), *callee)),
+        Op::Memory(op) => is_memory_of_head(scene, op),
+        Op::Cast(cast) => slot_named(scene.slots, &cast.operand).is_some(),
+        Op::Call(call) => is_gcroot(runtime_called(scene.module(), call.callee)),
         _ => false,
     }
 }

@@ -4,7 +4,8 @@ ghost use Rattle.std.specs.Option.{option_copied};
 ghost use Rattle.facts.specs.Lines.{implied, is_below};
 ghost use Rattle.block_rules.specs.Promises.{promises_in, promised_in, own_mark, callee_mark, given_by, is_promised, keeps_promise, shows_promise, show_promises};
 
-use crate::integers::{below_of, known_layout, one_layout};
+use crate::choices::{known_layout, one_layout};
+use crate::numbers::below_of;
 use crate::operands::{is_nonnull, known_of};
 use crate::type_kind::TypeKind;
 use certs::{Mark, Promise, Section};

@@ -5,7 +5,7 @@ ghost use Rattle.certificate.specs.Drafts as spec;
 ghost use Rattle.certificate.specs.declared.draft.Draft.{Draft as ADraft};
 
 use certs::{Line, Promise};
-use ir_ast::{Block, BlockId, Function, Instr, Module, Op, ValueId};
+use ir_ast::{Block, BlockId, Function, Instr, MemoryOp, Module, Op, ValueId};
 use items::Items;
 use shadow_stack::Slots;
 use std::alloc::{AllocError, Global};
@@ -50,7 +50,7 @@ fn note_root(roots: &mut Items<bool>, slots: &Slots, instr: &Instr)
     ensures { roots.new ≡ root_spec.root_noted slots.now instr.now.op instr.now.result roots.old }
 {
     match (&instr.op, instr.result) {
-        (Op::Alloca(_), Some(value)) => {
+        (Op::Memory(MemoryOp::Alloca(_)), Some(value)) => {
             let at = value.number() as usize;
             if at < roots.len() {
                 roots.set(at, is_root(slots, value));
@@ -60,10 +60,10 @@ fn note_root(roots: &mut Items<bool>, slots: &Slots, instr: &Instr)
     }
 }
 
-fn note_roots(roots: &mut Items<bool>, slots: &Slots, instructions: &[Instr])
-    ensures { roots.new ≡ root_spec.roots_noted slots.now instructions.now roots.old }
+fn note_roots(roots: &mut Items<bool>, slots: &Slots, body: &[Instr])
+    ensures { roots.new ≡ root_spec.roots_noted slots.now body.now roots.old }
 {
-    for instr in instructions {
+    for instr in body {
         note_root(roots, slots, instr);
     }
 }
@@ -72,7 +72,7 @@ fn note_blocks(roots: &mut Items<bool>, slots: &Slots, blocks: &[Block])
     ensures { roots.new ≡ root_spec.roots_of_blocks slots.now blocks.now roots.old }
 {
     for block in blocks {
-        note_roots(roots, slots, block.instructions.as_slice());
+        note_roots(roots, slots, block.body.as_slice());
     }
 }
 

@@ -7,13 +7,14 @@ use Rattle.std.proofs.lemmas.List.{length-set, get_or-set_same, get_or-set_other
 use Rattle.std.proofs.lemmas.List.Folds.{list_any-append}
 use Rattle.std.proofs.lemmas.Option.{unwrap_or-slice_get}
 use Rattle.lemmas.specs.Lists.{length_replicate}
+use Rattle.ir_ast.specs.declared.argument.Argument.{Argument}
 use Rattle.ir_ast.specs.declared.block.Block.{Block}
 use Rattle.ir_ast.specs.declared.function.Function.{Function}
 use Rattle.ir_ast.specs.declared.instr.Instr.{Instr}
+use Rattle.ir_ast.specs.declared.memory.MemoryOp.TheVariants.{Alloca}
 use Rattle.ir_ast.specs.declared.module.Module.{Module}
-use Rattle.ir_ast.specs.declared.op.Argument.{Argument}
 use Rattle.ir_ast.specs.declared.op.Op.{Op}
-use Rattle.ir_ast.specs.declared.op.Op.TheVariants.{Alloca, Bitcast, Call}
+use Rattle.ir_ast.specs.declared.op.Op.TheVariants.{Memory, Cast, Call}
 use Rattle.ir_ast.specs.declared.operand.Operand.{Operand}
 use Rattle.ir_ast.specs.declared.operand.Operand.TheVariants.{Local}
 use Rattle.ir_ast.specs.declared.runtime.Runtime.{Runtime}
@@ -84,18 +85,18 @@ put_length None o os = refl
 put_length (Some value) o os = length-set os value o
 
 noted_length : (name : Option ℕ) (op : Op) (d : Draft) → length (noted_op name op d).origins ≡ length d.origins
-noted_length name (Alloca held) d = put_length name (origin.Slot (length d.held)) d.origins
-noted_length name (Bitcast from operand to) d = put_length name (origin_of operand) d.origins
+noted_length name (Memory (Alloca held)) d = put_length name (origin.Slot (length d.held)) d.origins
+noted_length name (Cast x) d = put_length name (origin_of x.operand) d.origins
 noted_length name _ d = refl
 
 noted_agrees : (value : ℕ) (name : Option ℕ) (op : Op) (d : Draft) (s : Source) → value < length d.origins → Agrees d.held s (origin_at d.origins value)
     → Agrees (noted_op name op d).held (source_noted value name op s) (origin_at (noted_op name op d).origins value)
-noted_agrees value None (Alloca held) d s within h = agrees_more d.held held s (origin_at d.origins value) h
-noted_agrees value (Some name) (Alloca held) d s within h =
+noted_agrees value None (Memory (Alloca held)) d s within h = agrees_more d.held held s (origin_at d.origins value) h
+noted_agrees value (Some name) (Memory (Alloca held)) d s within h =
     set_agrees value name (d.held ++ held ∷ []) d.origins (Held held) s (origin.Slot (length d.held)) within (got_last d.held held) (agrees_more d.held held s (origin_at d.origins value) h)
-noted_agrees value None (Bitcast from operand to) d s within h = h
-noted_agrees value (Some name) (Bitcast from operand to) d s within h =
-    set_agrees value name d.held d.origins (source_of_operand operand) s (origin_of operand) within (operand_agrees d.held operand) h
+noted_agrees value None (Cast x) d s within h = h
+noted_agrees value (Some name) (Cast x) d s within h =
+    set_agrees value name d.held d.origins (source_of_operand x.operand) s (origin_of x.operand) within (operand_agrees d.held x.operand) h
 noted_agrees value name _ d s within h = h
 
 behind_agrees : (value : ℕ) (instrs : List Instr) (d : Draft) (s : Source) → value < length d.origins → Agrees d.held s (origin_at d.origins value)
@@ -110,8 +111,8 @@ blocks_agree : (value : ℕ) (blocks : List Block) (d : Draft) (s : Source) → 
     → Agrees (noted_blocks blocks d).held (source_behind_blocks value blocks s) (origin_at (noted_blocks blocks d).origins value)
 blocks_agree value [] d s within h = h
 blocks_agree value (block ∷ blocks) d s within h =
-    let r = behind_agrees value block.instructions d s within h in
-    blocks_agree value blocks (noted block.instructions d) (source_behind value block.instructions s) (omega (arith, r.0)) r.1
+    let r = behind_agrees value block.body d s within h in
+    blocks_agree value blocks (noted block.body d) (source_behind value block.body s) (omega (arith, r.0)) r.1
 
 -- ---- no two names are of one slot
 
@@ -193,10 +194,10 @@ no_slot (Local value) slot e = cc
 no_slot _ slot e = cc
 
 noted_apart : (name : Option ℕ) (op : Op) (d : Draft) → Apart d → Apart (noted_op name op d)
-noted_apart None (Alloca held) d h = held_apart d.origins d.held held h
-noted_apart (Some name) (Alloca held) d h = slot_apart d.origins d.held name held h
-noted_apart None (Bitcast from operand to) d h = h
-noted_apart (Some name) (Bitcast from operand to) d h = other_apart d.origins d.held name (origin_of operand) (no_slot operand) h
+noted_apart None (Memory (Alloca held)) d h = held_apart d.origins d.held held h
+noted_apart (Some name) (Memory (Alloca held)) d h = slot_apart d.origins d.held name held h
+noted_apart None (Cast x) d h = h
+noted_apart (Some name) (Cast x) d h = other_apart d.origins d.held name (origin_of x.operand) (no_slot x.operand) h
 noted_apart name _ d h = h
 
 behind_apart : (instrs : List Instr) (d : Draft) → Apart d → Apart (noted instrs d)
@@ -205,7 +206,7 @@ behind_apart (instr ∷ instrs) d h = behind_apart instrs (noted_op instr.result
 
 blocks_apart : (blocks : List Block) (d : Draft) → Apart d → Apart (noted_blocks blocks d)
 blocks_apart [] d h = h
-blocks_apart (block ∷ blocks) d h = blocks_apart blocks (noted block.instructions d) (behind_apart block.instructions d h)
+blocks_apart (block ∷ blocks) d h = blocks_apart blocks (noted block.body d) (behind_apart block.body d h)
 
 nowhere_at : (n i : ℕ) → origin_at (replicate n origin.Nowhere) i ≡ origin.Nowhere
 nowhere_at zero i = refl
@@ -224,7 +225,7 @@ behind_length (instr ∷ instrs) d = behind_length instrs (noted_op instr.result
 
 blocks_length : (blocks : List Block) (d : Draft) → length (noted_blocks blocks d).origins ≡ length d.origins
 blocks_length [] d = refl
-blocks_length (block ∷ blocks) d = blocks_length blocks (noted block.instructions d) ∙ behind_length block.instructions d
+blocks_length (block ∷ blocks) d = blocks_length blocks (noted block.body d) ∙ behind_length block.body d
 
 past_end : (os : List Origin) (i : ℕ) → length os ≤ i → origin_at os i ≡ origin.Nowhere
 past_end [] i le = refl
@@ -340,7 +341,7 @@ module _ (m : Module) (f : Function) where
     call_same arguments _ = refl
 
     op_same : (op : Op) → roots m f name op ≡ is_slot slot (slot_rooted_by m names op)
-    op_same (Call returned callee arguments) = call_same arguments (runtime_called m callee)
+    op_same (Call x) = call_same x.arguments (runtime_called m x.callee)
     op_same _ = refl
 
     abbrev fits_root : Bool
@@ -391,14 +392,14 @@ module _ (m : Module) (f : Function) where
         ∙ merged (is_among xs slot) fits_root (roots m f name instr.op) (some_roots m f name instrs)
 
     abbrev some_blocks : List Block → Bool
-    some_blocks blocks = list_any (λ (block : Block). some_roots m f name block.instructions) blocks
+    some_blocks blocks = list_any (λ (block : Block). some_roots m f name block.body) blocks
 
     roots_in_blocks : (blocks : List Block) (xs : List ℕ) → is_among (with_roots_of m names held blocks xs) slot ≡ (is_among xs slot || (fits_root && some_blocks blocks))
     roots_in_blocks [] xs = sym (ap (λ b. is_among xs slot || b) (and_false fits_root) ∙ or_false (is_among xs slot))
     roots_in_blocks (block ∷ blocks) xs =
-        roots_in_blocks blocks (with_roots m names held block.instructions xs)
-        ∙ ap (λ b. b || (fits_root && some_blocks blocks)) (roots_in block.instructions xs)
-        ∙ merged (is_among xs slot) fits_root (some_roots m f name block.instructions) (some_blocks blocks)
+        roots_in_blocks blocks (with_roots m names held block.body xs)
+        ∙ ap (λ b. b || (fits_root && some_blocks blocks)) (roots_in block.body xs)
+        ∙ merged (is_among xs slot) fits_root (some_roots m f name block.body) (some_blocks blocks)
 
   root_by : (found : Option SlotName) (other : Option ℕ) → Leads found other → is_among_roots (slots_of m f) other ≡ is_root_alloca m f found
   root_by None None h = refl
@@ -419,8 +420,8 @@ module _ (m : Module) (f : Function) where
     rooted = is_root (slots_of m f) value
 
     op_noted : (name : Option ℕ) (op : Op) (rs : List Bool) → value < length rs → (length (root_noted (slots_of m f) op name rs) ≡ length rs) × (noted_is (root_noted (slots_of m f) op name rs) ≡ cond (is_alloca name value op) rooted (noted_is rs))
-    op_noted None (Alloca h) rs within = (refl, refl)
-    op_noted (Some name) (Alloca h) rs within = (
+    op_noted None (Memory (Alloca h)) rs within = (refl, refl)
+    op_noted (Some name) (Memory (Alloca h)) rs within = (
       length-set rs name (is_root (slots_of m f) name),
       elim (cases_eq name value) [
         | inl same ↦ rw (eq-eqb name value same) (ap (λ (x : ℕ). noted_is (slice_set rs x (is_root (slots_of m f) x))) same ∙ get_or-set_same rs value rooted false within)
@@ -442,14 +443,14 @@ module _ (m : Module) (f : Function) where
         (more.0 ∙ one.0, more.1 ∙ ap (λ b. cond (some_alloca value instrs) rooted b) one.1 ∙ either_noted (is_alloca instr.result value instr.op) (some_alloca value instrs) rooted (noted_is rs))
 
     abbrev some_block_alloca : List Block → Bool
-    some_block_alloca blocks = list_any (λ (block : Block). some_alloca value block.instructions) blocks
+    some_block_alloca blocks = list_any (λ (block : Block). some_alloca value block.body) blocks
 
     blocks_noted : (blocks : List Block) (rs : List Bool) → value < length rs → noted_is (roots_of_blocks (slots_of m f) blocks rs) ≡ cond (some_block_alloca blocks) rooted (noted_is rs)
     blocks_noted [] rs within = refl
     blocks_noted (block ∷ blocks) rs within =
-        let one = instrs_noted block.instructions rs within in
-        blocks_noted blocks (roots_noted (slots_of m f) block.instructions rs) (omega (arith, one.0, within))
-        ∙ ap (λ b. cond (some_block_alloca blocks) rooted b) one.1 ∙ either_noted (some_alloca value block.instructions) (some_block_alloca blocks) rooted (noted_is rs)
+        let one = instrs_noted block.body rs within in
+        blocks_noted blocks (roots_noted (slots_of m f) block.body rs) (omega (arith, one.0, within))
+        ∙ ap (λ b. cond (some_block_alloca blocks) rooted b) one.1 ∙ either_noted (some_alloca value block.body) (some_block_alloca blocks) rooted (noted_is rs)
 
     none_noted : (n : ℕ) → noted_is (replicate n false) ≡ false
     none_noted n = none n value
@@ -460,8 +461,8 @@ module _ (m : Module) (f : Function) where
         none (suc n) (suc i) = none n i
 
     op_length : (name : Option ℕ) (op : Op) (rs : List Bool) → length (root_noted (slots_of m f) op name rs) ≡ length rs
-    op_length None (Alloca h) rs = refl
-    op_length (Some name) (Alloca h) rs = length-set rs name (is_root (slots_of m f) name)
+    op_length None (Memory (Alloca h)) rs = refl
+    op_length (Some name) (Memory (Alloca h)) rs = length-set rs name (is_root (slots_of m f) name)
     op_length name _ rs = refl
 
     instrs_length : (instrs : List Instr) (rs : List Bool) → length (roots_noted (slots_of m f) instrs rs) ≡ length rs
@@ -470,7 +471,7 @@ module _ (m : Module) (f : Function) where
 
     blocks_noted_length : (blocks : List Block) (rs : List Bool) → length (roots_of_blocks (slots_of m f) blocks rs) ≡ length rs
     blocks_noted_length [] rs = refl
-    blocks_noted_length (block ∷ blocks) rs = blocks_noted_length blocks (roots_noted (slots_of m f) block.instructions rs) ∙ instrs_length block.instructions rs
+    blocks_noted_length (block ∷ blocks) rs = blocks_noted_length blocks (roots_noted (slots_of m f) block.body rs) ∙ instrs_length block.body rs
 
     past_names : (rs : List Bool) (i : ℕ) → length rs ≤ i → slice_index_or rs i false ≡ false
     past_names [] i le = refl

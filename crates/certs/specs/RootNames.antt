@@ -3,9 +3,10 @@ use Rattle.std.specs.Prelude.{ℕ, Bool, false, List, [], ◌∷◌, length, rep
 use Rattle.ir_ast.specs.declared.block.Block.{Block}
 use Rattle.ir_ast.specs.declared.function.Function.{Function}
 use Rattle.ir_ast.specs.declared.instr.Instr.{Instr}
+use Rattle.ir_ast.specs.declared.memory.MemoryOp.TheVariants.{Alloca}
 use Rattle.ir_ast.specs.declared.module.Module.{Module}
 use Rattle.ir_ast.specs.declared.op.Op.{Op}
-use Rattle.ir_ast.specs.declared.op.Op.TheVariants.{Alloca}
+use Rattle.ir_ast.specs.declared.op.Op.TheVariants.{Memory}
 use Rattle.shadow_stack.specs.Slots.{SlotTable, slots_of, slot_of, is_among}
 
 -- whether there is a slot and it is a root
@@ -19,7 +20,7 @@ is_root slots value = is_among_roots slots (slot_of slots value)
 
 -- an alloca's name is that of a root slot if its slot is a root
 abbrev pub root_noted : SlotTable → Op → (name : Option ℕ) → List Bool → List Bool
-root_noted slots (Alloca held) (Some value) roots = slice_set roots value (is_root slots value)
+root_noted slots (Memory (Alloca held)) (Some value) roots = slice_set roots value (is_root slots value)
 root_noted slots _ _ roots = roots
 
 -- with the root slots that these instructions name
@@ -30,7 +31,7 @@ roots_noted slots (instr ∷ instrs) roots = roots_noted slots instrs (root_note
 -- with the root slots that these blocks name
 abbrev pub roots_of_blocks : SlotTable → List Block → List Bool → List Bool
 roots_of_blocks slots [] roots = roots
-roots_of_blocks slots (block ∷ blocks) roots = roots_of_blocks slots blocks (roots_noted slots block.instructions roots)
+roots_of_blocks slots (block ∷ blocks) roots = roots_of_blocks slots blocks (roots_noted slots block.body roots)
 
 -- whether each local name is that of a root slot's alloca
 abbrev pub root_names : Module → Function → List Bool

@@ -1,13 +1,14 @@
 -- Root slots, found by going over a function's instructions.
 use Rattle.std.specs.Prelude.{ℕ, zero, suc, ◌==◌, nat_lt, Bool, false, ◌&&◌, if◌then◌else◌, List, [], ◌∷◌, length, Option, Some, None, is_some}
 use Rattle.std.specs.List.{list_any}
+use Rattle.ir_ast.specs.declared.argument.Argument.{Argument}
 use Rattle.ir_ast.specs.declared.block.Block.{Block}
 use Rattle.ir_ast.specs.declared.function.Function.{Function}
 use Rattle.ir_ast.specs.declared.instr.Instr.{Instr}
+use Rattle.ir_ast.specs.declared.memory.MemoryOp.TheVariants.{Alloca}
 use Rattle.ir_ast.specs.declared.module.Module.{Module}
-use Rattle.ir_ast.specs.declared.op.Argument.{Argument}
 use Rattle.ir_ast.specs.declared.op.Op.{Op}
-use Rattle.ir_ast.specs.declared.op.Op.TheVariants.{Alloca, Bitcast, Call}
+use Rattle.ir_ast.specs.declared.op.Op.TheVariants.{Memory, Cast, Call}
 use Rattle.ir_ast.specs.declared.operand.Operand.{Operand}
 use Rattle.ir_ast.specs.declared.operand.Operand.TheVariants.{Local}
 use Rattle.ir_ast.specs.declared.runtime.Runtime.{Runtime}
@@ -34,8 +35,8 @@ source_of_operand _ = Nowhere
 
 -- what a name is after an instruction
 abbrev pub source_noted : (value : ℕ) → (name : Option ℕ) → Op → Source → Source
-source_noted value name (Alloca held) source = if is_name value name then Held held else source
-source_noted value name (Bitcast from operand to) source = if is_name value name then source_of_operand operand else source
+source_noted value name (Memory (Alloca held)) source = if is_name value name then Held held else source
+source_noted value name (Cast x) source = if is_name value name then source_of_operand x.operand else source
 source_noted value name _ source = source
 
 -- what a name is after instructions
@@ -46,7 +47,7 @@ source_behind value (instr ∷ instrs) source = source_behind value instrs (sour
 -- what a name is after blocks
 abbrev pub source_behind_blocks : (value : ℕ) → List Block → Source → Source
 source_behind_blocks value [] source = source
-source_behind_blocks value (block ∷ blocks) source = source_behind_blocks value blocks (source_behind value block.instructions source)
+source_behind_blocks value (block ∷ blocks) source = source_behind_blocks value blocks (source_behind value block.body source)
 
 -- what a local name was defined as last
 abbrev pub source_of : Function → (value : ℕ) → Source
@@ -93,7 +94,7 @@ roots_by f name arguments _ = false
 
 -- whether an instruction names this alloca as a root
 abbrev pub roots : Module → Function → (name : ℕ) → Op → Bool
-roots m f name (Call returned callee arguments) = roots_by f name arguments (runtime_called m callee)
+roots m f name (Call x) = roots_by f name x.arguments (runtime_called m x.callee)
 roots m f name _ = false
 
 -- whether some of these instructions names this alloca as a root
@@ -102,11 +103,11 @@ some_roots m f name instrs = list_any (λ (instr : Instr). roots m f name instr.
 
 -- whether some instruction of the function does
 abbrev pub is_rooted : Module → Function → (name : ℕ) → Bool
-is_rooted m f name = list_any (λ (block : Block). some_roots m f name block.instructions) f.blocks
+is_rooted m f name = list_any (λ (block : Block). some_roots m f name block.body) f.blocks
 
 -- whether an instruction is an alloca of this name
 abbrev pub is_alloca : (name : Option ℕ) → (value : ℕ) → Op → Bool
-is_alloca name value (Alloca held) = is_name value name
+is_alloca name value (Memory (Alloca held)) = is_name value name
 is_alloca name value _ = false
 
 -- whether some of these instructions is an alloca of this name
@@ -115,7 +116,7 @@ some_alloca value instrs = list_any (λ (instr : Instr). is_alloca instr.result 
 
 -- whether some instruction of the function is
 abbrev pub has_alloca : Function → (value : ℕ) → Bool
-has_alloca f value = list_any (λ (block : Block). some_alloca value block.instructions) f.blocks
+has_alloca f value = list_any (λ (block : Block). some_alloca value block.body) f.blocks
 
 -- whether an alloca is of reference type and a root
 abbrev pub is_root_alloca : Module → Function → Option SlotName → Bool

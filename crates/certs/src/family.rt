@@ -1,12 +1,11 @@
 //! The facts that fit a type.
 ghost use Rattle.std.specs.Prelude.{◌≡◌, slice_get};
 ghost use Rattle.certs.specs.Families as spec;
-ghost use Rattle.types.specs.ValueTypes as types_spec;
 ghost use Rattle.types.specs.References.{layout_of_struct, struct_named};
 
-use ir_ast::{BlockId, Function, IrType, LocalSort, Module, Op, TypeId, ValueId};
+use ir_ast::{Function, IrType, LocalSort, Module, TypeId, ValueId};
 use pools::LayoutId;
-use types::element_type;
+use types::element_of;
 
 /// What a value is, and so which facts may be given of it.
 #[derive(Clone, Copy, PartialEq, Eq)]
@@ -65,22 +64,6 @@ pub fn family_of_type(module: &Module, written: TypeId) -> Family
         IrType::Integer(bits) => Family::Number(bits),
         IrType::Pointer(part) => family_of_pointer(module, part),
         _ => Family::Nothing,
-    }
-}
-
-/// The type to which the getelementptr at a place of a block leads.
-fn element_of(module: &Module, function: &Function, block: BlockId, place: u32) -> Option<TypeId>
-    ensures { result ≡ types_spec.element_of «module».now (types_spec.instruction_at function.now block place) }
-{
-    let block = function.blocks.get(block.number() as usize)?;
-    let instr = block.instructions.get(place as usize)?;
-    match &instr.op {
-        Op::Element {
-            source,
-            indices,
-            ..
-        } => element_type(module, *source, indices.as_slice()),
-        _ => None,
     }
 }
 

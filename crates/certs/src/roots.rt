@@ -2,7 +2,9 @@
 ghost use Rattle.std.specs.Prelude.{◌≡◌};
 ghost use Rattle.certs.specs.Roots as spec;
 
-use ir_ast::{Argument, Block, Function, Instr, Module, Op, Operand, Runtime, TypeId, ValueId};
+use ir_ast::{
+    Argument, Block, Function, Instr, MemoryOp, Module, Op, Operand, Runtime, TypeId, ValueId,
+};
 use types::{is_reference, runtime_called};
 
 /// What a local name was defined as.
@@ -46,16 +48,16 @@ fn source_noted(value: ValueId, instr: &Instr, source: Source) -> Source
     ensures { result ≡ spec.source_noted value instr.now.result instr.now.op source }
 {
     match &instr.op {
-        Op::Alloca(held) => {
+        Op::Memory(MemoryOp::Alloca(held)) => {
             if is_name(value, instr.result) {
                 Source::Held(*held)
             } else {
                 source
             }
         }
-        Op::Bitcast { operand, .. } => {
+        Op::Cast(cast) => {
             if is_name(value, instr.result) {
-                source_of_operand(operand)
+                source_of_operand(&cast.operand)
             } else {
                 source
             }
@@ -64,11 +66,11 @@ fn source_noted(value: ValueId, instr: &Instr, source: Source) -> Source
     }
 }
 
-fn source_behind(value: ValueId, instructions: &[Instr], before: Source) -> Source
-    ensures { result ≡ spec.source_behind value instructions.now before }
+fn source_behind(value: ValueId, body: &[Instr], before: Source) -> Source
+    ensures { result ≡ spec.source_behind value body.now before }
 {
     let mut source = before;
-    for instr in instructions {
+    for instr in body {
         source = source_noted(value, instr, source);
     }
     source
@@ -79,7 +81,7 @@ fn source_behind_blocks(value: ValueId, blocks: &[Block]) -> Source
 {
     let mut source = Source::Nowhere;
     for block in blocks {
-        source = source_behind(value, block.instructions.as_slice(), source);
+        source = source_behind(value, block.body.as_slice(), source);
     }
     source
 }
@@ -147,12 +149,8 @@ fn roots(module: &Module, function: &Function, name: ValueId, op: &Op) -> bool
     ensures { result ≡ spec.roots «module».now function.now name op.now }
 {
     match op {
-        Op::Call {
-            callee,
-            arguments,
-            ..
-        } => match runtime_called(module, *callee) {
-            Some(Runtime::GcRoot) => first_leads_to(function, name, arguments.as_slice()),
+        Op::Call(call) => match runtime_called(module, call.callee) {
+            Some(Runtime::GcRoot) => first_leads_to(function, name, call.arguments.as_slice()),
             _ => false,
         },
         _ => false,
@@ -175,7 +173,7 @@ fn is_rooted(module: &Module, function: &Function, name: ValueId) -> bool
         module,
         function,
         name,
-        block.instructions.as_slice(),
+        block.body.as_slice(),
     ))
 }
 
@@ -183,7 +181,7 @@ fn is_alloca(value: ValueId, instr: &Instr) -> bool
     ensures { result ≡ spec.is_alloca instr.now.result value instr.now.op }
 {
     match &instr.op {
-        Op::Alloca(_) => is_name(value, instr.result),
+        Op::Memory(MemoryOp::Alloca(_)) => is_name(value, instr.result),
         _ => false,
     }
 }
@@ -202,7 +200,7 @@ fn has_alloca(function: &Function, value: ValueId) -> bool
         .blocks
         .as_slice()
         .iter()
-        .any(|block| some_alloca(value, block.instructions.as_slice()))
+        .any(|block| some_alloca(value, block.body.as_slice()))
 }
 
 /// Whether a name is that of a root slot's alloca.

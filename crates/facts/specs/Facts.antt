@@ -1,8 +1,8 @@
 -- What is known at a place of a function, and how it changes.
 use Rattle.std.specs.Prelude.{ℕ, suc, ◌==◌, Bool, true, false, ◌||◌, if◌then◌else◌, List, [], ◌∷◌, ◌++◌, map, length, replicate, slice_index_or, slice_set, nat_lt, Option, Some, None}
 use Rattle.std.specs.List.{list_any, enumerate_from, zip}
-use Rattle.ir_ast.specs.declared.op.Comparison.{Comparison}
-use Rattle.ir_ast.specs.declared.op.Comparison.TheVariants.{Equal, NotEqual, UnsignedGreater, UnsignedGreaterOrEqual, UnsignedLess, UnsignedLessOrEqual}
+use Rattle.ir_ast.specs.declared.numbers.Comparison.{Comparison}
+use Rattle.ir_ast.specs.declared.numbers.Comparison.TheVariants.{Equal, NotEqual, UnsignedGreater, UnsignedGreaterOrEqual, UnsignedLess, UnsignedLessOrEqual}
 use Rattle.ir_ast.specs.declared.operand.Constant.{Constant}
 use Rattle.ir_ast.specs.declared.operand.Constant.TheVariants as constant
 use Rattle.facts.specs.declared.known.Class.{Class}

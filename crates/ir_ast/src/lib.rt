@@ -1,9 +1,15 @@
 //! A module as data: numbers in place of names, and the names beside them.
 #![tactic(auto)]
 
+mod argument;
 mod block;
 mod block_id;
+mod calls;
+mod casts;
+mod choices;
 mod declare_id;
+mod elements;
+mod ends;
 mod func_id;
 mod function;
 mod global_id;
@@ -12,8 +18,10 @@ mod ir_type;
 mod items_of_module;
 mod key_names;
 mod local_keys;
+mod memory;
 mod module;
 mod names;
+mod numbers;
 mod op;
 mod operand;
 mod runtime;
@@ -23,9 +31,15 @@ mod type_id;
 mod types;
 mod value_id;
 
+pub use argument::Argument;
 pub use block::Block;
 pub use block_id::BlockId;
+pub use calls::Call;
+pub use casts::Cast;
+pub use choices::{Choice, Incoming, Phi};
 pub use declare_id::DeclareId;
+pub use elements::Element;
+pub use ends::{Case, End};
 pub use func_id::FuncId;
 pub use function::{Function, LocalSort, Parameter};
 pub use global_id::GlobalId;
@@ -34,9 +48,11 @@ pub use ir_type::IrType;
 pub use items_of_module::{Declare, Global, StructType, SymbolSort};
 pub use key_names::{is_number_key, name_of_key};
 pub use local_keys::{key_of_digits, key_of_number, marked, needs_mark};
+pub use memory::MemoryOp;
 pub use module::Module;
 pub use names::Names;
-pub use op::{Argument, Arithmetic, Case, Comparison, Incoming, Op, Resize};
+pub use numbers::{Arithmetic, Comparison, NumberOp, Resize};
+pub use op::Op;
 pub use operand::{Constant, Operand};
 pub use runtime::Runtime;
 pub use struct_name_id::StructNameId;

@@ -3,6 +3,7 @@ use Rattle.std.specs.Prelude.{ℕ, Some, None}
 use Rattle.grammar.specs.Grammar.{pure, refuse, look, ◌>>=◌, ◌>>◌}
 use Rattle.ir_tokens.specs.declared.token.Kind.{Kind}
 use Rattle.ir_tokens.specs.declared.token.Kind.TheVariants as k
+use Rattle.ir_ast.specs.declared.calls.Call.{Call}
 use Rattle.ir_ast.specs.declared.ir_type.IrType.TheVariants as type
 use Rattle.ir_ast.specs.declared.instr.Instr.{Instr}
 use Rattle.ir_ast.specs.declared.op.Op.{Op}
@@ -15,6 +16,7 @@ use Rattle.ir_forms.specs.Starts.{is_indirect_callee}
 use Rattle.ir_forms.specs.Decorations.{decorations, trailed}
 use Rattle.ir_forms.specs.declared.decorating.Spot.TheVariants as spot
 use Rattle.ir_forms.specs.Lists.{arguments}
+use Rattle.ir_forms.specs.Ops.{as_op}
 
 -- the name of the function that is called
 abbrev pub called_by : Kind → Form ℕ
@@ -26,17 +28,17 @@ unfoldable pub called : Form ℕ
 called = look (λ i. kind i.cursor) called_by
 
 -- `@f(T V, ..)`
-unfoldable pub call_behind : ℕ → Form Op
+unfoldable pub call_behind : ℕ → Form Call
 call_behind returned = do
   f ← called
   expect k.OpenRound
   xs ← arguments
   expect k.CloseRound
   decorations spot.Call
-  pure (op.Call returned f xs)
+  pure (record { returned = returned; callee = f; arguments = xs })
 
 -- `T @f(T V, ..)` after the word, whose value is a T
-abbrev pub typed_call : ℕ → Form Op
+abbrev pub typed_call : ℕ → Form Call
 typed_call value = do
   returned ← scalar
   x ← call_behind returned.id
@@ -44,7 +46,7 @@ typed_call value = do
   pure x
 
 -- `call T @f(T V, ..)`, whose value has a name
-unfoldable pub call : ℕ → Form Op
+unfoldable pub call : ℕ → Form Call
 call value = do
   skip
   decorations spot.Result
@@ -61,12 +63,12 @@ abbrev pub unnamed : Op → Form Instr
 unnamed op = trailed op >>= λ x. pure (record { result = None; op = x })
 
 -- `void @f(T V, ..)` after the word
-unfoldable pub void_call : Form Op
+unfoldable pub void_call : Form Call
 void_call = skip >> intern type.Void >>= call_behind
 
 -- a call whose result is this value
 abbrev pub valued_call : ℕ → Form Instr
-valued_call value = typed_call value >>= valued value
+valued_call value = as_op op.Call (typed_call value) >>= valued value
 
 -- a call whose value takes the next number
 unfoldable pub numbered_call : Form Instr
@@ -74,7 +76,7 @@ numbered_call = unnamed_value >>= valued_call
 
 -- a call that is an instruction without a written result: one of `void`, or one whose result takes the next number
 abbrev pub call_by : Kind → Form Instr
-call_by k.Void = void_call >>= unnamed
+call_by k.Void = as_op op.Call void_call >>= unnamed
 call_by _ = numbered_call
 
 -- what follows `call`, with what decorates the result
@@ -92,7 +94,7 @@ abbrev pub sees_call : Form (Unit {0})
 sees_call = skip >> sees_a k.Call
 
 -- `tail` or `notail` before a call
-unfoldable pub tail_call : ℕ → Form Op
+unfoldable pub tail_call : ℕ → Form Call
 tail_call value = sees_call >> call value
 
 -- `tail call ..` or `notail call ..`

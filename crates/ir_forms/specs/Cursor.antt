@@ -33,6 +33,10 @@ kind c = kind_first c.rest
 unfoldable pub kind_behind : Place → Kind
 kind_behind c = kind_first (rest_of c.rest)
 
+-- what the third token is
+unfoldable pub kind_third : Place → Kind
+kind_third c = kind_first (rest_of (rest_of c.rest))
+
 -- the first token is the first one of its line
 abbrev pub begins_first : List Token → Bool
 begins_first [] = false

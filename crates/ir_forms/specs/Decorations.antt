@@ -5,6 +5,7 @@ use Rattle.grammar.specs.Takes.{Takes, TakesWhere, first_takes, first_takes_wher
 use Rattle.grammar.specs.Many.{many}
 use Rattle.ir_tokens.specs.declared.token.Kind.{Kind}
 use Rattle.ir_tokens.specs.declared.token.Kind.TheVariants as k
+use Rattle.ir_ast.specs.declared.memory.MemoryOp.TheVariants as memory
 use Rattle.ir_ast.specs.declared.op.Op.{Op}
 use Rattle.ir_ast.specs.declared.op.Op.TheVariants as op
 use Rattle.ir_forms.specs.Cursor.{kind, kind_behind, same_kind, sees, begins_line}
@@ -295,9 +296,8 @@ trailing t = many_with at_no_trail comma_trail comma_trail_takes same_trail t >>
 
 -- what may follow an instruction
 abbrev pub trail_of : Op → Trail
-trail_of (op.Alloca held) = trail.Slot
-trail_of (op.Load loaded place_type place) = trail.Memory
-trail_of (op.Store stored value place_type place) = trail.Memory
+trail_of (op.Memory (memory.Alloca held)) = trail.Slot
+trail_of (op.Memory x) = trail.Memory
 trail_of _ = trail.Other
 
 -- an instruction, and the decorations after it

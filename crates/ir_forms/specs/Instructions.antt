@@ -1,38 +1,40 @@
--- Instructions, and lists of them.
-use Rattle.std.specs.Prelude.{◌≢◌, ℕ, nat_lt, Bool, List, [], ◌∷◌, ◌++◌, None}
+-- The instructions of the body of a block.
+use Rattle.std.specs.Prelude.{◌≢◌, ℕ, nat_lt, Bool, List}
 use Rattle.grammar.specs.Grammar.{pure, checked, refuse, look, ◌>>=◌, ◌>>◌}
-use Rattle.grammar.specs.Takes.{Takes, TakesWhere, first_takes, first_takes_where, second_takes, look_takes}
+use Rattle.grammar.specs.Takes.{Takes, TakesWhere, first_takes_where, second_takes, look_takes}
 use Rattle.ir_tokens.specs.declared.token.Kind.{Kind}
 use Rattle.ir_tokens.specs.declared.token.Kind.TheVariants as k
 use Rattle.ir_ast.specs.declared.op.Op.{Op}
+use Rattle.ir_ast.specs.declared.op.Op.TheVariants as op
 use Rattle.ir_ast.specs.declared.instr.Instr.{Instr}
 use Rattle.ir_forms.specs.declared.input.Input.{Input}
 use Rattle.ir_forms.specs.Cursor.{kind}
 use Rattle.ir_forms.specs.Input.{Form, limit, unexpected, skip, expect, sees_a, IsKind, skip_takes}
 use Rattle.ir_forms.specs.Names.{new_value, new_value_takes, numbered_value, numbered_value_takes}
 use Rattle.ir_forms.specs.declared.site.Site.{Site}
-use Rattle.ir_forms.specs.Branches.{terminator, terminator_takes, ends_block}
+use Rattle.ir_forms.specs.Ends.{ends_block}
 use Rattle.ir_forms.specs.Calls.{call, tail_call, valued, unnamed, call_statement, call_statement_behind, tail_call_statement, sees_call}
-use Rattle.ir_forms.specs.Decorations.{trailed}
-use Rattle.ir_forms.specs.Integers.{compare, select, integer_op}
+use Rattle.ir_forms.specs.Casts.{bitcast}
+use Rattle.ir_forms.specs.Choices.{select}
+use Rattle.ir_forms.specs.Elements.{element}
 use Rattle.ir_forms.specs.ManyWith.{many_with}
-use Rattle.ir_forms.specs.Memory.{alloca, bitcast, load, store, stored_here, element}
-use Rattle.ir_forms.specs.Phis.{phi}
+use Rattle.ir_forms.specs.Memory.{alloca, load, store, stored_here}
+use Rattle.ir_forms.specs.Numbers.{compare, integer_op}
+use Rattle.ir_forms.specs.Ops.{as_op}
 use Rattle.ir_forms.specs.Sites.{first_of, behind}
 
 -- an instruction that gives a value, by the word with which it begins after `=`
 abbrev pub named_op_by : Site → ℕ → Kind → Form Op
-named_op_by site value k.Alloca = alloca value
-named_op_by site value k.Bitcast = bitcast value
-named_op_by site value k.Load = load value
-named_op_by site value k.Getelementptr = element site value
-named_op_by site value k.Icmp = compare value
-named_op_by site value k.Select = select value
-named_op_by site value k.Phi = phi site value
-named_op_by site value k.Call = call value
-named_op_by site value k.Tail = tail_call value
-named_op_by site value k.Notail = tail_call value
-named_op_by site value _ = integer_op value
+named_op_by site value k.Alloca = as_op op.Memory (alloca value)
+named_op_by site value k.Bitcast = as_op op.Cast (bitcast value)
+named_op_by site value k.Load = as_op op.Memory (load value)
+named_op_by site value k.Getelementptr = as_op op.Element (element site value)
+named_op_by site value k.Icmp = as_op op.Number (compare value)
+named_op_by site value k.Select = as_op op.Choice (select value)
+named_op_by site value k.Call = as_op op.Call (call value)
+named_op_by site value k.Tail = as_op op.Call (tail_call value)
+named_op_by site value k.Notail = as_op op.Call (tail_call value)
+named_op_by site value _ = as_op op.Number (integer_op value)
 
 -- what follows `%v =`
 unfoldable pub named_op : Site → ℕ → Form Op
@@ -45,25 +47,25 @@ named_behind site value = do
   x ← named_op site value
   valued value x
 
--- an instruction that does not end its block, by the token with which it begins
+-- an instruction of a body, by the token with which it begins
 abbrev pub instruction_by : Site → Kind → Form Instr
 instruction_by site k.LocalName = new_value >>= named_behind site
 instruction_by site k.LocalNumber = numbered_value >>= named_behind site
 instruction_by site k.Call = call_statement
 instruction_by site k.Tail = tail_call_statement
 instruction_by site k.Notail = tail_call_statement
-instruction_by site k.Store = store >>= unnamed
+instruction_by site k.Store = as_op op.Memory store >>= unnamed
 instruction_by site _ = refuse unexpected
 
--- an instruction that does not end its block
+-- an instruction of a body
 unfoldable pub instruction : Site → Form Instr
 instruction site = look (λ i. kind i.cursor) (instruction_by site)
 
--- an instruction's place in its block is a number of 32 bits
+-- an instruction's place in its body is a number of 32 bits
 abbrev pub has_place : Site → Form (Unit {0})
 has_place site = checked (λ _. nat_lt site.place 4294967295) limit
 
--- an instruction for which its block has room
+-- an instruction for which its body has room
 abbrev pub placed : Site → Form Instr
 placed site = has_place site >> instruction site
 
@@ -88,7 +90,7 @@ instruction_takes_by site k.LocalNumber = first_takes_where (IsKind k.LocalNumbe
 instruction_takes_by site k.Call = call_takes
 instruction_takes_by site k.Tail = tail_call_takes k.Tail (λ x. cc)
 instruction_takes_by site k.Notail = tail_call_takes k.Notail (λ x. cc)
-instruction_takes_by site k.Store = first_takes_where (IsKind k.Store) store unnamed store_takes
+instruction_takes_by site k.Store = first_takes_where (IsKind k.Store) (as_op op.Memory store) unnamed (first_takes_where (IsKind k.Store) store (λ x. pure (op.Memory x)) store_takes)
 instruction_takes_by site _ = λ i a o e h. absurd h
 
 instruction_takes : (site : Site) → Takes (instruction site)
@@ -102,22 +104,6 @@ placed_takes site = second_takes (has_place site) (λ _. instruction site) (λ _
 abbrev pub at_terminator : Site → Input → Bool
 at_terminator site i = ends_block (kind i.cursor)
 
--- the instructions before the one that ends a block, which is the one with this number
+-- the instructions of the body of the block with this number
 unfoldable pub body : ℕ → Form (List Instr)
 body block = many_with at_terminator placed placed_takes behind (first_of block)
-
--- the block's instructions with this last one
-abbrev pub ended_by : List Instr → Op → Form (List Instr)
-ended_by xs op = trailed op >>= λ x. pure (xs ++ record { result = None; op = x } ∷ [])
-
--- the block's instructions with the one that ends it
-abbrev pub ended : List Instr → Form (List Instr)
-ended xs = terminator >>= ended_by xs
-
--- the instructions of a block; the last one ends it
-unfoldable pub instructions : ℕ → Form (List Instr)
-instructions block = body block >>= ended
-
-pub instructions_takes : (block : ℕ) → Takes (instructions block)
-unfolding instructions
-instructions_takes block = second_takes (body block) ended (λ xs. first_takes terminator (ended_by xs) terminator_takes)

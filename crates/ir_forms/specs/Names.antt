@@ -321,7 +321,7 @@ set_sort value sort = step (λ _. tt) (with_sort value sort) (with_sort_falls va
 abbrev pub set_type : ℕ → ℕ → Form (Unit {0})
 set_type value shown = set_sort value (local.Value shown)
 
--- the name means the value of the getelementptr at this place of this block
+-- the name means the value of the getelementptr at this place of this block's body
 abbrev pub set_element : ℕ → ℕ → ℕ → Form (Unit {0})
 set_element value block place = set_sort value (local.Element block place)
 

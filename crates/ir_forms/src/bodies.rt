@@ -1,18 +1,19 @@
-//! Instructions, and lists of them.
+//! The instructions of the body of a block.
 ghost use Rattle.std.specs.Prelude.{◌≡◌};
 ghost use Rattle.ir_forms.specs.Input.{Reads};
 ghost use Rattle.ir_forms.specs.Instructions as form;
 
-use crate::branches::{ends_block, terminator};
 use crate::calls::{call, call_statement, tail_call, tail_call_statement, unnamed, valued};
-use crate::decorating::trailed;
+use crate::casts::bitcast;
+use crate::choices::select;
+use crate::elements::element;
+use crate::ends::ends_block;
 use crate::fault::Fault;
 use crate::following::{Following, many_with};
 use crate::input::Input;
-use crate::integers::{compare, integer_op, select};
-use crate::memory::{alloca, bitcast, element, load, store};
-use crate::phis::phi;
-use crate::site::{Site, is_phi};
+use crate::memory::{alloca, load, store};
+use crate::numbers::{compare, integer_op};
+use crate::site::Site;
 use ir_ast::{BlockId, Instr, Op, ValueId};
 use ir_tokens::Kind;
 use items::Items;
@@ -24,16 +25,15 @@ fn named_op(alloc: Global, input: &mut Input<'_>, site: Site, value: ValueId) ->
     ensures { Reads ((form.named_op site value).read input.old) result input.new }
 {
     match input.kind() {
-        Kind::Alloca => alloca(alloc, input, value),
-        Kind::Bitcast => bitcast(alloc, input, value),
-        Kind::Load => load(alloc, input, value),
-        Kind::Getelementptr => element(alloc, input, site, value),
-        Kind::Icmp => compare(alloc, input, value),
-        Kind::Select => select(alloc, input, value),
-        Kind::Phi => phi(alloc, input, site, value),
-        Kind::Call => call(alloc, input, value),
-        Kind::Tail | Kind::Notail => tail_call(alloc, input, value),
-        _ => integer_op(alloc, input, value),
+        Kind::Alloca => Ok(Op::Memory(alloca(alloc, input, value)?)),
+        Kind::Bitcast => Ok(Op::Cast(bitcast(alloc, input, value)?)),
+        Kind::Load => Ok(Op::Memory(load(alloc, input, value)?)),
+        Kind::Getelementptr => Ok(Op::Element(element(alloc, input, site, value)?)),
+        Kind::Icmp => Ok(Op::Number(compare(alloc, input, value)?)),
+        Kind::Select => Ok(Op::Choice(select(alloc, input, value)?)),
+        Kind::Call => Ok(Op::Call(call(alloc, input, value)?)),
+        Kind::Tail | Kind::Notail => Ok(Op::Call(tail_call(alloc, input, value)?)),
+        _ => Ok(Op::Number(integer_op(alloc, input, value)?)),
     }
 }
 
@@ -46,7 +46,7 @@ fn named(alloc: Global, input: &mut Input<'_>, site: Site, value: ValueId) -> Re
     valued(alloc, input, value, op)
 }
 
-/// An instruction that does not end its block.
+/// An instruction of a body.
 #[tactic(auto, unfolding(crate::specs::Instructions::instruction))]
 fn instruction(alloc: Global, input: &mut Input<'_>, site: Site) -> Result<Instr, Fault>
     ensures { Reads ((form.instruction site).read input.old) result input.new }
@@ -63,8 +63,8 @@ fn instruction(alloc: Global, input: &mut Input<'_>, site: Site) -> Result<Instr
         Kind::Call => call_statement(alloc, input),
         Kind::Tail | Kind::Notail => tail_call_statement(alloc, input),
         Kind::Store => {
-            let op = store(alloc, input)?;
-            unnamed(alloc, input, op)
+            let store = store(alloc, input)?;
+            unnamed(alloc, input, Op::Memory(store))
         }
         _ => Err(input.refuse(false)),
     }
@@ -92,31 +92,14 @@ impl Following for Site {
         }
         let read = instruction(alloc, input, *self)?;
         self.place += 1;
-        self.is_behind_phis = self.is_behind_phis && is_phi(&read.op);
         Ok(read)
     }
 }
 
-/// The instructions of a block before the one that ends it.
+/// The instructions of the body of a block.
 #[tactic(auto, unfolding(crate::specs::Instructions::body))]
-fn body(alloc: Global, input: &mut Input<'_>, block: BlockId) -> Result<Items<Instr>, Fault>
+pub fn body(alloc: Global, input: &mut Input<'_>, block: BlockId) -> Result<Items<Instr>, Fault>
     ensures { Reads ((form.body block).read input.old) result input.new }
 {
     many_with(alloc, input, Site::first_of(block))
-}
-
-/// The instructions of a block; the last one ends it.
-#[tactic(auto, unfolding(crate::specs::Instructions::instructions))]
-pub fn instructions(
-    alloc: Global,
-    input: &mut Input<'_>,
-    block: BlockId,
-) -> Result<Items<Instr>, Fault>
-    ensures { Reads ((form.instructions block).read input.old) result input.new }
-{
-    let mut found = body(alloc, input, block)?;
-    let op = terminator(alloc, input)?;
-    let op = trailed(alloc, input, op)?;
-    found.push(Instr { result: None, op })?;
-    Ok(found)
 }

@@ -9,7 +9,7 @@ use crate::input::Input;
 use crate::listed::many;
 use crate::lists::Arguments;
 use crate::starts::is_indirect_callee;
-use ir_ast::{Instr, IrType, Op, SymbolId, TypeId, ValueId};
+use ir_ast::{Call, Instr, IrType, Op, SymbolId, TypeId, ValueId};
 use ir_tokens::Kind;
 use std::alloc::Global;
 
@@ -26,7 +26,7 @@ fn called(alloc: Global, input: &mut Input<'_>) -> Result<SymbolId, Fault>
 
 /// A call after the type of its result.
 #[tactic(auto, unfolding(crate::specs::Calls::call_behind, crate::specs::Lists::arguments))]
-fn call_behind(alloc: Global, input: &mut Input<'_>, returned: TypeId) -> Result<Op, Fault>
+fn call_behind(alloc: Global, input: &mut Input<'_>, returned: TypeId) -> Result<Call, Fault>
     ensures { Reads ((form.call_behind returned).read input.old) result input.new }
 {
     let callee = called(alloc, input)?;
@@ -34,7 +34,7 @@ fn call_behind(alloc: Global, input: &mut Input<'_>, returned: TypeId) -> Result
     let arguments = many::<Arguments>(alloc, input)?;
     input.expect(Kind::CloseRound)?;
     decorations(alloc, input, Spot::Call)?;
-    Ok(Op::Call {
+    Ok(Call {
         returned,
         callee,
         arguments,
@@ -42,7 +42,7 @@ fn call_behind(alloc: Global, input: &mut Input<'_>, returned: TypeId) -> Result
 }
 
 /// A call after its word, whose value is this one.
-fn typed_call(alloc: Global, input: &mut Input<'_>, value: ValueId) -> Result<Op, Fault>
+fn typed_call(alloc: Global, input: &mut Input<'_>, value: ValueId) -> Result<Call, Fault>
     ensures { Reads ((form.typed_call value).read input.old) result input.new }
 {
     let returned = input.scalar(alloc)?.id;
@@ -53,7 +53,7 @@ fn typed_call(alloc: Global, input: &mut Input<'_>, value: ValueId) -> Result<Op
 
 /// A call whose value has this name.
 #[tactic(auto, unfolding(crate::specs::Calls::call))]
-pub fn call(alloc: Global, input: &mut Input<'_>, value: ValueId) -> Result<Op, Fault>
+pub fn call(alloc: Global, input: &mut Input<'_>, value: ValueId) -> Result<Call, Fault>
     ensures { Reads ((form.call value).read input.old) result input.new }
 {
     input.skip();
@@ -82,7 +82,7 @@ pub fn unnamed(alloc: Global, input: &mut Input<'_>, op: Op) -> Result<Instr, Fa
 
 /// A call without a value, after its word.
 #[tactic(auto, unfolding(crate::specs::Calls::void_call))]
-fn void_call(alloc: Global, input: &mut Input<'_>) -> Result<Op, Fault>
+fn void_call(alloc: Global, input: &mut Input<'_>) -> Result<Call, Fault>
     ensures { Reads (form.void_call.read input.old) result input.new }
 {
     input.skip();
@@ -96,8 +96,8 @@ fn numbered_call(alloc: Global, input: &mut Input<'_>) -> Result<Instr, Fault>
     ensures { Reads (form.numbered_call.read input.old) result input.new }
 {
     let value = input.unnamed_value(alloc)?;
-    let op = typed_call(alloc, input, value)?;
-    valued(alloc, input, value, op)
+    let call = typed_call(alloc, input, value)?;
+    valued(alloc, input, value, Op::Call(call))
 }
 
 /// A call without the name of a value.
@@ -109,8 +109,8 @@ pub fn call_statement(alloc: Global, input: &mut Input<'_>) -> Result<Instr, Fau
     decorations(alloc, input, Spot::Result)?;
     match input.kind() {
         Kind::Void => {
-            let op = void_call(alloc, input)?;
-            unnamed(alloc, input, op)
+            let call = void_call(alloc, input)?;
+            unnamed(alloc, input, Op::Call(call))
         }
         _ => numbered_call(alloc, input),
     }
@@ -129,7 +129,7 @@ fn sees_call(input: &mut Input<'_>) -> Result<(), Fault>
 
 /// A call whose value has this name, with a word before it.
 #[tactic(auto, unfolding(crate::specs::Calls::tail_call))]
-pub fn tail_call(alloc: Global, input: &mut Input<'_>, value: ValueId) -> Result<Op, Fault>
+pub fn tail_call(alloc: Global, input: &mut Input<'_>, value: ValueId) -> Result<Call, Fault>
     ensures { Reads ((form.tail_call value).read input.old) result input.new }
 {
     sees_call(input)?;

@@ -32,7 +32,7 @@ impl<'a> Model for Cursor<'a> {
 }
 
 #[tactic(auto, unfolding(crate::specs::Cursor::same_kind))]
-fn same_kind(a: Kind, b: Kind) -> bool
+pub fn same_kind(a: Kind, b: Kind) -> bool
     ensures { result ≡ spec.same_kind a b }
 {
     a == b
@@ -100,6 +100,17 @@ impl<'a> Cursor<'a> {
     {
         match self.rest {
             [_, token, ..] => token.kind,
+            _ => Kind::End,
+        }
+    }
+
+    /// What the third token is.
+    #[tactic(auto, unfolding(crate::specs::Cursor::kind_third))]
+    pub fn kind_third(&self) -> Kind
+        ensures { result ≡ spec.kind_third self.now }
+    {
+        match self.rest {
+            [_, _, token, ..] => token.kind,
             _ => Kind::End,
         }
     }

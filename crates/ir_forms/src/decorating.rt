@@ -8,7 +8,7 @@ use crate::following::{Following, many_with};
 use crate::input::Input;
 use crate::listed::{Listed, many};
 use crate::starts::{begins_any_type, is_flag};
-use ir_ast::Op;
+use ir_ast::{MemoryOp, Op};
 use ir_tokens::Kind;
 use std::alloc::Global;
 
@@ -315,8 +315,8 @@ fn trail_of(op: &Op) -> Trail
     ensures { result ≡ form.trail_of op.now }
 {
     match op {
-        Op::Alloca(_) => Trail::Slot,
-        Op::Load { .. } | Op::Store { .. } => Trail::Memory,
+        Op::Memory(MemoryOp::Alloca(_)) => Trail::Slot,
+        Op::Memory(_) => Trail::Memory,
         _ => Trail::Other,
     }
 }

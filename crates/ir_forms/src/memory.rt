@@ -1,4 +1,4 @@
-//! Instructions of slots and places.
+//! Operations on memory.
 ghost use Rattle.std.specs.Prelude.{◌≡◌};
 ghost use Rattle.ir_forms.specs.Input.{Reads};
 ghost use Rattle.ir_forms.specs.Memory as form;
@@ -6,43 +6,25 @@ ghost use Rattle.ir_forms.specs.Memory as form;
 use crate::decorating::optional;
 use crate::fault::Fault;
 use crate::input::Input;
-use crate::lists::{indices, typed};
-use crate::site::Site;
 use crate::written::{WrittenType, bits_of};
-use ir_ast::{Argument, IrType, Op, ValueId};
+use ir_ast::{Argument, IrType, MemoryOp, ValueId};
 use ir_tokens::Kind;
 use std::alloc::Global;
 
 #[tactic(auto, unfolding(crate::specs::Memory::alloca))]
-pub fn alloca(alloc: Global, input: &mut Input<'_>, value: ValueId) -> Result<Op, Fault>
+pub fn alloca(alloc: Global, input: &mut Input<'_>, value: ValueId) -> Result<MemoryOp, Fault>
     ensures { Reads ((form.alloca value).read input.old) result input.new }
 {
     input.skip();
     let held = input.scalar(alloc)?.id;
     let slot = input.intern(IrType::Pointer(held))?;
     input.set_type(value, slot);
-    Ok(Op::Alloca(held))
-}
-
-#[tactic(auto, unfolding(crate::specs::Memory::bitcast))]
-pub fn bitcast(alloc: Global, input: &mut Input<'_>, value: ValueId) -> Result<Op, Fault>
-    ensures { Reads ((form.bitcast value).read input.old) result input.new }
-{
-    input.skip();
-    let from = typed(alloc, input)?;
-    input.expect(Kind::To)?;
-    let to = input.scalar(alloc)?.id;
-    input.set_type(value, to);
-    Ok(Op::Bitcast {
-        from: from.written,
-        operand: from.operand,
-        to,
-    })
+    Ok(MemoryOp::Alloca(held))
 }
 
 /// A place of a part whose type is written before it.
 #[tactic(auto, unfolding(crate::specs::Memory::place_of))]
-fn place_of(alloc: Global, input: &mut Input<'_>, held: &WrittenType) -> Result<Argument, Fault>
+pub fn place_of(alloc: Global, input: &mut Input<'_>, held: &WrittenType) -> Result<Argument, Fault>
     ensures { Reads ((form.place_of held.now).read input.old) result input.new }
 {
     let written = input.pointer_again(alloc, held)?;
@@ -51,7 +33,7 @@ fn place_of(alloc: Global, input: &mut Input<'_>, held: &WrittenType) -> Result<
 }
 
 #[tactic(auto, unfolding(crate::specs::Memory::load))]
-pub fn load(alloc: Global, input: &mut Input<'_>, value: ValueId) -> Result<Op, Fault>
+pub fn load(alloc: Global, input: &mut Input<'_>, value: ValueId) -> Result<MemoryOp, Fault>
     ensures { Reads ((form.load value).read input.old) result input.new }
 {
     input.skip();
@@ -60,7 +42,7 @@ pub fn load(alloc: Global, input: &mut Input<'_>, value: ValueId) -> Result<Op, 
     input.expect(Kind::Comma)?;
     let place = place_of(alloc, input, &loaded)?;
     input.set_type(value, loaded.id);
-    Ok(Op::Load {
+    Ok(MemoryOp::Load {
         loaded: loaded.id,
         place_type: place.written,
         place: place.operand,
@@ -68,7 +50,7 @@ pub fn load(alloc: Global, input: &mut Input<'_>, value: ValueId) -> Result<Op, 
 }
 
 #[tactic(auto, unfolding(crate::specs::Memory::store))]
-pub fn store(alloc: Global, input: &mut Input<'_>) -> Result<Op, Fault>
+pub fn store(alloc: Global, input: &mut Input<'_>) -> Result<MemoryOp, Fault>
     ensures { Reads (form.store.read input.old) result input.new }
 {
     input.skip();
@@ -77,43 +59,10 @@ pub fn store(alloc: Global, input: &mut Input<'_>) -> Result<Op, Fault>
     let value = input.operand(alloc, bits_of(&stored))?;
     input.expect(Kind::Comma)?;
     let place = place_of(alloc, input, &stored)?;
-    Ok(Op::Store {
+    Ok(MemoryOp::Store {
         stored: stored.id,
         value,
         place_type: place.written,
         place: place.operand,
-    })
-}
-
-/// The type of which a part is taken.
-#[tactic(auto, unfolding(crate::specs::Memory::source))]
-fn source(alloc: Global, input: &mut Input<'_>) -> Result<WrittenType, Fault>
-    ensures { Reads (form.source.read input.old) result input.new }
-{
-    optional(input, Kind::Inbounds);
-    input.any_type(alloc)
-}
-
-/// getelementptr.
-#[tactic(auto, unfolding(crate::specs::Memory::element))]
-pub fn element(
-    alloc: Global,
-    input: &mut Input<'_>,
-    site: Site,
-    value: ValueId,
-) -> Result<Op, Fault>
-    ensures { Reads ((form.element site value).read input.old) result input.new }
-{
-    input.skip();
-    let source = source(alloc, input)?;
-    input.expect(Kind::Comma)?;
-    let base = place_of(alloc, input, &source)?;
-    let indices = indices(alloc, input)?;
-    input.set_element(value, site.block, site.place);
-    Ok(Op::Element {
-        source: source.id,
-        base_type: base.written,
-        base: base.operand,
-        indices,
     })
 }

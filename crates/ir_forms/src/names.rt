@@ -266,7 +266,7 @@ impl<'a> Input<'a> {
             .define(value.number() as usize, LocalSort::Value(shown));
     }
 
-    /// The value that this name means is the one of the getelementptr at this place of this block.
+    /// The value that this name means is the one of the getelementptr at this place of this block's body.
     pub fn set_element(&mut self, value: ValueId, block: BlockId, place: u32)
         ensures { (form.set_element value block place).read self.old ≡ Ok (tt, self.new) }
     {

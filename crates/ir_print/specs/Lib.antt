@@ -1,6 +1,14 @@
 pub mod Names
 pub mod Types
 pub mod Operands
+pub mod Parts
+pub mod Numbers
+pub mod Memory
+pub mod Elements
+pub mod Casts
+pub mod Choices
+pub mod Calls
+pub mod Ends
 pub mod Instructions
 pub mod Blocks
 pub mod Items

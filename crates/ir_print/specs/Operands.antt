@@ -2,10 +2,10 @@
 use Rattle.std.specs.Prelude.{ℕ, ◌==◌, Bool, true, false, if◌then◌else◌, List, [], ◌∷◌, ◌++◌, Option, Some, slice_get, codes}
 use Rattle.std.specs.List.{flat_map}
 use Rattle.std.specs.Fmt.{decimal}
+use Rattle.ir_ast.specs.declared.argument.Argument.{Argument}
 use Rattle.ir_ast.specs.declared.ir_type.IrType.{IrType}
 use Rattle.ir_ast.specs.declared.ir_type.IrType.TheVariants.{Integer}
 use Rattle.ir_ast.specs.declared.module.Module.{Module}
-use Rattle.ir_ast.specs.declared.op.Argument.{Argument}
 use Rattle.ir_ast.specs.declared.operand.Constant.{Constant}
 use Rattle.ir_ast.specs.declared.operand.Constant.TheVariants as constant
 use Rattle.ir_ast.specs.declared.operand.Operand.{Operand}
@@ -38,15 +38,15 @@ constant_text m written constant.Null = codes "null"
 constant_text m written (constant.Truth truth) = truth_text truth
 
 -- `bitcast (T* @g to U*)`
-abbrev pub cast_text : Module → (from symbol to : ℕ) → Text
-cast_text m from symbol to = codes "bitcast (" ++ type_text m from ++ 32 ∷ global_text m symbol ++ codes " to " ++ type_text m to ++ 41 ∷ []
+abbrev pub cast_global_text : Module → (from symbol to : ℕ) → Text
+cast_global_text m from symbol to = codes "bitcast (" ++ type_text m from ++ 32 ∷ global_text m symbol ++ codes " to " ++ type_text m to ++ 41 ∷ []
 
 -- what an instruction reads, of this type
 abbrev pub operand_text : Module → (locals : List Text) → (written : ℕ) → Operand → Text
 operand_text m locals written (operand.Constant x) = constant_text m written x
 operand_text m locals written (operand.Local value) = local_text locals value
 operand_text m locals written (operand.Global symbol) = global_text m symbol
-operand_text m locals written (operand.CastGlobal from symbol to) = cast_text m from symbol to
+operand_text m locals written (operand.CastGlobal from symbol to) = cast_global_text m from symbol to
 
 -- `T V`
 abbrev pub typed_text : Module → (locals : List Text) → (written : ℕ) → Operand → Text

@@ -4,10 +4,12 @@ ghost use Rattle.std.specs.List.{flat_map};
 ghost use Rattle.ir_print.specs.Blocks as block_spec;
 ghost use Rattle.ir_print.specs.Items as spec;
 
+use crate::choices::put_phis;
+use crate::ends::put_end_line;
 use crate::instructions::put_instructions;
-use crate::lists::{put_parameters, put_types};
 use crate::names::{put_label, put_struct_name};
 use crate::operands::put_constant;
+use crate::parameters::{put_parameters, put_types};
 use crate::types::put_type;
 use ir_ast::{Block, Declare, Function, Global as Word, Module, Names, StructType};
 use items::Items;
@@ -130,7 +132,9 @@ fn put_block(
 {
     put_label(out, locals, block.label)?;
     out.extend_from_slice(b":\n")?;
-    put_instructions(alloc, out, module, locals, block.instructions.as_slice())
+    put_phis(alloc, out, module, locals, block.phis.as_slice())?;
+    put_instructions(alloc, out, module, locals, block.body.as_slice())?;
+    put_end_line(alloc, out, module, locals, &block.end)
 }
 
 fn put_blocks(

@@ -51,7 +51,7 @@ pub fn put_constant(
 }
 
 /// `bitcast (T* @g to U*)`.
-fn put_cast(
+fn put_cast_global(
     alloc: Global,
     out: &mut Vec<u8>,
     module: &Module,
@@ -59,7 +59,7 @@ fn put_cast(
     global: SymbolId,
     to: TypeId,
 ) -> Result<(), AllocError>
-    ensures { OnOk result (out.new.items ≡ out.old.items ++ spec.cast_text «module».now from global to) }
+    ensures { OnOk result (out.new.items ≡ out.old.items ++ spec.cast_global_text «module».now from global to) }
 {
     out.extend_from_slice(b"bitcast (")?;
     put_type(alloc, out, module, from)?;
@@ -87,7 +87,7 @@ pub fn put_operand(
         Operand::Local(value) => put_local(out, locals, *value, Blank::Kept),
         Operand::Global(symbol) => put_global(out, module, *symbol, Blank::Kept),
         Operand::CastGlobal { from, global, to } => {
-            put_cast(alloc, out, module, *from, *global, *to)
+            put_cast_global(alloc, out, module, *from, *global, *to)
         }
     }
 }

@@ -1,10 +1,10 @@
 -- Operands with their types, pairs of operands, places and lists of arguments, as they are read.
 use Rattle.std.proofs.Common.{ℕ, ◌<◌, false, List, [], ◌∷◌, length, Option, None, Some, sym, subst, arith}
 use Rattle.std.specs.List.{AllByRecursion}
+use Rattle.ir_ast.specs.declared.argument.Argument.{Argument}
 use Rattle.ir_ast.specs.declared.function.Function.{Function}
 use Rattle.ir_ast.specs.declared.ir_type.IrType.TheVariants as type
 use Rattle.ir_ast.specs.declared.module.Module.{Module}
-use Rattle.ir_ast.specs.declared.op.Argument.{Argument}
 use Rattle.ir_ast.specs.declared.operand.Operand.{Operand}
 use Rattle.ir_tokens.specs.declared.token.Kind.TheVariants as k
 use Rattle.ir_forms.specs.declared.input.Input.{Input}
@@ -12,10 +12,11 @@ use Rattle.ir_forms.specs.declared.written.WrittenType.{WrittenType}
 use Rattle.ir_forms.specs.Written.{is_scalar, bits_of}
 use Rattle.ir_forms.specs.ManyWith.{Follows}
 use Rattle.ir_forms.specs.Lists.{argument, argument_takes, arguments, at_round, typed, index, any_index, indices, ends_indices, behind_index}
-use Rattle.ir_forms.specs.Integers.{pair, typed_pair, condition, bit_type}
+use Rattle.ir_forms.specs.Choices.{typed_pair}
+use Rattle.ir_forms.specs.Numbers.{pair, condition, bit_type}
 use Rattle.ir_forms.specs.Memory.{place_of}
 use Rattle.ir_forms.specs.declared.decorating.Spot.TheVariants as spot
-use Rattle.ir_forms.specs.declared.integers.TwoOperands.{TwoOperands}
+use Rattle.ir_forms.specs.declared.numbers.TwoOperands.{TwoOperands}
 use Rattle.ir_forms.specs.declared.lists.IndexList.{IndexList}
 use Rattle.ir_print_law.specs.Definitions.{defined_structs}
 use Rattle.ir_print_law.specs.Printable.{IsArgument, IsOperand, ArePair, IsCondition, IsPlaceType}

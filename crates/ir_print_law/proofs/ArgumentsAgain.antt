@@ -4,7 +4,7 @@ use Rattle.std.specs.Prelude.{codes}
 use Rattle.grammar.specs.Grammar.{pure, ◌>>=◌, ◌>>◌}
 use Rattle.ir_ast.specs.declared.function.Function.{Function}
 use Rattle.ir_ast.specs.declared.module.Module.{Module}
-use Rattle.ir_ast.specs.declared.op.Argument.{Argument}
+use Rattle.ir_ast.specs.declared.argument.Argument.{Argument}
 use Rattle.ir_ast.specs.declared.operand.Operand.{Operand}
 use Rattle.ir_tokens.specs.declared.token.Kind.{Kind}
 use Rattle.ir_tokens.specs.declared.token.Kind.TheVariants as k
@@ -21,15 +21,15 @@ use Rattle.ir_print.specs.Operands.{operand_text, argument_text}
 use Rattle.ir_print.specs.Standing.{Stands, IsSeam, AreBlanks}
 use Rattle.ir_print_law.specs.Again.{AreAlike, IsArgumentAgain}
 use Rattle.ir_print_law.specs.Printable.{IsArgument}
-use Rattle.ir_print_law.proofs.State.{Invariant, Ready, IsLater, Reads, Any}
+use Rattle.ir_print_law.proofs.State.{Invariant, Ready, Reads, Any}
 use Rattle.ir_print_law.proofs.Shown.{shown, IsTypeRead}
 use Rattle.ir_print_law.proofs.Steps.{so, looked, given, sign_reads, unlike, grows_itself, grows_further, later_before}
 use Rattle.ir_print_law.proofs.Types.{EndsType, Comes, ends_type}
 use Rattle.ir_print_law.proofs.WholeTypes.{type_begins}
 use Rattle.ir_print_law.proofs.PrintedTypes.{type_shown, read_again, scalar_reads}
 use Rattle.ir_print_law.proofs.OperandsAgain.{OperandAgain, ends_operand}
-use Rattle.ir_print_law.proofs.Parts.{ArgumentAgain, operand_at}
-use Rattle.ir_print_law.proofs.OperationsAgain.{on, said_on}
+use Rattle.ir_print_law.proofs.Parts.{IsLaterAgain, ArgumentAgain, operand_at}
+use Rattle.ir_print_law.proofs.Setting.{on, said_on}
 use Rattle.std.specs.List.{flat_map, AllByRecursion}
 use Rattle.ir_forms.specs.Cursor.{begins_line}
 use Rattle.ir_forms.specs.Decorations.{decorations, begins_decoration}
@@ -119,7 +119,7 @@ no_close _ = true
 
 -- arguments are these again, in each module later on
 abbrev pub AllArgumentsAgain : Module → (locals : List Text) → List Argument → List Argument → Input → Type 0
-AllArgumentsAgain m locals xs ys o = (n : Module) (others : List Text) → IsLater o n others → AreAlike (IsArgumentAgain m n locals others) xs ys
+AllArgumentsAgain m locals = IsLaterAgain (λ n others. AreAlike (IsArgumentAgain m n locals others))
 
 module _ {m : Module} {f : Function} (v : Invariant m f) where
   -- ---- arguments

@@ -1,17 +1,25 @@
 -- With which token a line of a function's body begins.
 use Rattle.std.proofs.Common.{◌≡◌, true, false, List, [], ◌∷◌, ◌++◌, refl, ap, subst, ◌∙◌, inl, inr, ◌⊎◌}
 use Rattle.std.specs.Prelude.{codes}
+use Rattle.ir_ast.specs.declared.ends.End.{End}
+use Rattle.ir_ast.specs.declared.ends.End.TheVariants as end
+use Rattle.ir_ast.specs.declared.memory.MemoryOp.TheVariants as memory
 use Rattle.ir_ast.specs.declared.module.Module.{Module}
+use Rattle.ir_ast.specs.declared.numbers.Arithmetic.TheVariants as arithmetic
+use Rattle.ir_ast.specs.declared.numbers.NumberOp.TheVariants as number
+use Rattle.ir_ast.specs.declared.numbers.Resize.TheVariants as resize
 use Rattle.ir_ast.specs.declared.op.Op.{Op}
 use Rattle.ir_ast.specs.declared.op.Op.TheVariants as op
 use Rattle.ir_tokens.specs.declared.token.Kind.{Kind}
 use Rattle.ir_tokens.specs.declared.token.Kind.TheVariants as k
 use Rattle.ir_tokens.specs.Bytes.{Text, class_of}
 use Rattle.ir_tokens.specs.Keywords.{word_kind, keywords}
-use Rattle.ir_forms.specs.Cursor.{kind}
+use Rattle.ir_forms.specs.Cursor.{kind, same_kind}
 use Rattle.ir_forms.specs.Place.{Place}
-use Rattle.ir_forms.specs.Branches as branches
-use Rattle.ir_print.specs.Instructions.{op_text, ends_block}
+use Rattle.ir_forms.specs.Ends as ends
+use Rattle.ir_print.specs.Elements.{element_word}
+use Rattle.ir_print.specs.Ends.{end_text}
+use Rattle.ir_print.specs.Instructions.{op_text}
 use Rattle.ir_print.specs.Names.{key_text}
 use Rattle.ir_print_law.specs.Readings.{IsKey}
 use Rattle.ir_print.specs.Standing.{Stands, IsSeam, AreBlanks}
@@ -20,7 +28,7 @@ use Rattle.ir_print_law.proofs.Words.{word_comes, local_comes, local_number_come
 use Rattle.ir_print_law.specs.Printable.{gives_value}
 use Rattle.ir_print_law.proofs.OpNeeds.{begins_body_line}
 
--- a value's name begins a line, and ends no block
+-- a value's name begins a line
 abbrev pub IsLocalKind : Kind → Type 0
 IsLocalKind x = (x ≡ k.LocalName) ⊎ (x ≡ k.LocalNumber)
 
@@ -31,51 +39,51 @@ local_kind place gap key rest (inr named) blanks seam at =
     let e = named.2 in
     inl (local_comes place gap named.0 rest blanks named.1 seam (subst (λ (x : Text). Stands place (gap ++ 37 ∷ (x ++ rest))) (ap key_text e ∙ name_key_text named.0) at)).0
 
--- an operation without a value that ends no block
-pub plain_kind : (m : Module) (locals : List Text) (x : Op) (place : Place) (rest : Text) → ends_block x ≡ false → gives_value m x ≡ false
-    → Stands place (10 ∷ 32 ∷ 32 ∷ (op_text m locals x ++ rest)) → (kind place ≡ k.Store) ⊎ (kind place ≡ k.Call)
+-- an operation without a value
+pub plain_kind : (m : Module) (locals : List Text) (x : Op) (place : Place) (rest : Text) → gives_value m x ≡ false → Stands place (10 ∷ 32 ∷ 32 ∷ (op_text m locals x ++ rest))
+    → (kind place ≡ k.Store) ⊎ (kind place ≡ k.Call)
 unfolding class_of word_kind keywords
-plain_kind m locals (op.Store stored value place_type at_place) place rest ends gives at = inl (word_comes place (10 ∷ 32 ∷ 32 ∷ []) (codes "store") _ refl refl refl at).0
-plain_kind m locals (op.Call returned callee arguments) place rest ends gives at = inr (word_comes place (10 ∷ 32 ∷ 32 ∷ []) (codes "call") _ refl refl refl at).0
-plain_kind m locals (op.Alloca held) place rest ends gives at = absurd cc
-plain_kind m locals (op.Bitcast from x to) place rest ends gives at = absurd cc
-plain_kind m locals (op.Load loaded place_type x) place rest ends gives at = absurd cc
-plain_kind m locals (op.Element source base_type base indices) place rest ends gives at = absurd cc
-plain_kind m locals (op.Arithmetic kind written first second) place rest ends gives at = absurd cc
-plain_kind m locals (op.Resize kind from x to) place rest ends gives at = absurd cc
-plain_kind m locals (op.Compare kind written first second) place rest ends gives at = absurd cc
-plain_kind m locals (op.Select condition_type condition written chosen other) place rest ends gives at = absurd cc
-plain_kind m locals (op.Phi written incoming) place rest ends gives at = absurd cc
-plain_kind m locals (op.Jump target) place rest ends gives at = absurd cc
-plain_kind m locals (op.Branch condition_type condition taken other) place rest ends gives at = absurd cc
-plain_kind m locals (op.Switch written value otherwise cases) place rest ends gives at = absurd cc
-plain_kind m locals op.Unreachable place rest ends gives at = absurd cc
-plain_kind m locals op.ReturnVoid place rest ends gives at = absurd cc
-plain_kind m locals (op.Return x) place rest ends gives at = absurd cc
+plain_kind m locals (op.Memory (memory.Store stored value place_type at_place)) place rest gives at = inl (word_comes place (10 ∷ 32 ∷ 32 ∷ []) (codes "store") _ refl refl refl at).0
+plain_kind m locals (op.Call x) place rest gives at = inr (word_comes place (10 ∷ 32 ∷ 32 ∷ []) (codes "call") _ refl refl refl at).0
+plain_kind m locals (op.Memory (memory.Alloca held)) place rest gives at = absurd cc
+plain_kind m locals (op.Memory (memory.Load loaded place_type x)) place rest gives at = absurd cc
+plain_kind m locals (op.Number x) place rest gives at = absurd cc
+plain_kind m locals (op.Element x) place rest gives at = absurd cc
+plain_kind m locals (op.Cast x) place rest gives at = absurd cc
+plain_kind m locals (op.Choice x) place rest gives at = absurd cc
 
--- an operation that ends a block
-pub last_kind : (m : Module) (locals : List Text) (x : Op) (place : Place) (rest : Text) → ends_block x ≡ true
-    → Stands place (10 ∷ 32 ∷ 32 ∷ (op_text m locals x ++ 10 ∷ rest)) → branches.ends_block (kind place) ≡ true
+-- an operation with a value, whose word is not that of a phi
+pub value_word : (m : Module) (locals : List Text) (x : Op) (place : Place) (rest : Text) → gives_value m x ≡ true → Stands place (32 ∷ (op_text m locals x ++ 10 ∷ rest)) → same_kind (kind place) k.Phi ≡ false
+unfolding class_of word_kind keywords same_kind element_word
+value_word m locals (op.Number (number.Arithmetic arithmetic.Add t a b)) place rest gives at = ap (λ (x : Kind). same_kind x k.Phi) (word_comes place (32 ∷ []) (codes "add") _ refl refl refl at).0
+value_word m locals (op.Number (number.Arithmetic arithmetic.Sub t a b)) place rest gives at = ap (λ (x : Kind). same_kind x k.Phi) (word_comes place (32 ∷ []) (codes "sub") _ refl refl refl at).0
+value_word m locals (op.Number (number.Arithmetic arithmetic.Mul t a b)) place rest gives at = ap (λ (x : Kind). same_kind x k.Phi) (word_comes place (32 ∷ []) (codes "mul") _ refl refl refl at).0
+value_word m locals (op.Number (number.Arithmetic arithmetic.And t a b)) place rest gives at = ap (λ (x : Kind). same_kind x k.Phi) (word_comes place (32 ∷ []) (codes "and") _ refl refl refl at).0
+value_word m locals (op.Number (number.Arithmetic arithmetic.Or t a b)) place rest gives at = ap (λ (x : Kind). same_kind x k.Phi) (word_comes place (32 ∷ []) (codes "or") _ refl refl refl at).0
+value_word m locals (op.Number (number.Arithmetic arithmetic.Xor t a b)) place rest gives at = ap (λ (x : Kind). same_kind x k.Phi) (word_comes place (32 ∷ []) (codes "xor") _ refl refl refl at).0
+value_word m locals (op.Number (number.Resize resize.ZeroExtend from a to)) place rest gives at = ap (λ (x : Kind). same_kind x k.Phi) (word_comes place (32 ∷ []) (codes "zext") _ refl refl refl at).0
+value_word m locals (op.Number (number.Resize resize.SignExtend from a to)) place rest gives at = ap (λ (x : Kind). same_kind x k.Phi) (word_comes place (32 ∷ []) (codes "sext") _ refl refl refl at).0
+value_word m locals (op.Number (number.Resize resize.Truncate from a to)) place rest gives at = ap (λ (x : Kind). same_kind x k.Phi) (word_comes place (32 ∷ []) (codes "trunc") _ refl refl refl at).0
+value_word m locals (op.Number (number.Compare c t a b)) place rest gives at = ap (λ (x : Kind). same_kind x k.Phi) (word_comes place (32 ∷ []) (codes "icmp") _ refl refl refl at).0
+value_word m locals (op.Memory (memory.Alloca held)) place rest gives at = ap (λ (x : Kind). same_kind x k.Phi) (word_comes place (32 ∷ []) (codes "alloca") _ refl refl refl at).0
+value_word m locals (op.Memory (memory.Load loaded place_type x)) place rest gives at = ap (λ (x : Kind). same_kind x k.Phi) (word_comes place (32 ∷ []) (codes "load") _ refl refl refl at).0
+value_word m locals (op.Memory (memory.Store stored value place_type x)) place rest gives at = absurd cc
+value_word m locals (op.Element x) place rest gives at = ap (λ (x : Kind). same_kind x k.Phi) (word_comes place (32 ∷ []) (codes "getelementptr") _ refl refl refl at).0
+value_word m locals (op.Cast x) place rest gives at = ap (λ (x : Kind). same_kind x k.Phi) (word_comes place (32 ∷ []) (codes "bitcast") _ refl refl refl at).0
+value_word m locals (op.Choice x) place rest gives at = ap (λ (x : Kind). same_kind x k.Phi) (word_comes place (32 ∷ []) (codes "select") _ refl refl refl at).0
+value_word m locals (op.Call x) place rest gives at = ap (λ (x : Kind). same_kind x k.Phi) (word_comes place (32 ∷ []) (codes "call") _ refl refl refl at).0
+
+-- the end of a block
+pub end_kind : (m : Module) (locals : List Text) (x : End) (place : Place) (rest : Text) → Stands place (10 ∷ 32 ∷ 32 ∷ (end_text m locals x ++ 10 ∷ rest)) → ends.ends_block (kind place) ≡ true
 unfolding class_of word_kind keywords
-last_kind m locals (op.Jump target) place rest ends at = ap branches.ends_block (word_comes place (10 ∷ 32 ∷ 32 ∷ []) (codes "br") _ refl refl refl at).0
-last_kind m locals (op.Branch condition_type condition taken other) place rest ends at = ap branches.ends_block (word_comes place (10 ∷ 32 ∷ 32 ∷ []) (codes "br") _ refl refl refl at).0
-last_kind m locals (op.Switch written value otherwise cases) place rest ends at = ap branches.ends_block (word_comes place (10 ∷ 32 ∷ 32 ∷ []) (codes "switch") _ refl refl refl at).0
-last_kind m locals op.Unreachable place rest ends at = ap branches.ends_block (word_comes place (10 ∷ 32 ∷ 32 ∷ []) (codes "unreachable") (10 ∷ rest) refl refl refl at).0
-last_kind m locals op.ReturnVoid place rest ends at = ap branches.ends_block (word_comes place (10 ∷ 32 ∷ 32 ∷ []) (codes "ret") _ refl refl refl at).0
-last_kind m locals (op.Return x) place rest ends at = ap branches.ends_block (word_comes place (10 ∷ 32 ∷ 32 ∷ []) (codes "ret") _ refl refl refl at).0
-last_kind m locals (op.Store stored value place_type at_place) place rest ends at = absurd cc
-last_kind m locals (op.Call returned callee arguments) place rest ends at = absurd cc
-last_kind m locals (op.Alloca held) place rest ends at = absurd cc
-last_kind m locals (op.Bitcast from x to) place rest ends at = absurd cc
-last_kind m locals (op.Load loaded place_type x) place rest ends at = absurd cc
-last_kind m locals (op.Element source base_type base indices) place rest ends at = absurd cc
-last_kind m locals (op.Arithmetic kind written first second) place rest ends at = absurd cc
-last_kind m locals (op.Resize kind from x to) place rest ends at = absurd cc
-last_kind m locals (op.Compare kind written first second) place rest ends at = absurd cc
-last_kind m locals (op.Select condition_type condition written chosen other) place rest ends at = absurd cc
-last_kind m locals (op.Phi written incoming) place rest ends at = absurd cc
+end_kind m locals (end.Jump target) place rest at = ap ends.ends_block (word_comes place (10 ∷ 32 ∷ 32 ∷ []) (codes "br") _ refl refl refl at).0
+end_kind m locals (end.Branch condition_type condition taken other) place rest at = ap ends.ends_block (word_comes place (10 ∷ 32 ∷ 32 ∷ []) (codes "br") _ refl refl refl at).0
+end_kind m locals (end.Switch written value otherwise cases) place rest at = ap ends.ends_block (word_comes place (10 ∷ 32 ∷ 32 ∷ []) (codes "switch") _ refl refl refl at).0
+end_kind m locals end.Unreachable place rest at = ap ends.ends_block (word_comes place (10 ∷ 32 ∷ 32 ∷ []) (codes "unreachable") (10 ∷ rest) refl refl refl at).0
+end_kind m locals end.ReturnVoid place rest at = ap ends.ends_block (word_comes place (10 ∷ 32 ∷ 32 ∷ []) (codes "ret") _ refl refl refl at).0
+end_kind m locals (end.Return x) place rest at = ap ends.ends_block (word_comes place (10 ∷ 32 ∷ 32 ∷ []) (codes "ret") _ refl refl refl at).0
 
-pub ends_begins : (x : Kind) → branches.ends_block x ≡ true → begins_body_line x ≡ true
+pub ends_begins : (x : Kind) → ends.ends_block x ≡ true → begins_body_line x ≡ true
 ends_begins k.Ret e = refl
 ends_begins k.Br e = refl
 ends_begins k.Switch e = refl

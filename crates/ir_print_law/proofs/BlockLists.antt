@@ -1,6 +1,6 @@
 -- All blocks of a function, up to the brace that closes it.
 use Rattle.std.proofs.Common.{◌≡◌, ℕ, ◌+◌, ◌<◌, ◌≤◌, Bool, true, false, ◌&&◌, List, [], ◌∷◌, ◌++◌, length, map, refl, ap, subst, ◌∙◌, arith, append_assoc, length-append, inl, inr, ◌⊎◌}
-use Rattle.std.specs.Prelude.{codes, nat_lt}
+use Rattle.std.specs.Prelude.{nat_lt}
 use Rattle.std.specs.List.{AllByRecursion, flat_map}
 use Rattle.std.proofs.lemmas.Bool.Decides.{nat_tests}
 use Rattle.ir_ast.specs.declared.block.Block.{Block}
@@ -14,8 +14,7 @@ use Rattle.ir_forms.specs.declared.input.Input.{Input}
 use Rattle.ir_forms.specs.ManyWith.{Follows}
 use Rattle.ir_text.specs.Blocks.{further, at_close, behind_block}
 use Rattle.ir_print.specs.Blocks.{block_text}
-use Rattle.ir_print.specs.Instructions.{instruction_line}
-use Rattle.ir_print.specs.Names.{name_at, key_text}
+use Rattle.ir_print.specs.Names.{name_at}
 use Rattle.ir_print.specs.Standing.{Stands}
 use Rattle.ir_print_law.proofs.Words.{sign_comes, seen}
 use Rattle.ir_print_law.specs.Definitions.{block_keys, value_keys_of}
@@ -23,7 +22,7 @@ use Rattle.ir_print_law.specs.Printable.{IsBlock}
 use Rattle.ir_print_law.specs.Again.{AreAlike, IsBlockAgain}
 use Rattle.ir_print_law.proofs.State.{Ready, IsLater}
 use Rattle.ir_print_law.proofs.Steps.{unlike}
-use Rattle.ir_print_law.proofs.BlockLines.{HasKeys, block_goes}
+use Rattle.ir_print_law.proofs.BlockLines.{HasKeys, block_lines, block_is, block_goes}
 use Rattle.ir_print_law.proofs.WholeForms.{Widens, widens_itself, widens_further, later_widened}
 use Rattle.ir_print_law.proofs.Known.{Far, AreNamed, known}
 use Rattle.ir_print_law.proofs.LabelLines.{label_kind}
@@ -54,14 +53,6 @@ always a b e g = rw (e, g) refl
 some_blocks : (n : ℕ) → 0 < n → nat_lt 0 n ≡ true
 some_blocks n less = grind (arith, nat_tests)
 
--- the label of a block comes first
-label_first : (m : Module) (locals : List Text) (b : Block) (rest : Text)
-    → block_text m locals b ++ rest ≡ key_text (name_at locals b.label) ++ 58 ∷ (10 ∷ (flat_map (instruction_line m locals) b.instructions ++ rest))
-label_first m locals b rest =
-    let key = key_text (name_at locals b.label) in
-    let lines = flat_map (instruction_line m locals) b.instructions in
-    append_assoc (key ++ codes ":\n") lines rest ∙ append_assoc key (codes ":\n") (lines ++ rest)
-
 closes : (i : Input) (rest : Text) → Stands i.cursor (10 ∷ 125 ∷ 10 ∷ rest) → kind i.cursor ≡ k.CloseBrace
 unfolding class_of
 closes i rest at = (sign_comes i.cursor (10 ∷ []) 125 (10 ∷ rest) k.CloseBrace refl refl refl at).0
@@ -72,8 +63,8 @@ module _ (m : Module) (f : Function) (named : AreNamed m f) (ops : OpsRead m f n
 
   block_label_comes : (b : Block) (i : Input) (rest : Text) → HasKeys m f named ops b → Stands i.cursor (10 ∷ (block_text m f.locals b ++ rest)) → is_label (kind i.cursor) ≡ true
   block_label_comes b i rest keys at =
-      label_is (kind i.cursor) (label_kind i.cursor (name_at f.locals b.label) (10 ∷ (flat_map (instruction_line m f.locals) b.instructions ++ rest)) keys.0
-      (subst (λ (t : Text). Stands i.cursor (10 ∷ t)) (label_first m f.locals b rest) at))
+      label_is (kind i.cursor) (label_kind i.cursor (name_at f.locals b.label) (10 ∷ block_lines m f.locals b rest) keys.0
+      (subst (λ (t : Text). Stands i.cursor (10 ∷ t)) (block_is m f.locals b rest) at))
 
   blocks_end : (bs : List Block) (rest : Text) → AllByRecursion (HasKeys m f named ops) bs → EndsOp (10 ∷ (text_of_blocks bs ++ 125 ∷ 10 ∷ rest))
   unfolding class_of

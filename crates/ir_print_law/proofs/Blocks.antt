@@ -1,80 +1,62 @@
 -- Blocks and parameters of a function, as they are read.
-use Rattle.std.proofs.Common.{◌≡◌, ℕ, ◌+◌, ◌<◌, ◌≤◌, true, List, [], ◌∷◌, length, Option, None, Some, refl, sym, ap, subst, ◌∙◌, arith}
+use Rattle.std.proofs.Common.{◌≡◌, ℕ, ◌+◌, ◌<◌, ◌≤◌, true, List, [], ◌∷◌, ◌++◌, length, length-append, Option, None, Some, refl, sym, ap, subst, ◌∙◌, arith}
+use Rattle.std.proofs.lemmas.Bool.Decides.{nat_tests}
 use Rattle.std.specs.List.{AllByRecursion}
+use Rattle.std.specs.Prelude.{nat_lt}
+use Rattle.ir_ast.specs.declared.block.Block.{Block}
+use Rattle.ir_ast.specs.declared.choices.Phi.{Phi}
 use Rattle.ir_ast.specs.declared.function.Function.{Function}
 use Rattle.ir_ast.specs.declared.function.LocalSort.TheVariants as local
+use Rattle.ir_ast.specs.declared.function.Parameter.{Parameter}
+use Rattle.ir_ast.specs.declared.instr.Instr.{Instr}
 use Rattle.ir_ast.specs.declared.module.Module.{Module}
-use Rattle.ir_ast.specs.declared.op.Op.{Op}
 use Rattle.ir_tokens.specs.declared.token.Kind.{Kind}
 use Rattle.ir_tokens.specs.declared.token.Kind.TheVariants as k
 use Rattle.ir_forms.specs.Cursor.{kind}
-use Rattle.ir_forms.specs.declared.input.Input.{Input}
-use Rattle.ir_print_law.proofs.Forms.{Keeps, Same, Any}
-use Rattle.std.specs.Prelude.{nat_lt}
-use Rattle.std.proofs.lemmas.Bool.Decides.{nat_tests}
-use Rattle.grammar.specs.Many.{Listed}
-use Rattle.ir_ast.specs.declared.block.Block.{Block}
-use Rattle.ir_ast.specs.declared.function.Parameter.{Parameter}
-use Rattle.ir_ast.specs.declared.instr.Instr.{Instr}
-use Rattle.std.proofs.Common.{◌++◌, length-append}
-use Rattle.ir_forms.specs.Written.{is_passed}
-use Rattle.ir_forms.specs.Instructions.{body, instructions}
+use Rattle.ir_forms.specs.Lists.{at_round}
 use Rattle.ir_forms.specs.ManyWith.{Follows}
-use Rattle.ir_forms.specs.Sites.{first_of}
+use Rattle.ir_forms.specs.Written.{is_passed}
 use Rattle.ir_forms.specs.declared.decorating.Spot.TheVariants as spot
+use Rattle.ir_forms.specs.declared.input.Input.{Input}
 use Rattle.ir_text.specs.Blocks.{label_by, block_label, block, further, at_close, behind_block, blocks}
 use Rattle.ir_text.specs.Parameters.{parameter_type_by, parameter_type, parameter_name_by, parameter_name, parameter, parameters}
-use Rattle.ir_forms.specs.Lists.{at_round}
 use Rattle.ir_text.specs.declared.blocks.Blocks.{Blocks}
-use Rattle.ir_print_law.specs.Printable.{IsBlock, IsLast, AreInner, IsParameter}
-use Rattle.ir_print_law.proofs.Branches.{IsEnd, terminator_keeps}
-use Rattle.ir_print_law.proofs.Decorations.{trailed_keeps, decorations_pass, separator_passes}
-use Rattle.ir_print_law.proofs.Instructions.{with_result, with_results, inner_keeps}
+use Rattle.ir_print_law.specs.Printable.{IsBlock, IsParameter}
+use Rattle.ir_print_law.proofs.Choices.{with_phis, phis_keep}
+use Rattle.ir_print_law.proofs.Decorations.{decorations_pass, separator_passes}
+use Rattle.ir_print_law.proofs.Ends.{block_end_keeps}
+use Rattle.ir_print_law.proofs.Forms.{Keeps, Same, Any}
+use Rattle.ir_print_law.proofs.Instructions.{with_result, with_results, body_keeps}
 use Rattle.ir_print_law.proofs.Reading.{Progress, with_named_value, with_named_label, Builder, within_of, naming_of}
-use Rattle.ir_print_law.proofs.Operations.{sort_keeps}
 use Rattle.ir_print_law.proofs.TypesThat.{IsFit, passed_of, passed_keeps}
+use Rattle.ir_print_law.proofs.ValueLists.{with_values, values_from, values_labels}
+use Rattle.ir_print_law.proofs.ValueSorts.{sort_keeps}
 
+-- what is defined after a block
 abbrev pub with_block : Progress → Block → Progress
-with_block g block = with_results (with_named_label g block.label) block.instructions
+with_block g block = with_results (with_phis (with_named_label g block.label) block.phis) block.body
 
+-- the same after several blocks
 abbrev pub with_blocks : Progress → List Block → Progress
 with_blocks g [] = g
 with_blocks g (x ∷ xs) = with_blocks (with_block g x) xs
 
+-- what is defined after these parameters
 abbrev pub with_parameters : Progress → List Parameter → Progress
-with_parameters g [] = g
-with_parameters g (x ∷ xs) = with_parameters (with_named_value g x.value) xs
+with_parameters = with_values (λ (x : Parameter). x.value)
 
--- an instruction without a value defines nothing
-results_end : (g : Progress) (xs : List Instr) (x : Op) → with_results g (xs ++ record { result = None; op = x } ∷ []) ≡ with_results g xs
-results_end g [] x = refl
-results_end g (y ∷ xs) x = results_end (with_result g y.result) xs x
+results_labels : (g : Progress) (xs : List Instr) → (with_results g xs).labels ≡ g.labels
+results_labels g [] = refl
+results_labels g (x ∷ xs) = results_labels (with_result g x.result) xs ∙ by x.result where
+  by : (r : Option ℕ) → (with_result g r).labels ≡ g.labels
+  by None = refl
+  by (Some n) = refl
+
+-- a block defines one label
+pub block_labels : (g : Progress) (x : Block) → (with_block g x).labels ≡ g.labels ++ x.label ∷ []
+block_labels g x = results_labels (with_phis (with_named_label g x.label) x.phis) x.body ∙ values_labels (λ (y : Phi). y.value) (with_named_label g x.label) x.phis
 
 module _ {m : Module} {f : Function} {Back : Input → Type 0} {Fore : Progress → Input → Type 0} {Open : Progress → ℕ → Input → Type 0} (b : Builder m f Back Fore Open) where
-  -- the instructions of a block, of which the last ends it
-  abbrev AreBlock : List Instr → Type 0
-  AreBlock xs = (front : List Instr) × (last : Instr) × (xs ≡ front ++ last ∷ []) × AreInner m f true front × IsLast m f last
-
-  instructions_keep : (number : ℕ) (g : Progress) (i : Input) → Keeps (Fore g) (λ xs. Fore (with_results g xs)) Back (instructions number) AreBlock i
-  unfolding instructions body
-  instructions_keep number g i xs o h fore =
-      let t = h.3 in
-      let u = t.3 in
-      let a = inner_keeps b g (first_of number) i h.0 h.1 h.2 fore in
-      let v = within_of (b.kit (with_results g h.0)) in
-      let c = terminator_keeps v h.1 t.0 t.1 t.2 a.0 in
-      let d = trailed_keeps v.reading t.0 t.1 u.0 u.1 u.2 c.0 in
-      let last : Instr = record { result = None; op = u.0 } in
-      let e = sym (results_end g h.0 u.0) ∙ ap (λ (ys : List Instr). with_results g ys) u.3.0 in (
-        subst (λ (p : Progress). Fore p o) e (subst (Fore (with_results g h.0)) u.3.1 d.0),
-        λ back.
-            let db = d.1 (subst Back (sym u.3.1) back) in
-            let cb = c.1 db.0 in
-            let ab = a.1 cb.0 in
-            let end = subst (IsEnd v) db.1 cb.1 in
-            (ab.0, (h.0, last, sym u.3.0, ab.1, (end.0, end.1, refl))),
-      )
-
   label_by_keeps : (g : Progress) (x : Kind) (i : Input) → kind i.cursor ≡ x → Keeps (Fore g) (λ n. Fore (with_named_label g n)) Back (label_by (length g.labels) x) Any i
   label_by_keeps g k.LabelName i is = b.named_label g i is
   label_by_keeps g k.LabelNumber i is = b.numbered_label_is g i is
@@ -86,27 +68,29 @@ module _ {m : Module} {f : Function} {Back : Input → Type 0} {Fore : Progress 
       let label = h.2 in
       let rule = label.2 in
       let t = h.3 in
+      let u = t.3 in
+      let w = u.3 in
+      let labelled = with_named_label g h.0 in
+      let after_phis = with_phis labelled t.0 in
+      let after_body = with_results after_phis u.0 in
       let a = label_by_keeps g (kind label.1.cursor) label.1 refl h.0 h.1 label.3 (subst (Fore g) rule.1 fore) in
-      let c = instructions_keep (length g.labels) (with_named_label g h.0) h.1 t.0 t.1 t.2 a.0 in (
-        subst (λ (y : Block). Fore (with_block g y) o) t.3.0 (subst (Fore (with_results (with_named_label g h.0) t.0)) t.3.1 c.0),
+      let c = phis_keep b labelled h.1 t.0 t.1 t.2 a.0 in
+      let d = body_keeps b (length g.labels) after_phis t.1 u.0 u.1 u.2 c.0 in
+      let e = block_end_keeps (within_of (b.kit after_body)) u.1 w.0 w.1 w.2 d.0 in (
+        subst (λ (y : Block). Fore (with_block g y) o) w.3.0 (subst (Fore after_body) w.3.1 e.0),
         λ back.
-            let cb = c.1 (subst Back (sym t.3.1) back) in
+            let eb = e.1 (subst Back (sym w.3.1) back) in
+            let db = d.1 eb.0 in
+            let cb = c.1 db.0 in
             let ab = a.1 cb.0 in
             let few : nat_lt (length g.labels) 65535 ≡ true = rule.0 in
-            (subst Back (sym rule.1) ab.0, (subst (IsBlock m f) t.3.0 cb.1, grind (arith, nat_tests))),
+            (subst Back (sym rule.1) ab.0, (subst (IsBlock m f) w.3.0 (cb.1, db.1, eb.1), grind (arith, nat_tests))),
       )
 
   -- ---- the blocks of a function
 
-  same_labels : (g : Progress) (xs : List Instr) → (with_results g xs).labels ≡ g.labels
-  same_labels g [] = refl
-  same_labels g (x ∷ xs) = same_labels (with_result g x.result) xs ∙ by x.result where
-    by : (r : Option ℕ) → (with_result g r).labels ≡ g.labels
-    by None = refl
-    by (Some n) = refl
-
   one_label : (g : Progress) (x : Block) → length (with_block g x).labels ≡ length g.labels + 1
-  one_label g x = ap length (same_labels (with_named_label g x.label) x.instructions) ∙ length-append g.labels (x.label ∷ [])
+  one_label g x = ap length (block_labels g x) ∙ length-append g.labels (x.label ∷ [])
 
   blocks_from : (c : Blocks) (g : Progress) (i : Input) (xs : List Block) (o : Input) → c.count ≡ length g.labels → Follows at_close (λ c. (further c).says) behind_block c i xs o → Fore g i
       → Fore (with_blocks g xs) o × (Back o → Back i × AllByRecursion (IsBlock m f) xs × (c.count ≤ 65535 → c.count + length xs ≤ 65535))
@@ -168,7 +152,7 @@ module _ {m : Module} {f : Function} {Back : Input → Type 0} {Fore : Progress 
       let a = parameter_type_keeps g (kind i.cursor) i h.0 h.1 h.2 fore in
       let c = decorations_pass r spot.Parameter h.1 t.0 t.1 t.2 a.0 in
       let d = name_by_keeps g (kind t.1.cursor) t.1 refl u.0 u.1 u.2 c.0 in
-      let e = sort_keeps (naming_of b g u.0) (first_of 0) (local.Value h.0.id) tt u.1 w.0 w.1 w.2 d.0 in
+      let e = sort_keeps (naming_of b g u.0) (local.Value h.0.id) tt u.1 w.0 w.1 w.2 d.0 in
       let s = separator_passes (within_of (b.kit (with_named_value g u.0))).reading k.CloseRound w.1 z.0 z.1 z.2 e.0 in (
         subst (λ (y : Parameter). Fore (with_named_value g y.value) o) z.3.0 (subst (Fore (with_named_value g u.0)) z.3.1 s.0),
         λ back.
@@ -180,14 +164,6 @@ module _ {m : Module} {f : Function} {Back : Input → Type 0} {Fore : Progress 
             (ab.0, subst (IsParameter m) z.3.0 (passed_of m h.0 ab.1)),
       )
 
-  parameters_from : (g : Progress) (i : Input) (xs : List Parameter) (o : Input) → Listed at_round parameter.says i xs o → Fore g i
-      → Fore (with_parameters g xs) o × (Back o → Back i × AllByRecursion (IsParameter m) xs)
-  parameters_from g i [] o h fore = (subst (Fore g) h.1 fore, λ back. (subst Back (sym h.1) back, tt))
-  parameters_from g i (x ∷ xs) o h fore =
-      let a = parameter_keeps g i x h.1 h.2 fore in
-      let d = parameters_from (with_named_value g x.value) h.1 xs o h.3 a.0 in
-      (d.0, λ back. let db = d.1 back in let ab = a.1 db.0 in (ab.0, (ab.1, db.1)))
-
   pub parameters_keep : (g : Progress) (i : Input) → Keeps (Fore g) (λ xs. Fore (with_parameters g xs)) Back parameters (AllByRecursion (IsParameter m)) i
   unfolding parameters
-  parameters_keep g i xs o h fore = parameters_from g i xs o h fore
+  parameters_keep g i xs o h fore = values_from Back Fore (λ (x : Parameter). x.value) (IsParameter m) at_round parameter parameter_keeps g i xs o h fore

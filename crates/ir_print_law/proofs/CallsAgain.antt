@@ -1,19 +1,19 @@
 -- Printed calls are read as these calls again.
-use Rattle.std.proofs.Common.{◌≡◌, ℕ, ◌+◌, Bool, true, false, not, List, [], ◌∷◌, ◌++◌, slice_get, Option, None, Some, refl, ap, subst, arith, append_assoc, inl, inr}
+use Rattle.std.proofs.Common.{◌≡◌, ℕ, ◌+◌, true, false, List, [], ◌∷◌, ◌++◌, slice_get, None, Some, refl, ap, subst, arith, append_assoc, inl, inr}
 use Rattle.std.specs.Prelude.{codes}
 use Rattle.grammar.specs.Grammar.{pure, look, ◌>>=◌, ◌>>◌}
+use Rattle.ir_ast.specs.declared.calls.Call.{Call}
 use Rattle.ir_ast.specs.declared.function.Function.{Function}
 use Rattle.ir_ast.specs.declared.function.LocalSort.TheVariants as local
 use Rattle.ir_ast.specs.declared.ir_type.IrType.TheVariants as type
 use Rattle.ir_ast.specs.declared.module.Module.{Module}
-use Rattle.ir_ast.specs.declared.op.Argument.{Argument}
+use Rattle.ir_ast.specs.declared.argument.Argument.{Argument}
 use Rattle.ir_ast.specs.declared.op.Op.{Op}
 use Rattle.ir_ast.specs.declared.op.Op.TheVariants as op
-use Rattle.ir_tokens.specs.declared.token.Kind.{Kind}
 use Rattle.ir_tokens.specs.declared.token.Kind.TheVariants as k
 use Rattle.ir_tokens.specs.Bytes.{Text, class_of}
 use Rattle.ir_tokens.specs.Keywords.{word_kind, keywords}
-use Rattle.ir_forms.specs.Cursor.{kind, sees}
+use Rattle.ir_forms.specs.Cursor.{kind}
 use Rattle.ir_forms.specs.declared.input.Input.{Input}
 use Rattle.ir_forms.specs.declared.written.WrittenType.{WrittenType}
 use Rattle.ir_forms.specs.Input.{Form, advanced, skip, expect}
@@ -21,21 +21,20 @@ use Rattle.ir_forms.specs.Names.{set_type}
 use Rattle.ir_forms.specs.Written as w
 use Rattle.ir_forms.specs.Lists as lists
 use Rattle.ir_print.specs.Operands.{argument_text}
-use Rattle.ir_print.specs.Instructions.{op_text}
-use Rattle.ir_print.specs.Standing.{IsSeam, AreBlanks}
+use Rattle.ir_print.specs.Calls.{call_text}
+use Rattle.ir_print.specs.Standing.{AreBlanks}
 use Rattle.ir_print.specs.Types.{type_text, type_within, type_by}
-use Rattle.ir_print_law.specs.Again.{IsResultAgain, IsOpAgain}
+use Rattle.ir_print_law.specs.Again.{IsResultAgain, IsCallAgain, IsInstrAgain}
 use Rattle.ir_print_law.specs.Printable.{IsScalar, IsArgument}
 use Rattle.ir_print_law.specs.Shapes.{IsIn, Shape}
 use Rattle.ir_print_law.proofs.Tables.{stays}
 use Rattle.ir_print_law.proofs.State.{Invariant, Ready, IsLater, Reads}
 use Rattle.ir_print_law.proofs.Shown.{shown, IsTypeRead}
-use Rattle.ir_print_law.proofs.Steps.{looked, given, sign_reads, word_skipped, word_seen, intern_reads, unlike, grows_itself, later_before}
-use Rattle.ir_print_law.proofs.Types.{EndsType, ends_type}
+use Rattle.ir_print_law.proofs.Steps.{looked, given, sign_reads, word_skipped, word_seen, intern_reads, grows_itself, later_before}
 use Rattle.ir_print_law.proofs.WholeTypes.{type_begins}
 use Rattle.ir_print_law.proofs.PrintedTypes.{type_shown, read_again, scalar_reads}
-use Rattle.ir_print_law.proofs.Parts.{OpAgain, Sets}
-use Rattle.ir_print_law.proofs.OperationsAgain.{on, said_on, set_reads}
+use Rattle.ir_print_law.proofs.Parts.{IsLaterAgain, OpAgain, Sets}
+use Rattle.ir_print_law.proofs.Setting.{on, said_on, set_reads}
 use Rattle.std.specs.List.{AllByRecursion}
 use Rattle.ir_forms.specs.Cursor.{begins_line}
 use Rattle.ir_forms.specs.Decorations.{decorations, begins_decoration}
@@ -44,7 +43,6 @@ use Rattle.ir_forms.specs.declared.decorating.Spot.TheVariants as spot
 use Rattle.ir_forms.specs.Names.{callee, with_symbol_use}
 use Rattle.ir_ast.specs.Names.{number_of}
 use Rattle.name_text.specs.Names.{name_text}
-use Rattle.name_text.specs.Readings.{AreBytes}
 use Rattle.name_text.specs.declared.blank.Blank.TheVariants as blank
 use Rattle.ir_print.specs.Names.{name_at, global_text}
 use Rattle.ir_print.specs.Operands.{listed}
@@ -52,11 +50,12 @@ use Rattle.ir_print_law.proofs.NamesRead.{callees_are_read}
 use Rattle.ir_print_law.proofs.Words.{global_comes}
 use Rattle.ir_print_law.specs.Printable.{IsVoid}
 use Rattle.ir_print_law.specs.Definitions.{functions_of}
-use Rattle.ir_print_law.proofs.OperandsAgain.{symbol_ready, symbol_grows, symbol_few, symbol_there, sign_less}
+use Rattle.ir_print_law.proofs.OperandsAgain.{ends_global, symbol_ready, symbol_grows, symbol_few, symbol_there, sign_less}
 use Rattle.ir_ast.specs.declared.instr.Instr.{Instr}
-use Rattle.ir_forms.specs.Decorations.{trailing, trail_of}
-use Rattle.ir_forms.specs.declared.decorating.Trail.{Trail}
-use Rattle.ir_print_law.proofs.ArgumentsAgain.{ends_line, EndsLine, undecorated_line, undecorated_type, decorations_said, AllArgumentsAgain, arguments_read}
+use Rattle.ir_forms.specs.Decorations.{trail_of}
+use Rattle.ir_forms.specs.Ops.{as_op}
+use Rattle.ir_print_law.proofs.ListsAgain.{no_comma_seen, trailing_said}
+use Rattle.ir_print_law.proofs.ArgumentsAgain.{EndsLine, undecorated_line, undecorated_type, decorations_said, AllArgumentsAgain, arguments_read}
 
 -- a call of these texts
 abbrev call_by : (returned callee arguments : Text) → Text
@@ -71,131 +70,117 @@ pub void_shown : (n : Module) (t : ℕ) → slice_get n.types t ≡ Some type.Vo
 unfolding type_within
 void_shown n t e = ap (type_by (type_within 63 n) n) e
 
--- a token of this kind is no comma
-abbrev pub not_comma : Kind → Bool
-not_comma k.Comma = false
-not_comma _ = true
+-- a call is this one again, in each module later on
+abbrev pub CallAgain : Module → (locals : List Text) → Call → Call → Input → Type 0
+CallAgain m locals = IsLaterAgain (λ n others. IsCallAgain m n locals others)
 
--- no comma comes at the end of a line
-line_no_comma : (x : Kind) → ends_line x ≡ true → not_comma x ≡ true
-line_no_comma k.Comma e = absurd cc
-line_no_comma _ e = refl
+-- an instruction without a value
+abbrev pub plain : Op → Instr
+plain x = record { result = None; op = x }
 
--- so none is seen there
-pub no_comma_seen : (i : Input) → ends_line (kind i.cursor) ≡ true → sees k.Comma i.cursor ≡ false
-no_comma_seen i e = unlike k.Comma not_comma i refl (line_no_comma (kind i.cursor) e)
-
--- there are no decorations after an instruction
-pub trailing_said : (t : Trail) (i : Input) → sees k.Comma i.cursor ≡ false → (trailing t).says i tt i
-unfolding trailing
-trailing_said t i e = ([], i, (ap not e, refl), (refl, refl))
-
--- the name of a function ends a type
-ends_callee : (name behind : Text) → AreBytes name → IsSeam behind → EndsType (32 ∷ 64 ∷ (name_text blank.Kept name ++ behind))
-unfolding class_of
-ends_callee name behind own seam = (refl, λ i at. ap ends_type (global_comes i.cursor (32 ∷ []) name behind refl own seam at).0)
-
--- an instruction with this value, or none, whose operation is this one again
-abbrev pub InstrAgain : Module → (locals : List Text) → Option ℕ → Op → Instr → Input → Type 0
-InstrAgain m locals value x y o = (y.result ≡ value) × OpAgain m locals x y.op o
+-- an instruction without a value does this again, in each module later on
+abbrev pub PlainAgain : Module → (locals : List Text) → Op → Instr → Input → Type 0
+PlainAgain m locals x = IsLaterAgain (λ n others. IsInstrAgain m n locals others) (plain x)
 
 module _ {m : Module} {f : Function} (v : Invariant m f) where
   -- `@f(T V, ..)`
-  pub call_behind_reads : (returned number callee : ℕ) (xs : List Argument) (i : Input) (rest : Text) (s : ℕ) → IsIn (functions_of m) (name_at m.symbols callee) → AllByRecursion (IsArgument m f) xs
-      → ((n : Module) (others : List Text) → IsLater i n others → IsResultAgain m n returned number) → EndsLine rest
-      → Ready v s i (32 ∷ (global_text m callee ++ (40 ∷ (listed (argument_text m f.locals) xs ++ 41 ∷ rest)))) → Reads v s (calls.call_behind number) i rest (OpAgain m f.locals (op.Call returned callee xs))
-  unfolding calls.call_behind calls.called class_of IsOpAgain
-  call_behind_reads returned number callee xs i rest s there own again ends ready =
-      let name = name_at m.symbols callee in
-      let good = OpAgain m f.locals (op.Call returned callee xs) in
-      let t2 = listed (argument_text m f.locals) xs ++ 41 ∷ rest in
+  pub call_behind_reads : (x : Call) (number : ℕ) (i : Input) (rest : Text) (s : ℕ) → IsIn (functions_of m) (name_at m.symbols x.callee) → AllByRecursion (IsArgument m f) x.arguments
+      → ((n : Module) (others : List Text) → IsLater i n others → IsResultAgain m n x.returned number) → EndsLine rest
+      → Ready v s i (32 ∷ (global_text m x.callee ++ (40 ∷ (listed (argument_text m f.locals) x.arguments ++ 41 ∷ rest)))) → Reads v s (calls.call_behind number) i rest (CallAgain m f.locals x)
+  unfolding calls.call_behind calls.called class_of
+  call_behind_reads x number i rest s there own again ends ready =
+      let name = name_at m.symbols x.callee in
+      let good = CallAgain m f.locals x in
+      let t2 = listed (argument_text m f.locals) x.arguments ++ 41 ∷ rest in
       let t1 = 40 ∷ t2 in
       let is = v.is_symbol true name there in
       let c = callees_are_read name i (32 ∷ []) t1 is.0 is.1 (symbol_few v i _ s name ready) refl refl ready.stands in
       let g1 = global_comes i.cursor (32 ∷ []) name t1 refl is.0 refl ready.stands in
-      let a : Reads v s calls.called i (40 ∷ (listed (argument_text m f.locals) xs ++ 41 ∷ rest)) (λ n o. slice_get o.symbols.names n ≡ Some (name_at m.symbols callee)) =
-      looked v (λ i. kind i.cursor) calls.called_by i (40 ∷ (listed (argument_text m f.locals) xs ++ 41 ∷ rest)) s (λ n o. slice_get o.symbols.names n ≡ Some (name_at m.symbols callee)) k.GlobalName g1.0
+      let a : Reads v s calls.called i (40 ∷ (listed (argument_text m f.locals) x.arguments ++ 41 ∷ rest)) (λ n o. slice_get o.symbols.names n ≡ Some (name_at m.symbols x.callee)) =
+      looked v (λ i. kind i.cursor) calls.called_by i (40 ∷ (listed (argument_text m f.locals) x.arguments ++ 41 ∷ rest)) s (λ n o. slice_get o.symbols.names n ≡ Some (name_at m.symbols x.callee)) k.GlobalName g1.0
       (number_of name i.symbols.names, with_symbol_use true i, c.0, symbol_ready v true i _ t1 s name c.1 there ready (sign_less v 64 (32 ∷ []) (name_text blank.Kept name) t1) c.2, symbol_grows v true i, symbol_there v i name true c.1) in
-      on v v calls.called round_form i t1 rest s s (λ n o. slice_get o.symbols.names n ≡ Some (name_at m.symbols callee)) good a
+      on v v calls.called round_form i t1 rest s s (λ n o. slice_get o.symbols.names n ≡ Some (name_at m.symbols x.callee)) good a
       (λ fn o ready g named.
       on v v (expect k.OpenRound) (λ _. arguments_form fn) o t2 rest s s (λ _ q. advanced o ≡ q) good
       (sign_reads v 40 k.OpenRound o [] t2 s s refl refl refl (omega arith) ready)
       (λ _ q ready h e.
-      on v v lists.arguments (close_form fn) q (41 ∷ rest) rest s s (AllArgumentsAgain m f.locals xs) good
-      (arguments_read v xs q rest s own ready)
+      on v v lists.arguments (close_form fn) q (41 ∷ rest) rest s s (AllArgumentsAgain m f.locals x.arguments) good
+      (arguments_read v x.arguments q rest s own ready)
       (λ ys r ready hh arguments_again.
       on v v (expect k.CloseRound) (λ _. end_form fn ys) r rest rest s s (λ _ z. advanced r ≡ z) good
       (sign_reads v 41 k.CloseRound r [] rest s s refl refl refl (omega arith) ready)
       (λ _ z ready h3 e.
-      said_on v (decorations spot.Call) (λ _. pure (op.Call number fn ys)) z tt rest s good (decorations_said spot.Call z (undecorated_line (begins_line z.cursor) (kind z.cursor) (ends.1 z ready.stands)))
-      (given v (op.Call number fn ys) z rest s good ready
+      said_on v (decorations spot.Call) (λ _. pure (made fn ys)) z tt rest s good (decorations_said spot.Call z (undecorated_line (begins_line z.cursor) (kind z.cursor) (ends.1 z ready.stands)))
+      (given v (made fn ys) z rest s good ready
       (λ n others later.
       let laterr = later_before r z n others h3 later in
       let laterq = later_before q r n others hh laterr in
       let latero = later_before o q n others h laterq in
       let lateri = later_before i o n others g latero in
-      (again n others lateri, stays o.symbols.names n.symbols fn (name_at m.symbols callee) latero.symbols named, arguments_again n others laterr)))))))
+      (again n others lateri, stays o.symbols.names n.symbols fn (name_at m.symbols x.callee) latero.symbols named, arguments_again n others laterr)))))))
     where
-      end_form : ℕ → List Argument → Form Op
-      end_form fn ys = decorations spot.Call >> pure (op.Call number fn ys)
+      made : ℕ → List Argument → Call
+      made fn ys = record { returned = number; callee = fn; arguments = ys }
 
-      close_form : ℕ → List Argument → Form Op
+      end_form : ℕ → List Argument → Form Call
+      end_form fn ys = decorations spot.Call >> pure (made fn ys)
+
+      close_form : ℕ → List Argument → Form Call
       close_form fn ys = expect k.CloseRound >> end_form fn ys
 
-      arguments_form : ℕ → Form Op
+      arguments_form : ℕ → Form Call
       arguments_form fn = lists.arguments >>= close_form fn
 
-      round_form : ℕ → Form Op
+      round_form : ℕ → Form Call
       round_form fn = expect k.OpenRound >> arguments_form fn
 
   -- an instruction without a value
-  pub unnamed_reads : (x y : Op) (i : Input) (rest : Text) (s : ℕ) → EndsLine rest → OpAgain m f.locals x y i → Ready v s i rest → Reads v s (calls.unnamed y) i rest (InstrAgain m f.locals None x)
+  pub unnamed_reads : (x y : Op) (i : Input) (rest : Text) (s : ℕ) → EndsLine rest → OpAgain m f.locals x y i → Ready v s i rest → Reads v s (calls.unnamed y) i rest (PlainAgain m f.locals x)
   unnamed_reads x y i rest s ends again ready =
       let said = trailing_said (trail_of y) i (no_comma_seen i (ends.1 i ready.stands)) in
-      (record { result = None; op = y }, i, (y, i, (tt, i, said, (refl, refl)), (refl, refl)), ready, grows_itself i, (refl, again))
+      (record { result = None; op = y }, i, (y, i, (tt, i, said, (refl, refl)), (refl, refl)), ready, grows_itself i, λ n others later. (tt, again n others later))
 
   -- `call void @f(T V, ..)`
-  pub void_call_reads : (returned callee : ℕ) (xs : List Argument) (i : Input) (gap rest : Text) (s : ℕ) → IsVoid m returned → IsIn (functions_of m) (name_at m.symbols callee) → AllByRecursion (IsArgument m f) xs
-      → EndsLine rest → AreBlanks gap → Ready v s i (gap ++ (op_text m f.locals (op.Call returned callee xs) ++ rest))
-      → Reads v s calls.call_statement i rest (InstrAgain m f.locals None (op.Call returned callee xs))
+  pub void_call_reads : (x : Call) (i : Input) (gap rest : Text) (s : ℕ) → IsVoid m x.returned → IsIn (functions_of m) (name_at m.symbols x.callee) → AllByRecursion (IsArgument m f) x.arguments
+      → EndsLine rest → AreBlanks gap → Ready v s i (gap ++ (call_text m f.locals x ++ rest))
+      → Reads v s calls.call_statement i rest (PlainAgain m f.locals (op.Call x))
   unfolding calls.call_statement calls.void_call class_of word_kind keywords
-  void_call_reads returned callee xs i gap rest s is_void there own ends blanks ready =
-      let good = InstrAgain m f.locals None (op.Call returned callee xs) in
-      let t2 = 32 ∷ (global_text m callee ++ (40 ∷ (listed (argument_text m f.locals) xs ++ 41 ∷ rest))) in
+  void_call_reads x i gap rest s is_void there own ends blanks ready =
+      let good = PlainAgain m f.locals (op.Call x) in
+      let t2 = 32 ∷ (global_text m x.callee ++ (40 ∷ (listed (argument_text m f.locals) x.arguments ++ 41 ∷ rest))) in
       let t1 = codes "void" ++ t2 in
-      let ready = subst (λ (y : Text). Ready v s i (gap ++ y)) (call_front (type_text m returned) (global_text m callee) (listed (argument_text m f.locals) xs) rest) ready in
-      let ready = subst (λ (y : Text). Ready v s i (gap ++ (codes "call" ++ (32 ∷ (y ++ t2))))) (void_text m returned is_void) ready in
+      let ready = subst (λ (y : Text). Ready v s i (gap ++ y)) (call_front (type_text m x.returned) (global_text m x.callee) (listed (argument_text m f.locals) x.arguments) rest) ready in
+      let ready = subst (λ (y : Text). Ready v s i (gap ++ (codes "call" ++ (32 ∷ (y ++ t2))))) (void_shown m x.returned is_void) ready in
       on v v skip (λ _. calls.call_statement_behind) i (32 ∷ t1) rest s s (λ _ o. advanced i ≡ o) good
       (word_skipped v (codes "call") i gap (32 ∷ t1) s s blanks refl refl (omega arith) ready)
       (λ _ o ready g e.
       let is = word_seen v (codes "void") o (32 ∷ []) t2 s refl refl refl ready in
       said_on v (decorations spot.Result) (λ _. look (λ i. kind i.cursor) calls.call_by) o tt rest s good (decorations_said spot.Result o (ap (begins_decoration spot.Result (begins_line o.cursor)) is))
       (looked v (λ i. kind i.cursor) calls.call_by o rest s good k.Void is
-      (on v v calls.void_call calls.unnamed o rest rest s s (OpAgain m f.locals (op.Call returned callee xs)) good
-      (on v v (skip >> w.intern type.Void) calls.call_behind o t2 rest s s (λ n q. slice_get q.types n ≡ Some type.Void) (OpAgain m f.locals (op.Call returned callee xs))
+      (on v v (as_op op.Call calls.void_call) calls.unnamed o rest rest s s (OpAgain m f.locals (op.Call x)) good
+      (on v v calls.void_call (λ y. pure (op.Call y)) o rest rest s s (CallAgain m f.locals x) (OpAgain m f.locals (op.Call x))
+      (on v v (skip >> w.intern type.Void) calls.call_behind o t2 rest s s (λ n q. slice_get q.types n ≡ Some type.Void) (CallAgain m f.locals x)
       (on v v skip (λ _. w.intern type.Void) o t2 t2 (s + 1) s (λ _ q. advanced o ≡ q) (λ n q. slice_get q.types n ≡ Some type.Void)
       (word_skipped v (codes "void") o (32 ∷ []) t2 s (s + 1) refl refl refl (omega arith) ready)
       (λ _ q ready h e. intern_reads v type.Void q t2 s tt ready))
-      (λ n q ready h is_there. call_behind_reads returned n callee xs q rest s there own
+      (λ n q ready h is_there. call_behind_reads x n q rest s there own
       (λ later_module others later. inl (is_void, stays q.types later_module.types n type.Void later.types is_there)) ends ready))
-      (λ x q ready h again. unnamed_reads (op.Call returned callee xs) x q rest s ends again ready))))
-    where
-      void_text : (n : Module) (t : ℕ) → slice_get n.types t ≡ Some type.Void → type_text n t ≡ codes "void"
-      void_text n t e = void_shown n t e
+      (λ y q ready h again. given v (op.Call y) q rest s (OpAgain m f.locals (op.Call x)) ready again))
+      (λ y q ready h again. unnamed_reads (op.Call x) y q rest s ends again ready))))
 
 module _ {m : Module} {f : Function} (v u : Invariant m f) where
   -- `call T @f(T V, ..)`, whose value has a name
-  pub call_reads : (shape : Shape) (value returned callee : ℕ) (xs : List Argument) (i : Input) (gap rest : Text) (s : ℕ) → IsScalar m shape returned → IsIn (functions_of m) (name_at m.symbols callee)
-      → AllByRecursion (IsArgument m f) xs → Sets v u value → EndsLine rest → AreBlanks gap → Ready v s i (gap ++ (op_text m f.locals (op.Call returned callee xs) ++ rest))
-      → Reads u s (calls.call value) i rest (OpAgain m f.locals (op.Call returned callee xs))
+  pub call_reads : (shape : Shape) (value : ℕ) (x : Call) (i : Input) (gap rest : Text) (s : ℕ) → IsScalar m shape x.returned → IsIn (functions_of m) (name_at m.symbols x.callee)
+      → AllByRecursion (IsArgument m f) x.arguments → Sets v u value → EndsLine rest → AreBlanks gap → Ready v s i (gap ++ (call_text m f.locals x ++ rest))
+      → Reads u s (calls.call value) i rest (CallAgain m f.locals x)
   unfolding calls.call class_of word_kind keywords
-  call_reads shape value returned callee xs i gap rest s scalar there own sets ends blanks ready =
-      let good = OpAgain m f.locals (op.Call returned callee xs) in
-      let type_is = type_shown m shape returned scalar.0.0 scalar.0.1 in
-      let t2 = 32 ∷ (global_text m callee ++ (40 ∷ (listed (argument_text m f.locals) xs ++ 41 ∷ rest))) in
+  call_reads shape value x i gap rest s scalar there own sets ends blanks ready =
+      let good = CallAgain m f.locals x in
+      let type_is = type_shown m shape x.returned scalar.0.0 scalar.0.1 in
+      let t2 = 32 ∷ (global_text m x.callee ++ (40 ∷ (listed (argument_text m f.locals) x.arguments ++ 41 ∷ rest))) in
       let t1 = shown false shape ++ t2 in
-      let is = v.is_symbol true (name_at m.symbols callee) there in
-      let ready = subst (λ (y : Text). Ready v s i (gap ++ y)) (call_front (type_text m returned) (global_text m callee) (listed (argument_text m f.locals) xs) rest) ready in
+      let is = v.is_symbol true (name_at m.symbols x.callee) there in
+      let ready = subst (λ (y : Text). Ready v s i (gap ++ y)) (call_front (type_text m x.returned) (global_text m x.callee) (listed (argument_text m f.locals) x.arguments) rest) ready in
       let ready = subst (λ (y : Text). Ready v s i (gap ++ (codes "call" ++ (32 ∷ (y ++ t2))))) type_is ready in
       on v u skip (λ _. typed_form) i (32 ∷ t1) rest s s (λ _ o. advanced i ≡ o) good
       (word_skipped v (codes "call") i gap (32 ∷ t1) s s blanks refl refl (omega arith) ready)
@@ -203,17 +188,17 @@ module _ {m : Module} {f : Function} (v u : Invariant m f) where
       let begins = type_begins v shape o (32 ∷ []) t2 scalar.0.2 refl refl ready.stands in
       said_on u (decorations spot.Result) (λ _. calls.typed_call value) o tt rest s good (decorations_said spot.Result o (undecorated_type (begins_line o.cursor) (kind o.cursor) begins))
       (on v u w.scalar call_form o t2 rest s s (IsTypeRead shape 64) good
-      (scalar_reads v shape o (32 ∷ []) t2 s scalar.0.2 scalar.0.1 scalar.1 refl (ends_callee (name_at m.symbols callee) (40 ∷ (listed (argument_text m f.locals) xs ++ 41 ∷ rest)) is.0 refl) ready)
+      (scalar_reads v shape o (32 ∷ []) t2 s scalar.0.2 scalar.0.1 scalar.1 refl (ends_global (name_at m.symbols x.callee) (40 ∷ (listed (argument_text m f.locals) x.arguments ++ 41 ∷ rest)) is.0 refl) ready)
       (λ p q ready h read.
-      on v u (calls.call_behind p.id) (set_form p) q rest rest s s (OpAgain m f.locals (op.Call returned callee xs)) good
-      (call_behind_reads v returned p.id callee xs q rest s there own (λ n others later. inr (read_again m shape returned p.id q n others scalar.0.0 read.has_shape later)) ends ready)
-      (λ x r ready hh again. set_reads v u value (local.Value p.id) (op.Call returned callee xs) x r rest s sets refl ready again))))
+      on v u (calls.call_behind p.id) (set_form p) q rest rest s s (CallAgain m f.locals x) good
+      (call_behind_reads v x p.id q rest s there own (λ n others later. inr (read_again m shape x.returned p.id q n others scalar.0.0 read.has_shape later)) ends ready)
+      (λ y r ready hh again. set_reads v u (λ n others. IsCallAgain m n f.locals others) value (local.Value p.id) x y r rest s sets refl ready again))))
     where
-      set_form : WrittenType → Op → Form Op
+      set_form : WrittenType → Call → Form Call
       set_form p x = set_type value p.id >> pure x
 
-      call_form : WrittenType → Form Op
+      call_form : WrittenType → Form Call
       call_form p = calls.call_behind p.id >>= set_form p
 
-      typed_form : Form Op
+      typed_form : Form Call
       typed_form = decorations spot.Result >> calls.typed_call value

@@ -1,6 +1,6 @@
 -- Where there is no decoration, none is read.
 use Rattle.std.proofs.Common.{◌≡◌, false, refl}
-use Rattle.ir_print_law.proofs.CallsAgain.{trailing_said}
+use Rattle.ir_print_law.proofs.ListsAgain.{trailing_said}
 use Rattle.ir_ast.specs.declared.op.Op.{Op}
 use Rattle.ir_tokens.specs.declared.token.Kind.TheVariants as k
 use Rattle.ir_forms.specs.Cursor.{sees}

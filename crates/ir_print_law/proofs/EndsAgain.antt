@@ -1,14 +1,13 @@
--- Printed instructions that end a block are read as these instructions again.
-use Rattle.std.proofs.Common.{◌≡◌, ℕ, ◌+◌, Bool, true, false, not, List, [], ◌∷◌, ◌++◌, Option, refl, sym, ap, subst, ◌∙◌, arith, append_assoc}
+-- Printed ends of blocks are read as these ends again.
+use Rattle.std.proofs.Common.{◌≡◌, ℕ, ◌+◌, true, false, not, List, [], ◌∷◌, ◌++◌, Option, refl, sym, ap, subst, ◌∙◌, arith, append_assoc}
 use Rattle.std.specs.Prelude.{codes}
 use Rattle.grammar.specs.Grammar.{pure, ◌>>=◌, ◌>>◌}
 use Rattle.ir_ast.specs.declared.function.Function.{Function}
 use Rattle.ir_ast.specs.declared.module.Module.{Module}
-use Rattle.ir_ast.specs.declared.op.Argument.{Argument}
-use Rattle.ir_ast.specs.declared.op.Op.{Op}
-use Rattle.ir_ast.specs.declared.op.Op.TheVariants as op
+use Rattle.ir_ast.specs.declared.argument.Argument.{Argument}
+use Rattle.ir_ast.specs.declared.ends.End.{End}
+use Rattle.ir_ast.specs.declared.ends.End.TheVariants as end
 use Rattle.ir_ast.specs.declared.operand.Operand.{Operand}
-use Rattle.ir_tokens.specs.declared.token.Kind.{Kind}
 use Rattle.ir_tokens.specs.declared.token.Kind.TheVariants as k
 use Rattle.ir_tokens.specs.Bytes.{Text, class_of}
 use Rattle.ir_tokens.specs.Keywords.{word_kind, keywords}
@@ -18,46 +17,48 @@ use Rattle.ir_forms.specs.declared.written.WrittenType.{WrittenType}
 use Rattle.ir_forms.specs.Input.{Form, advanced, skip, expect}
 use Rattle.ir_forms.specs.Operand as form
 use Rattle.ir_forms.specs.Written as w
-use Rattle.ir_forms.specs.Decorations.{either}
+use Rattle.ir_forms.specs.Decorations.{either, trailing}
+use Rattle.ir_forms.specs.declared.decorating.Trail.TheVariants as trail
+use Rattle.ir_print_law.proofs.ArgumentsAgain.{EndsLine}
+use Rattle.ir_print_law.proofs.ListsAgain.{no_comma_seen, trailing_said}
 use Rattle.ir_forms.specs.Lists as lists
-use Rattle.ir_forms.specs.Integers as integers
+use Rattle.ir_forms.specs.Numbers as numbers
 use Rattle.ir_print.specs.Operands.{operand_text, typed_text, argument_text}
-use Rattle.ir_print.specs.Instructions.{op_text, typed}
+use Rattle.ir_print.specs.Ends.{case_text, target_text, end_text}
+use Rattle.ir_print.specs.Parts.{typed}
 use Rattle.ir_print.specs.Standing.{Stands, IsSeam, AreBlanks}
 use Rattle.ir_print.specs.Types.{type_text}
-use Rattle.ir_print_law.specs.Printable.{IsType, IsScalar, IsOperand, IsArgument, IsCondition}
+use Rattle.ir_print_law.specs.Printable.{IsType, IsArgument, IsCondition}
 use Rattle.ir_print_law.specs.Shapes.{Shape, Integer, bits_of_shape}
-use Rattle.ir_print_law.proofs.State.{Invariant, Ready, Grows, IsLater, Reads}
+use Rattle.ir_print_law.proofs.State.{Invariant, Ready, Grows, Reads}
 use Rattle.ir_print_law.proofs.Shown.{shown, IsTypeRead, read_stays, bits_read}
 use Rattle.ir_print_law.proofs.Steps.{looked, given, sign_reads, word_skipped, word_seen, unlike, grows_itself, grows_further, later_before}
 use Rattle.ir_print_law.proofs.WholeTypes.{type_begins}
 use Rattle.ir_print_law.proofs.PrintedTypes.{type_shown, read_again, scalar_reads}
 use Rattle.ir_print_law.proofs.OperandsAgain.{OperandAgain, ends_operand}
 use Rattle.ir_print_law.proofs.AgainTypes.{again_reads}
-use Rattle.ir_print_law.proofs.Parts.{ends_again, OpAgain, ArgumentAgain, operand_at, typed_reads}
-use Rattle.ir_print_law.proofs.OperationsAgain.{on}
+use Rattle.ir_print_law.proofs.Parts.{ends_again, IsLaterAgain, ArgumentAgain, operand_at, typed_reads}
+use Rattle.ir_print_law.proofs.Setting.{on, said_on}
 use Rattle.std.specs.List.{flat_map}
 use Rattle.ir_forms.specs.ManyWith.{Follows}
 use Rattle.ir_print.specs.Names.{name_at}
 use Rattle.ir_print_law.proofs.Words.{seen}
 use Rattle.ir_print_law.proofs.Steps.{sign_kind, said_then}
-use Rattle.ir_print_law.specs.Again.{AreAlike, IsCaseAgain, IsOpAgain}
-use Rattle.ir_ast.specs.declared.op.Case.{Case}
-use Rattle.ir_forms.specs.Branches as branches
+use Rattle.ir_print_law.specs.Again.{AreAlike, IsCaseAgain, IsEndAgain}
+use Rattle.ir_ast.specs.declared.ends.Case.{Case}
+use Rattle.ir_forms.specs.Ends as ends
 use Rattle.ir_forms.specs.CaseValues.{value_of, is_among, with_value}
 use Rattle.ir_forms.specs.declared.case_values.CaseValue.{CaseValue}
 use Rattle.ir_print.specs.Fits.{FitsType}
-use Rattle.ir_print.specs.Instructions.{case_text, target_text}
 use Rattle.ir_print.specs.Names.{local_text}
 use Rattle.ir_print.specs.Operands.{constant_text}
 use Rattle.ir_print_law.proofs.Constants.{constant_is_read}
-use Rattle.ir_print_law.specs.Printable.{IsTarget, AreCases, IsOp}
-use Rattle.ir_print.specs.Instructions.{ends_block}
+use Rattle.ir_print_law.specs.Printable.{IsTarget, AreCases, IsEnd}
 use Rattle.ir_forms.specs.Names.{target}
 use Rattle.ir_print_law.proofs.Steps.{grows_advanced, passed, shorter}
 use Rattle.ir_print_law.proofs.OperandsAgain.{constant_by_shape}
 use Rattle.ir_print_law.proofs.Parts.{target_reads, label_later, HasLabel}
-use Rattle.ir_print_law.proofs.PlaceOperations.{condition_reads}
+use Rattle.ir_print_law.proofs.NumbersAgain.{condition_reads}
 use Rattle.ir_ast.specs.declared.operand.Operand.TheVariants as operand
 
 -- parts one after another
@@ -70,17 +71,16 @@ parts_front w a b p c q d r rest =
     let y = p ++ (c ++ (q ++ (d ++ (r ++ rest)))) in
     six_parts (w ++ (a ++ 32 ∷ b)) p c q d r rest ∙ append_assoc w (a ++ 32 ∷ b) y ∙ ap (λ (z : Text). w ++ z) (append_assoc a (32 ∷ b) y)
 
--- a token of this kind names no block and is not `void`
-abbrev pub no_label : Kind → Bool
-no_label k.Label = false
-no_label _ = true
+-- an end is this one again, in each module later on
+abbrev pub EndAgain : Module → (locals : List Text) → End → End → Input → Type 0
+EndAgain m locals = IsLaterAgain (λ n others. IsEndAgain m n locals others)
 
 module _ {m : Module} {f : Function} (v : Invariant m f) where
   -- ---- cases
 
   -- cases are these again, in each module later on
   abbrev AllCasesAgain : List Case → List Case → Input → Type 0
-  AllCasesAgain xs ys o = (n : Module) (others : List Text) → IsLater o n others → AreAlike (IsCaseAgain m n f.locals others) xs ys
+  AllCasesAgain = IsLaterAgain (λ n others. AreAlike (IsCaseAgain m n f.locals others))
 
   -- a token ends before cases
   seam_cases : (t : ℕ) (xs : List Case) (rest : Text) → IsSeam (flat_map (case_text m f.locals t) xs ++ (codes " ]" ++ rest))
@@ -92,8 +92,8 @@ module _ {m : Module} {f : Function} (v : Invariant m f) where
   case_reads : (shape : Shape) (t : ℕ) (x : Case) (p : WrittenType) (seen : List CaseValue) (i : Input) (rest : Text) (s : ℕ) → IsType m shape t → IsTypeRead shape 64 p i → FitsType (bits_of_shape shape) x.constant
       → is_among (value_of x.constant) seen ≡ false → IsTarget f x.target → IsSeam rest → Ready v s i (case_text m f.locals t x ++ rest)
       → (w.begins_type (kind i.cursor) ≡ true)
-      × (b : ℕ) × (o : Input) × (branches.case (record { written = p; seen = seen })).says i (record { constant = x.constant; target = b }) o × Ready v s o rest × Grows i o × HasLabel (name_at f.locals x.target) b o
-  unfolding branches.case branches.case_constant class_of
+      × (b : ℕ) × (o : Input) × (ends.case (record { written = p; seen = seen })).says i (record { constant = x.constant; target = b }) o × Ready v s o rest × Grows i o × HasLabel (name_at f.locals x.target) b o
+  unfolding ends.case ends.case_constant class_of
   case_reads shape t x p seen i rest s own read fits new there seam ready =
       let type_is = type_shown m shape t own.0 own.1 in
       let c_text = constant_text m t x.constant in
@@ -125,7 +125,7 @@ module _ {m : Module} {f : Function} (v : Invariant m f) where
   -- the cases of a switch are read
   cases_read : (shape : Shape) (t : ℕ) (xs : List Case) (p : WrittenType) (seen_values : List CaseValue) (i : Input) (rest : Text) (s : ℕ) → IsType m shape t → IsTypeRead shape 64 p i → AreCases f (bits_of_shape shape) seen_values xs
       → Ready v s i (flat_map (case_text m f.locals t) xs ++ (codes " ]" ++ rest))
-      → (ys : List Case) × (o : Input) × Follows branches.at_square (λ c. (branches.case c).says) branches.behind_case (record { written = p; seen = seen_values }) i ys o × Ready v s o (codes " ]" ++ rest) × Grows i o × AllCasesAgain xs ys o
+      → (ys : List Case) × (o : Input) × Follows ends.at_square (λ c. (ends.case c).says) ends.behind_case (record { written = p; seen = seen_values }) i ys o × Ready v s o (codes " ]" ++ rest) × Grows i o × AllCasesAgain xs ys o
   unfolding class_of
   cases_read shape t [] p seen_values i rest s own read cases ready =
       ([], i, (seen k.CloseSquare i (sign_kind v 93 k.CloseSquare i (32 ∷ []) rest s refl refl refl ready), refl), ready, grows_itself i, λ n others later. tt)
@@ -143,14 +143,14 @@ module _ {m : Module} {f : Function} (v : Invariant m f) where
       )
 
   -- `switch T V, label %d [ .. ]`
-  switch_reads : (t : ℕ) (x : Operand) (otherwise : ℕ) (xs : List Case) (i : Input) (gap rest : Text) (s : ℕ)
-      → ((shape : Shape) × IsScalar m shape t × IsOperand m f (bits_of_shape shape) x × IsTarget f otherwise × AreCases f (bits_of_shape shape) [] xs) → AreBlanks gap
-      → Ready v s i (gap ++ (op_text m f.locals (op.Switch t x otherwise xs) ++ rest)) → Reads v s branches.switch i rest (OpAgain m f.locals (op.Switch t x otherwise xs))
-  unfolding branches.switch branches.bracketed_cases branches.all_cases class_of word_kind keywords IsOpAgain
+  switch_reads : (t : ℕ) (x : Operand) (otherwise : ℕ) (xs : List Case) (i : Input) (gap rest : Text) (s : ℕ) → IsEnd m f (end.Switch t x otherwise xs)
+      → AreBlanks gap
+      → Ready v s i (gap ++ (end_text m f.locals (end.Switch t x otherwise xs) ++ rest)) → Reads v s ends.switch i rest (EndAgain m f.locals (end.Switch t x otherwise xs))
+  unfolding ends.switch ends.bracketed_cases ends.all_cases class_of word_kind keywords
   switch_reads t x otherwise xs i gap rest s own blanks ready =
       let shape = own.0 in
       let scalar = own.1 in
-      let good = OpAgain m f.locals (op.Switch t x otherwise xs) in
+      let good = EndAgain m f.locals (end.Switch t x otherwise xs) in
       let type_is = type_shown m shape t scalar.0.0 scalar.0.1 in
       let t5 = flat_map (case_text m f.locals t) xs ++ (codes " ]" ++ rest) in
       let t4 = codes " [" ++ t5 in
@@ -159,7 +159,7 @@ module _ {m : Module} {f : Function} (v : Invariant m f) where
       let t1 = shown false shape ++ (32 ∷ (operand_text m f.locals t x ++ t2)) in
       let ready = subst (λ (y : Text). Ready v s i (gap ++ y)) (front (type_text m t) (operand_text m f.locals t x) (target_text f.locals otherwise) (flat_map (case_text m f.locals t) xs)) ready in
       let ready = subst (λ (y : Text). Ready v s i (gap ++ (codes "switch" ++ (32 ∷ (y ++ (32 ∷ (operand_text m f.locals t x ++ t2))))))) type_is ready in
-      on v v skip (λ _. branches.switch_behind) i (32 ∷ t1) rest s s (λ _ o. advanced i ≡ o) good
+      on v v skip (λ _. ends.switch_behind) i (32 ∷ t1) rest s s (λ _ o. advanced i ≡ o) good
       (word_skipped v (codes "switch") i gap (32 ∷ t1) s s blanks refl refl (omega arith) ready)
       (λ _ o ready g e.
       on v v w.scalar operand_form o (32 ∷ (operand_text m f.locals t x ++ t2)) rest s s (IsTypeRead shape 64) good
@@ -179,9 +179,9 @@ module _ {m : Module} {f : Function} (v : Invariant m f) where
       let each = cases_read shape t xs p [] opened.1 rest s scalar.0 (read_stays shape 64 p q opened.1 (grows_further q c opened.1 qc opened.4) read) own.4 opened.3 in
       let close = sign_reads v 93 k.CloseSquare each.1 (32 ∷ []) rest s s refl refl refl (omega arith) each.3 in
       let cd = grows_further c opened.1 close.1 opened.4 (grows_further opened.1 each.1 close.1 each.4 close.4) in
-      said_then v (branches.bracketed_cases p) (λ ys. pure (op.Switch p.id y b ys)) c close.1 each.0 rest s good
+      said_then v (ends.bracketed_cases p) (λ ys. pure (end.Switch p.id y b ys)) c close.1 each.0 rest s good
       (opened.0, opened.1, opened.2, (each.0, each.1, each.2, (close.0, close.1, close.2, (refl, refl)))) cd
-      (given v (op.Switch p.id y b each.0) close.1 rest s good close.3
+      (given v (end.Switch p.id y b each.0) close.1 rest s good close.3
       (λ n others later.
       let latere = later_before each.1 close.1 n others close.4 later in
       let laterc = later_before c close.1 n others cd later in
@@ -192,55 +192,55 @@ module _ {m : Module} {f : Function} (v : Invariant m f) where
       front : (a b c d : Text) → (codes "switch " ++ (a ++ 32 ∷ b) ++ codes ", " ++ c ++ codes " [" ++ d ++ codes " ]") ++ rest ≡ codes "switch" ++ (32 ∷ (a ++ (32 ∷ (b ++ (codes ", " ++ (c ++ (codes " [" ++ (d ++ (codes " ]" ++ rest)))))))))
       front a b c d = parts_front (codes "switch ") a b (codes ", ") c (codes " [") d (codes " ]") rest
 
-      cases_form : WrittenType → Operand → ℕ → Form Op
-      cases_form p y b = branches.bracketed_cases p >>= λ ys. pure (op.Switch p.id y b ys)
+      cases_form : WrittenType → Operand → ℕ → Form End
+      cases_form p y b = ends.bracketed_cases p >>= λ ys. pure (end.Switch p.id y b ys)
 
-      target_form : WrittenType → Operand → Form Op
+      target_form : WrittenType → Operand → Form End
       target_form p y = target >>= cases_form p y
 
-      comma_form : WrittenType → Operand → Form Op
+      comma_form : WrittenType → Operand → Form End
       comma_form p y = expect k.Comma >> target_form p y
 
-      operand_form : WrittenType → Form Op
+      operand_form : WrittenType → Form End
       operand_form p = form.operand (w.bits_of p) >>= comma_form p
 
   -- ---- branches
 
   -- `br label %b`
   jump_reads : (label : ℕ) (i : Input) (gap rest : Text) (s : ℕ) → IsTarget f label → AreBlanks gap → IsSeam rest
-      → Ready v s i (gap ++ (op_text m f.locals (op.Jump label) ++ rest)) → Reads v s branches.br i rest (OpAgain m f.locals (op.Jump label))
-  unfolding branches.br class_of word_kind keywords IsOpAgain
+      → Ready v s i (gap ++ (end_text m f.locals (end.Jump label) ++ rest)) → Reads v s ends.br i rest (EndAgain m f.locals (end.Jump label))
+  unfolding ends.br class_of word_kind keywords
   jump_reads label i gap rest s there blanks seam ready =
-      let good = OpAgain m f.locals (op.Jump label) in
+      let good = EndAgain m f.locals (end.Jump label) in
       let t1 = target_text f.locals label ++ rest in
-      on v v skip (λ _. branches.br_behind) i (32 ∷ t1) rest s s (λ _ o. advanced i ≡ o) good
+      on v v skip (λ _. ends.br_behind) i (32 ∷ t1) rest s s (λ _ o. advanced i ≡ o) good
       (word_skipped v (codes "br") i gap (32 ∷ t1) s s blanks refl refl (omega arith) ready)
       (λ _ o ready g e.
-      looked v (λ i. sees k.Label i.cursor) (either branches.jump branches.branch) o rest s good true (seen k.Label o (word_seen v (codes "label") o (32 ∷ []) (32 ∷ (local_text f.locals label ++ rest)) s refl refl refl ready))
-      (on v v target (λ b. pure (op.Jump b)) o rest rest s s (HasLabel (name_at f.locals label)) good
+      looked v (λ i. sees k.Label i.cursor) (either ends.jump ends.branch) o rest s good true (seen k.Label o (word_seen v (codes "label") o (32 ∷ []) (32 ∷ (local_text f.locals label ++ rest)) s refl refl refl ready))
+      (on v v target (λ b. pure (end.Jump b)) o rest rest s s (HasLabel (name_at f.locals label)) good
       (target_reads v label o (32 ∷ []) rest s there refl seam ready)
-      (λ b q ready h named. given v (op.Jump b) q rest s good ready
+      (λ b q ready h named. given v (end.Jump b) q rest s good ready
       (λ n others later. label_later v label b q n others named later))))
 
   -- `br i1 V, label %a, label %b`
   branch_reads : (ct : ℕ) (c : Operand) (taken other : ℕ) (i : Input) (gap rest : Text) (s : ℕ) → IsCondition m f ct c → IsTarget f taken → IsTarget f other → AreBlanks gap → IsSeam rest
-      → Ready v s i (gap ++ (op_text m f.locals (op.Branch ct c taken other) ++ rest)) → Reads v s branches.br i rest (OpAgain m f.locals (op.Branch ct c taken other))
-  unfolding branches.br branches.branch class_of word_kind keywords IsOpAgain
+      → Ready v s i (gap ++ (end_text m f.locals (end.Branch ct c taken other) ++ rest)) → Reads v s ends.br i rest (EndAgain m f.locals (end.Branch ct c taken other))
+  unfolding ends.br ends.branch class_of word_kind keywords
   branch_reads ct c taken other i gap rest s own at_taken at_other blanks seam ready =
-      let good = OpAgain m f.locals (op.Branch ct c taken other) in
+      let good = EndAgain m f.locals (end.Branch ct c taken other) in
       let t4 = target_text f.locals other ++ rest in
       let t3 = codes ", " ++ t4 in
       let t2 = codes ", " ++ (target_text f.locals taken ++ t3) in
       let t1 = typed_text m f.locals ct c ++ t2 in
       let type_is = type_shown m (Integer 1) ct own.0 (omega arith) in
       let ready = subst (λ (y : Text). Ready v s i (gap ++ y)) (front (typed_text m f.locals ct c) (target_text f.locals taken) (target_text f.locals other)) ready in
-      on v v skip (λ _. branches.br_behind) i (32 ∷ t1) rest (s + 1) s (λ _ o. advanced i ≡ o) good
+      on v v skip (λ _. ends.br_behind) i (32 ∷ t1) rest (s + 1) s (λ _ o. advanced i ≡ o) good
       (word_skipped v (codes "br") i gap (32 ∷ t1) s (s + 1) blanks refl refl (omega arith) ready)
       (λ _ o ready g e.
       let starts = ap (λ (y : Text). (y ++ 32 ∷ operand_text m f.locals ct c) ++ t2) type_is ∙ append_assoc (shown false (Integer 1)) (32 ∷ operand_text m f.locals ct c) t2 in
       let begins = type_begins v (Integer 1) o (32 ∷ []) (32 ∷ (operand_text m f.locals ct c ++ t2)) (omega arith, omega arith) refl refl (subst (λ (y : Text). Stands o.cursor (32 ∷ y)) starts ready.stands) in
-      looked v (λ i. sees k.Label i.cursor) (either branches.jump branches.branch) o rest s good false (unlike k.Label w.begins_type o refl begins)
-      (on v v integers.condition first_form o t2 rest s s (ArgumentAgain m f.locals (typed ct c)) good
+      looked v (λ i. sees k.Label i.cursor) (either ends.jump ends.branch) o rest s good false (unlike k.Label w.begins_type o refl begins)
+      (on v v numbers.condition first_form o t2 rest s s (ArgumentAgain m f.locals (typed ct c)) good
       (condition_reads v ct c o (32 ∷ []) t2 s own refl refl ready)
       (λ b q ready h again.
       on v v (expect k.Comma) (λ _. taken_form b) q (32 ∷ (target_text f.locals taken ++ t3)) rest s s (λ _ z. advanced q ≡ z) good
@@ -252,81 +252,91 @@ module _ {m : Module} {f : Function} (v : Invariant m f) where
       on v v (expect k.Comma) (λ _. other_form b one) y (32 ∷ t4) rest s s (λ _ z. advanced y ≡ z) good
       (sign_reads v 44 k.Comma y [] (32 ∷ t4) s s refl refl refl (omega arith) ready)
       (λ _ a ready h5 e.
-      on v v target (λ two. pure (op.Branch b.written b.operand one two)) a rest rest s s (HasLabel (name_at f.locals other)) good
+      on v v target (λ two. pure (end.Branch b.written b.operand one two)) a rest rest s s (HasLabel (name_at f.locals other)) good
       (target_reads v other a (32 ∷ []) rest s at_other refl seam ready)
-      (λ two end ready h6 second. given v (op.Branch b.written b.operand one two) end rest s good ready
+      (λ two u ready h6 second. given v (end.Branch b.written b.operand one two) u rest s good ready
       (λ n others later.
-      let latery = later_before y end n others (grows_further y a end h5 h6) later in
+      let latery = later_before y u n others (grows_further y a u h5 h6) later in
       let laterq = later_before q y n others (grows_further q z y h3 h4) latery in
       let bit = again n others laterq in
-      (bit.0, bit.1, label_later v taken one y n others first latery, label_later v other two end n others second later)))))))))
+      (bit.0, bit.1, label_later v taken one y n others first latery, label_later v other two u n others second later)))))))))
     where
       front : (a b c : Text) → (codes "br " ++ a ++ codes ", " ++ b ++ codes ", " ++ c) ++ rest ≡ codes "br" ++ (32 ∷ (a ++ (codes ", " ++ (b ++ (codes ", " ++ (c ++ rest))))))
       front a b c = simp append_assoc
 
-      other_form : Argument → ℕ → Form Op
-      other_form b one = target >>= λ two. pure (op.Branch b.written b.operand one two)
+      other_form : Argument → ℕ → Form End
+      other_form b one = target >>= λ two. pure (end.Branch b.written b.operand one two)
 
-      second_form : Argument → ℕ → Form Op
+      second_form : Argument → ℕ → Form End
       second_form b one = expect k.Comma >> other_form b one
 
-      taken_form : Argument → Form Op
+      taken_form : Argument → Form End
       taken_form b = target >>= second_form b
 
-      first_form : Argument → Form Op
+      first_form : Argument → Form End
       first_form b = expect k.Comma >> taken_form b
 
   -- ---- ends of a function
 
   -- `ret T V`
   return_reads : (x : Argument) (i : Input) (gap rest : Text) (s : ℕ) → IsArgument m f x → AreBlanks gap → IsSeam rest
-      → Ready v s i (gap ++ (op_text m f.locals (op.Return x) ++ rest)) → Reads v s branches.ret i rest (OpAgain m f.locals (op.Return x))
-  unfolding branches.ret class_of word_kind keywords IsOpAgain
+      → Ready v s i (gap ++ (end_text m f.locals (end.Return x) ++ rest)) → Reads v s ends.ret i rest (EndAgain m f.locals (end.Return x))
+  unfolding ends.ret class_of word_kind keywords
   return_reads x i gap rest s own blanks seam ready =
-      let good = OpAgain m f.locals (op.Return x) in
+      let good = EndAgain m f.locals (end.Return x) in
       let t1 = argument_text m f.locals x ++ rest in
       let type_is = type_shown m own.0 x.written own.1.0.0 own.1.0.1 in
-      on v v skip (λ _. branches.ret_behind) i (32 ∷ t1) rest s s (λ _ o. advanced i ≡ o) good
+      on v v skip (λ _. ends.ret_behind) i (32 ∷ t1) rest s s (λ _ o. advanced i ≡ o) good
       (word_skipped v (codes "ret") i gap (32 ∷ t1) s s blanks refl refl (omega arith) ready)
       (λ _ o ready g e.
       let starts = ap (λ (y : Text). (y ++ 32 ∷ operand_text m f.locals x.written x.operand) ++ rest) type_is ∙ append_assoc (shown false own.0) (32 ∷ operand_text m f.locals x.written x.operand) rest in
       let begins = type_begins v own.0 o (32 ∷ []) (32 ∷ (operand_text m f.locals x.written x.operand ++ rest)) own.1.0.2 refl refl (subst (λ (y : Text). Stands o.cursor (32 ∷ y)) starts ready.stands) in
-      looked v (λ i. sees k.Void i.cursor) (either (skip >> pure op.ReturnVoid) branches.returned_value) o rest s good false (unlike k.Void w.begins_type o refl begins)
-      (on v v lists.typed (λ y. pure (op.Return y)) o rest rest s s (ArgumentAgain m f.locals x) good
+      looked v (λ i. sees k.Void i.cursor) (either (skip >> pure end.ReturnVoid) ends.returned_value) o rest s good false (unlike k.Void w.begins_type o refl begins)
+      (on v v lists.typed (λ y. pure (end.Return y)) o rest rest s s (ArgumentAgain m f.locals x) good
       (typed_reads v x.written x.operand o (32 ∷ []) rest s own refl seam ready)
-      (λ y q ready h again. given v (op.Return y) q rest s good ready (λ n others later. again n others later))))
+      (λ y q ready h again. given v (end.Return y) q rest s good ready (λ n others later. again n others later))))
 
-  -- an instruction that ends a block
-  pub terminator_reads : (x : Op) (i : Input) (gap rest : Text) (s : ℕ) → IsOp m f x → ends_block x ≡ true → AreBlanks gap → IsSeam rest
-      → Ready v s i (gap ++ (op_text m f.locals x ++ rest)) → Reads v s branches.terminator i rest (OpAgain m f.locals x)
-  unfolding branches.terminator branches.ret class_of word_kind keywords IsOpAgain
-  terminator_reads (op.Jump label) i gap rest s own ends blanks seam ready =
-      looked v (λ i. kind i.cursor) branches.terminator_by i rest s (OpAgain m f.locals (op.Jump label)) k.Br (word_seen v (codes "br") i gap _ s blanks refl refl ready)
+  -- the instruction that ends a block
+  terminator_reads : (x : End) (i : Input) (gap rest : Text) (s : ℕ) → IsEnd m f x → AreBlanks gap → IsSeam rest
+      → Ready v s i (gap ++ (end_text m f.locals x ++ rest)) → Reads v s ends.terminator i rest (EndAgain m f.locals x)
+  unfolding ends.terminator ends.ret class_of word_kind keywords
+  terminator_reads (end.Jump label) i gap rest s own blanks seam ready =
+      looked v (λ i. kind i.cursor) ends.terminator_by i rest s (EndAgain m f.locals (end.Jump label)) k.Br (word_seen v (codes "br") i gap _ s blanks refl refl ready)
       (jump_reads label i gap rest s own blanks seam ready)
-  terminator_reads (op.Branch ct c taken other) i gap rest s own ends blanks seam ready =
-      looked v (λ i. kind i.cursor) branches.terminator_by i rest s (OpAgain m f.locals (op.Branch ct c taken other)) k.Br
+  terminator_reads (end.Branch ct c taken other) i gap rest s own blanks seam ready =
+      looked v (λ i. kind i.cursor) ends.terminator_by i rest s (EndAgain m f.locals (end.Branch ct c taken other)) k.Br
       (word_seen v (codes "br") i gap _ s blanks refl refl ready)
       (branch_reads ct c taken other i gap rest s own.0 own.1 own.2 blanks seam ready)
-  terminator_reads (op.Switch t x otherwise xs) i gap rest s own ends blanks seam ready =
-      looked v (λ i. kind i.cursor) branches.terminator_by i rest s (OpAgain m f.locals (op.Switch t x otherwise xs)) k.Switch
+  terminator_reads (end.Switch t x otherwise xs) i gap rest s own blanks seam ready =
+      looked v (λ i. kind i.cursor) ends.terminator_by i rest s (EndAgain m f.locals (end.Switch t x otherwise xs)) k.Switch
       (word_seen v (codes "switch") i gap _ s blanks refl refl ready)
       (switch_reads t x otherwise xs i gap rest s own blanks ready)
-  terminator_reads (op.Return x) i gap rest s own ends blanks seam ready =
-      looked v (λ i. kind i.cursor) branches.terminator_by i rest s (OpAgain m f.locals (op.Return x)) k.Ret (word_seen v (codes "ret") i gap _ s blanks refl refl ready)
+  terminator_reads (end.Return x) i gap rest s own blanks seam ready =
+      looked v (λ i. kind i.cursor) ends.terminator_by i rest s (EndAgain m f.locals (end.Return x)) k.Ret (word_seen v (codes "ret") i gap _ s blanks refl refl ready)
       (return_reads x i gap rest s own blanks seam ready)
-  terminator_reads op.Unreachable i gap rest s own ends blanks seam ready =
-      looked v (λ i. kind i.cursor) branches.terminator_by i rest s (OpAgain m f.locals op.Unreachable) k.Unreachable (word_seen v (codes "unreachable") i gap rest s blanks refl seam ready)
-      (on v v skip (λ _. pure op.Unreachable) i rest rest s s (λ _ o. advanced i ≡ o) (OpAgain m f.locals op.Unreachable)
+  terminator_reads end.Unreachable i gap rest s own blanks seam ready =
+      looked v (λ i. kind i.cursor) ends.terminator_by i rest s (EndAgain m f.locals end.Unreachable) k.Unreachable (word_seen v (codes "unreachable") i gap rest s blanks refl seam ready)
+      (on v v skip (λ _. pure end.Unreachable) i rest rest s s (λ _ o. advanced i ≡ o) (EndAgain m f.locals end.Unreachable)
       (word_skipped v (codes "unreachable") i gap rest s s blanks refl seam (omega arith) ready)
-      (λ _ o ready g e. given v op.Unreachable o rest s (OpAgain m f.locals op.Unreachable) ready (λ n others later. tt)))
-  terminator_reads op.ReturnVoid i gap rest s own ends blanks seam ready =
-      let good = OpAgain m f.locals op.ReturnVoid in
-      looked v (λ i. kind i.cursor) branches.terminator_by i rest s good k.Ret (word_seen v (codes "ret") i gap (32 ∷ (codes "void" ++ rest)) s blanks refl refl ready)
-      (on v v skip (λ _. branches.ret_behind) i (32 ∷ (codes "void" ++ rest)) rest s s (λ _ o. advanced i ≡ o) good
+      (λ _ o ready g e. given v end.Unreachable o rest s (EndAgain m f.locals end.Unreachable) ready (λ n others later. tt)))
+  terminator_reads end.ReturnVoid i gap rest s own blanks seam ready =
+      let good = EndAgain m f.locals end.ReturnVoid in
+      looked v (λ i. kind i.cursor) ends.terminator_by i rest s good k.Ret (word_seen v (codes "ret") i gap (32 ∷ (codes "void" ++ rest)) s blanks refl refl ready)
+      (on v v skip (λ _. ends.ret_behind) i (32 ∷ (codes "void" ++ rest)) rest s s (λ _ o. advanced i ≡ o) good
       (word_skipped v (codes "ret") i gap (32 ∷ (codes "void" ++ rest)) s s blanks refl refl (omega arith) ready)
       (λ _ o ready g e.
-      looked v (λ i. sees k.Void i.cursor) (either (skip >> pure op.ReturnVoid) branches.returned_value) o rest s good true (seen k.Void o (word_seen v (codes "void") o (32 ∷ []) rest s refl refl seam ready))
-      (on v v skip (λ _. pure op.ReturnVoid) o rest rest s s (λ _ q. advanced o ≡ q) good
+      looked v (λ i. sees k.Void i.cursor) (either (skip >> pure end.ReturnVoid) ends.returned_value) o rest s good true (seen k.Void o (word_seen v (codes "void") o (32 ∷ []) rest s refl refl seam ready))
+      (on v v skip (λ _. pure end.ReturnVoid) o rest rest s s (λ _ q. advanced o ≡ q) good
       (word_skipped v (codes "void") o (32 ∷ []) rest s s refl refl seam (omega arith) ready)
-      (λ _ q ready h e. given v op.ReturnVoid q rest s good ready (λ n others later. tt)))))
-  terminator_reads _ i gap rest s own ends blanks seam ready = absurd cc
+      (λ _ q ready h e. given v end.ReturnVoid q rest s good ready (λ n others later. tt)))))
+
+  -- the end of a block, after which a line ends
+  pub end_reads : (x : End) (i : Input) (gap rest : Text) (s : ℕ) → IsEnd m f x → AreBlanks gap → EndsLine rest
+      → Ready v s i (gap ++ (end_text m f.locals x ++ rest)) → Reads v s ends.block_end i rest (EndAgain m f.locals x)
+  unfolding ends.block_end
+  end_reads x i gap rest s own blanks line ready =
+      on v v ends.terminator ends.with_trail i rest rest s s (EndAgain m f.locals x) (EndAgain m f.locals x)
+      (terminator_reads x i gap rest s own blanks line.0 ready)
+      (λ y o ready g again.
+      let said = trailing_said trail.Other o (no_comma_seen o (line.1 o ready.stands)) in
+      said_on v (trailing trail.Other) (λ _. pure y) o tt rest s (EndAgain m f.locals x) said (given v y o rest s (EndAgain m f.locals x) ready again))

@@ -1,18 +1,18 @@
--- Instructions that end a block, and write no type, are read as they were printed.
+-- Ends of blocks that write no type are read as they were printed.
 use Rattle.std.proofs.Common.{◌≡◌, ℕ, Bool, [], ◌∷◌, ◌++◌, refl, sym, subst}
 use Rattle.std.specs.Prelude.{codes}
 use Rattle.ir_tokens.specs.declared.token.Kind.{Kind}
 use Rattle.ir_tokens.specs.declared.token.Kind.TheVariants as k
 use Rattle.ir_tokens.specs.Bytes.{Text, class_of}
 use Rattle.ir_tokens.specs.Keywords.{word_kind, keywords}
-use Rattle.ir_ast.specs.declared.op.Op.{Op}
-use Rattle.ir_ast.specs.declared.op.Op.TheVariants.{Jump, Unreachable, ReturnVoid}
+use Rattle.ir_ast.specs.declared.ends.End.{End}
+use Rattle.ir_ast.specs.declared.ends.End.TheVariants.{Jump, Unreachable, ReturnVoid}
 use Rattle.ir_forms.specs.Cursor.{kind}
 use Rattle.ir_forms.specs.declared.input.Input.{Input}
 use Rattle.ir_forms.specs.Input.{advanced, skip}
 use Rattle.ir_forms.specs.Names.{target}
 use Rattle.grammar.specs.Grammar.{pure, ◌>>◌}
-use Rattle.ir_forms.specs.Branches.{terminator, terminator_by, br, br_behind, jump, branch, ret, ret_behind, returned_value}
+use Rattle.ir_forms.specs.Ends.{terminator, terminator_by, br, br_behind, jump, branch, ret, ret_behind, returned_value}
 use Rattle.ir_forms.specs.Decorations.{either}
 use Rattle.ir_print_law.specs.Ends.{JumpsAreRead, EmptyReturnsAreRead, UnreachablesAreRead}
 use Rattle.ir_print.specs.Names.{local_text}
@@ -20,10 +20,10 @@ use Rattle.ir_print.specs.Standing.{Stands}
 use Rattle.ir_print_law.proofs.NamesRead.{targets_are_read}
 use Rattle.ir_print_law.proofs.Words.{word_comes, seen}
 
--- the word tells which instruction ends the block
-by_word : (x : Kind) (i o : Input) (op : Op) → kind i.cursor ≡ x → (terminator_by x).says i op o → terminator.says i op o
+-- the word tells how the block ends
+by_word : (x : Kind) (i o : Input) (end : End) → kind i.cursor ≡ x → (terminator_by x).says i end o → terminator.says i end o
 unfolding terminator
-by_word x i o op e h = subst (λ (y : Kind). (terminator_by y).says i op o) (sym e) h
+by_word x i o end e h = subst (λ (y : Kind). (terminator_by y).says i end o) (sym e) h
 
 jump_behind : (i o : Input) (n : ℕ) → kind i.cursor ≡ k.Label → target.says i n o → br_behind.says i (Jump n) o
 jump_behind i o n e h = subst (λ (t : Bool). (either jump branch t).says i (Jump n) o) (sym (seen k.Label i e)) (n, o, h, (refl, refl))

@@ -36,6 +36,13 @@ module _ (Back : Input → Type 0) where
     λ k. (subst Back (sym h.1) k, subst Q h.0 good),
   )
 
+  -- what is read, wrapped as another thing
+  pub wrapped : {A B : Type 0} (F G : Input → Type 0) (P : A → Type 0) (Q : B → Type 0) (wrap : A → B) (g : Form A) (i : Input)
+      → ((a : A) → P a → Q (wrap a)) → Keeps F (λ _. G) Back g P i → Keeps F (λ _. G) Back (g >>= λ a. pure (wrap a)) Q i
+  wrapped F G P Q wrap g i good first b o h fore =
+      let x = first h.0 h.1 h.2 fore in
+      (subst G h.3.1 x.0, λ k. let l = x.1 (subst Back (sym h.3.1) k) in (l.0, subst Q h.3.0 (good h.0 l.1)))
+
   pub stepped : {A : Type 0} (F : Input → Type 0) (G : A → Input → Type 0) (Q : A → Type 0) (value : Input → A) (n : Input → Input) (falls : (i : Input) → left (n i) ≤ left i) (i : Input)
       → (F i → G (value i) (n i) × (Back (n i) → Back i × Q (value i))) → Keeps F G Back (step {E = Fault} {left = left} value n falls) Q i
   stepped F G Q value n falls i on b o h fore =

@@ -14,14 +14,14 @@ use Rattle.ir_forms.specs.Names.{is_wanted}
 use Rattle.ir_tokens.specs.Bytes.{Text}
 use Rattle.ir_print_law.specs.FunctionNames.{IsKeyOfName, IsKeyOfNumber, HasNames}
 use Rattle.ir_print_law.specs.Shapes.{IsIn}
-use Rattle.ir_print_law.proofs.Blocks.{with_block, with_blocks, with_parameters}
+use Rattle.ir_print_law.proofs.Blocks.{with_block, with_blocks, block_labels, with_parameters}
 use Rattle.ir_print_law.proofs.DefinedLocals.{used, wanted_is, in_list}
 use Rattle.ir_print_law.proofs.DefinedNames.{Defines, counts_on}
 use Rattle.ir_print_law.proofs.FunctionEnds.{nothing, whole_of}
 use Rattle.ir_print_law.proofs.FunctionPlaces.{Places, AreFirst, key_there}
 use Rattle.ir_print_law.proofs.LocalNames.{Locals, keys_at}
-use Rattle.ir_print_law.proofs.Progresses.{parameters_labels, results_labels}
-use Rattle.ir_print_law.proofs.Reading.{Progress, with_named_value, with_named_label}
+use Rattle.ir_print_law.proofs.Progresses.{parameters_labels}
+use Rattle.ir_print_law.proofs.Reading.{Progress, with_named_value}
 
 -- ---- keys
 
@@ -64,7 +64,7 @@ all_defined g t uses unnamed names places right n less = elim (places.covered n 
 blocks_labels : (g : Progress) (xs : List Block) → (with_blocks g xs).labels ≡ g.labels ++ map (λ block. block.label) xs
 blocks_labels g [] = sym (append-nil g.labels)
 blocks_labels g (x ∷ xs) =
-    blocks_labels (with_block g x) xs ∙ ap (λ (l : List ℕ). l ++ map (λ block. block.label) xs) (results_labels (with_named_label g x.label) x.instructions)
+    blocks_labels (with_block g x) xs ∙ ap (λ (l : List ℕ). l ++ map (λ block. block.label) xs) (block_labels g x)
     ∙ append_assoc g.labels (x.label ∷ []) (map (λ block. block.label) xs)
 
 mapped : {A B : Type 0} (h : A → B) (xs : List A) (n : ℕ) (x : A) → slice_get xs n ≡ Some x → slice_get (map h xs) n ≡ Some (h x)

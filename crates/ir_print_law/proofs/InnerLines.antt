@@ -1,8 +1,7 @@
--- The lines of the instructions before the one that ends a block.
-use Rattle.std.proofs.Common.{◌≡◌, ℕ, ◌+◌, ◌<◌, true, false, List, [], ◌∷◌, ◌++◌, None, Some, refl, sym, ap, subst, ◌∙◌, arith, append_assoc, inl, inr}
+-- The lines of the instructions of a block's body.
+use Rattle.std.proofs.Common.{◌≡◌, ℕ, ◌+◌, ◌<◌, true, false, List, [], ◌∷◌, ◌++◌, Some, refl, sym, ap, subst, ◌∙◌, arith, append_assoc, inl, inr}
 use Rattle.std.specs.Prelude.{codes, nat_lt}
 use Rattle.std.proofs.lemmas.Bool.Decides.{nat_tests}
-use Rattle.grammar.specs.Grammar.{◌>>=◌}
 use Rattle.ir_ast.specs.declared.function.Function.{Function}
 use Rattle.ir_ast.specs.declared.instr.Instr.{Instr}
 use Rattle.ir_ast.specs.declared.module.Module.{Module}
@@ -12,26 +11,24 @@ use Rattle.ir_tokens.specs.declared.token.Kind.TheVariants as k
 use Rattle.ir_tokens.specs.Bytes.{Text, class_of}
 use Rattle.ir_forms.specs.Cursor.{kind, sees}
 use Rattle.ir_forms.specs.declared.input.Input.{Input}
-use Rattle.ir_forms.specs.Input.{Form}
 use Rattle.ir_forms.specs.declared.site.Site.{Site}
-use Rattle.ir_forms.specs.Calls.{valued, unnamed, call_statement}
-use Rattle.ir_forms.specs.Instructions.{named_op, named_behind, instruction, instruction_by, placed}
-use Rattle.ir_forms.specs.Memory.{store}
-use Rattle.ir_forms.specs.Sites.{is_phi}
-use Rattle.ir_print.specs.Instructions.{op_text, instruction_line, ends_block}
+use Rattle.ir_forms.specs.Instructions.{named_behind, instruction, instruction_by, placed}
+use Rattle.ir_print.specs.Instructions.{op_text, instruction_line}
 use Rattle.ir_print.specs.Names.{name_at, key_text, local_text}
 use Rattle.ir_print.specs.Standing.{Stands}
-use Rattle.ir_print_law.specs.Again.{IsValueAgain, IsInstrAgain}
+use Rattle.ir_print_law.specs.Again.{IsInstrAgain}
 use Rattle.ir_print_law.specs.Printable.{IsOp, gives_value}
 use Rattle.ir_print_law.specs.Shapes.{IsIn}
 use Rattle.ir_print_law.proofs.Tables.{stays}
-use Rattle.ir_print_law.proofs.State.{Ready, Reads, IsLater}
+use Rattle.ir_print_law.proofs.State.{Ready, Reads}
 use Rattle.ir_print_law.proofs.Steps.{sign_reads, unlike}
 use Rattle.ir_print_law.proofs.Empty.{not_trailed}
 use Rattle.ir_print_law.proofs.WholeForms.{widens_further, grows_widens, Leads}
 use Rattle.ir_print_law.proofs.Known.{Far, AreNamed, known, is_last}
 use Rattle.ir_print_law.proofs.NewValues.{IsNext, unnamed_then, far_value, value_by, value_goes, kind_then}
-use Rattle.ir_print_law.proofs.OpNeeds.{begins_body_line, EndsOp, IsOpRead, OpsRead}
+use Rattle.ir_print_law.proofs.OpNeeds.{begins_body_line, EndsOp, OpsRead}
+use Rattle.ir_print_law.proofs.CallsAgain.{plain, PlainAgain}
+use Rattle.ir_print_law.proofs.Parts.{IsLaterAgain}
 
 -- a form that is told by the kind of the next token
 by_kind : (site : Site) (x : Kind) (i o : Input) (a : Instr) → kind i.cursor ≡ x → (instruction_by site x).says i a o → (instruction site).says i a o
@@ -43,9 +40,6 @@ few_places n less = grind (arith, nat_tests)
 
 placed_is : (site : Site) (i o : Input) (a : Instr) → site.place < 4294967295 → (instruction site).says i a o → (placed site).says i a o
 placed_is site i o a less h = (tt, i, (few_places site.place less, refl), h)
-
-no_comma : (x : Kind) → begins_body_line x ≡ true → x ≡ k.Comma → ⊥
-no_comma x e is = let h = sym (ap begins_body_line is) ∙ e in absurd cc
 
 -- no comma comes after a line
 pub comma_free : (rest : Text) (i : Input) → EndsOp rest → Stands i.cursor rest → sees k.Comma i.cursor ≡ false
@@ -67,45 +61,15 @@ module _ (m : Module) (f : Function) (named : AreNamed m f) (ops : OpsRead m f n
 
   -- the instruction is this one again, in each module later on
   abbrev pub IsInnerRead : Instr → (then : Far) → Instr → Far → Input → Type 0
-  IsInnerRead x then y now o =
-      (now ≡ then) × (is_phi y.op ≡ is_phi x.op)
-      × ((n : Module) (others : List Text) → IsLater o n others → IsInstrAgain m n f.locals others x y)
+  IsInnerRead x then y now o = (now ≡ then) × IsLaterAgain (λ n others. IsInstrAgain m n f.locals others) x y o
 
   -- ---- an instruction without a value
 
-  without_value : (x : Op) (y : Instr) (o : Input) → y.result ≡ None → IsOpRead m f.locals x y.op o → IsInnerRead (record { result = None; op = x }) far y far o
-  without_value x y o none read = (
-    refl,
-    read.0,
-    λ n others later. (subst (IsValueAgain m n f.locals others None) (sym none) tt, read.1 n others later),
-  )
-
-  pub store_goes : (x : Op) (site : Site) (i : Input) (rest : Text) → kind i.cursor ≡ k.Store → site.place < 4294967295 → EndsOp (10 ∷ rest)
-      → Reads (known m f named far) 0 store i (10 ∷ rest) (IsOpRead m f.locals x)
-      → Leads m f named 0 (placed site) i (10 ∷ rest) (IsInnerRead (record { result = None; op = x }) far)
-  store_goes x site i rest is less ends h =
-      let y : Instr = record { result = None; op = h.0 } in
-      let o = h.1 in (
-        record { result = None; op = h.0 },
-        h.1,
-        far,
-        placed_is site i o y less (by_kind site k.Store i o y is (h.0, o, h.2, (h.0, o, not_trailed h.0 o (comma_free (10 ∷ rest) o ends h.3.stands), (refl, refl)))),
-        h.3,
-        grows_widens i o h.4,
-        without_value x y o refl h.5,
-      )
-
-  pub call_goes : (x : Op) (site : Site) (i : Input) (rest : Text) → kind i.cursor ≡ k.Call → site.place < 4294967295
-      → Reads (known m f named far) 0 call_statement i (10 ∷ rest) (λ y o. (y.result ≡ None) × IsOpRead m f.locals x y.op o)
-      → Leads m f named 0 (placed site) i (10 ∷ rest) (IsInnerRead (record { result = None; op = x }) far)
-  call_goes x site i rest is less h =
-      (h.0, h.1, far, placed_is site i h.1 h.0 less (by_kind site k.Call i h.1 h.0 is h.2), h.3, grows_widens i h.1 h.4, without_value x h.0 h.1 h.5.0 h.5.1)
+  pub plain_goes : (x : Op) (site : Site) (i : Input) (rest : Text) → site.place < 4294967295 → Reads (known m f named far) 0 (instruction site) i (10 ∷ rest) (PlainAgain m f.locals x)
+      → Leads m f named 0 (placed site) i (10 ∷ rest) (IsInnerRead (plain x) far)
+  plain_goes x site i rest less h = (h.0, h.1, far, placed_is site i h.1 h.0 less h.2, h.3, grows_widens i h.1 h.4, (refl, h.5))
 
   -- ---- an instruction with a value
-
-  -- the forms after the name of the value
-  abbrev Behind : Site → ℕ → Form Instr
-  Behind site value = named_op site value >>= valued value
 
   value_says : (site : Site) (key : Text) (is : IsNext far.unnamed key) (i p o : Input) (n : ℕ) (y : Op)
       → kind i.cursor ≡ kind_then k.LocalNumber k.LocalName far.unnamed key is → (value_by m f named far key is).says i n p → (named_behind site n).says p (record { result = Some n; op = y }) o
@@ -113,14 +77,13 @@ module _ (m : Module) (f : Function) (named : AreNamed m f) (ops : OpsRead m f n
   value_says site key (inl e) i p o n y is said behind = by_kind site k.LocalNumber i o (record { result = Some n; op = y }) is (n, p, said, behind)
   value_says site key (inr e) i p o n y is said behind = by_kind site k.LocalName i o (record { result = Some n; op = y }) is (n, p, said, behind)
 
-  pub value_goes_on : (x : Op) (value : ℕ) (site : Site) (i : Input) (rest : Text) (is : IsNext far.unnamed (name_at f.locals value)) → IsOp m f x → ends_block x ≡ false → gives_value m x ≡ true
-      → (is_phi x ≡ true → site.is_behind_phis ≡ true) → site.place < 4294967295 → (IsIn far.seen (name_at f.locals value) → ⊥) → (IsIn far.labels (name_at f.locals value) → ⊥)
+  pub value_goes_on : (x : Op) (value : ℕ) (site : Site) (i : Input) (rest : Text) (is : IsNext far.unnamed (name_at f.locals value)) → IsOp m f x → gives_value m x ≡ true → site.place < 4294967295 → (IsIn far.seen (name_at f.locals value) → ⊥) → (IsIn far.labels (name_at f.locals value) → ⊥)
       → far.count < 1000000 → far.unnamed < 4294967295 → far.pending ≡ [] → EndsOp (10 ∷ rest)
       → Ready (known m f named far) 0 i (10 ∷ (instruction_line m f.locals (record { result = Some value; op = x }) ++ rest))
       → Leads m f named 0 (placed site) i (10 ∷ rest)
       (IsInnerRead (record { result = Some value; op = x }) (far_result (name_at f.locals value) (unnamed_then far.unnamed (name_at f.locals value) is)))
   unfolding class_of
-  value_goes_on x value site i rest is own inner gives phis less none apart many few_numbers waits ends ready =
+  value_goes_on x value site i rest is own gives less none apart many few_numbers waits ends ready =
       let key = name_at f.locals value in
       let text = op_text m f.locals x ++ 10 ∷ rest in
       let here = subst (λ (t : Text). Ready (known m f named far) 0 i (10 ∷ t)) (valued_line m f.locals x value rest) ready in
@@ -132,7 +95,7 @@ module _ (m : Module) (f : Function) (named : AreNamed m f) (ops : OpsRead m f n
       let after = far_result key unnamed in
       let equals = sign_reads (known m f named (far_value m f named far key n unnamed)) 61 k.Equals p (32 ∷ []) (32 ∷ text) 0 0 refl refl refl (omega arith) w.1.3 in
       let q = equals.1 in
-      let r = ops.named_read x key n (far_value m f named far key n unnamed) site q (32 ∷ []) (10 ∷ rest) own inner gives phis refl (is_last far.seen key) apart refl ends equals.3 in
+      let r = ops.named_read x key n (far_value m f named far key n unnamed) site q (32 ∷ []) (10 ∷ rest) own gives refl (is_last far.seen key) apart refl ends equals.3 in
       let y = r.0 in
       let o = r.1 in
       let trail = not_trailed r.0 r.1 (comma_free (10 ∷ rest) r.1 ends r.3.stands) in
@@ -147,9 +110,8 @@ module _ (m : Module) (f : Function) (named : AreNamed m f) (ops : OpsRead m f n
         wide,
         (
           refl,
-          r.5.0,
           λ later_m others later.
               let there = stays o.locals.names others n key later.locals (stays p.locals.names o.locals.names n key wide_p.locals w.1.5) in
-              (there, r.5.1 later_m others later),
+              (there, r.5 later_m others later),
         ),
       )

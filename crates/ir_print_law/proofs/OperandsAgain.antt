@@ -29,7 +29,7 @@ use Rattle.name_text.specs.Names.{name_text}
 use Rattle.name_text.specs.Readings.{AreBytes}
 use Rattle.name_text.specs.declared.blank.Blank.TheVariants as blank
 use Rattle.ir_print.specs.Names.{name_at, key_text, local_text, global_text}
-use Rattle.ir_print.specs.Operands.{is_bit, number_text, constant_text, operand_text, cast_text}
+use Rattle.ir_print.specs.Operands.{is_bit, number_text, constant_text, operand_text, cast_global_text}
 use Rattle.ir_print.specs.Standing.{Stands, IsSeam, AreBlanks}
 use Rattle.ir_print.specs.Types.{type_text}
 use Rattle.ir_print_law.proofs.Constants.{constant_is_read}
@@ -160,7 +160,7 @@ unfolding class_of
 ends_round behind = (refl, λ i at. ap ends_type (sign_comes i.cursor [] 41 behind k.CloseRound refl refl refl at).0)
 
 -- the name of a global ends a type
-ends_global : (name behind : Text) → AreBytes name → IsSeam behind → EndsType (32 ∷ 64 ∷ (name_text blank.Kept name ++ behind))
+pub ends_global : (name behind : Text) → AreBytes name → IsSeam behind → EndsType (32 ∷ 64 ∷ (name_text blank.Kept name ++ behind))
 unfolding class_of
 ends_global name behind own seam = (refl, λ i at. ap ends_type (global_comes i.cursor (32 ∷ []) name behind refl own seam at).0)
 
@@ -331,7 +331,7 @@ module _ {m : Module} {f : Function} (v : Invariant m f) where
   -- a bitcast of a global is read as an operand
   cast_reads : (shape first second : Shape) (from symbol to : ℕ) (i : Input) (gap rest : Text) (s : ℕ)
       → IsType m first from → is_pointer_shape first ≡ true → IsGlobalUse m symbol → IsType m second to → is_pointer_shape second ≡ true → AreBlanks gap
-      → Ready v s i (gap ++ (cast_text m from symbol to ++ rest)) → Reads v s (form.operand (bits_of_shape shape)) i rest (OperandAgain m f.locals (operand.CastGlobal from symbol to))
+      → Ready v s i (gap ++ (cast_global_text m from symbol to ++ rest)) → Reads v s (form.operand (bits_of_shape shape)) i rest (OperandAgain m f.locals (operand.CastGlobal from symbol to))
   unfolding form.operand form.cast form.cast_operand word_kind keywords class_of
   cast_reads shape first second from symbol to i gap rest s a pa used b pb blanks ready =
       let name = name_at m.symbols symbol in
@@ -339,7 +339,7 @@ module _ {m : Module} {f : Function} (v : Invariant m f) where
       let is = v.is_symbol false name used.0 in
       let from_text = type_shown m first from a.0 a.1 in
       let to_text = type_shown m second to b.0 b.1 in
-      let whole : cast_text m from symbol to ≡ cast_by (shown false first) (global_text m symbol) (shown false second) =
+      let whole : cast_global_text m from symbol to ≡ cast_by (shown false first) (global_text m symbol) (shown false second) =
       ap (λ (x : Text). cast_by x (global_text m symbol) (type_text m to)) from_text ∙ ap (λ (x : Text). cast_by (shown false first) (global_text m symbol) x) to_text in
       let t5 = 41 ∷ rest in
       let t4 = shown false second ++ t5 in

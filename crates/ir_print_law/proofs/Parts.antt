@@ -6,7 +6,7 @@ use Rattle.ir_ast.specs.Names.{number_of}
 use Rattle.ir_ast.specs.declared.function.Function.{Function}
 use Rattle.ir_ast.specs.declared.function.LocalSort.{LocalSort}
 use Rattle.ir_ast.specs.declared.module.Module.{Module}
-use Rattle.ir_ast.specs.declared.op.Argument.{Argument}
+use Rattle.ir_ast.specs.declared.argument.Argument.{Argument}
 use Rattle.ir_ast.specs.declared.op.Op.{Op}
 use Rattle.ir_ast.specs.declared.operand.Operand.{Operand}
 use Rattle.ir_tokens.specs.declared.token.Kind.{Kind}
@@ -22,16 +22,17 @@ use Rattle.ir_forms.specs.Input.{Form, advanced, expect}
 use Rattle.ir_forms.specs.Names.{target, used_label, is_wanted, with_sort, with_local_use}
 use Rattle.ir_forms.specs.Operand as form
 use Rattle.ir_forms.specs.Written as w
-use Rattle.ir_forms.specs.declared.integers.TwoOperands.{TwoOperands}
+use Rattle.ir_forms.specs.declared.numbers.TwoOperands.{TwoOperands}
 use Rattle.ir_forms.specs.Lists as lists
-use Rattle.ir_forms.specs.Integers as integers
+use Rattle.ir_forms.specs.Numbers as numbers
 use Rattle.ir_print.specs.Names.{name_at, key_text, local_text}
 use Rattle.ir_print.specs.Operands.{operand_text, typed_text}
-use Rattle.ir_print.specs.Instructions.{typed, pair_text, target_text}
+use Rattle.ir_print.specs.Ends.{target_text}
+use Rattle.ir_print.specs.Parts.{typed, pair_text}
 use Rattle.ir_print.specs.Standing.{IsSeam, AreBlanks}
 use Rattle.ir_print_law.proofs.NamesRead.{locals_are_read}
 use Rattle.ir_print_law.proofs.Words.{sign_comes}
-use Rattle.ir_print_law.specs.Again.{IsNameAgain, IsTypeAgain, IsOperandAgain, IsArgumentAgain, IsOpAgain}
+use Rattle.ir_print_law.specs.Again.{IsNameAgain, IsArgumentAgain, ArePairAgain, IsOpAgain}
 use Rattle.ir_print_law.specs.Printable.{IsOperand, IsArgument, ArePair, IsTarget}
 use Rattle.ir_print_law.specs.Shapes.{IsIn, Shape, HasShape, bits_of_shape}
 use Rattle.ir_print_law.proofs.Tables.{stays}
@@ -57,19 +58,22 @@ round_of _ e = refl
 pub ends_again : (rest : Text) → EndsType rest → EndsAgain rest
 ends_again rest ends = (ends.0, λ i at. round_of (kind i.cursor) (ends.1 i at))
 
--- an operation is this one again, in each module later on
-abbrev pub OpAgain : Module → (locals : List Text) → Op → Op → Input → Type 0
-OpAgain m locals x y o = (n : Module) (others : List Text) → IsLater o n others → IsOpAgain m n locals others x y
+-- what is read is this again, in each module later on
+abbrev pub IsLaterAgain : {A B : Type 0} → (Module → List Text → A → B → Type 0) → A → B → Input → Type 0
+IsLaterAgain Again x y o = (n : Module) (others : List Text) → IsLater o n others → Again n others x y
 
--- an argument is this one again, in each module later on
+-- what an instruction does is this again
+abbrev pub OpAgain : Module → (locals : List Text) → Op → Op → Input → Type 0
+OpAgain m locals = IsLaterAgain (λ n others. IsOpAgain m n locals others)
+
+-- an argument is this one again
 abbrev pub ArgumentAgain : Module → (locals : List Text) → Argument → Argument → Input → Type 0
-ArgumentAgain m locals x y o = (n : Module) (others : List Text) → IsLater o n others → IsArgumentAgain m n locals others x y
+ArgumentAgain m locals = IsLaterAgain (λ n others. IsArgumentAgain m n locals others)
 
 -- two operands are these again, and so is their type, in each module later on
 abbrev pub PairAgain : Module → (locals : List Text) → (written : ℕ) → (first second : Operand) → TwoOperands → Input → Type 0
 PairAgain m locals written first second p o =
-    (n : Module) (others : List Text) → IsLater o n others
-    → IsTypeAgain m n written p.written × IsOperandAgain m n locals others first p.first × IsOperandAgain m n locals others second p.second
+    (n : Module) (others : List Text) → IsLater o n others → ArePairAgain m n locals others written first second p.written p.first p.second
 
 -- the label with this number has this key
 abbrev pub HasLabel : (key : Text) → (number : ℕ) → Input → Type 0
@@ -114,8 +118,8 @@ module _ {m : Module} {f : Function} (v : Invariant m f) where
 
   -- `T V, W`
   pub pair_reads : (t : ℕ) (x y : Operand) (i : Input) (gap rest : Text) (s : ℕ) → ArePair m f t x y → AreBlanks gap → IsSeam rest
-      → Ready v s i (gap ++ (pair_text m f.locals (typed t x) y ++ rest)) → Reads v s integers.pair i rest (PairAgain m f.locals t x y)
-  unfolding integers.pair class_of
+      → Ready v s i (gap ++ (pair_text m f.locals (typed t x) y ++ rest)) → Reads v s numbers.pair i rest (PairAgain m f.locals t x y)
+  unfolding numbers.pair class_of
   pair_reads t x y i gap rest s own blanks seam ready =
       let shape = own.0 in
       let scalar = own.1 in

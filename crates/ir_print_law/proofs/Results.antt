@@ -2,6 +2,8 @@
 use Rattle.std.proofs.Common.{◌≡◌, ℕ, Bool, true, false, not, List, [], ◌∷◌, ◌++◌, slice_get, Option, None, Some, refl, sym, ap, subst, ◌∙◌, arith, append_assoc, length-append, inl, inr, ◌⊎◌}
 use Rattle.std.specs.Prelude.{codes}
 use Rattle.ir_print_law.proofs.ArgumentsAgain.{decorations_said}
+use Rattle.ir_print_law.proofs.CallsAgain.{void_shown}
+use Rattle.ir_print_law.proofs.OperandsAgain.{ends_global}
 use Rattle.grammar.specs.Grammar.{pure, ◌>>=◌}
 use Rattle.ir_ast.specs.declared.function.Function.{Function}
 use Rattle.ir_ast.specs.declared.ir_type.IrType.TheVariants as type
@@ -23,7 +25,6 @@ use Rattle.name_text.specs.Readings.{AreBytes}
 use Rattle.name_text.specs.declared.blank.Blank.TheVariants as blank
 use Rattle.ir_print.specs.Standing.{Stands, IsSeam, AreBlanks}
 use Rattle.ir_print.specs.Types.{type_text}
-use Rattle.ir_print.specs.Types as printed
 use Rattle.ir_print_law.proofs.NamesRead.{collectors_are_read}
 use Rattle.ir_print_law.proofs.Words.{sign_comes, word_comes, global_comes, seen}
 use Rattle.ir_print_law.specs.Again.{IsResultAgain}
@@ -32,16 +33,12 @@ use Rattle.ir_print_law.proofs.Tables.{stays}
 use Rattle.ir_print_law.proofs.State.{Invariant, Ready, Reads, IsLater}
 use Rattle.ir_print_law.proofs.PrintedTypes.{read_again}
 use Rattle.ir_print_law.proofs.Steps.{word_skipped, intern_reads, less_spare, grows_further, grows_itself, unlike, passed, grows_advanced}
-use Rattle.ir_print_law.proofs.Types.{Comes, EndsType, ends_type}
+use Rattle.ir_print_law.proofs.Types.{Comes}
 use Rattle.ir_print_law.proofs.Needs.{TypesRead}
 
 -- a result is this one again, in each module later on
 abbrev pub IsResultRead : Module → (written : ℕ) → ℕ → Input → Type 0
 IsResultRead m written id o = (n : Module) (others : List Text) → IsLater o n others → IsResultAgain m n written id
-
-pub void_shown : (m : Module) (written : ℕ) → slice_get m.types written ≡ Some type.Void → type_text m written ≡ codes "void"
-unfolding printed.type_within
-void_shown m written e = rw e refl
 
 abbrev is_global : Kind → Bool
 is_global k.GlobalName = true
@@ -76,10 +73,6 @@ declared_by k.LocalName i o n e h = h
 declared_by k.OpenSquare i o n e h = h
 declared_by k.OpenBrace i o n e h = h
 declared_by _ i o n e h = absurd cc
-
-ends_global : (name rest : Text) → AreBytes name → IsSeam rest → EndsType (32 ∷ 64 ∷ (name_text blank.Kept name ++ rest))
-unfolding class_of
-ends_global name rest own seam = (refl, λ j at. ap ends_type (global_comes j.cursor (32 ∷ []) name rest refl own seam at).0)
 
 -- an item begins, or the text ends
 abbrev pub begins_item : Kind → Bool

@@ -4,17 +4,28 @@ use Rattle.std.specs.Prelude.{codes}
 use Rattle.std.specs.Fmt.{decimal}
 use Rattle.std.specs.List.{flat_map}
 use Rattle.std.proofs.lemmas.Option.{slice_get_within}
+use Rattle.ir_ast.specs.declared.argument.Argument.{Argument}
 use Rattle.ir_ast.specs.declared.block.Block.{Block}
+use Rattle.ir_ast.specs.declared.calls.Call.{Call}
+use Rattle.ir_ast.specs.declared.casts.Cast.{Cast}
+use Rattle.ir_ast.specs.declared.choices.Choice.{Choice}
+use Rattle.ir_ast.specs.declared.choices.Incoming.{Incoming}
+use Rattle.ir_ast.specs.declared.choices.Phi.{Phi}
+use Rattle.ir_ast.specs.declared.elements.Element.{Element}
+use Rattle.ir_ast.specs.declared.ends.Case.{Case}
+use Rattle.ir_ast.specs.declared.ends.End.{End}
+use Rattle.ir_ast.specs.declared.ends.End.TheVariants as end
 use Rattle.ir_ast.specs.declared.function.Function.{Function}
 use Rattle.ir_ast.specs.declared.function.Parameter.{Parameter}
 use Rattle.ir_ast.specs.declared.instr.Instr.{Instr}
 use Rattle.ir_ast.specs.declared.items_of_module.Declare.{Declare}
 use Rattle.ir_ast.specs.declared.items_of_module.Global.{Global}
 use Rattle.ir_ast.specs.declared.items_of_module.StructType.{StructType}
+use Rattle.ir_ast.specs.declared.memory.MemoryOp.{MemoryOp}
+use Rattle.ir_ast.specs.declared.memory.MemoryOp.TheVariants as memory
 use Rattle.ir_ast.specs.declared.module.Module.{Module}
-use Rattle.ir_ast.specs.declared.op.Argument.{Argument}
-use Rattle.ir_ast.specs.declared.op.Case.{Case}
-use Rattle.ir_ast.specs.declared.op.Incoming.{Incoming}
+use Rattle.ir_ast.specs.declared.numbers.NumberOp.{NumberOp}
+use Rattle.ir_ast.specs.declared.numbers.NumberOp.TheVariants as number
 use Rattle.ir_ast.specs.declared.op.Op.{Op}
 use Rattle.ir_ast.specs.declared.op.Op.TheVariants as op
 use Rattle.ir_ast.specs.declared.operand.Constant.{Constant}
@@ -24,12 +35,20 @@ use Rattle.ir_tokens.specs.Bytes.{Text}
 use Rattle.name_text.specs.Names.{name_text}
 use Rattle.name_text.specs.declared.blank.Blank.TheVariants as blank
 use Rattle.ir_print.specs.Blocks.{block_text}
-use Rattle.ir_print.specs.Instructions.{typed, arithmetic_word, resize_word, comparison_word, target_text, converted_text, pair_text, placed_text, index_text, incoming_text, case_text, element_word, op_text, result_text, instruction_line}
+use Rattle.ir_print.specs.Calls.{call_text}
+use Rattle.ir_print.specs.Casts.{cast_text}
+use Rattle.ir_print.specs.Choices.{choice_text, incoming_text, phi_line}
+use Rattle.ir_print.specs.Elements.{index_text, element_word, element_text}
+use Rattle.ir_print.specs.Ends.{target_text, case_text, end_text, end_line}
+use Rattle.ir_print.specs.Instructions.{op_text, result_text, instruction_line}
 use Rattle.ir_print.specs.Items.{struct_line, global_word, global_line, declare_line, parameter_text, collector_text, head_line, function_text, text_of}
+use Rattle.ir_print.specs.Memory.{memory_op_text}
 use Rattle.ir_print.specs.Names.{name_at, key_text, local_text, global_text}
+use Rattle.ir_print.specs.Numbers.{arithmetic_word, resize_word, comparison_word, number_op_text}
 use Rattle.ir_print.specs.Operands.{constant_text, operand_text, typed_text, argument_text, listed}
+use Rattle.ir_print.specs.Parts.{typed, converted_text, pair_text, placed_text}
 use Rattle.ir_print.specs.Types.{type_text, type_within, fields_text}
-use Rattle.ir_print_law.specs.Again.{AreAlike, IsNameAgain, IsTypeAgain, IsResultAgain, IsOperandAgain, IsArgumentAgain, IsIncomingAgain, IsCaseAgain, IsOpAgain, IsValueAgain, IsInstrAgain, IsBlockAgain, IsParameterAgain, IsStructAgain, IsGlobalAgain, IsDeclareAgain, IsFunctionAgain, IsAgain}
+use Rattle.ir_print_law.specs.Again.{AreAlike, IsNameAgain, IsTypeAgain, IsResultAgain, IsOperandAgain, IsArgumentAgain, IsIncomingAgain, IsCaseAgain, IsNumberOpAgain, IsMemoryOpAgain, IsElementAgain, IsCastAgain, IsChoiceAgain, IsCallAgain, IsOpAgain, IsPhiAgain, IsValueAgain, IsInstrAgain, IsEndAgain, IsBlockAgain, IsParameterAgain, IsStructAgain, IsGlobalAgain, IsDeclareAgain, IsFunctionAgain, IsAgain}
 use Rattle.ir_print_law.specs.Shapes.{Shape, Integer, Pointer, Array, Empty, Struct, Named, HasShape}
 use Rattle.ir_print_law.proofs.CallsAgain.{void_shown}
 use Rattle.ir_print_law.proofs.Named.{place_name}
@@ -215,40 +234,57 @@ module _ (m n : Module) (locals others : List Text) where
   case_same t u type x y h =
       same3 (λ a b c. 32 ∷ a ++ 32 ∷ b ++ codes ", " ++ c) (type_same m n t u type) (constant_same m n t u x.constant y.constant type h.0) (target_same x.target y.target h.1)
 
-  op_same : (x y : Op) → IsOpAgain m n locals others x y → op_text m locals x ≡ op_text n others y
-  unfolding IsOpAgain
-  op_same (op.Alloca t) (op.Alloca u) h = ap (λ (x : Text). codes "alloca " ++ x) (type_same m n t u h)
-  op_same (op.Bitcast t x to) (op.Bitcast u y into) h = ap (λ (z : Text). codes "bitcast " ++ z) (converted_same (typed t x) (typed u y) to into (h.0, h.1) h.2)
-  op_same (op.Load t place x) (op.Load u other y) h = ap (λ (z : Text). codes "load " ++ z) (placed_same t u (typed place x) (typed other y) h.0 (h.1, h.2))
-  op_same (op.Store t v place x) (op.Store u w other y) h =
-      same2 (λ a b. codes "store " ++ a ++ codes ", " ++ b) (typed_same t u v w h.0 h.1) (typed_same place other x y h.2 h.3)
-  op_same (op.Element t base x indices) (op.Element u other y further) h =
-      same2 (λ a b. element_word ++ a ++ b) (placed_same t u (typed base x) (typed other y) h.0 (h.1, h.2))
-      (lines_same (IsArgumentAgain m n locals others) (index_text m locals) (index_text n others) indices further index_same h.3)
-  op_same (op.Arithmetic kind t a b) (op.Arithmetic other u x y) h =
-      same2 (λ c d. c ++ d) (ap arithmetic_word h.0) (pair_same (typed t a) (typed u x) b y (h.1, h.2) h.3)
-  op_same (op.Resize kind t x to) (op.Resize other u y into) h =
+  -- ---- families of instructions
+
+  number_op_same : (x y : NumberOp) → IsNumberOpAgain m n locals others x y → number_op_text m locals x ≡ number_op_text n others y
+  number_op_same (number.Arithmetic kind t a b) (number.Arithmetic other u x y) h =
+      same2 (λ c d. c ++ d) (ap arithmetic_word h.0) (pair_same (typed t a) (typed u x) b y (h.1.0, h.1.1) h.1.2)
+  number_op_same (number.Resize kind t x to) (number.Resize other u y into) h =
       same2 (λ a b. a ++ b) (ap resize_word h.0) (converted_same (typed t x) (typed u y) to into (h.1, h.2) h.3)
-  op_same (op.Compare kind t a b) (op.Compare other u x y) h =
-      same2 (λ c d. codes "icmp " ++ c ++ d) (ap comparison_word h.0) (pair_same (typed t a) (typed u x) b y (h.1, h.2) h.3)
-  op_same (op.Select bit c t a b) (op.Select other d u x y) h =
-      same3 (λ k l o. codes "select " ++ k ++ codes ", " ++ l ++ codes ", " ++ o) (typed_same bit other c d h.0 h.1) (typed_same t u a x h.2 h.3) (typed_same t u b y h.2 h.4)
-  op_same (op.Phi t entries) (op.Phi u further) h =
-      same2 (λ a b. codes "phi " ++ a ++ 32 ∷ b) (type_same m n t u h.0)
-      (listed_same (IsIncomingAgain m n locals others) (incoming_text m locals t) (incoming_text n others u) entries further (incoming_same t u h.0) h.1)
-  op_same (op.Call t callee xs) (op.Call u other ys) h =
-      same3 (λ a b c. codes "call " ++ a ++ 32 ∷ b ++ 40 ∷ c ++ 41 ∷ []) (result_same m n t u h.0) (global_same m n callee other h.1)
-      (listed_same (IsArgumentAgain m n locals others) (argument_text m locals) (argument_text n others) xs ys argument_same h.2)
-  op_same (op.Jump target) (op.Jump other) h = ap (λ (t : Text). codes "br " ++ t) (target_same target other h)
-  op_same (op.Branch bit c a b) (op.Branch other d x y) h =
-      same3 (λ k l o. codes "br " ++ k ++ codes ", " ++ l ++ codes ", " ++ o) (typed_same bit other c d h.0 h.1) (target_same a x h.2) (target_same b y h.3)
-  op_same (op.Switch t x target cases) (op.Switch u y other further) h =
-      same3 (λ a b c. codes "switch " ++ a ++ codes ", " ++ b ++ codes " [" ++ c ++ codes " ]") (typed_same t u x y h.0 h.1) (target_same target other h.2)
-      (lines_same (IsCaseAgain m n locals others) (case_text m locals t) (case_text n others u) cases further (case_same t u h.0) h.3)
-  op_same op.Unreachable op.Unreachable h = refl
-  op_same op.ReturnVoid op.ReturnVoid h = refl
-  op_same (op.Return x) (op.Return y) h = ap (λ (t : Text). codes "ret " ++ t) (argument_same x y h)
+  number_op_same (number.Compare kind t a b) (number.Compare other u x y) h =
+      same2 (λ c d. codes "icmp " ++ c ++ d) (ap comparison_word h.0) (pair_same (typed t a) (typed u x) b y (h.1.0, h.1.1) h.1.2)
+  number_op_same _ _ h = absurd h
+
+  memory_op_same : (x y : MemoryOp) → IsMemoryOpAgain m n locals others x y → memory_op_text m locals x ≡ memory_op_text n others y
+  memory_op_same (memory.Alloca t) (memory.Alloca u) h = ap (λ (x : Text). codes "alloca " ++ x) (type_same m n t u h)
+  memory_op_same (memory.Load t place x) (memory.Load u other y) h = ap (λ (z : Text). codes "load " ++ z) (placed_same t u (typed place x) (typed other y) h.0 (h.1, h.2))
+  memory_op_same (memory.Store t v place x) (memory.Store u w other y) h =
+      same2 (λ a b. codes "store " ++ a ++ codes ", " ++ b) (typed_same t u v w h.0 h.1) (typed_same place other x y h.2 h.3)
+  memory_op_same _ _ h = absurd h
+
+  element_same : (x y : Element) → IsElementAgain m n locals others x y → element_text m locals x ≡ element_text n others y
+  element_same x y h =
+      same2 (λ a b. element_word ++ a ++ b) (placed_same x.source y.source (typed x.base_type x.base) (typed y.base_type y.base) h.0 (h.1, h.2))
+      (lines_same (IsArgumentAgain m n locals others) (index_text m locals) (index_text n others) x.indices y.indices index_same h.3)
+
+  cast_same : (x y : Cast) → IsCastAgain m n locals others x y → cast_text m locals x ≡ cast_text n others y
+  cast_same x y h = ap (λ (z : Text). codes "bitcast " ++ z) (converted_same (typed x.from x.operand) (typed y.from y.operand) x.to y.to (h.0, h.1) h.2)
+
+  choice_same : (x y : Choice) → IsChoiceAgain m n locals others x y → choice_text m locals x ≡ choice_text n others y
+  choice_same x y h =
+      same3 (λ k l o. codes "select " ++ k ++ codes ", " ++ l ++ codes ", " ++ o) (typed_same x.condition_type y.condition_type x.condition y.condition h.0 h.1)
+      (typed_same x.written y.written x.chosen y.chosen h.2.0 h.2.1) (typed_same x.written y.written x.other y.other h.2.0 h.2.2)
+
+  call_same : (x y : Call) → IsCallAgain m n locals others x y → call_text m locals x ≡ call_text n others y
+  call_same x y h =
+      same3 (λ a b c. codes "call " ++ a ++ 32 ∷ b ++ 40 ∷ c ++ 41 ∷ []) (result_same m n x.returned y.returned h.0) (global_same m n x.callee y.callee h.1)
+      (listed_same (IsArgumentAgain m n locals others) (argument_text m locals) (argument_text n others) x.arguments y.arguments argument_same h.2)
+
+  op_same : (x y : Op) → IsOpAgain m n locals others x y → op_text m locals x ≡ op_text n others y
+  op_same (op.Number x) (op.Number y) h = number_op_same x y h
+  op_same (op.Memory x) (op.Memory y) h = memory_op_same x y h
+  op_same (op.Element x) (op.Element y) h = element_same x y h
+  op_same (op.Cast x) (op.Cast y) h = cast_same x y h
+  op_same (op.Choice x) (op.Choice y) h = choice_same x y h
+  op_same (op.Call x) (op.Call y) h = call_same x y h
   op_same _ _ h = absurd h
+
+  -- ---- blocks
+
+  phi_same : (x y : Phi) → IsPhiAgain m n locals others x y → phi_line m locals x ≡ phi_line n others y
+  phi_same x y h =
+      same3 (λ a b c. codes "  " ++ a ++ codes " = phi " ++ b ++ 32 ∷ c ++ codes "\n") (local_same x.value y.value h.0) (type_same m n x.written y.written h.1)
+      (listed_same (IsIncomingAgain m n locals others) (incoming_text m locals x.written) (incoming_text n others y.written) x.incoming y.incoming (incoming_same x.written y.written h.1) h.2)
 
   value_same : (x y : Option ℕ) → IsValueAgain m n locals others x y → result_text locals x ≡ result_text others y
   value_same None None h = refl
@@ -259,10 +295,26 @@ module _ (m n : Module) (locals others : List Text) where
   instr_same : (x y : Instr) → IsInstrAgain m n locals others x y → instruction_line m locals x ≡ instruction_line n others y
   instr_same x y h = same2 (λ a b. codes "  " ++ a ++ b ++ 10 ∷ []) (value_same x.result y.result h.0) (op_same x.op y.op h.1)
 
+  end_same : (x y : End) → IsEndAgain m n locals others x y → end_text m locals x ≡ end_text n others y
+  end_same (end.Jump target) (end.Jump other) h = ap (λ (t : Text). codes "br " ++ t) (target_same target other h)
+  end_same (end.Branch bit c a b) (end.Branch other d x y) h =
+      same3 (λ k l o. codes "br " ++ k ++ codes ", " ++ l ++ codes ", " ++ o) (typed_same bit other c d h.0 h.1) (target_same a x h.2) (target_same b y h.3)
+  end_same (end.Switch t x target cases) (end.Switch u y other further) h =
+      same3 (λ a b c. codes "switch " ++ a ++ codes ", " ++ b ++ codes " [" ++ c ++ codes " ]") (typed_same t u x y h.0 h.1) (target_same target other h.2)
+      (lines_same (IsCaseAgain m n locals others) (case_text m locals t) (case_text n others u) cases further (case_same t u h.0) h.3)
+  end_same end.Unreachable end.Unreachable h = refl
+  end_same end.ReturnVoid end.ReturnVoid h = refl
+  end_same (end.Return x) (end.Return y) h = ap (λ (t : Text). codes "ret " ++ t) (argument_same x y h)
+  end_same _ _ h = absurd h
+
+  end_line_same : (x y : End) → IsEndAgain m n locals others x y → end_line m locals x ≡ end_line n others y
+  end_line_same x y h = ap (λ (t : Text). codes "  " ++ t ++ codes "\n") (end_same x y h)
+
   block_same : (x y : Block) → IsBlockAgain m n locals others x y → block_text m locals x ≡ block_text n others y
   block_same x y h =
-      same2 (λ a b. a ++ codes ":\n" ++ b) (ap key_text (name_same locals others x.label y.label h.0))
-      (lines_same (IsInstrAgain m n locals others) (instruction_line m locals) (instruction_line n others) x.instructions y.instructions instr_same h.1)
+      same4 (λ a b c d. a ++ codes ":\n" ++ b ++ c ++ d) (ap key_text (name_same locals others x.label y.label h.0))
+      (lines_same (IsPhiAgain m n locals others) (phi_line m locals) (phi_line n others) x.phis y.phis phi_same h.1)
+      (lines_same (IsInstrAgain m n locals others) (instruction_line m locals) (instruction_line n others) x.body y.body instr_same h.2) (end_line_same x.end y.end h.3)
 
   parameter_same : (x y : Parameter) → IsParameterAgain m n locals others x y → parameter_text m locals x ≡ parameter_text n others y
   parameter_same x y h = same2 (λ a b. a ++ 32 ∷ b) (type_same m n x.written y.written h.0) (local_same x.value y.value h.1)

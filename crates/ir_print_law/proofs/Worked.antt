@@ -1,12 +1,14 @@
 -- A module and its text, and this module again, by computation.
 use Rattle.std.proofs.Common.{◌≡◌, ℕ, List, [], ◌∷◌, ◌++◌, Some, None, refl, inr}
 use Rattle.std.specs.Prelude.{codes}
+use Rattle.ir_ast.specs.declared.ends.End.TheVariants as end
 use Rattle.ir_ast.specs.declared.function.Function.{Function}
 use Rattle.ir_ast.specs.declared.function.LocalSort.TheVariants as local
 use Rattle.ir_ast.specs.declared.ir_type.IrType.TheVariants as type
 use Rattle.ir_ast.specs.declared.items_of_module.SymbolSort.TheVariants as symbol
 use Rattle.ir_ast.specs.declared.module.Module.{Module}
-use Rattle.ir_ast.specs.declared.op.Arithmetic.TheVariants as arithmetic
+use Rattle.ir_ast.specs.declared.numbers.Arithmetic.TheVariants as arithmetic
+use Rattle.ir_ast.specs.declared.numbers.NumberOp.TheVariants as number
 use Rattle.ir_ast.specs.declared.op.Op.TheVariants as op
 use Rattle.ir_ast.specs.declared.operand.Constant.TheVariants as constant
 use Rattle.ir_ast.specs.declared.operand.Operand.{Operand}
@@ -29,8 +31,9 @@ one_less = record {
   sorts = local.Value 0 ∷ local.Block 0 ∷ local.Value 0 ∷ [];
   blocks = record {
     label = 1;
-    instructions = record { result = Some 2; op = op.Arithmetic arithmetic.Add 0 (operand.Local 0) (operand.Constant (constant.Number 18446744073709551615)) }
-        ∷ record { result = None; op = op.Return (record { written = 0; operand = operand.Local 2 }) } ∷ [];
+    phis = [];
+    body = record { result = Some 2; op = op.Number (number.Arithmetic arithmetic.Add 0 (operand.Local 0) (operand.Constant (constant.Number 18446744073709551615))) } ∷ [];
+    end = end.Return (record { written = 0; operand = operand.Local 2 });
   } ∷ [];
 }
 
@@ -64,8 +67,9 @@ one_less_again = record {
   sorts = local.Block 0 ∷ local.Value 1 ∷ local.Value 1 ∷ [];
   blocks = record {
     label = 0;
-    instructions = record { result = Some 1; op = op.Arithmetic arithmetic.Add 1 (operand.Local 2) (operand.Constant (constant.Number 18446744073709551615)) }
-        ∷ record { result = None; op = op.Return (record { written = 1; operand = operand.Local 1 }) } ∷ [];
+    phis = [];
+    body = record { result = Some 1; op = op.Number (number.Arithmetic arithmetic.Add 1 (operand.Local 2) (operand.Constant (constant.Number 18446744073709551615))) } ∷ [];
+    end = end.Return (record { written = 1; operand = operand.Local 1 });
   } ∷ [];
 }
 
@@ -84,7 +88,6 @@ module_of_one_again = record {
 
 -- it is the first module again
 again : IsAgain module_of_one module_of_one_again
-unfolding IsOpAgain
 again =
     let word : IsTypeAgain module_of_one module_of_one_again 0 1 = (Integer 64, refl, refl) in
     record {
@@ -92,12 +95,11 @@ again =
       globals = tt;
       declares = tt;
       functions = (
-        record { symbol = refl; returned = inr word; parameters = ((word, refl), tt); collector = refl; blocks = ((refl, ((refl, (refl, word, refl, refl)), ((tt, (word, refl)), tt))), tt) },
+        record { symbol = refl; returned = inr word; parameters = ((word, refl), tt); collector = refl; blocks = ((refl, tt, ((refl, (refl, (word, refl, refl))), tt), (word, refl)), tt) },
         tt,
       );
     }
 
 -- a sum is no difference again, whatever is printed of either
-no_difference : (m n : Module) (locals others : List Text) (t u : ℕ) (a b x y : Operand) → IsOpAgain m n locals others (op.Arithmetic arithmetic.Add t a b) (op.Arithmetic arithmetic.Sub u x y) → ⊥
-unfolding IsOpAgain
+no_difference : (m n : Module) (locals others : List Text) (t u : ℕ) (a b x y : Operand) → IsOpAgain m n locals others (op.Number (number.Arithmetic arithmetic.Add t a b)) (op.Number (number.Arithmetic arithmetic.Sub u x y)) → ⊥
 no_difference m n locals others t u a b x y h = let same : arithmetic.Add ≡ arithmetic.Sub = h.0 in cc

@@ -1,16 +1,27 @@
 -- A module that is another one again: the same items in the same order, part for part. Types and names may have other numbers in its tables, so types are compared by their shapes, and names by what they are. What reading notes of names besides, their sorts, is not compared.
 use Rattle.std.specs.Prelude.{◌≡◌, ℕ, List, [], ◌∷◌, Option, Some, None, ◌⊎◌, slice_get}
+use Rattle.ir_ast.specs.declared.argument.Argument.{Argument}
 use Rattle.ir_ast.specs.declared.block.Block.{Block}
+use Rattle.ir_ast.specs.declared.calls.Call.{Call}
+use Rattle.ir_ast.specs.declared.casts.Cast.{Cast}
+use Rattle.ir_ast.specs.declared.choices.Choice.{Choice}
+use Rattle.ir_ast.specs.declared.choices.Incoming.{Incoming}
+use Rattle.ir_ast.specs.declared.choices.Phi.{Phi}
+use Rattle.ir_ast.specs.declared.elements.Element.{Element}
+use Rattle.ir_ast.specs.declared.ends.Case.{Case}
+use Rattle.ir_ast.specs.declared.ends.End.{End}
+use Rattle.ir_ast.specs.declared.ends.End.TheVariants as end
 use Rattle.ir_ast.specs.declared.function.Function.{Function}
 use Rattle.ir_ast.specs.declared.function.Parameter.{Parameter}
 use Rattle.ir_ast.specs.declared.instr.Instr.{Instr}
 use Rattle.ir_ast.specs.declared.items_of_module.Declare.{Declare}
 use Rattle.ir_ast.specs.declared.items_of_module.Global.{Global}
 use Rattle.ir_ast.specs.declared.items_of_module.StructType.{StructType}
+use Rattle.ir_ast.specs.declared.memory.MemoryOp.{MemoryOp}
+use Rattle.ir_ast.specs.declared.memory.MemoryOp.TheVariants as memory
 use Rattle.ir_ast.specs.declared.module.Module.{Module}
-use Rattle.ir_ast.specs.declared.op.Argument.{Argument}
-use Rattle.ir_ast.specs.declared.op.Case.{Case}
-use Rattle.ir_ast.specs.declared.op.Incoming.{Incoming}
+use Rattle.ir_ast.specs.declared.numbers.NumberOp.{NumberOp}
+use Rattle.ir_ast.specs.declared.numbers.NumberOp.TheVariants as number
 use Rattle.ir_ast.specs.declared.op.Op.{Op}
 use Rattle.ir_ast.specs.declared.op.Op.TheVariants as op
 use Rattle.ir_ast.specs.declared.operand.Operand.{Operand}
@@ -40,7 +51,7 @@ IsTypeAgain m n written other = (shape : Shape) × HasShape m.types m.struct_nam
 abbrev pub IsResultAgain : (m n : Module) → (returned other : ℕ) → Type 0
 IsResultAgain m n returned other = (IsVoid m returned × IsVoid n other) ⊎ IsTypeAgain m n returned other
 
--- ---- instructions
+-- ---- functions
 
 -- Two modules, and the names of a function in each.
 module _ (m n : Module) (locals others : List Text) where
@@ -64,30 +75,59 @@ module _ (m n : Module) (locals others : List Text) where
   abbrev pub IsCaseAgain : Case → Case → Type 0
   IsCaseAgain x y = (x.constant ≡ y.constant) × IsNameAgain locals others x.target y.target
 
-  -- what instructions do: one operation, each part alike
-  unfoldable pub IsOpAgain : Op → Op → Type 0
-  IsOpAgain (op.Alloca t) (op.Alloca u) = IsTypeAgain m n t u
-  IsOpAgain (op.Bitcast t x to) (op.Bitcast u y into) = IsTypeAgain m n t u × IsOperandAgain x y × IsTypeAgain m n to into
-  IsOpAgain (op.Load t place x) (op.Load u other y) = IsTypeAgain m n t u × IsTypeAgain m n place other × IsOperandAgain x y
-  IsOpAgain (op.Store t v place x) (op.Store u w other y) = IsTypeAgain m n t u × IsOperandAgain v w × IsTypeAgain m n place other × IsOperandAgain x y
-  IsOpAgain (op.Element t base x indices) (op.Element u other y further) =
-      IsTypeAgain m n t u × IsTypeAgain m n base other × IsOperandAgain x y × AreAlike IsArgumentAgain indices further
-  IsOpAgain (op.Arithmetic kind t a b) (op.Arithmetic other u x y) = (kind ≡ other) × IsTypeAgain m n t u × IsOperandAgain a x × IsOperandAgain b y
-  IsOpAgain (op.Resize kind t x to) (op.Resize other u y into) = (kind ≡ other) × IsTypeAgain m n t u × IsOperandAgain x y × IsTypeAgain m n to into
-  IsOpAgain (op.Compare kind t a b) (op.Compare other u x y) = (kind ≡ other) × IsTypeAgain m n t u × IsOperandAgain a x × IsOperandAgain b y
-  IsOpAgain (op.Select bit c t a b) (op.Select other d u x y) =
-      IsTypeAgain m n bit other × IsOperandAgain c d × IsTypeAgain m n t u × IsOperandAgain a x × IsOperandAgain b y
-  IsOpAgain (op.Phi t entries) (op.Phi u further) = IsTypeAgain m n t u × AreAlike IsIncomingAgain entries further
-  IsOpAgain (op.Call t callee xs) (op.Call u other ys) = IsResultAgain m n t u × IsNameAgain m.symbols n.symbols callee other × AreAlike IsArgumentAgain xs ys
-  IsOpAgain (op.Jump target) (op.Jump other) = IsNameAgain locals others target other
-  IsOpAgain (op.Branch bit c a b) (op.Branch other d x y) =
-      IsTypeAgain m n bit other × IsOperandAgain c d × IsNameAgain locals others a x × IsNameAgain locals others b y
-  IsOpAgain (op.Switch t x target cases) (op.Switch u y other further) =
-      IsTypeAgain m n t u × IsOperandAgain x y × IsNameAgain locals others target other × AreAlike IsCaseAgain cases further
-  IsOpAgain op.Unreachable op.Unreachable = Unit {0}
-  IsOpAgain op.ReturnVoid op.ReturnVoid = Unit {0}
-  IsOpAgain (op.Return x) (op.Return y) = IsArgumentAgain x y
+  -- two operands of one type
+  abbrev pub ArePairAgain : (t : ℕ) → (a b : Operand) → (u : ℕ) → (x y : Operand) → Type 0
+  ArePairAgain t a b u x y = IsTypeAgain m n t u × IsOperandAgain a x × IsOperandAgain b y
+
+  -- ---- families of instructions
+
+  -- operations that give an integer: one operation, each part alike
+  abbrev pub IsNumberOpAgain : NumberOp → NumberOp → Type 0
+  IsNumberOpAgain (number.Arithmetic kind t a b) (number.Arithmetic other u x y) = (kind ≡ other) × ArePairAgain t a b u x y
+  IsNumberOpAgain (number.Resize kind t x to) (number.Resize other u y into) = (kind ≡ other) × IsTypeAgain m n t u × IsOperandAgain x y × IsTypeAgain m n to into
+  IsNumberOpAgain (number.Compare kind t a b) (number.Compare other u x y) = (kind ≡ other) × ArePairAgain t a b u x y
+  IsNumberOpAgain _ _ = ⊥
+
+  -- operations on memory
+  abbrev pub IsMemoryOpAgain : MemoryOp → MemoryOp → Type 0
+  IsMemoryOpAgain (memory.Alloca t) (memory.Alloca u) = IsTypeAgain m n t u
+  IsMemoryOpAgain (memory.Load t place x) (memory.Load u other y) = IsTypeAgain m n t u × IsTypeAgain m n place other × IsOperandAgain x y
+  IsMemoryOpAgain (memory.Store t v place x) (memory.Store u w other y) = IsTypeAgain m n t u × IsOperandAgain v w × IsTypeAgain m n place other × IsOperandAgain x y
+  IsMemoryOpAgain _ _ = ⊥
+
+  -- a getelementptr
+  abbrev pub IsElementAgain : Element → Element → Type 0
+  IsElementAgain x y =
+      IsTypeAgain m n x.source y.source × IsTypeAgain m n x.base_type y.base_type × IsOperandAgain x.base y.base × AreAlike IsArgumentAgain x.indices y.indices
+
+  -- a bitcast
+  abbrev pub IsCastAgain : Cast → Cast → Type 0
+  IsCastAgain x y = IsTypeAgain m n x.from y.from × IsOperandAgain x.operand y.operand × IsTypeAgain m n x.to y.to
+
+  -- a select
+  abbrev pub IsChoiceAgain : Choice → Choice → Type 0
+  IsChoiceAgain x y =
+      IsTypeAgain m n x.condition_type y.condition_type × IsOperandAgain x.condition y.condition × ArePairAgain x.written x.chosen x.other y.written y.chosen y.other
+
+  -- a call
+  abbrev pub IsCallAgain : Call → Call → Type 0
+  IsCallAgain x y = IsResultAgain m n x.returned y.returned × IsNameAgain m.symbols n.symbols x.callee y.callee × AreAlike IsArgumentAgain x.arguments y.arguments
+
+  -- what instructions do: one operation of one family
+  abbrev pub IsOpAgain : Op → Op → Type 0
+  IsOpAgain (op.Number x) (op.Number y) = IsNumberOpAgain x y
+  IsOpAgain (op.Memory x) (op.Memory y) = IsMemoryOpAgain x y
+  IsOpAgain (op.Element x) (op.Element y) = IsElementAgain x y
+  IsOpAgain (op.Cast x) (op.Cast y) = IsCastAgain x y
+  IsOpAgain (op.Choice x) (op.Choice y) = IsChoiceAgain x y
+  IsOpAgain (op.Call x) (op.Call y) = IsCallAgain x y
   IsOpAgain _ _ = ⊥
+
+  -- ---- blocks
+
+  -- phis
+  abbrev pub IsPhiAgain : Phi → Phi → Type 0
+  IsPhiAgain x y = IsNameAgain locals others x.value y.value × IsTypeAgain m n x.written y.written × AreAlike IsIncomingAgain x.incoming y.incoming
 
   -- neither gives a value that has a name, or both do, and it is one name
   abbrev pub IsValueAgain : Option ℕ → Option ℕ → Type 0
@@ -95,13 +135,26 @@ module _ (m n : Module) (locals others : List Text) where
   IsValueAgain (Some value) (Some other) = IsNameAgain locals others value other
   IsValueAgain _ _ = ⊥
 
-  -- instructions
+  -- instructions of the body of a block
   abbrev pub IsInstrAgain : Instr → Instr → Type 0
   IsInstrAgain x y = IsValueAgain x.result y.result × IsOpAgain x.op y.op
 
+  -- how blocks end
+  abbrev pub IsEndAgain : End → End → Type 0
+  IsEndAgain (end.Jump target) (end.Jump other) = IsNameAgain locals others target other
+  IsEndAgain (end.Branch bit c a b) (end.Branch other d x y) =
+      IsTypeAgain m n bit other × IsOperandAgain c d × IsNameAgain locals others a x × IsNameAgain locals others b y
+  IsEndAgain (end.Switch t x target cases) (end.Switch u y other further) =
+      IsTypeAgain m n t u × IsOperandAgain x y × IsNameAgain locals others target other × AreAlike IsCaseAgain cases further
+  IsEndAgain end.Unreachable end.Unreachable = Unit {0}
+  IsEndAgain end.ReturnVoid end.ReturnVoid = Unit {0}
+  IsEndAgain (end.Return x) (end.Return y) = IsArgumentAgain x y
+  IsEndAgain _ _ = ⊥
+
   -- blocks
   abbrev pub IsBlockAgain : Block → Block → Type 0
-  IsBlockAgain x y = IsNameAgain locals others x.label y.label × AreAlike IsInstrAgain x.instructions y.instructions
+  IsBlockAgain x y =
+      IsNameAgain locals others x.label y.label × AreAlike IsPhiAgain x.phis y.phis × AreAlike IsInstrAgain x.body y.body × IsEndAgain x.end y.end
 
   -- parameters of defined functions
   abbrev pub IsParameterAgain : Parameter → Parameter → Type 0

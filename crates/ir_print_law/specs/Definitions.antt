@@ -4,6 +4,7 @@ use Rattle.std.specs.List.{flat_map}
 use Rattle.std.specs.Fmt.{decimal}
 use Rattle.ir_ast.specs.LocalKeys.{key_of_name}
 use Rattle.ir_ast.specs.declared.block.Block.{Block}
+use Rattle.ir_ast.specs.declared.choices.Phi.{Phi}
 use Rattle.ir_ast.specs.declared.function.Function.{Function}
 use Rattle.ir_ast.specs.declared.function.Parameter.{Parameter}
 use Rattle.ir_ast.specs.declared.instr.Instr.{Instr}
@@ -24,9 +25,17 @@ key_of_result locals (Some value) = name_at locals value ∷ []
 abbrev pub result_keys : (locals : List Text) → Instr → List Text
 result_keys locals x = key_of_result locals x.result
 
--- the keys that a block defines: its label, and the values of its instructions
+-- the key of the value of a phi
+abbrev pub phi_key : (locals : List Text) → Phi → Text
+phi_key locals x = name_at locals x.value
+
+-- the values of a block: those of its phis, and those of its body
+abbrev pub value_keys_of : (locals : List Text) → Block → List Text
+value_keys_of locals block = map (phi_key locals) block.phis ++ flat_map (result_keys locals) block.body
+
+-- the keys that a block defines: its label, and its values
 abbrev pub block_keys : (locals : List Text) → Block → List Text
-block_keys locals block = name_at locals block.label ∷ flat_map (result_keys locals) block.instructions
+block_keys locals block = name_at locals block.label ∷ value_keys_of locals block
 
 -- the key of a parameter
 abbrev pub parameter_key : (locals : List Text) → Parameter → Text
@@ -39,10 +48,6 @@ parameter_keys f = map (parameter_key f.locals) f.parameters
 -- the keys that a function defines
 abbrev pub defined_keys : Function → List Text
 defined_keys f = parameter_keys f ++ flat_map (block_keys f.locals) f.blocks
-
--- the values of a block
-abbrev pub value_keys_of : (locals : List Text) → Block → List Text
-value_keys_of locals block = flat_map (result_keys locals) block.instructions
 
 -- its values
 abbrev pub value_keys : Function → List Text

@@ -1,8 +1,18 @@
 -- Modules whose printed texts are read again.
-use Rattle.std.specs.Prelude.{◌≡◌, ℕ, ◌<◌, ◌≤◌, Bool, true, false, not, ◌&&◌, List, [], ◌∷◌, ◌++◌, length, Option, Some, None, is_some, ◌⊎◌, slice_get}
+use Rattle.std.specs.Prelude.{◌≡◌, ℕ, ◌<◌, ◌≤◌, Bool, true, false, not, List, [], ◌∷◌, ◌++◌, length, Option, Some, None, is_some, ◌⊎◌, slice_get}
 use Rattle.std.specs.List.{AllByRecursion}
 use Rattle.ir_ast.specs.RuntimeNames.{runtime_of}
+use Rattle.ir_ast.specs.declared.argument.Argument.{Argument}
 use Rattle.ir_ast.specs.declared.block.Block.{Block}
+use Rattle.ir_ast.specs.declared.calls.Call.{Call}
+use Rattle.ir_ast.specs.declared.casts.Cast.{Cast}
+use Rattle.ir_ast.specs.declared.choices.Choice.{Choice}
+use Rattle.ir_ast.specs.declared.choices.Incoming.{Incoming}
+use Rattle.ir_ast.specs.declared.choices.Phi.{Phi}
+use Rattle.ir_ast.specs.declared.elements.Element.{Element}
+use Rattle.ir_ast.specs.declared.ends.Case.{Case}
+use Rattle.ir_ast.specs.declared.ends.End.{End}
+use Rattle.ir_ast.specs.declared.ends.End.TheVariants as end
 use Rattle.ir_ast.specs.declared.function.Function.{Function}
 use Rattle.ir_ast.specs.declared.function.Parameter.{Parameter}
 use Rattle.ir_ast.specs.declared.instr.Instr.{Instr}
@@ -11,10 +21,11 @@ use Rattle.ir_ast.specs.declared.ir_type.IrType.TheVariants as type
 use Rattle.ir_ast.specs.declared.items_of_module.Declare.{Declare}
 use Rattle.ir_ast.specs.declared.items_of_module.Global.{Global}
 use Rattle.ir_ast.specs.declared.items_of_module.StructType.{StructType}
+use Rattle.ir_ast.specs.declared.memory.MemoryOp.{MemoryOp}
+use Rattle.ir_ast.specs.declared.memory.MemoryOp.TheVariants as memory
 use Rattle.ir_ast.specs.declared.module.Module.{Module}
-use Rattle.ir_ast.specs.declared.op.Argument.{Argument}
-use Rattle.ir_ast.specs.declared.op.Case.{Case}
-use Rattle.ir_ast.specs.declared.op.Incoming.{Incoming}
+use Rattle.ir_ast.specs.declared.numbers.NumberOp.{NumberOp}
+use Rattle.ir_ast.specs.declared.numbers.NumberOp.TheVariants as number
 use Rattle.ir_ast.specs.declared.op.Op.{Op}
 use Rattle.ir_ast.specs.declared.op.Op.TheVariants as op
 use Rattle.ir_ast.specs.declared.operand.Constant.{Constant}
@@ -24,11 +35,9 @@ use Rattle.ir_ast.specs.declared.operand.Operand.TheVariants as operand
 use Rattle.ir_tokens.specs.Bytes.{Text}
 use Rattle.ir_forms.specs.Intrinsics.{is_intrinsic, is_left_out}
 use Rattle.ir_forms.specs.CaseValues.{value_of, is_among, with_value}
-use Rattle.ir_forms.specs.Sites.{is_phi}
 use Rattle.ir_forms.specs.declared.case_values.CaseValue.{CaseValue}
 use Rattle.name_text.specs.Readings.{AreBytes}
 use Rattle.ir_print.specs.Fits.{FitsType}
-use Rattle.ir_print.specs.Instructions.{ends_block}
 use Rattle.ir_print.specs.Names.{name_at}
 use Rattle.ir_print_law.specs.Definitions.{AreDefined, AreNew, defined_keys, value_keys, label_keys, target_keys, defined_structs, defined_globals, functions_of}
 use Rattle.ir_print_law.specs.Shapes.{IsIn, Shape, HasShape, IsWritten, levels, bits_of_shape, is_scalar_shape, is_pointer_shape, is_struct_shape, is_passed_shape, is_held_shape}
@@ -76,7 +85,7 @@ IsArgument m f x = (shape : Shape) × IsScalar m shape x.written × IsOperand m 
 abbrev pub IsTarget : Function → (label : ℕ) → Type 0
 IsTarget f label = IsIn (target_keys f) (name_at f.locals label)
 
--- ---- instructions
+-- ---- parts of instructions
 
 -- an entry of a phi of this type
 abbrev pub IsIncoming : Module → Function → Option ℕ → Incoming → Type 0
@@ -105,58 +114,83 @@ IsConverted m f from x to = IsArgument m f (record { written = from; operand = x
 abbrev pub IsReturned : Module → (returned : ℕ) → Type 0
 IsReturned m returned = IsVoid m returned ⊎ ((shape : Shape) × IsScalar m shape returned)
 
--- an instruction of this function
-abbrev pub IsOp : Module → Function → Op → Type 0
-IsOp m f (op.Alloca held) = (shape : Shape) × IsScalar m shape held
-IsOp m f (op.Bitcast from x to) = IsConverted m f from x to
-IsOp m f (op.Load loaded place_type place) = (shape : Shape) × IsScalar m shape loaded × IsPlaceType m shape loaded place_type × IsOperand m f None place
-IsOp m f (op.Store stored value place_type place) =
+-- ---- families of instructions
+
+-- an operation that gives an integer
+abbrev pub IsNumberOp : Module → Function → NumberOp → Type 0
+IsNumberOp m f (number.Arithmetic kind written first second) = ArePair m f written first second
+IsNumberOp m f (number.Resize kind from x to) = IsConverted m f from x to
+IsNumberOp m f (number.Compare kind written first second) = ArePair m f written first second
+
+-- an operation on memory
+abbrev pub IsMemoryOp : Module → Function → MemoryOp → Type 0
+IsMemoryOp m f (memory.Alloca held) = (shape : Shape) × IsScalar m shape held
+IsMemoryOp m f (memory.Load loaded place_type place) =
+    (shape : Shape) × IsScalar m shape loaded × IsPlaceType m shape loaded place_type × IsOperand m f None place
+IsMemoryOp m f (memory.Store stored value place_type place) =
     (shape : Shape) × IsScalar m shape stored × IsOperand m f (bits_of_shape shape) value × IsPlaceType m shape stored place_type × IsOperand m f None place
-IsOp m f (op.Element source base_type base indices) =
-    (shape : Shape) × IsType m shape source × IsPlaceType m shape source base_type × IsOperand m f None base × (0 < length indices) × AllByRecursion (IsArgument m f) indices
-IsOp m f (op.Arithmetic kind written first second) = ArePair m f written first second
-IsOp m f (op.Resize kind from x to) = IsConverted m f from x to
-IsOp m f (op.Compare kind written first second) = ArePair m f written first second
-IsOp m f (op.Select condition_type condition written chosen other) = IsCondition m f condition_type condition × ArePair m f written chosen other
-IsOp m f (op.Phi written incoming) =
-    (shape : Shape) × IsScalar m shape written × (0 < length incoming) × AllByRecursion (IsIncoming m f (bits_of_shape shape)) incoming
-IsOp m f (op.Call returned callee arguments) = IsReturned m returned × IsIn (functions_of m) (name_at m.symbols callee) × AllByRecursion (IsArgument m f) arguments
-IsOp m f (op.Jump target) = IsTarget f target
-IsOp m f (op.Branch condition_type condition taken other) = IsCondition m f condition_type condition × IsTarget f taken × IsTarget f other
-IsOp m f (op.Switch written value otherwise cases) =
-    (shape : Shape) × IsScalar m shape written × IsOperand m f (bits_of_shape shape) value × IsTarget f otherwise × AreCases f (bits_of_shape shape) [] cases
-IsOp m f op.Unreachable = Unit {0}
-IsOp m f op.ReturnVoid = Unit {0}
-IsOp m f (op.Return x) = IsArgument m f x
+
+-- a getelementptr
+abbrev pub IsElement : Module → Function → Element → Type 0
+IsElement m f x =
+    (shape : Shape) × IsType m shape x.source × IsPlaceType m shape x.source x.base_type × IsOperand m f None x.base × (0 < length x.indices)
+    × AllByRecursion (IsArgument m f) x.indices
+
+-- a bitcast
+abbrev pub IsCast : Module → Function → Cast → Type 0
+IsCast m f x = IsConverted m f x.from x.operand x.to
+
+-- a select
+abbrev pub IsChoice : Module → Function → Choice → Type 0
+IsChoice m f x = IsCondition m f x.condition_type x.condition × ArePair m f x.written x.chosen x.other
+
+-- a call
+abbrev pub IsCall : Module → Function → Call → Type 0
+IsCall m f x = IsReturned m x.returned × IsIn (functions_of m) (name_at m.symbols x.callee) × AllByRecursion (IsArgument m f) x.arguments
+
+-- what an instruction of this function does
+abbrev pub IsOp : Module → Function → Op → Type 0
+IsOp m f (op.Number x) = IsNumberOp m f x
+IsOp m f (op.Memory x) = IsMemoryOp m f x
+IsOp m f (op.Element x) = IsElement m f x
+IsOp m f (op.Cast x) = IsCast m f x
+IsOp m f (op.Choice x) = IsChoice m f x
+IsOp m f (op.Call x) = IsCall m f x
+
+-- ---- blocks
 
 -- whether this is the type `void`
 abbrev pub is_void : Option IrType → Bool
 is_void (Some type.Void) = true
 is_void _ = false
 
--- the instruction gives a value, and so a name is written before it
+-- an instruction gives a value, and so a name is written before it: all do but stores, and calls that return nothing
 abbrev pub gives_value : Module → Op → Bool
-gives_value m (op.Store stored value place_type place) = false
-gives_value m (op.Call returned callee arguments) = not (is_void (slice_get m.types returned))
-gives_value m x = not (ends_block x)
+gives_value m (op.Memory (memory.Store stored value place_type place)) = false
+gives_value m (op.Call x) = not (is_void (slice_get m.types x.returned))
+gives_value m _ = true
 
--- an instruction that ends no block; it may be a phi only after phis alone
-abbrev pub IsInner : Module → Function → (behind_phis : Bool) → Instr → Type 0
-IsInner m f behind_phis x =
-    IsOp m f x.op × (ends_block x.op ≡ false) × (is_some x.result ≡ gives_value m x.op) × (is_phi x.op ≡ true → behind_phis ≡ true)
+-- an instruction of the body of a block
+abbrev pub IsInstr : Module → Function → Instr → Type 0
+IsInstr m f x = IsOp m f x.op × (is_some x.result ≡ gives_value m x.op)
 
--- instructions that end no block, of which the phis come first
-abbrev pub AreInner : Module → Function → (behind_phis : Bool) → List Instr → Type 0
-AreInner m f behind_phis [] = Unit {0}
-AreInner m f behind_phis (x ∷ xs) = IsInner m f behind_phis x × AreInner m f (behind_phis && is_phi x.op) xs
+-- a phi
+abbrev pub IsPhi : Module → Function → Phi → Type 0
+IsPhi m f x = (shape : Shape) × IsScalar m shape x.written × (0 < length x.incoming) × AllByRecursion (IsIncoming m f (bits_of_shape shape)) x.incoming
 
--- an instruction that ends its block
-abbrev pub IsLast : Module → Function → Instr → Type 0
-IsLast m f x = IsOp m f x.op × (ends_block x.op ≡ true) × (x.result ≡ None)
+-- how a block ends
+abbrev pub IsEnd : Module → Function → End → Type 0
+IsEnd m f (end.Jump target) = IsTarget f target
+IsEnd m f (end.Branch condition_type condition taken other) = IsCondition m f condition_type condition × IsTarget f taken × IsTarget f other
+IsEnd m f (end.Switch written value otherwise cases) =
+    (shape : Shape) × IsScalar m shape written × IsOperand m f (bits_of_shape shape) value × IsTarget f otherwise × AreCases f (bits_of_shape shape) [] cases
+IsEnd m f end.Unreachable = Unit {0}
+IsEnd m f end.ReturnVoid = Unit {0}
+IsEnd m f (end.Return x) = IsArgument m f x
 
--- the instructions of a block, of which the last ends it, and no other
+-- the phis of a block, its body and its end
 abbrev pub IsBlock : Module → Function → Block → Type 0
-IsBlock m f block = (xs : List Instr) × (last : Instr) × (block.instructions ≡ xs ++ last ∷ []) × AreInner m f true xs × IsLast m f last
+IsBlock m f block = AllByRecursion (IsPhi m f) block.phis × AllByRecursion (IsInstr m f) block.body × IsEnd m f block.end
 
 -- ---- items
 

@@ -18,7 +18,7 @@ use Rattle.ir_forms.specs.Names.{struct_name, callee, used_label, target, new_va
 use Rattle.ir_forms.specs.Operand.{constant, operand}
 use Rattle.ir_ast.specs.declared.function.LocalSort.TheVariants.{Unknown}
 use Rattle.ir_forms.specs.Table.{mentioned}
-use Rattle.ir_print.specs.Instructions.{target_text}
+use Rattle.ir_print.specs.Ends.{target_text}
 use Rattle.name_text.specs.Names.{name_text, quoted_text}
 use Rattle.name_text.specs.Readings.{AreBytes}
 use Rattle.name_text.specs.declared.blank.Blank.TheVariants as blank

@@ -3,7 +3,7 @@ ghost use Rattle.ir_print_law.specs.Ends.{JumpsAreRead, EmptyReturnsAreRead, Unr
 ghost use Rattle.ir_print_law.specs.Stars.{StarsAreRead};
 ghost use Rattle.ir_print_law.specs.Readings.{ConstantsAreRead, LocalsAreRead, LocalOperandsAreRead, GlobalOperandsAreRead, CalleesAreRead, StructNamesAreRead, TargetsAreRead, NewValuesAreRead, NumberedValuesAreRead, LabelsAreRead, CollectorsAreRead, IntegerTypesAreRead};
 
-/// Printed instructions that end a block, and write no type, are read as themselves.
+/// Printed ends of blocks that write no type are read as themselves.
 pub fn end_law()
     ensures jumps { JumpsAreRead }
     ensures empty_returns { EmptyReturnsAreRead }

@@ -5,12 +5,15 @@ use Rattle.grammar.specs.Takes.{Takes, first_takes, second_takes}
 use Rattle.ir_tokens.specs.declared.token.Kind.{Kind}
 use Rattle.ir_tokens.specs.declared.token.Kind.TheVariants as k
 use Rattle.ir_ast.specs.declared.block.Block.{Block}
+use Rattle.ir_ast.specs.declared.choices.Phi.{Phi}
 use Rattle.ir_ast.specs.declared.instr.Instr.{Instr}
 use Rattle.ir_forms.specs.declared.input.Input.{Input}
 use Rattle.ir_forms.specs.Cursor.{kind, sees}
 use Rattle.ir_forms.specs.Input.{Form, limit}
 use Rattle.ir_forms.specs.Names.{new_label, numbered_label, unnamed_label}
-use Rattle.ir_forms.specs.Instructions.{instructions, instructions_takes}
+use Rattle.ir_forms.specs.Choices.{phis}
+use Rattle.ir_forms.specs.Ends.{block_end, block_end_takes}
+use Rattle.ir_forms.specs.Instructions.{body}
 use Rattle.ir_forms.specs.ManyWith.{many_with}
 use Rattle.ir_text.specs.declared.blocks.Blocks.{Blocks}
 
@@ -28,21 +31,26 @@ label_by number _ = unnamed_label number
 unfoldable pub block_label : ℕ → Form ℕ
 block_label number = has_room number >> look (λ i. kind i.cursor) (label_by number)
 
--- the block with this label and these instructions
-abbrev pub block_of : ℕ → List Instr → Form Block
-block_of l xs = pure (record { label = l; instructions = xs })
+-- the end of the block with this label, these phis and this body
+abbrev pub ended_by : ℕ → List Phi → List Instr → Form Block
+ended_by l ps xs = block_end >>= λ e. pure (record { label = l; phis = ps; body = xs; end = e })
 
--- the instructions after a label
-abbrev pub block_behind : ℕ → ℕ → Form Block
-block_behind number l = instructions number >>= block_of l
+-- what follows the phis of a block
+abbrev pub after_phis : (number label : ℕ) → List Phi → Form Block
+after_phis number l ps = body number >>= ended_by l ps
 
--- the block with this number: its label, and its instructions
+-- what follows the label of a block
+abbrev pub after_label : (number label : ℕ) → Form Block
+after_label number l = phis >>= after_phis number l
+
+-- the block with this number: its label, its phis, its body and its end
 unfoldable pub block : ℕ → Form Block
-block number = block_label number >>= block_behind number
+block number = block_label number >>= after_label number
 
 block_takes : (number : ℕ) → Takes (block number)
 unfolding block
-block_takes number = second_takes (block_label number) (block_behind number) (λ l. first_takes (instructions number) (block_of l) (instructions_takes number))
+block_takes number =
+    second_takes (block_label number) (after_label number) (λ l. second_takes phis (after_phis number l) (λ ps. second_takes (body number) (ended_by l ps) (λ xs. first_takes block_end (λ e. pure (record { label = l; phis = ps; body = xs; end = e })) block_end_takes)))
 
 -- ---- the blocks of a function
 

@@ -4,7 +4,7 @@ ghost use Rattle.ir_forms.specs.Input.{Reads};
 ghost use Rattle.ir_text.specs.Blocks as form;
 
 use ir_ast::{Block, BlockId, ValueId};
-use ir_forms::{Fault, Following, Input, instructions, many_with};
+use ir_forms::{Fault, Following, Input, block_end, body, many_with, phis};
 use ir_tokens::Kind;
 use items::Items;
 use std::alloc::Global;
@@ -28,17 +28,21 @@ fn block_label(alloc: Global, input: &mut Input<'_>, number: BlockId) -> Result<
     }
 }
 
-/// A block: its label, and its instructions.
+/// A block: its label, its phis, the instructions of its body, and its end.
 #[tactic(auto, unfolding(crate::specs::Blocks::block))]
 fn block(alloc: Global, input: &mut Input<'_>, number: BlockId) -> Result<Block, Fault>
     ensures outcome { Reads ((form.block number).read input.old) result input.new }
     ensures within { IfOk result (λ _. number < 65535) }
 {
     let label = block_label(alloc, input, number)?;
-    let instructions = instructions(alloc, input, number)?;
+    let phis = phis(alloc, input)?;
+    let body = body(alloc, input, number)?;
+    let end = block_end(alloc, input)?;
     Ok(Block {
         label,
-        instructions,
+        phis,
+        body,
+        end,
     })
 }
 

@@ -2,7 +2,7 @@
 use Rattle.std.specs.Prelude.{ℕ, zero, suc, ◌+◌, nat_lt, if◌then◌else◌, Option, Some, None, slice_get, unwrap_or}
 use Rattle.ir_ast.specs.declared.ir_type.IrType.{IrType}
 use Rattle.ir_ast.specs.declared.ir_type.IrType.TheVariants.{Array, Struct}
-use Rattle.ir_ast.specs.declared.op.Argument.{Argument}
+use Rattle.ir_ast.specs.declared.argument.Argument.{Argument}
 use Rattle.layout.specs.Layouts.{LaidOut}
 use Rattle.layout.specs.declared.step.Step.{Step}
 use Rattle.layout.specs.declared.step.Step.TheVariants.{Field, Elements}

@@ -1,6 +1,5 @@
 mod Few
 mod AsksArguments
-mod AsksPhis
 mod Phis
 mod Arguments
 mod Kept

@@ -1,16 +1,26 @@
 -- What an instruction asks for.
 use Rattle.std.specs.Prelude.{ℕ, ◌==◌, nat_lt, Bool, true, false, ◌&&◌, ◌||◌, if◌then◌else◌, List, [], ◌∷◌, length, slice_get, Option, Some, None, is_some}
 use Rattle.std.specs.List.{list_all}
+use Rattle.ir_ast.specs.declared.argument.Argument.{Argument}
+use Rattle.ir_ast.specs.declared.calls.Call.{Call}
+use Rattle.ir_ast.specs.declared.casts.Cast.{Cast}
+use Rattle.ir_ast.specs.declared.choices.Choice.{Choice}
+use Rattle.ir_ast.specs.declared.elements.Element.{Element}
+use Rattle.ir_ast.specs.declared.ends.End.{End as AnEnd}
+use Rattle.ir_ast.specs.declared.ends.End.TheVariants as end
 use Rattle.ir_ast.specs.declared.function.Function.{Function}
 use Rattle.ir_ast.specs.declared.function.Parameter.{Parameter}
 use Rattle.ir_ast.specs.declared.items_of_module.Declare.{Declare}
 use Rattle.ir_ast.specs.declared.items_of_module.SymbolSort.{SymbolSort}
 use Rattle.ir_ast.specs.declared.items_of_module.SymbolSort.TheVariants as symbol
+use Rattle.ir_ast.specs.declared.memory.MemoryOp.{MemoryOp}
+use Rattle.ir_ast.specs.declared.memory.MemoryOp.TheVariants as memory
 use Rattle.ir_ast.specs.declared.module.Module.{Module}
-use Rattle.ir_ast.specs.declared.op.Argument.{Argument}
-use Rattle.ir_ast.specs.declared.op.Comparison.{Comparison}
+use Rattle.ir_ast.specs.declared.numbers.Comparison.{Comparison}
+use Rattle.ir_ast.specs.declared.numbers.NumberOp.{NumberOp}
+use Rattle.ir_ast.specs.declared.numbers.NumberOp.TheVariants as number
 use Rattle.ir_ast.specs.declared.op.Op.{Op}
-use Rattle.ir_ast.specs.declared.op.Op.TheVariants.{Alloca, Bitcast, Load, Store, Element, Arithmetic, Resize, Compare, Select, Phi, Call, Jump, Branch, Switch, Unreachable, ReturnVoid, Return}
+use Rattle.ir_ast.specs.declared.op.Op.TheVariants as op
 use Rattle.ir_ast.specs.declared.operand.Constant.TheVariants as constant
 use Rattle.ir_ast.specs.declared.operand.Operand.{Operand}
 use Rattle.ir_ast.specs.declared.operand.Operand.TheVariants as operand
@@ -93,10 +103,14 @@ abbrev pub may_cast_slot : Module → (held : Option ℕ) → (from to : ℕ) �
 may_cast_slot m held from to = (from == to) || leads_to (is_slot_under m (held_layout m held)) (pointee m to)
 
 -- by the slot that the operand names, if it names one
-abbrev pub cast_action : LaidOut → Function → SlotTable → List Value → (from : ℕ) → Operand → (to : ℕ) → Option ℕ → Action
-cast_action p f slots registers from o to (Some slot) = only_if (is_local_of p.of_module f from o && may_cast_slot p.of_module (held_type slots slot) from to) Local
-cast_action p f slots registers from o to None =
-    only_if (is_typed p.of_module f slots from o && may_cast p from to (value_of p.of_module registers from o)) Local
+abbrev pub cast_of : LaidOut → Function → SlotTable → List Value → Cast → Option ℕ → Action
+cast_of p f slots registers x (Some slot) = only_if (is_local_of p.of_module f x.from x.operand && may_cast_slot p.of_module (held_type slots slot) x.from x.to) Local
+cast_of p f slots registers x None =
+    only_if (is_typed p.of_module f slots x.from x.operand && may_cast p x.from x.to (value_of p.of_module registers x.from x.operand)) Local
+
+-- a bitcast
+abbrev pub cast_action : LaidOut → Function → SlotTable → List Value → Cast → Action
+cast_action p f slots registers x = cast_of p f slots registers x (operand_slot slots.names x.operand)
 
 -- ---- loads and stores
 
@@ -139,12 +153,12 @@ abbrev pub are_indices : Module → Function → SlotTable → List Value → Li
 are_indices m f slots registers indices = list_all (λ index. is_usable_number m f slots registers index.written index.operand) indices
 
 -- a getelementptr leads to a part of the type, and to a word of the cell
-abbrev pub element_action : LaidOut → Function → SlotTable → List Value → (source base_type : ℕ) → Operand → List Argument → Action
-element_action p f slots registers source base_type base indices =
-    only_if (is_typed p.of_module f slots base_type base
-    && (are_indices p.of_module f slots registers indices
-    && (is_some (element_type p.of_module source indices)
-    && is_some (element_place p (element_offset p registers source indices) (value_of p.of_module registers base_type base))))) Local
+abbrev pub element_action : LaidOut → Function → SlotTable → List Value → Element → Action
+element_action p f slots registers x =
+    only_if (is_typed p.of_module f slots x.base_type x.base
+    && (are_indices p.of_module f slots registers x.indices
+    && (is_some (element_type p.of_module x.source x.indices)
+    && is_some (element_place p (element_offset p registers x.source x.indices) (value_of p.of_module registers x.base_type x.base))))) Local
 
 -- two operands of a type are integers
 abbrev pub are_numbers : Module → Function → SlotTable → List Value → (written : ℕ) → (first second : Operand) → Bool
@@ -320,11 +334,11 @@ enter_action m f slots from (Some block) = only_if (phis_fit m f slots from (phi
 abbrev pub branch_way : (condition : Value) → (taken other : ℕ) → ℕ
 branch_way condition taken other = if number_in condition == 0 then other else taken
 
--- the label to which an instruction goes on, if it is a br or a switch
-abbrev pub way_of : Module → List Value → Op → Option ℕ
-way_of m registers (Jump label) = Some label
-way_of m registers (Branch condition_type condition taken other) = Some (branch_way (value_of m registers condition_type condition) taken other)
-way_of m registers (Switch written v otherwise cases) = Some (switch_way m written (number_in (value_of m registers written v)) otherwise cases)
+-- the label to which a block goes on, if it ends with a br or a switch
+abbrev pub way_of : Module → List Value → AnEnd → Option ℕ
+way_of m registers (end.Jump label) = Some label
+way_of m registers (end.Branch condition_type condition taken other) = Some (branch_way (value_of m registers condition_type condition) taken other)
+way_of m registers (end.Switch written v otherwise cases) = Some (switch_way m written (number_in (value_of m registers written v)) otherwise cases)
 way_of m registers _ = None
 
 -- the block to which that leads
@@ -333,62 +347,54 @@ target_at f None = None
 target_at f (Some label) = target_of f label
 
 -- what a br or a switch asks for
-abbrev pub way_action : Module → Function → SlotTable → (from : ℕ) → List Value → Op → Action
-way_action m f slots from registers op = enter_action m f slots from (target_at f (way_of m registers op))
+abbrev pub way_action : Module → Function → SlotTable → (from : ℕ) → List Value → AnEnd → Action
+way_action m f slots from registers x = enter_action m f slots from (target_at f (way_of m registers x))
+
+-- what the end of the block with this number asks for
+abbrev pub end_action : Module → Function → SlotTable → (from : ℕ) → List Value → AnEnd → Action
+end_action m f slots from registers (end.Jump label) = way_action m f slots from registers (end.Jump label)
+end_action m f slots from registers (end.Branch condition_type condition taken other) =
+    if is_condition m f slots registers condition_type condition then way_action m f slots from registers (end.Branch condition_type condition taken other) else Wrong
+end_action m f slots from registers (end.Switch written v otherwise cases) =
+    if is_usable_number m f slots registers written v && cases_fit m written cases then way_action m f slots from registers (end.Switch written v otherwise cases) else Wrong
+end_action m f slots from registers end.Unreachable = End
+end_action m f slots from registers end.ReturnVoid = only_if (is_void (slice_get m.types f.returned)) End
+end_action m f slots from registers (end.Return argument) =
+    only_if ((argument.written == f.returned) && is_usable m f slots registers argument.written argument.operand) End
 
 -- ---- instructions
 
--- what an instruction asks for that computes a value of others
-abbrev pub value_action : Module → Function → SlotTable → List Value → Op → Action
-value_action m f slots registers (Arithmetic kind written first second) = only_if (are_numbers m f slots registers written first second) Local
-value_action m f slots registers (Resize kind written o to) =
+-- an operation on integers
+abbrev pub number_action : Module → Function → SlotTable → List Value → NumberOp → Action
+number_action m f slots registers (number.Arithmetic kind written first second) = only_if (are_numbers m f slots registers written first second) Local
+number_action m f slots registers (number.Resize kind written o to) =
     only_if (is_usable_number m f slots registers written o && (is_integer (slice_get m.types to) && may_resize kind (bits_at m written) (bits_at m to))) Local
-value_action m f slots registers (Compare kind written first second) = only_if (may_compare m f slots registers kind written first second) Local
-value_action m f slots registers (Select condition_type condition written chosen other) =
-    only_if (is_condition m f slots registers condition_type condition && may_select m f slots registers written chosen other) Local
-value_action m f slots registers _ = Wrong
+number_action m f slots registers (number.Compare kind written first second) = only_if (may_compare m f slots registers kind written first second) Local
 
--- what an instruction asks for that has to do with a place
-abbrev pub place_action : LaidOut → Function → SlotTable → List Value → Op → Action
-place_action p f slots registers (Bitcast written o to) = cast_action p f slots registers written o to (operand_slot slots.names o)
-place_action p f slots registers (Load loaded place_type place) =
+-- a select
+abbrev pub choice_action : Module → Function → SlotTable → List Value → Choice → Action
+choice_action m f slots registers x =
+    only_if (is_condition m f slots registers x.condition_type x.condition && may_select m f slots registers x.written x.chosen x.other) Local
+
+-- an operation on memory
+abbrev pub memory_action : LaidOut → Function → SlotTable → List Value → MemoryOp → Action
+memory_action p f slots registers (memory.Alloca held) = Local
+memory_action p f slots registers (memory.Load loaded place_type place) =
     load_action p slots loaded (slot_at_place p.of_module f slots place_type place) (address_at_place p.of_module f slots registers place_type place)
-place_action p f slots registers (Store stored v place_type place) =
+memory_action p f slots registers (memory.Store stored v place_type place) =
     store_action p slots stored (is_usable p.of_module f slots registers stored v) (value_of p.of_module registers stored v)
     (slot_at_place p.of_module f slots place_type place) (address_at_place p.of_module f slots registers place_type place)
-place_action p f slots registers (Element source base_type base indices) = element_action p f slots registers source base_type base indices
-place_action p f slots registers _ = Wrong
 
--- what an instruction asks for that ends the block with this number
-abbrev pub end_action : Module → Function → SlotTable → (from : ℕ) → List Value → Op → Action
-end_action m f slots from registers (Jump label) = way_action m f slots from registers (Jump label)
-end_action m f slots from registers (Branch condition_type condition taken other) =
-    if is_condition m f slots registers condition_type condition then way_action m f slots from registers (Branch condition_type condition taken other) else Wrong
-end_action m f slots from registers (Switch written v otherwise cases) =
-    if is_usable_number m f slots registers written v && cases_fit m written cases then way_action m f slots from registers (Switch written v otherwise cases) else Wrong
-end_action m f slots from registers Unreachable = End
-end_action m f slots from registers ReturnVoid = only_if (is_void (slice_get m.types f.returned)) End
-end_action m f slots from registers (Return argument) =
-    only_if ((argument.written == f.returned) && is_usable m f slots registers argument.written argument.operand) End
-end_action m f slots from registers _ = Wrong
+-- a call
+abbrev pub action_of_call : LaidOut → Function → SlotTable → List Value → Call → Action
+action_of_call p f slots registers x =
+    call_action p f slots registers x.returned x.arguments (declare_of p.of_module x.callee) (function_numbered p.of_module (number_called p.of_module x.callee)) (runtime_called p.of_module x.callee)
 
--- what an instruction asks for, in the block with this number
-abbrev pub op_action : LaidOut → Function → SlotTable → (from : ℕ) → List Value → Op → Action
-op_action p f slots from registers (Alloca held) = Local
-op_action p f slots from registers (Bitcast written o to) = place_action p f slots registers (Bitcast written o to)
-op_action p f slots from registers (Load loaded place_type place) = place_action p f slots registers (Load loaded place_type place)
-op_action p f slots from registers (Store stored v place_type place) = place_action p f slots registers (Store stored v place_type place)
-op_action p f slots from registers (Element source base_type base indices) = place_action p f slots registers (Element source base_type base indices)
-op_action p f slots from registers (Arithmetic kind written first second) = value_action p.of_module f slots registers (Arithmetic kind written first second)
-op_action p f slots from registers (Resize kind written o to) = value_action p.of_module f slots registers (Resize kind written o to)
-op_action p f slots from registers (Compare kind written first second) = value_action p.of_module f slots registers (Compare kind written first second)
-op_action p f slots from registers (Select condition_type condition written chosen other) = value_action p.of_module f slots registers (Select condition_type condition written chosen other)
-op_action p f slots from registers (Phi written incoming) = Local
-op_action p f slots from registers (Call returned callee arguments) =
-    call_action p f slots registers returned arguments (declare_of p.of_module callee) (function_numbered p.of_module (number_called p.of_module callee)) (runtime_called p.of_module callee)
-op_action p f slots from registers (Jump label) = end_action p.of_module f slots from registers (Jump label)
-op_action p f slots from registers (Branch condition_type condition taken other) = end_action p.of_module f slots from registers (Branch condition_type condition taken other)
-op_action p f slots from registers (Switch written v otherwise cases) = end_action p.of_module f slots from registers (Switch written v otherwise cases)
-op_action p f slots from registers Unreachable = end_action p.of_module f slots from registers Unreachable
-op_action p f slots from registers ReturnVoid = end_action p.of_module f slots from registers ReturnVoid
-op_action p f slots from registers (Return argument) = end_action p.of_module f slots from registers (Return argument)
+-- what an instruction of a body asks for
+abbrev pub op_action : LaidOut → Function → SlotTable → List Value → Op → Action
+op_action p f slots registers (op.Number x) = number_action p.of_module f slots registers x
+op_action p f slots registers (op.Memory x) = memory_action p f slots registers x
+op_action p f slots registers (op.Element x) = element_action p f slots registers x
+op_action p f slots registers (op.Cast x) = cast_action p f slots registers x
+op_action p f slots registers (op.Choice x) = choice_action p.of_module f slots registers x
+op_action p f slots registers (op.Call x) = action_of_call p f slots registers x

@@ -1,7 +1,7 @@
 -- Places in cells: the word to which a getelementptr leads, and what may be read and written there.
 use Rattle.std.specs.Prelude.{ℕ, ◌+◌, ◌*◌, Bool, false, ◌&&◌, ◌==◌, List, [], ◌∷◌, slice_get, Option, Some, None, is_some, if◌then◌else◌}
 use Rattle.ir_ast.specs.declared.module.Module.{Module}
-use Rattle.ir_ast.specs.declared.op.Argument.{Argument}
+use Rattle.ir_ast.specs.declared.argument.Argument.{Argument}
 use Rattle.pools.specs.declared.word_kind.WordKind.{WordKind}
 use Rattle.pools.specs.declared.word_kind.WordKind.TheVariants.{Integer, Reference as Referring}
 use Rattle.pools.specs.Layouts.{kind_of_word}

@@ -1,11 +1,11 @@
 -- What integer instructions give.
 use Rattle.std.specs.Prelude.{ℕ, ◌+◌, ◌-◌, ◌*◌, ◌==◌, Bool, true, false, not, nat_lt, nat_le, bit_and, bit_or, bit_xor, if◌then◌else◌}
-use Rattle.ir_ast.specs.declared.op.Arithmetic.{Arithmetic}
-use Rattle.ir_ast.specs.declared.op.Arithmetic.TheVariants.{Add, Sub, Mul, And, Or, Xor}
-use Rattle.ir_ast.specs.declared.op.Resize.{Resize}
-use Rattle.ir_ast.specs.declared.op.Resize.TheVariants.{ZeroExtend, SignExtend, Truncate}
-use Rattle.ir_ast.specs.declared.op.Comparison.{Comparison}
-use Rattle.ir_ast.specs.declared.op.Comparison.TheVariants as compare
+use Rattle.ir_ast.specs.declared.numbers.Arithmetic.{Arithmetic}
+use Rattle.ir_ast.specs.declared.numbers.Arithmetic.TheVariants.{Add, Sub, Mul, And, Or, Xor}
+use Rattle.ir_ast.specs.declared.numbers.Resize.{Resize}
+use Rattle.ir_ast.specs.declared.numbers.Resize.TheVariants.{ZeroExtend, SignExtend, Truncate}
+use Rattle.ir_ast.specs.declared.numbers.Comparison.{Comparison}
+use Rattle.ir_ast.specs.declared.numbers.Comparison.TheVariants as compare
 use Rattle.machine.specs.Kinds.{modulus, wrapped}
 
 -- the sum, the product and so on of two integers of `bits` bits

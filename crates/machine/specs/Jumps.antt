@@ -1,14 +1,12 @@
 -- Edges from block to block, and the values that phis take on them.
 use Rattle.std.specs.Prelude.{ℕ, ◌≤◌, ◌==◌, Bool, true, false, ◌&&◌, List, [], ◌∷◌, length, slice_get, slice_set, Option, Some, None, if◌then◌else◌}
-use Rattle.std.specs.List.{list_all, take_while}
+use Rattle.std.specs.List.{list_all}
 use Rattle.ir_ast.specs.declared.block.Block.{Block}
 use Rattle.ir_ast.specs.declared.function.Function.{Function}
-use Rattle.ir_ast.specs.declared.instr.Instr.{Instr}
+use Rattle.ir_ast.specs.declared.choices.Incoming.{Incoming}
+use Rattle.ir_ast.specs.declared.choices.Phi.{Phi}
+use Rattle.ir_ast.specs.declared.ends.Case.{Case}
 use Rattle.ir_ast.specs.declared.module.Module.{Module}
-use Rattle.ir_ast.specs.declared.op.Case.{Case}
-use Rattle.ir_ast.specs.declared.op.Incoming.{Incoming}
-use Rattle.ir_ast.specs.declared.op.Op.{Op}
-use Rattle.ir_ast.specs.declared.op.Op.TheVariants.{Phi}
 use Rattle.ir_ast.specs.declared.operand.Operand.{Operand}
 use Rattle.types.specs.ValueTypes.{target_of}
 use Rattle.shadow_stack.specs.Slots.{SlotTable}
@@ -16,23 +14,10 @@ use Rattle.machine.specs.declared.value.Value.{Value}
 use Rattle.machine.specs.declared.value.Value.TheVariants as value
 use Rattle.machine.specs.Kinds.{is_scalar, is_typed, is_no_global, value_of, constant_value, constant_fits, number_in}
 
--- the instructions of a block; a block that does not exist has none
-abbrev pub instructions_in : Option Block → List Instr
-instructions_in None = []
-instructions_in (Some block) = block.instructions
-
--- a phi
-abbrev pub is_phi_op : Op → Bool
-is_phi_op (Phi written incoming) = true
-is_phi_op _ = false
-
--- an instruction is one
-abbrev pub is_phi : Instr → Bool
-is_phi instr = is_phi_op instr.op
-
--- the phis in front of a block
-abbrev pub phis_of : Option Block → List Instr
-phis_of block = take_while is_phi (instructions_in block)
+-- the phis of a block; a block that does not exist has none
+abbrev pub phis_of : Option Block → List Phi
+phis_of None = []
+phis_of (Some block) = block.phis
 
 -- a block is this one, if there is one
 abbrev pub is_block : (block : ℕ) → Option ℕ → Bool
@@ -50,13 +35,12 @@ entry_fits m f slots written None = true
 entry_fits m f slots written (Some o) = is_no_global o && is_typed m f slots written o
 
 -- a phi is an integer or a reference, and its entry for this block is of its type
-abbrev pub phi_fits : Module → Function → SlotTable → (from : ℕ) → Op → Bool
-phi_fits m f slots from (Phi written incoming) = is_scalar m written && entry_fits m f slots written (entry_for f from incoming)
-phi_fits m f slots from _ = true
+abbrev pub phi_fits : Module → Function → SlotTable → (from : ℕ) → Phi → Bool
+phi_fits m f slots from phi = is_scalar m phi.written && entry_fits m f slots phi.written (entry_for f from phi.incoming)
 
 -- each of these phis may take its entry
-abbrev pub phis_fit : Module → Function → SlotTable → (from : ℕ) → List Instr → Bool
-phis_fit m f slots from phis = list_all (λ phi. phi_fits m f slots from phi.op) phis
+abbrev pub phis_fit : Module → Function → SlotTable → (from : ℕ) → List Phi → Bool
+phis_fit m f slots from phis = list_all (phi_fits m f slots from) phis
 
 -- the value of an entry
 abbrev pub entry_value : Module → List Value → (written : ℕ) → Option Operand → Value
@@ -64,9 +48,8 @@ entry_value m registers written None = value.Unset
 entry_value m registers written (Some o) = value_of m registers written o
 
 -- the value that a phi takes
-abbrev pub phi_value : Module → Function → List Value → (from : ℕ) → Op → Value
-phi_value m f registers from (Phi written incoming) = entry_value m registers written (entry_for f from incoming)
-phi_value m f registers from _ = value.Unset
+abbrev pub phi_value : Module → Function → List Value → (from : ℕ) → Phi → Value
+phi_value m f registers from phi = entry_value m registers phi.written (entry_for f from phi.incoming)
 
 -- registers with a value for a name, if there is one
 abbrev pub put_register : (name : Option ℕ) → Value → List Value → List Value
@@ -74,13 +57,13 @@ put_register None v registers = registers
 put_register (Some name) v registers = slice_set registers name v
 
 -- each phi takes its entry's value as it was before any of them took one
-abbrev pub put_phis : Module → Function → (before : List Value) → (from : ℕ) → List Instr → List Value → List Value
+abbrev pub put_phis : Module → Function → (before : List Value) → (from : ℕ) → List Phi → List Value → List Value
 put_phis m f before from [] registers = registers
-put_phis m f before from (phi ∷ phis) registers = put_phis m f before from phis (put_register phi.result (phi_value m f before from phi.op) registers)
+put_phis m f before from (phi ∷ phis) registers = put_phis m f before from phis (slice_set registers phi.value (phi_value m f before from phi))
 
 -- each of these phis takes the value at its place
-abbrev pub put_each : List Instr → (values registers : List Value) → List Value
-put_each (phi ∷ phis) (v ∷ values) registers = put_each phis values (put_register phi.result v registers)
+abbrev pub put_each : List Phi → (values registers : List Value) → List Value
+put_each (phi ∷ phis) (v ∷ values) registers = put_each phis values (slice_set registers phi.value v)
 put_each phis values registers = registers
 
 -- the label to which a switch goes on at this number: the first case that is it

@@ -1,14 +1,24 @@
 -- One thread: what it asks for, and its state after the answer.
 use Rattle.std.specs.Prelude.{ℕ, suc, ◌+◌, ◌==◌, nat_lt, Bool, true, false, if◌then◌else◌, List, [], ◌∷◌, ◌++◌, length, map, replicate, slice_get, slice_set, unwrap_or, Option, Some, None}
+use Rattle.ir_ast.specs.declared.argument.Argument.{Argument}
 use Rattle.ir_ast.specs.declared.block.Block.{Block}
+use Rattle.ir_ast.specs.declared.casts.Cast.{Cast}
+use Rattle.ir_ast.specs.declared.choices.Choice.{Choice}
+use Rattle.ir_ast.specs.declared.choices.Phi.{Phi}
+use Rattle.ir_ast.specs.declared.elements.Element.{Element}
+use Rattle.ir_ast.specs.declared.ends.End.{End as AnEnd}
+use Rattle.ir_ast.specs.declared.ends.End.TheVariants as end
 use Rattle.ir_ast.specs.declared.function.Function.{Function}
 use Rattle.ir_ast.specs.declared.function.Parameter.{Parameter}
 use Rattle.ir_ast.specs.declared.instr.Instr.{Instr}
+use Rattle.ir_ast.specs.declared.memory.MemoryOp.{MemoryOp}
+use Rattle.ir_ast.specs.declared.memory.MemoryOp.TheVariants as memory
 use Rattle.ir_ast.specs.declared.module.Module.{Module}
-use Rattle.ir_ast.specs.declared.op.Argument.{Argument}
-use Rattle.ir_ast.specs.declared.op.Comparison.{Comparison}
+use Rattle.ir_ast.specs.declared.numbers.Comparison.{Comparison}
+use Rattle.ir_ast.specs.declared.numbers.NumberOp.{NumberOp}
+use Rattle.ir_ast.specs.declared.numbers.NumberOp.TheVariants as number
 use Rattle.ir_ast.specs.declared.op.Op.{Op}
-use Rattle.ir_ast.specs.declared.op.Op.TheVariants.{Bitcast, Load, Store, Element, Arithmetic, Resize, Compare, Select, Call, Jump, Branch, Switch, Unreachable, ReturnVoid, Return}
+use Rattle.ir_ast.specs.declared.op.Op.TheVariants as op
 use Rattle.ir_ast.specs.declared.runtime.Runtime.{Runtime}
 use Rattle.ir_ast.specs.declared.runtime.Runtime.TheVariants as runtime
 use Rattle.pools.specs.Layouts.{kind_of_word}
@@ -28,7 +38,7 @@ use Rattle.machine.specs.Kinds.{is_integer, bits_at, number_in, value_of, slot_a
 use Rattle.machine.specs.Integers.{computed, resized, compares, compares_equal, truth}
 use Rattle.machine.specs.Elements.{element_offset, element_place, address_of, global_kind, read_value}
 use Rattle.machine.specs.Jumps.{put_register, phis_of, put_phis}
-use Rattle.machine.specs.Asks.{layout_named, number_called, op_action, way_of, target_at}
+use Rattle.machine.specs.Asks.{layout_named, number_called, op_action, end_action, way_of, target_at}
 
 -- the frames of a thread, the running one first; a thread without a frame has ended
 pub record State : Type 0 where
@@ -37,32 +47,6 @@ pub record State : Type 0 where
 -- the value of a slot
 abbrev pub slot_value : List Value → (slot : ℕ) → Value
 slot_value slots slot = unwrap_or (slice_get slots slot) value.Unset
-
--- ---- how a thread goes on
-
--- after an instruction
-pub data Onward : Type 0 where
-  Next : Onward  -- at the next place
-  Way : Onward  -- in the block to which it leads
-  Into : (function : ℕ) → Onward  -- at the beginning of the function that it calls
-  Back : Onward  -- in the frame below
-  Nowhere : Onward  -- it ends
-
--- after a call, by the defined function that is called
-abbrev pub onward_of_call : (function : Option ℕ) → Onward
-onward_of_call None = Next
-onward_of_call (Some function) = Into function
-
--- by what the instruction is
-abbrev pub onward_of : Module → Op → Onward
-onward_of m (Call returned callee arguments) = onward_of_call (number_called m callee)
-onward_of m (Jump label) = Way
-onward_of m (Branch condition_type condition taken other) = Way
-onward_of m (Switch written v otherwise cases) = Way
-onward_of m Unreachable = Nowhere
-onward_of m ReturnVoid = Back
-onward_of m (Return argument) = Back
-onward_of m _ = Next
 
 -- how many frames a thread may have
 abbrev pub frame_limit : ℕ
@@ -74,30 +58,50 @@ has_room below = nat_lt (below + 1) frame_limit
 
 -- ---- what a thread asks for
 
--- the instruction at a place of a block
+-- the instruction at a place of a block's body
 abbrev pub instr_in : (place : ℕ) → Option Block → Option Instr
 instr_in place None = None
-instr_in place (Some block) = slice_get block.instructions place
+instr_in place (Some block) = slice_get block.body place
 
--- the instruction at which a frame is
+-- the instruction at which a frame is; after the last one of its block's body there is none
 abbrev pub instr_at : Function → Frame → Option Instr
 instr_at f frame = instr_in frame.place (slice_get f.blocks frame.block)
 
--- what an instruction asks for; where there is none, the thread ends
-abbrev pub instr_action : LaidOut → Function → Frame → Option Instr → Action
-instr_action p f frame None = End
-instr_action p f frame (Some instr) = op_action p f (slots_of p.of_module f) frame.block frame.registers instr.op
+-- the end of a block
+abbrev pub end_of : Option Block → Option AnEnd
+end_of None = None
+end_of (Some block) = Some block.end
 
--- what is asked for above this number of other frames: a return to one of them is one step, and a call for whose frame there is no room ends the thread
-abbrev pub above : Onward → (below : ℕ) → Action → Action
-above Back (suc below) End = Local
-above (Into function) below Local = if has_room below then Local else End
-above onward below asked = asked
+-- the end of the block in which a frame is
+abbrev pub end_at : Function → Frame → Option AnEnd
+end_at f frame = end_of (slice_get f.blocks frame.block)
 
--- what an instruction asks for above this number of other frames
+-- the number of the defined function that an instruction calls, if it calls one
+abbrev pub function_called : Module → Op → Option ℕ
+function_called m (op.Call x) = number_called m x.callee
+function_called m _ = None
+
+-- a call for whose frame there is no room ends the thread
+abbrev pub with_room : (called : Option ℕ) → (below : ℕ) → Action → Action
+with_room (Some function) below Local = if has_room below then Local else End
+with_room called below asked = asked
+
+-- a return to another frame is one step
+abbrev pub above_callers : AnEnd → (below : ℕ) → Action → Action
+above_callers end.ReturnVoid (suc below) End = Local
+above_callers (end.Return argument) (suc below) End = Local
+above_callers x below asked = asked
+
+-- what a frame asks for at the end of its block, above this number of other frames; where there is no block, the thread ends
+abbrev pub last_action : LaidOut → Function → Frame → (below : ℕ) → Option AnEnd → Action
+last_action p f frame below None = End
+last_action p f frame below (Some x) = above_callers x below (end_action p.of_module f (slots_of p.of_module f) frame.block frame.registers x)
+
+-- and at an instruction, or where there is none at the end of its block
 abbrev pub step_action : LaidOut → Function → Frame → (below : ℕ) → Option Instr → Action
-step_action p f frame below None = End
-step_action p f frame below (Some instr) = above (onward_of p.of_module instr.op) below (instr_action p f frame (Some instr))
+step_action p f frame below None = last_action p f frame below (end_at f frame)
+step_action p f frame below (Some instr) =
+    with_room (function_called p.of_module instr.op) below (op_action p f (slots_of p.of_module f) frame.registers instr.op)
 
 -- what a frame of this function asks for above this number of other frames
 abbrev pub frame_action : LaidOut → Frame → (below : ℕ) → Option Function → Action
@@ -124,9 +128,9 @@ set_slot None v frame = frame
 set_slot (Some slot) v frame = record frame { slots = slice_set frame.slots slot v }
 
 -- a bitcast of a slot only gives it another name
-abbrev pub after_cast : (name : Option ℕ) → Value → Option ℕ → Frame → Frame
-after_cast name v None frame = set_register name v frame
-after_cast name v (Some slot) frame = frame
+abbrev pub cast_from : (name : Option ℕ) → Value → (slot : Option ℕ) → Frame → Frame
+cast_from name v None frame = set_register name v frame
+cast_from name v (Some slot) frame = frame
 
 -- what is read at an address, by the answer
 abbrev pub read_at : LaidOut → Option Place → Answer → Value
@@ -139,12 +143,6 @@ read_at p (Some (place.Global g)) given = read_value (global_kind p.of_module g)
 abbrev pub loaded_from : LaidOut → List Value → Option ℕ → Option Place → Answer → Value
 loaded_from p slots (Some slot) address given = slot_value slots slot
 loaded_from p slots None address given = read_at p address given
-
--- what an integer instruction of two operands gives
-abbrev pub arithmetic_value : Module → List Value → Op → Value
-arithmetic_value m registers (Arithmetic kind written first second) =
-    value.Number (computed kind (bits_at m written) (number_in (value_of m registers written first)) (number_in (value_of m registers written second)))
-arithmetic_value m registers _ = value.Unset
 
 -- whether two references, or null, are equal: to one cell
 abbrev pub are_equal : (first second : Value) → Bool
@@ -189,52 +187,52 @@ after_call p f slots name arguments (Some runtime.GcRoot) given frame = set_slot
 after_call p f slots name arguments (Some runtime.GcRead) given frame = set_register name (read_at p (place_of_call p.of_module f slots frame.registers arguments) given) frame
 after_call p f slots name arguments _ given frame = frame
 
--- the value that an instruction computes of others
-abbrev pub computed_value : Module → List Value → Op → Value
-computed_value m registers (Arithmetic kind written first second) = arithmetic_value m registers (Arithmetic kind written first second)
-computed_value m registers (Resize kind from o to) = value.Number (resized kind (bits_at m from) (bits_at m to) (number_in (value_of m registers from o)))
-computed_value m registers (Compare kind written first second) = compared kind (bits_at m written) (value_of m registers written first) (value_of m registers written second)
-computed_value m registers (Select condition_type condition written chosen other) =
-    selected (value_of m registers condition_type condition) (value_of m registers written chosen) (value_of m registers written other)
-computed_value m registers _ = value.Unset
+-- what an operation on integers gives
+abbrev pub number_value : Module → List Value → NumberOp → Value
+number_value m registers (number.Arithmetic kind written first second) =
+    value.Number (computed kind (bits_at m written) (number_in (value_of m registers written first)) (number_in (value_of m registers written second)))
+number_value m registers (number.Resize kind from o to) = value.Number (resized kind (bits_at m from) (bits_at m to) (number_in (value_of m registers from o)))
+number_value m registers (number.Compare kind written first second) = compared kind (bits_at m written) (value_of m registers written first) (value_of m registers written second)
+
+-- what a select gives
+abbrev pub choice_value : Module → List Value → Choice → Value
+choice_value m registers x =
+    selected (value_of m registers x.condition_type x.condition) (value_of m registers x.written x.chosen) (value_of m registers x.written x.other)
 
 -- the address that a getelementptr gives
-abbrev pub element_address : LaidOut → List Value → Op → Value
-element_address p registers (Element source base_type base indices) =
-    address_of (element_place p (element_offset p registers source indices) (value_of p.of_module registers base_type base))
-element_address p registers _ = value.Unset
+abbrev pub element_address : LaidOut → List Value → Element → Value
+element_address p registers x =
+    address_of (element_place p (element_offset p registers x.source x.indices) (value_of p.of_module registers x.base_type x.base))
 
--- the frame after a bitcast, a load or a store
-abbrev pub after_place : LaidOut → Function → SlotTable → (name : Option ℕ) → Op → Answer → Frame → Frame
-after_place p f slots name (Bitcast from o to) given frame = after_cast name (value_of p.of_module frame.registers from o) (operand_slot slots.names o) frame
-after_place p f slots name (Load loaded place_type place) given frame =
+-- the frame after a bitcast
+abbrev pub after_cast : LaidOut → SlotTable → (name : Option ℕ) → Cast → Frame → Frame
+after_cast p slots name x frame = cast_from name (value_of p.of_module frame.registers x.from x.operand) (operand_slot slots.names x.operand) frame
+
+-- the frame after an operation on memory
+abbrev pub after_memory : LaidOut → Function → SlotTable → (name : Option ℕ) → MemoryOp → Answer → Frame → Frame
+after_memory p f slots name (memory.Alloca held) given frame = frame
+after_memory p f slots name (memory.Load loaded place_type place) given frame =
     set_register name (loaded_from p frame.slots (slot_at_place p.of_module f slots place_type place) (address_at_place p.of_module f slots frame.registers place_type place) given) frame
-after_place p f slots name (Store stored v place_type place) given frame =
+after_memory p f slots name (memory.Store stored v place_type place) given frame =
     set_slot (slot_at_place p.of_module f slots place_type place) (value_of p.of_module frame.registers stored v) frame
-after_place p f slots name _ given frame = frame
 
--- the frame after an instruction that stays in its block
+-- the frame after an instruction that calls no defined function
 abbrev pub after_op : LaidOut → Function → SlotTable → (name : Option ℕ) → Op → Answer → Frame → Frame
-after_op p f slots name (Bitcast from o to) given frame = after_place p f slots name (Bitcast from o to) given frame
-after_op p f slots name (Load loaded place_type place) given frame = after_place p f slots name (Load loaded place_type place) given frame
-after_op p f slots name (Store stored v place_type place) given frame = after_place p f slots name (Store stored v place_type place) given frame
-after_op p f slots name (Element source base_type base indices) given frame = set_register name (element_address p frame.registers (Element source base_type base indices)) frame
-after_op p f slots name (Arithmetic kind written first second) given frame = set_register name (computed_value p.of_module frame.registers (Arithmetic kind written first second)) frame
-after_op p f slots name (Resize kind from o to) given frame = set_register name (computed_value p.of_module frame.registers (Resize kind from o to)) frame
-after_op p f slots name (Compare kind written first second) given frame = set_register name (computed_value p.of_module frame.registers (Compare kind written first second)) frame
-after_op p f slots name (Select condition_type condition written chosen other) given frame =
-    set_register name (computed_value p.of_module frame.registers (Select condition_type condition written chosen other)) frame
-after_op p f slots name (Call returned callee arguments) given frame = after_call p f slots name arguments (runtime_called p.of_module callee) given frame
-after_op p f slots name _ given frame = frame
+after_op p f slots name (op.Number x) given frame = set_register name (number_value p.of_module frame.registers x) frame
+after_op p f slots name (op.Memory x) given frame = after_memory p f slots name x given frame
+after_op p f slots name (op.Element x) given frame = set_register name (element_address p frame.registers x) frame
+after_op p f slots name (op.Cast x) given frame = after_cast p slots name x frame
+after_op p f slots name (op.Choice x) given frame = set_register name (choice_value p.of_module frame.registers x) frame
+after_op p f slots name (op.Call x) given frame = after_call p f slots name x.arguments (runtime_called p.of_module x.callee) given frame
 
 -- the next place
 abbrev pub go_on : Frame → Frame
 go_on frame = record frame { place = frame.place + 1 }
 
 -- a block is entered after its phis
-abbrev pub enter : Module → Function → (from : ℕ) → (block : ℕ) → List Instr → Frame → Frame
+abbrev pub enter : Module → Function → (from : ℕ) → (block : ℕ) → List Phi → Frame → Frame
 enter m f from block phis frame =
-    record frame { block = block; place = length phis; registers = put_phis m f frame.registers from phis frame.registers }
+    record frame { block = block; place = 0; registers = put_phis m f frame.registers from phis frame.registers }
 
 -- the frame in the block to which its br or switch leads
 abbrev pub enter_block : Module → Function → (target : Option ℕ) → Frame → Frame
@@ -269,7 +267,7 @@ values_of m registers arguments = map (λ argument. value_of m registers argumen
 
 -- and of what an instruction calls
 abbrev pub called_with : Module → List Value → Op → List Value
-called_with m registers (Call returned callee arguments) = values_of m registers arguments
+called_with m registers (op.Call x) = values_of m registers x.arguments
 called_with m registers _ = []
 
 -- the frames after a call: the called function's is above the caller's, which goes on at the next place; where there is no room the thread ends
@@ -279,8 +277,8 @@ frames_called m into arguments function (Some callee) frame below =
     if has_room (length below) then entry_frame m callee function into arguments ∷ go_on frame ∷ below else []
 
 -- what a return gives
-abbrev pub result_of : Module → List Value → Op → Value
-result_of m registers (Return argument) = value_of m registers argument.written argument.operand
+abbrev pub result_of : Module → List Value → AnEnd → Value
+result_of m registers (end.Return argument) = value_of m registers argument.written argument.operand
 result_of m registers _ = value.Unset
 
 -- the frames after a return: the caller's takes the result; after the last one there is none
@@ -290,24 +288,33 @@ frames_returned into result (caller ∷ below) = set_register into result caller
 
 -- ---- the state after an answer
 
--- the frames after an instruction
-abbrev pub after_onward : LaidOut → Function → Instr → Answer → Frame → (below : List Frame) → Onward → List Frame
-after_onward p f instr given frame below Next = go_on (after_op p f (slots_of p.of_module f) instr.result instr.op given frame) ∷ below
-after_onward p f instr given frame below Way = enter_block p.of_module f (target_at f (way_of p.of_module frame.registers instr.op)) frame ∷ below
-after_onward p f instr given frame below (Into function) =
+-- the frames after an instruction, by the defined function that it calls, if it calls one
+abbrev pub after_instr : LaidOut → Function → Instr → Answer → Frame → (below : List Frame) → (called : Option ℕ) → List Frame
+after_instr p f instr given frame below None = go_on (after_op p f (slots_of p.of_module f) instr.result instr.op given frame) ∷ below
+after_instr p f instr given frame below (Some function) =
     frames_called p.of_module instr.result (called_with p.of_module frame.registers instr.op) function (slice_get p.of_module.functions function) frame below
-after_onward p f instr given frame below Back = frames_returned frame.into (result_of p.of_module frame.registers instr.op) below
-after_onward p f instr given frame below Nowhere = []
 
--- and where there is none
-abbrev pub after_instr : LaidOut → Function → Option Instr → Answer → Frame → (below : List Frame) → List Frame
-after_instr p f None given frame below = frame ∷ below
-after_instr p f (Some instr) given frame below = after_onward p f instr given frame below (onward_of p.of_module instr.op)
+-- the frames after the end of a block: a return leaves the frame, and a br or a switch leads on
+abbrev pub after_end : LaidOut → Function → Frame → (below : List Frame) → AnEnd → List Frame
+after_end p f frame below end.Unreachable = []
+after_end p f frame below end.ReturnVoid = frames_returned frame.into (result_of p.of_module frame.registers end.ReturnVoid) below
+after_end p f frame below (end.Return argument) = frames_returned frame.into (result_of p.of_module frame.registers (end.Return argument)) below
+after_end p f frame below x = enter_block p.of_module f (target_at f (way_of p.of_module frame.registers x)) frame ∷ below
+
+-- and where there is no block
+abbrev pub after_last : LaidOut → Function → Frame → (below : List Frame) → Option AnEnd → List Frame
+after_last p f frame below None = frame ∷ below
+after_last p f frame below (Some x) = after_end p f frame below x
+
+-- the frames after a step of a frame at an instruction, or where there is none at the end of its block
+abbrev pub after_step : LaidOut → Function → Answer → Frame → (below : List Frame) → Option Instr → List Frame
+after_step p f given frame below None = after_last p f frame below (end_at f frame)
+after_step p f given frame below (Some instr) = after_instr p f instr given frame below (function_called p.of_module instr.op)
 
 -- the frames after a step of a frame of this function
 abbrev pub after_frame : LaidOut → Option Function → Answer → Frame → (below : List Frame) → List Frame
 after_frame p None given frame below = frame ∷ below
-after_frame p (Some f) given frame below = after_instr p f (instr_at f frame) given frame below
+after_frame p (Some f) given frame below = after_step p f given frame below (instr_at f frame)
 
 -- the state after an answer
 abbrev pub after_answer : LaidOut → State → Answer → State

@@ -1,20 +1,25 @@
-//! What calls ask for.
-ghost use Rattle.std.specs.Prelude.{◌≡◌, slice_get};
+//! Calls: what they ask for, what they name, and what an alloc gives.
+ghost use Rattle.std.specs.Prelude.{◌≡◌, IfOk, slice_get};
 ghost use Rattle.std.specs.Option.{option_copied};
 ghost use Rattle.types.specs.RuntimeCall.{runtime_called};
-ghost use Rattle.machine.specs.Asks.{are_gcroot_types, are_gcread_types, are_gcwrite_types, are_alloc_types, are_safepoint_types, declare_of, declared_with, is_root_place, gcroot_action, gcread_action, gcwrite_action, layout_numbered, layout_named, alloc_of, alloc_action, safepoint_action, number_called, function_numbered, arguments_pass, defined_action, call_action};
+ghost use Rattle.machine.specs.Asks.{are_gcroot_types, are_gcread_types, are_gcwrite_types, are_alloc_types, are_safepoint_types, declare_of, declared_with, is_root_place, gcroot_action, gcread_action, gcwrite_action, layout_numbered, layout_named, alloc_of, alloc_action, safepoint_action, number_called, function_numbered, arguments_pass, defined_action, action_of_call};
+ghost use Rattle.machine.specs.Kinds.{slot_at_place, address_at_place};
+ghost use Rattle.machine.specs.Machine.{alloc_value, layout_of_call, root_of_call, place_of_call, values_of, function_called};
 
-use crate::accesses::{barrier_action, read_action};
 use crate::action::{Action, only_if};
+use crate::answer::Answer;
 use crate::kinds::{is_byte_pointer, is_integer_of, is_place_of_bytes, is_void};
-use crate::operands::{address_at_place, is_usable, slot_at_place, value_of};
+use crate::memory::{barrier_action, read_action};
+use crate::operands::{address_at_place, is_usable, operand_value, slot_at_place, value_of};
 use crate::scene::Scene;
+use crate::value::{Place, Value};
 use ir_ast::{
-    Argument, Constant, Declare, FuncId, Function, Module, Operand, Parameter, Runtime, SymbolId,
-    SymbolSort, TypeId,
+    Argument, Call, Constant, Declare, FuncId, Function, Module, Op, Operand, Parameter, Runtime,
+    SymbolId, SymbolSort, TypeId,
 };
 use pools::LayoutId;
 use shadow_stack::SlotId;
+use std::alloc::{AllocError, Global};
 use types::runtime_called;
 
 fn are_gcroot_types(of_module: &Module, returned: TypeId, parameters: &[TypeId]) -> bool
@@ -274,7 +279,7 @@ pub fn number_called(of_module: &Module, callee: SymbolId) -> Option<FuncId>
 }
 
 /// The defined function that a global name names.
-fn function_called(of_module: &Module, callee: SymbolId) -> Option<&Function>
+fn function_named(of_module: &Module, callee: SymbolId) -> Option<&Function>
     ensures { option_copied result ≡ function_numbered of_module.now (number_called of_module.now callee) }
 {
     match number_called(of_module, callee) {
@@ -320,14 +325,15 @@ fn defined_action(
 }
 
 /// What a call asks for; no callee is known but the runtime's, declared and called with its types, and defined functions.
-pub fn call_action(
-    scene: &Scene<'_>,
-    returned: TypeId,
-    callee: SymbolId,
-    arguments: &[Argument],
-) -> Action
-    ensures { let m = scene.now.program.now.of_module in result ≡ call_action scene.now.program.now scene.now.function.now scene.now.slots.now scene.now.registers.now returned arguments.now (declare_of m callee) (function_numbered m (number_called m callee)) (runtime_called m callee) }
+pub fn call_action(scene: &Scene<'_>, call: &Call) -> Action
+    ensures { result ≡ action_of_call scene.now.program.now scene.now.function.now scene.now.slots.now scene.now.registers.now call.now }
 {
+    let Call {
+        returned,
+        callee,
+        arguments,
+    } = call;
+    let (returned, callee, arguments) = (*returned, *callee, arguments.as_slice());
     let of_module = scene.of_module();
     let declare = declare_of(of_module, callee);
     match runtime_called(of_module, callee) {
@@ -355,7 +361,73 @@ pub fn call_action(
             scene,
             returned,
             arguments,
-            function_called(of_module, callee),
+            function_named(of_module, callee),
         ),
     }
+}
+
+/// The number of the defined function that an instruction calls, if it calls one.
+pub fn function_called(of_module: &Module, op: &Op) -> Option<FuncId>
+    ensures { result ≡ function_called of_module.now op.now }
+{
+    match op {
+        Op::Call(call) => number_called(of_module, call.callee),
+        _ => None,
+    }
+}
+
+/// What an alloc of this layout gives.
+pub fn alloc_value(layout: Option<LayoutId>, answer: Answer) -> Value
+    ensures { result ≡ alloc_value layout answer }
+{
+    match (layout, answer) {
+        (_, Answer::Null) => Value::Null,
+        (Some(layout), Answer::Cell(at)) => Value::Cell(layout, at),
+        _ => Value::Unset,
+    }
+}
+
+/// The layout that a call of dg_alloc numbers.
+pub fn layout_of_call(of_module: &Module, arguments: &[Argument]) -> Option<LayoutId>
+    ensures { result ≡ layout_of_call of_module.now arguments.now }
+{
+    match arguments {
+        [argument, ..] => layout_named(of_module, &argument.operand),
+        [] => None,
+    }
+}
+
+/// The slot that a call of gcroot names.
+pub fn root_of_call(scene: &Scene<'_>, arguments: &[Argument]) -> Option<SlotId>
+    ensures { result ≡ root_of_call scene.now.program.now.of_module scene.now.function.now scene.now.slots.now arguments.now }
+{
+    match arguments {
+        [argument, ..] => slot_at_place(scene, argument.written, &argument.operand),
+        [] => None,
+    }
+}
+
+/// The address that a call of gcread names.
+pub fn place_of_call(scene: &Scene<'_>, arguments: &[Argument]) -> Option<Place>
+    ensures { result ≡ place_of_call scene.now.program.now.of_module scene.now.function.now scene.now.slots.now scene.now.registers.now arguments.now }
+{
+    match arguments {
+        [_, place, ..] => address_at_place(scene, place.written, &place.operand),
+        _ => None,
+    }
+}
+
+/// The values of a call's arguments.
+pub fn values_of(
+    alloc: Global,
+    of_module: &Module,
+    registers: &[Value],
+    arguments: &[Argument],
+) -> Result<Vec<Value>, AllocError>
+    ensures { IfOk result (λ values. values.items ≡ values_of of_module.now registers.now arguments.now) }
+{
+    arguments
+        .iter()
+        .map(|argument| operand_value(of_module, registers, argument.written, &argument.operand))
+        .collect(alloc)
 }

@@ -11,7 +11,7 @@ use crate::kinds::{is_set, may_cast_word, may_lead, may_refer, refers_to};
 use crate::operands::{is_local_of, is_typed, operand_slot, value_of};
 use crate::scene::Scene;
 use crate::value::{Place, Value};
-use ir_ast::{Module, Operand, TypeId};
+use ir_ast::{Cast, Module, TypeId};
 use layout::Program;
 use pools::LayoutId;
 use types::{is_reference, pointee};
@@ -79,19 +79,19 @@ fn may_cast_slot(of_module: &Module, held: Option<TypeId>, from: TypeId, to: Typ
 }
 
 /// What a bitcast asks for.
-pub fn cast_action(scene: &Scene<'_>, from: TypeId, operand: &Operand, to: TypeId) -> Action
-    ensures { result ≡ cast_action scene.now.program.now scene.now.function.now scene.now.slots.now scene.now.registers.now from operand.now to (operand_slot scene.now.slots.now.names operand.now) }
+pub fn cast_action(scene: &Scene<'_>, cast: &Cast) -> Action
+    ensures { result ≡ cast_action scene.now.program.now scene.now.function.now scene.now.slots.now scene.now.registers.now cast.now }
 {
-    let of_module = scene.of_module();
-    match operand_slot(scene.slots, operand) {
+    let Cast { from, operand, to } = *cast;
+    match operand_slot(scene.slots, &operand) {
         Some(slot) => only_if(
-            is_local_of(scene, from, operand)
-                && may_cast_slot(of_module, scene.slots.held_type(slot), from, to),
+            is_local_of(scene, from, &operand)
+                && may_cast_slot(scene.of_module(), scene.slots.held_type(slot), from, to),
             Action::Local,
         ),
         None => only_if(
-            is_typed(scene, from, operand)
-                && may_cast(scene.program, from, to, &value_of(scene, from, operand)),
+            is_typed(scene, from, &operand)
+                && may_cast(scene.program, from, to, &value_of(scene, from, &operand)),
             Action::Local,
         ),
     }

@@ -1,17 +1,22 @@
-//! Places in cells: the word to which a getelementptr leads, and what may be read and written there.
+//! Places in cells: what a getelementptr asks for, the word to which it leads, and what may be read and written there.
 ghost use Rattle.std.specs.Prelude.{◌≡◌, ◌+◌, ◌*◌, Some};
 ghost use Rattle.pools.specs.Layouts.{kind_of_word};
 ghost use Rattle.machine.specs.Kinds.{wrapped};
-ghost use Rattle.machine.specs.Elements.{index_value, stepped, offset_behind, first_place, element_offset, word_in, word_behind, global_behind, element_place, globals_cell, global_kind, is_read_as, takes_value, read_value};
+ghost use Rattle.machine.specs.Elements.{index_value, stepped, offset_behind, first_place, element_offset, word_in, word_behind, global_behind, element_place, globals_cell, global_kind, is_read_as, takes_value, read_value, address_of};
+ghost use Rattle.machine.specs.Asks.{are_indices, element_action};
+ghost use Rattle.machine.specs.Machine.{element_address};
 
+use crate::action::{Action, only_if};
 use crate::answer::Answer;
 use crate::integers::{read_signed, wrapped_wide};
 use crate::kinds::{bits_at, fits_layout, is_integer_of, is_number, number_in, refers_to};
-use crate::operands::operand_value;
+use crate::operands::{is_typed, is_usable_number, operand_value, value_of};
+use crate::scene::Scene;
 use crate::value::{Place, Reference, Value};
-use ir_ast::{Argument, GlobalId, Module, TypeId};
+use ir_ast::{Argument, Element, GlobalId, Module, TypeId};
 use layout::{Program, Step, word_of};
 use pools::{LayoutId, WordKind};
+use types::element_type;
 
 /// What a word of a layout holds, if the layout has it.
 pub fn kind_of_word(program: &Program, layout: LayoutId, word: u32) -> Option<WordKind>
@@ -166,7 +171,7 @@ fn element_place(program: &Program, offset: Option<u64>, base: &Value) -> Option
 }
 
 /// The place to which a getelementptr leads.
-pub fn element_place_of(
+fn element_place_of(
     program: &Program,
     registers: &[Value],
     source: TypeId,
@@ -229,4 +234,54 @@ pub fn read_value(kind: Option<WordKind>, answer: Answer) -> Value
         },
         None => Value::Unset,
     }
+}
+
+fn are_indices(scene: &Scene<'_>, indices: &[Argument]) -> bool
+    ensures { result ≡ are_indices scene.now.program.now.of_module scene.now.function.now scene.now.slots.now scene.now.registers.now indices.now }
+{
+    indices.iter().all(|index| is_usable_number(scene, index.written, &index.operand))
+}
+
+/// What a getelementptr asks for.
+pub fn element_action(scene: &Scene<'_>, element: &Element) -> Action
+    ensures { result ≡ element_action scene.now.program.now scene.now.function.now scene.now.slots.now scene.now.registers.now element.now }
+{
+    let indices = element.indices.as_slice();
+    only_if(
+        is_typed(scene, element.base_type, &element.base)
+            && (are_indices(scene, indices)
+                && (element_type(scene.of_module(), element.source, indices).is_some()
+                    && element_place_of(
+                        scene.program,
+                        scene.registers,
+                        element.source,
+                        &value_of(scene, element.base_type, &element.base),
+                        indices,
+                    )
+                    .is_some())),
+        Action::Local,
+    )
+}
+
+/// The address of a place.
+pub fn address_of(place: Option<Place>) -> Value
+    ensures { result ≡ address_of place }
+{
+    match place {
+        Some(place) => Value::Address(place),
+        None => Value::Unset,
+    }
+}
+
+/// The address that a getelementptr gives.
+pub fn element_address(scene: &Scene<'_>, element: &Element) -> Value
+    ensures { result ≡ element_address scene.now.program.now scene.now.registers.now element.now }
+{
+    address_of(element_place_of(
+        scene.program,
+        scene.registers,
+        element.source,
+        &value_of(scene, element.base_type, &element.base),
+        element.indices.as_slice(),
+    ))
 }

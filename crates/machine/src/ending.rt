@@ -1,9 +1,9 @@
 ghost use Rattle.std.specs.Prelude.{◌≡◌};
 ghost use Rattle.machine.specs.Endings.{ending_by};
 
-use crate::results::result_of;
+use crate::ends::result_of;
 use crate::value::Value;
-use ir_ast::{Module, Op};
+use ir_ast::{End, Module};
 
 /// How a thread ended.
 #[derive(Clone, Copy, PartialEq, Eq)]
@@ -14,13 +14,13 @@ pub enum Ending {
     Over,
 }
 
-/// How a thread ends at this instruction of its last frame.
-pub(crate) fn ending_by(of_module: &Module, registers: &[Value], op: &Op) -> Ending
-    ensures { result ≡ ending_by of_module.now registers.now op.now }
+/// How a thread ends at this end of a block of its last frame.
+pub(crate) fn ending_by(of_module: &Module, registers: &[Value], end: &End) -> Ending
+    ensures { result ≡ ending_by of_module.now registers.now end.now }
 {
-    match op {
-        Op::ReturnVoid => Ending::Returned(None),
-        Op::Return(_) => Ending::Returned(Some(result_of(of_module, registers, op))),
+    match end {
+        End::ReturnVoid => Ending::Returned(None),
+        End::Return(_) => Ending::Returned(Some(result_of(of_module, registers, end))),
         _ => Ending::Over,
     }
 }

@@ -8,7 +8,7 @@ ghost use Rattle.machine.specs.Entered.{WasEntered};
 
 use crate::entry::{all_unset, most_phis};
 use crate::frame::Frame;
-use crate::results::slot_value;
+use crate::memory::slot_value;
 use crate::value::Value;
 use ir_ast::{BlockId, FuncId, Function, Module};
 use items::Items;

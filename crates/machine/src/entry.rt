@@ -4,9 +4,8 @@ ghost use Rattle.shadow_stack.specs.Slots.{slots_of};
 ghost use Rattle.machine.specs.Jumps.{phis_of};
 ghost use Rattle.machine.specs.Machine.{initial, with_arguments, entry_frame};
 
+use crate::elements::address_of;
 use crate::frame::{Frame, initial, put};
-use crate::jumps::phis_in;
-use crate::results::address_of;
 use crate::value::{Place, Value};
 use ir_ast::{FuncId, Function, Module, TypeId, ValueId};
 use items::Items;
@@ -19,7 +18,7 @@ pub fn most_phis(function: &Function) -> usize
 {
     let mut most = 0;
     for block in function.blocks.as_slice() {
-        let count = phis_in(block).len();
+        let count = block.phis.len();
         if count > most {
             most = count;
         }

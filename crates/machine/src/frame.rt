@@ -2,20 +2,21 @@ ghost use Rattle.std.specs.Prelude.{◌≡◌, ◌≤◌, length, map, take, sli
 ghost use Rattle.types.specs.RuntimeCall.{runtime_called};
 ghost use Rattle.machine.specs.Kinds.{value_of};
 ghost use Rattle.machine.specs.Jumps.{put_register, put_each, phi_value, phis_of};
-ghost use Rattle.machine.specs.Machine.{initial, set_register, set_slot, loaded_from, after_call, after_place, after_op, enter};
+ghost use Rattle.machine.specs.Machine.{initial, set_register, set_slot, loaded_from, after_call, after_cast, after_memory, after_op, enter};
 
 use crate::answer::Answer;
+use crate::calls::{alloc_value, layout_of_call, place_of_call, root_of_call};
+use crate::choices::choice_value;
+use crate::elements::element_address;
 use crate::jumps::{phi_value, phis_of};
 use crate::kinds::is_integer;
+use crate::memory::{loaded_from, read_at};
+use crate::numbers::number_value;
 use crate::operands::{address_at_place, operand_slot, slot_at_place, value_of};
-use crate::results::{
-    alloc_value, computed_value, element_address, layout_of_call, loaded_from, place_of_call,
-    read_at, root_of_call,
-};
 use crate::scene::Scene;
 use crate::value::Value;
 use ir_ast::{
-    Argument, BlockId, FuncId, Function, Instr, Module, Op, Runtime, SymbolId, TypeId, ValueId,
+    BlockId, Call, Cast, FuncId, Function, MemoryOp, Module, Op, Phi, Runtime, TypeId, ValueId,
 };
 use items::Items;
 use layout::Program;
@@ -55,7 +56,7 @@ impl Frame {
         }
     }
 
-    /// What an instruction that stays in its block does with the answer.
+    /// What an instruction that calls no defined function does with the answer.
     pub fn after_op(
         &mut self,
         program: &Program,
@@ -68,57 +69,59 @@ impl Frame {
         ensures { self.new ≡ after_op program.now function.now slots.now name op.now answer self.old }
     {
         match op {
-            Op::Bitcast { .. } | Op::Load { .. } | Op::Store { .. } => {
-                self.after_place(program, function, slots, name, op, answer);
-            }
-            Op::Element { .. } => {
-                let value = element_address(&self.scene(program, function, slots), op);
+            Op::Number(op) => {
+                let value = number_value(&self.scene(program, function, slots), op);
                 self.set_register(name, value);
             }
-            Op::Arithmetic { .. } | Op::Resize { .. } | Op::Compare { .. } | Op::Select { .. } => {
-                let value = computed_value(&self.scene(program, function, slots), op);
+            Op::Memory(op) => self.after_memory(program, function, slots, name, op, answer),
+            Op::Element(element) => {
+                let value = element_address(&self.scene(program, function, slots), element);
                 self.set_register(name, value);
             }
-            Op::Call {
-                callee,
-                arguments,
-                ..
-            } => {
-                self.after_call(
-                    program,
-                    function,
-                    slots,
-                    name,
-                    arguments.as_slice(),
-                    *callee,
-                    answer,
-                );
+            Op::Cast(cast) => self.after_cast(program, function, slots, name, cast),
+            Op::Choice(choice) => {
+                let value = choice_value(&self.scene(program, function, slots), choice);
+                self.set_register(name, value);
             }
-            _ => {}
+            Op::Call(call) => self.after_call(program, function, slots, name, call, answer),
         }
     }
 
-    /// The same of a bitcast, a load or a store.
-    fn after_place(
+    fn after_cast(
         &mut self,
         program: &Program,
         function: &Function,
         slots: &Slots,
         name: Option<ValueId>,
-        op: &Op,
+        cast: &Cast,
+    )
+        ensures { self.new ≡ after_cast program.now slots.now name cast.now self.old }
+    {
+        let value = value_of(
+            &self.scene(program, function, slots),
+            cast.from,
+            &cast.operand,
+        );
+        if operand_slot(slots, &cast.operand).is_none() {
+            self.set_register(name, value);
+        }
+    }
+
+    fn after_memory(
+        &mut self,
+        program: &Program,
+        function: &Function,
+        slots: &Slots,
+        name: Option<ValueId>,
+        op: &MemoryOp,
         answer: Answer,
     )
-        ensures { self.new ≡ after_place program.now function.now slots.now name op.now answer self.old }
+        ensures { self.new ≡ after_memory program.now function.now slots.now name op.now answer self.old }
     {
         let scene = self.scene(program, function, slots);
         match op {
-            Op::Bitcast { from, operand, .. } => {
-                let value = value_of(&scene, *from, operand);
-                if operand_slot(slots, operand).is_none() {
-                    self.set_register(name, value);
-                }
-            }
-            Op::Load {
+            MemoryOp::Alloca(_) => {}
+            MemoryOp::Load {
                 place_type,
                 place,
                 ..
@@ -128,7 +131,7 @@ impl Frame {
                 let value = loaded_from(program, self.slots.as_slice(), slot, address, answer);
                 self.set_register(name, value);
             }
-            Op::Store {
+            MemoryOp::Store {
                 stored,
                 value,
                 place_type,
@@ -138,7 +141,6 @@ impl Frame {
                 let value = value_of(&scene, *stored, value);
                 self.set_slot(slot, value);
             }
-            _ => {}
         }
     }
 
@@ -148,14 +150,14 @@ impl Frame {
         function: &Function,
         slots: &Slots,
         name: Option<ValueId>,
-        arguments: &[Argument],
-        callee: SymbolId,
+        call: &Call,
         answer: Answer,
     )
-        ensures { self.new ≡ after_call program.now function.now slots.now name arguments.now (runtime_called program.now.of_module callee) answer self.old }
+        ensures { self.new ≡ after_call program.now function.now slots.now name call.now.arguments (runtime_called program.now.of_module call.now.callee) answer self.old }
     {
         let scene = self.scene(program, function, slots);
-        match runtime_called(program.module(), callee) {
+        let arguments = call.arguments.as_slice();
+        match runtime_called(program.module(), call.callee) {
             Some(Runtime::Alloc) => {
                 let layout = layout_of_call(program.module(), arguments);
                 self.set_register(name, alloc_value(layout, answer));
@@ -195,7 +197,7 @@ impl Frame {
         );
         put_values(phis, phi_values.as_slice(), &mut self.registers);
         self.block = block.number() as usize;
-        self.place = phis.len();
+        self.place = 0;
     }
 
     /// A value is put into a register, if there is a name.
@@ -261,24 +263,24 @@ fn take_values(
     function: &Function,
     registers: &[Value],
     from: usize,
-    phis: &[Instr],
+    phis: &[Phi],
     values: &mut Items<Value>,
 )
     requires { length phis.now ≤ length values.now }
-    ensures values { take (length phis.now) values.new ≡ map (λ phi. phi_value of_module.now function.now registers.now from phi.op) phis.now }
+    ensures values { take (length phis.now) values.new ≡ map (phi_value of_module.now function.now registers.now from) phis.now }
     ensures room { length values.new ≡ length values.old }
 {
     for place in 0..phis.len() {
-        let value = phi_value(of_module, function, registers, from, &phis[place].op);
+        let value = phi_value(of_module, function, registers, from, &phis[place]);
         put_at(values, place, value);
     }
 }
 
 /// Each phi takes its value.
-fn put_values(phis: &[Instr], values: &[Value], registers: &mut Items<Value>)
+fn put_values(phis: &[Phi], values: &[Value], registers: &mut Items<Value>)
     ensures { registers.new ≡ put_each phis.now values.now registers.old }
 {
     for (phi, value) in phis.iter().zip(values.iter()) {
-        put_register(registers, phi.result, *value);
+        put(registers, phi.value, *value);
     }
 }

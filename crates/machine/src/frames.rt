@@ -2,19 +2,18 @@
 ghost use Rattle.std.specs.Prelude.{◌≡◌, ◌+◌, ◌<◌, ◌^◌, ◌∷◌, ◌++◌, [], List, Option, Some, not, is_ok, if◌then◌else◌, reverse, slice_get, IfOk, OnErr};
 ghost use Rattle.shadow_stack.specs.Slots.{SlotTable, slots_of};
 ghost use Rattle.machine.specs.Asks.{way_of, target_at};
-ghost use Rattle.machine.specs.Machine.{above, onward_of, Into, Back, has_room, values_of, after_op, after_onward, enter_block, go_on, frames_called, frames_unless, frames_returned};
+ghost use Rattle.machine.specs.Machine.{above_callers, with_room, function_called, has_room, values_of, after_op, after_instr, after_end, enter_block, go_on, frames_called, frames_unless, frames_returned};
 ghost use Rattle.machine.specs.Entered.{WasEntered, WereEntered};
 
 use crate::action::Action;
 use crate::answer::Answer;
-use crate::asks::target_of_way;
-use crate::calls::number_called;
+use crate::calls::{number_called, values_of};
+use crate::ends::{result_of, target_of_way};
 use crate::entered::Entered;
 use crate::entry::entry_frame;
 use crate::frame::Frame;
-use crate::results::{result_of, values_of};
 use crate::value::Value;
-use ir_ast::{Argument, FuncId, Function, Instr, Module, Op, ValueId};
+use ir_ast::{Argument, End, FuncId, Function, Instr, Module, Op, ValueId};
 use std::alloc::{AllocError, Global};
 use std::mem;
 
@@ -28,41 +27,29 @@ pub fn has_room(below: usize) -> bool
     below as u128 + 1 < FRAME_LIMIT
 }
 
-fn above_callers(below: usize, asked: Action) -> Action
-    ensures { result ≡ above Back below asked }
+/// What the end of a block that asks for this alone asks for above this number of frames.
+pub fn above_callers(end: &End, below: usize, asked: Action) -> Action
+    ensures { result ≡ above_callers end.now below asked }
 {
-    match asked {
-        Action::End if below > 0 => Action::Local,
-        asked => asked,
+    match (end, asked) {
+        (End::ReturnVoid | End::Return(_), Action::End) if below > 0 => Action::Local,
+        (_, asked) => asked,
     }
 }
 
-fn with_room(number: FuncId, below: usize, asked: Action) -> Action
-    ensures { result ≡ above (Into number) below asked }
+/// What an instruction that asks for this alone asks for above this number of frames, by the function that it calls.
+pub fn with_room(called: Option<FuncId>, below: usize, asked: Action) -> Action
+    ensures { result ≡ with_room called below asked }
 {
-    match asked {
-        Action::Local => {
+    match (called, asked) {
+        (Some(_), Action::Local) => {
             if has_room(below) {
                 Action::Local
             } else {
                 Action::End
             }
         }
-        asked => asked,
-    }
-}
-
-/// What an instruction that asks for this alone asks for above this number of frames.
-pub fn above(of_module: &Module, op: &Op, below: usize, asked: Action) -> Action
-    ensures { result ≡ above (onward_of of_module.now op.now) below asked }
-{
-    match op {
-        Op::ReturnVoid | Op::Return(_) => above_callers(below, asked),
-        Op::Call { callee, .. } => match number_called(of_module, *callee) {
-            Some(number) => with_room(number, below, asked),
-            None => asked,
-        },
-        _ => asked,
+        (_, asked) => asked,
     }
 }
 
@@ -143,15 +130,15 @@ fn go_on(
 }
 
 /// The running frame goes on in the block to which a br or a switch leads.
-fn follow(entered: &mut Entered<'_>, running: &mut Frame, function: &Function, op: &Op)
+fn follow(entered: &mut Entered<'_>, running: &mut Frame, function: &Function, end: &End)
     requires entered { WasEntered entered.old.tables running.old.function }
     requires function { slice_get entered.old.program.of_module.functions running.old.function ≡ Some function.now }
     ensures known { entered.new ≡ entered.old }
-    ensures running { let m = entered.old.program.of_module in running.new ≡ enter_block m function.now (target_at function.now (way_of m running.old.registers op.now)) running.old }
+    ensures running { let m = entered.old.program.of_module in running.new ≡ enter_block m function.now (target_at function.now (way_of m running.old.registers end.now)) running.old }
 {
     let target = target_of_way(
         &running.scene(entered.program(), function, entered.slots(running.function)),
-        op,
+        end,
     );
     if let Some(block) = target {
         entered.enter_block(running, function, block);
@@ -175,7 +162,7 @@ fn leave_function(running: &mut Frame, below: &mut Vec<Frame>, value: Value) -> 
 }
 
 /// The thread goes on after an instruction of its running frame. Whether it has not ended.
-pub fn step(
+pub fn after_instr(
     alloc: Global,
     entered: &mut Entered<'_>,
     running: &mut Frame,
@@ -189,40 +176,52 @@ pub fn step(
     requires place { running.old.place + 1 < 2 ^ 64 }
     ensures program { entered.new.program ≡ entered.old.program }
     ensures entered { WereEntered entered.new.tables (running.new ∷ below.new.items) }
-    ensures ok { let p = entered.old.program in IfOk result (λ goes_on. frames_unless (not goes_on) running.new (reverse below.new.items) ≡ after_onward p function.now instr.now answer running.old (reverse below.old.items) (onward_of p.of_module instr.now.op)) }
+    ensures ok { let p = entered.old.program in IfOk result (λ goes_on. frames_unless (not goes_on) running.new (reverse below.new.items) ≡ after_instr p function.now instr.now answer running.old (reverse below.old.items) (function_called p.of_module instr.now.op)) }
     ensures err { OnErr result ((running.new ≡ running.old) × (below.new.items ≡ below.old.items)) }
 {
     let of_module = entered.program().module();
-    match &instr.op {
-        Op::Jump(_) | Op::Branch { .. } | Op::Switch { .. } => {
-            follow(entered, running, function, &instr.op);
-            return Ok(true);
+    if let Op::Call(called) = &instr.op {
+        if let Some(number) = number_called(of_module, called.callee) {
+            let arguments = called.arguments.as_slice();
+            return call(
+                alloc,
+                entered,
+                running,
+                below,
+                number,
+                instr.result,
+                arguments,
+            );
         }
-        Op::Unreachable => return Ok(false),
-        Op::ReturnVoid | Op::Return(_) => {
-            let value = result_of(of_module, running.registers.as_slice(), &instr.op);
-            return Ok(leave_function(running, below, value));
-        }
-        Op::Call {
-            callee,
-            arguments,
-            ..
-        } => {
-            if let Some(number) = number_called(of_module, *callee) {
-                let into = instr.result;
-                return call(
-                    alloc,
-                    entered,
-                    running,
-                    below,
-                    number,
-                    into,
-                    arguments.as_slice(),
-                );
-            }
-        }
-        _ => {}
     }
     go_on(entered, running, function, instr, answer);
     Ok(true)
+}
+
+/// The thread goes on after the end of a block of its running frame. Whether it has not ended.
+pub fn after_end(
+    entered: &mut Entered<'_>,
+    running: &mut Frame,
+    below: &mut Vec<Frame>,
+    function: &Function,
+    end: &End,
+) -> bool
+    requires entered { WereEntered entered.old.tables (running.old ∷ below.old.items) }
+    requires function { slice_get entered.old.program.of_module.functions running.old.function ≡ Some function.now }
+    ensures program { entered.new.program ≡ entered.old.program }
+    ensures entered { WereEntered entered.new.tables (running.new ∷ below.new.items) }
+    ensures frames { frames_unless (not result) running.new (reverse below.new.items) ≡ after_end entered.old.program function.now running.old (reverse below.old.items) end.now }
+{
+    match end {
+        End::Unreachable => false,
+        End::ReturnVoid | End::Return(_) => {
+            let of_module = entered.program().module();
+            let value = result_of(of_module, running.registers.as_slice(), end);
+            leave_function(running, below, value)
+        }
+        End::Jump(_) | End::Branch { .. } | End::Switch { .. } => {
+            follow(entered, running, function, end);
+            true
+        }
+    }
 }

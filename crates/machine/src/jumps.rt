@@ -1,50 +1,20 @@
 //! Edges from block to block, and the values that phis take on them.
-ghost use Rattle.std.specs.Prelude.{◌≡◌, Some, length, slice_get};
-ghost use Rattle.std.specs.List.{take_while};
-ghost use Rattle.machine.specs.Jumps.{is_block, is_phi_op, is_phi, phis_of, entry_for, entry_fits, phi_fits, phis_fit, entry_value, phi_value, switch_way, cases_fit};
+ghost use Rattle.std.specs.Prelude.{◌≡◌, slice_get};
+ghost use Rattle.machine.specs.Jumps.{is_block, phis_of, entry_for, entry_fits, phi_fits, phis_fit, entry_value, phi_value, switch_way, cases_fit};
 
 use crate::kinds::{is_scalar, number_in};
 use crate::operands::{constant_fits, constant_value, is_no_global, is_typed, operand_value};
 use crate::scene::Scene;
 use crate::value::Value;
-use ir_ast::{
-    Block, BlockId, Case, Function, Incoming, Instr, Module, Op, Operand, TypeId, ValueId,
-};
+use ir_ast::{BlockId, Case, Function, Incoming, Module, Operand, Phi, TypeId, ValueId};
 use types::target_of;
 
-fn is_phi_op(op: &Op) -> bool
-    ensures { result ≡ is_phi_op op.now }
-{
-    matches!(op, Op::Phi { .. })
-}
-
-fn phi_count(instructions: &[Instr]) -> usize
-    ensures { result ≡ length (take_while is_phi instructions.now) }
-{
-    for (place, instr) in instructions.iter().enumerate() {
-        if !is_phi_op(&instr.op) {
-            return place;
-        }
-    }
-    instructions.len()
-}
-
-/// The phis in front of a block.
-#[tactic(auto, using(crate::proofs::AsksPhis::as_far))]
-pub fn phis_in(block: &Block) -> &[Instr]
-    ensures { result.now ≡ phis_of (Some block.now) }
-{
-    let instructions = block.instructions.as_slice();
-    let count = phi_count(instructions);
-    &instructions[..count]
-}
-
-/// The phis in front of the block with this number.
-pub fn phis_of(function: &Function, block: BlockId) -> &[Instr]
+/// The phis of the block with this number.
+pub fn phis_of(function: &Function, block: BlockId) -> &[Phi]
     ensures { result.now ≡ phis_of (slice_get function.now.blocks block) }
 {
     match function.blocks.get(block.number() as usize) {
-        Some(block) => phis_in(block),
+        Some(block) => block.phis.as_slice(),
         None => &[],
     }
 }
@@ -79,27 +49,22 @@ fn entry_fits(scene: &Scene<'_>, written: TypeId, entry: Option<Operand>) -> boo
     }
 }
 
-fn phi_fits(scene: &Scene<'_>, from: usize, op: &Op) -> bool
-    ensures { result ≡ phi_fits scene.now.program.now.of_module scene.now.function.now scene.now.slots.now from op.now }
+fn phi_fits(scene: &Scene<'_>, from: usize, phi: &Phi) -> bool
+    ensures { result ≡ phi_fits scene.now.program.now.of_module scene.now.function.now scene.now.slots.now from phi.now }
 {
-    match op {
-        Op::Phi { written, incoming } => {
-            is_scalar(scene.of_module(), *written)
-                && entry_fits(
-                    scene,
-                    *written,
-                    entry_for(scene.function, from, incoming.as_slice()),
-                )
-        }
-        _ => true,
-    }
+    is_scalar(scene.of_module(), phi.written)
+        && entry_fits(
+            scene,
+            phi.written,
+            entry_for(scene.function, from, phi.incoming.as_slice()),
+        )
 }
 
 /// Whether each of these phis may take its entry for this block.
-pub fn phis_fit(scene: &Scene<'_>, from: usize, phis: &[Instr]) -> bool
+pub fn phis_fit(scene: &Scene<'_>, from: usize, phis: &[Phi]) -> bool
     ensures { result ≡ phis_fit scene.now.program.now.of_module scene.now.function.now scene.now.slots.now from phis.now }
 {
-    phis.iter().all(|phi| phi_fits(scene, from, &phi.op))
+    phis.iter().all(|phi| phi_fits(scene, from, phi))
 }
 
 fn entry_value(
@@ -122,19 +87,16 @@ pub fn phi_value(
     function: &Function,
     registers: &[Value],
     from: usize,
-    op: &Op,
+    phi: &Phi,
 ) -> Value
-    ensures { result ≡ phi_value of_module.now function.now registers.now from op.now }
+    ensures { result ≡ phi_value of_module.now function.now registers.now from phi.now }
 {
-    match op {
-        Op::Phi { written, incoming } => entry_value(
-            of_module,
-            registers,
-            *written,
-            entry_for(function, from, incoming.as_slice()),
-        ),
-        _ => Value::Unset,
-    }
+    entry_value(
+        of_module,
+        registers,
+        phi.written,
+        entry_for(function, from, phi.incoming.as_slice()),
+    )
 }
 
 /// The label to which a switch goes on at this number.

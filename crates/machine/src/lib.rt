@@ -1,14 +1,15 @@
 //! One thread: its frames, what operands evaluate to, what it asks for at each instruction, and how it goes on with the answer.
 #![tactic(auto)]
 
-mod accesses;
 mod action;
 mod answer;
 mod asks;
 mod calls;
 mod casts;
+mod choices;
 mod elements;
 mod ending;
+mod ends;
 mod entered;
 mod entry;
 mod frame;
@@ -16,8 +17,9 @@ mod frames;
 mod integers;
 mod jumps;
 mod kinds;
+mod memory;
+mod numbers;
 mod operands;
-mod results;
 mod scene;
 mod thread;
 mod value;

@@ -1,10 +1,14 @@
 //! The values of operands, and whether an operand is of its written type.
 ghost use Rattle.std.specs.Prelude.{◌≡◌};
 ghost use Rattle.machine.specs.Kinds.{register_at, constant_fits, constant_value, may_cast_global, global_address, value_of, is_typed, is_no_global, is_usable, is_usable_number, is_local_of, slot_at_place, address_at_place};
+ghost use Rattle.machine.specs.Asks.{are_numbers, are_references, is_condition};
 ghost use Rattle.shadow_stack.specs.Slots.{operand_slot};
 
 use crate::integers::wrapped;
-use crate::kinds::{address_in, bits_at, is_integer, is_number, is_plain, may_cast_word};
+use crate::kinds::{
+    address_in, bits_at, is_integer, is_integer_of, is_number, is_plain, is_reference,
+    may_cast_word, may_refer,
+};
 use crate::scene::Scene;
 use crate::value::{Place, Value};
 use ir_ast::{Constant, GlobalId, Module, Operand, SymbolId, TypeId, ValueId};
@@ -171,4 +175,28 @@ pub fn address_at_place(scene: &Scene<'_>, written: TypeId, operand: &Operand) -
     } else {
         None
     }
+}
+
+/// Whether two operands of a type are integers.
+pub fn are_numbers(scene: &Scene<'_>, written: TypeId, first: &Operand, second: &Operand) -> bool
+    ensures { result ≡ are_numbers scene.now.program.now.of_module scene.now.function.now scene.now.slots.now scene.now.registers.now written first.now second.now }
+{
+    is_usable_number(scene, written, first) && is_usable_number(scene, written, second)
+}
+
+/// Whether two operands of a type are references.
+pub fn are_references(scene: &Scene<'_>, written: TypeId, first: &Operand, second: &Operand) -> bool
+    ensures { result ≡ are_references scene.now.program.now.of_module scene.now.function.now scene.now.slots.now scene.now.registers.now written first.now second.now }
+{
+    may_refer(scene.of_module(), written)
+        && ((is_typed(scene, written, first) && is_reference(&value_of(scene, written, first)))
+            && (is_typed(scene, written, second)
+                && is_reference(&value_of(scene, written, second))))
+}
+
+/// Whether a condition is an integer of one bit.
+pub fn is_condition(scene: &Scene<'_>, written: TypeId, operand: &Operand) -> bool
+    ensures { result ≡ is_condition scene.now.program.now.of_module scene.now.function.now scene.now.slots.now scene.now.registers.now written operand.now }
+{
+    is_integer_of(scene.of_module(), 1, written) && is_usable_number(scene, written, operand)
 }

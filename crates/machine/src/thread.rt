@@ -1,22 +1,24 @@
 ghost use Rattle.std.specs.Prelude.{◌≡◌, ◌+◌, ◌<◌, ◌^◌, ◌↔◌, length, slice_get, Err, IfOk, OnOk, OnErr, OnSome, Some};
 ghost use Rattle.std.specs.Option.{option_copied};
 ghost use Rattle.machine.specs.Endings.{ending};
-ghost use Rattle.machine.specs.Machine.{action, after_answer, start, roots, instr_in};
+ghost use Rattle.machine.specs.Machine.{action, after_answer, start, roots, instr_in, end_of};
 ghost use Rattle.machine.specs.Start.{takes_reference, argument_fits, arguments_fit, argument_values, StartsByReference, StartsWrongly};
 ghost use Rattle.machine.specs.declared.thread.StartFault.TheVariants.{ReferenceParameter, WrongArguments};
 
 use crate::action::Action;
 use crate::answer::Answer;
 use crate::asks::op_action;
+use crate::calls::function_called;
 use crate::ending::{Ending, ending_by};
+use crate::ends::end_action;
 use crate::entered::{Entered, function_of};
 use crate::entry::entry_frame;
 use crate::frame::Frame;
-use crate::frames::{above, step};
+use crate::frames::{above_callers, after_end, after_instr, with_room};
 use crate::integers::wrapped;
 use crate::kinds::{bits_at, is_integer};
 use crate::value::Value;
-use ir_ast::{FuncId, Function, Instr, Module, Parameter};
+use ir_ast::{End, FuncId, Function, Instr, Module, Parameter};
 use layout::Program;
 use std::alloc::{AllocError, Global};
 use std::marker::Model;
@@ -130,13 +132,13 @@ impl<'a> Thread<'a> {
             function,
             self.entered.slots(number),
         );
-        match instr_at(function, self.running.block, self.running.place) {
-            Some(instr) => above(
-                scene.of_module(),
-                &instr.op,
-                self.below.len(),
-                op_action(&scene, self.running.block, &instr.op),
-            ),
+        let below = self.below.len();
+        if let Some(instr) = instr_at(function, self.running.block, self.running.place) {
+            let called = function_called(scene.of_module(), &instr.op);
+            return with_room(called, below, op_action(&scene, &instr.op));
+        }
+        match end_at(function, self.running.block) {
+            Some(end) => above_callers(end, below, end_action(&scene, self.running.block, end)),
             None => Action::End,
         }
     }
@@ -149,11 +151,14 @@ impl<'a> Thread<'a> {
             return Ending::Over;
         }
         let function = self.entered.function(self.running.function);
-        match instr_at(function, self.running.block, self.running.place) {
-            Some(instr) => ending_by(
+        if instr_at(function, self.running.block, self.running.place).is_some() {
+            return Ending::Over;
+        }
+        match end_at(function, self.running.block) {
+            Some(end) => ending_by(
                 self.entered.program().module(),
                 self.running.registers.as_slice(),
-                &instr.op,
+                end,
             ),
             None => Ending::Over,
         }
@@ -183,18 +188,20 @@ impl<'a> Thread<'a> {
             return Ok(());
         }
         let function = self.entered.function(self.running.function);
-        let Some(instr) = instr_at(function, self.running.block, self.running.place) else {
-            return Ok(());
+        let Thread {
+            alloc,
+            entered,
+            running,
+            below,
+            ..
+        } = self;
+        let goes_on = match instr_at(function, running.block, running.place) {
+            Some(instr) => after_instr(*alloc, entered, running, below, function, instr, answer)?,
+            None => match end_at(function, running.block) {
+                Some(end) => after_end(entered, running, below, function, end),
+                None => true,
+            },
         };
-        let goes_on = step(
-            self.alloc,
-            &mut self.entered,
-            &mut self.running,
-            &mut self.below,
-            function,
-            instr,
-            answer,
-        )?;
         self.ended = !goes_on;
         Ok(())
     }
@@ -206,12 +213,21 @@ fn instr_at(function: &Function, block: usize, place: usize) -> Option<&Instr>
 {
     match function.blocks.get(block) {
         Some(block) => {
-            if place < block.instructions.len() {
-                block.instructions.get(place)
+            if place < block.body.len() {
+                block.body.get(place)
             } else {
                 None
             }
         }
+        None => None,
+    }
+}
+
+fn end_at(function: &Function, block: usize) -> Option<&End>
+    ensures { option_copied result ≡ end_of (slice_get function.now.blocks block) }
+{
+    match function.blocks.get(block) {
+        Some(block) => Some(&block.end),
         None => None,
     }
 }

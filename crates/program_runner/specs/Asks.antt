@@ -3,15 +3,22 @@ use Rattle.std.proofs.Common.{◌≡◌, ◌≢◌, ℕ, zero, suc, List, [], �
 use Rattle.std.proofs.lemmas.Bool.Decides.{Decides-eqb}
 use Rattle.std.specs.Prelude.{◌&&◌, IsTrue, if◌then◌else◌}
 use Rattle.lemmas.specs.Bools.{and_parts}
+use Rattle.ir_ast.specs.declared.argument.Argument.{Argument}
+use Rattle.ir_ast.specs.declared.casts.Cast.{Cast}
+use Rattle.ir_ast.specs.declared.ends.End.{End as AnEnd}
+use Rattle.ir_ast.specs.declared.ends.End.TheVariants as end
 use Rattle.ir_ast.specs.declared.function.Function.{Function}
 use Rattle.ir_ast.specs.declared.instr.Instr.{Instr}
 use Rattle.ir_ast.specs.declared.ir_type.IrType.{IrType}
 use Rattle.ir_ast.specs.declared.ir_type.IrType.TheVariants as type
 use Rattle.ir_ast.specs.declared.items_of_module.Declare.{Declare}
+use Rattle.ir_ast.specs.declared.memory.MemoryOp.{MemoryOp}
+use Rattle.ir_ast.specs.declared.memory.MemoryOp.TheVariants as memory
 use Rattle.ir_ast.specs.declared.module.Module.{Module}
-use Rattle.ir_ast.specs.declared.op.Argument.{Argument}
+use Rattle.ir_ast.specs.declared.numbers.NumberOp.{NumberOp}
+use Rattle.ir_ast.specs.declared.numbers.NumberOp.TheVariants as number
 use Rattle.ir_ast.specs.declared.op.Op.{Op}
-use Rattle.ir_ast.specs.declared.op.Op.TheVariants.{Alloca, Bitcast, Load, Store, Element, Arithmetic, Resize, Compare, Select, Phi, Call, Jump, Branch, Switch, Unreachable, ReturnVoid, Return}
+use Rattle.ir_ast.specs.declared.op.Op.TheVariants as op
 use Rattle.ir_ast.specs.declared.operand.Operand.{Operand}
 use Rattle.ir_ast.specs.declared.runtime.Runtime.{Runtime}
 use Rattle.ir_ast.specs.declared.runtime.Runtime.TheVariants as runtime
@@ -30,11 +37,11 @@ use Rattle.machine.specs.declared.value.Place.{Place}
 use Rattle.machine.specs.declared.value.Place.TheVariants as place
 use Rattle.machine.specs.declared.value.Value.{Value}
 use Rattle.machine.specs.declared.value.Value.TheVariants as value
-use Rattle.machine.specs.Asks.{only_if, cast_action, read_action, load_action, plain_action, barrier_action, store_action, gcroot_action, gcread_action, gcwrite_action, are_gcwrite_types, layout_named, alloc_of, alloc_action, safepoint_action, defined_action, call_action, declare_of, function_numbered, number_called, enter_action, target_at, way_of, is_condition, op_action}
+use Rattle.machine.specs.Asks.{only_if, cast_of, cast_action, read_action, load_action, plain_action, barrier_action, store_action, gcroot_action, gcread_action, gcwrite_action, are_gcwrite_types, layout_named, alloc_of, alloc_action, safepoint_action, defined_action, call_action, declare_of, function_numbered, number_called, enter_action, target_at, way_of, is_condition, end_action, number_action, memory_action, op_action}
 use Rattle.machine.specs.Elements.{globals_cell, global_kind, is_read_as, takes_value}
 use Rattle.machine.specs.Jumps.{cases_fit}
 use Rattle.machine.specs.Kinds.{is_integer_of, is_byte_pointer, is_number, fits_layout, refers_to, leads_to, register_at, value_of, is_typed, is_usable, is_usable_number, slot_at_place, address_at_place, address_in}
-use Rattle.machine.specs.Machine.{State, Onward, Next, Way, Into, Back, Nowhere, has_room, onward_of, above, instr_at, instr_action, step_action, frame_action, action}
+use Rattle.machine.specs.Machine.{State, has_room, instr_at, end_at, function_called, with_room, above_callers, last_action, step_action, frame_action, action}
 use Rattle.moves.specs.Kinds.{MayHold, AsksByKind}
 use Rattle.program_safety.specs.Threads.{stored, asked_as}
 use Rattle.program_runner.specs.Kinds.{FitsHeap, FrameFits, FramesFit, IsHeapWith}
@@ -219,9 +226,17 @@ module _ (s : Setup) where
       -- ---- instructions
 
       -- a bitcast touches no word
-      cast_asks : (from : ℕ) (o : Operand) (to : ℕ) (slot : Option ℕ) → AsksByKind s (asked_as (cast_action p f slots registers from o to slot))
-      cast_asks from o to None = local_asks _
-      cast_asks from o to (Some slot) = local_asks _
+      cast_asks : (x : Cast) → AsksByKind s (asked_as (cast_action p f slots registers x))
+      cast_asks x = by (operand_slot slots.names x.operand) where
+        by : (slot : Option ℕ) → AsksByKind s (asked_as (cast_of p f slots registers x slot))
+        by None = local_asks _
+        by (Some slot) = local_asks _
+
+      -- nor does an operation on integers
+      number_asks : (x : NumberOp) → AsksByKind s (asked_as (number_action p.of_module f slots registers x))
+      number_asks (number.Arithmetic k written first second) = local_asks _
+      number_asks (number.Resize k written o to) = local_asks _
+      number_asks (number.Compare k written first second) = local_asks _
 
       -- a load reads a slot, or a word that is there
       load_asks : (loaded : ℕ) (slot : Option ℕ) (address : Option Place) → PlaceFits s address → AsksByKind s (asked_as (load_action p slots loaded slot address))
@@ -235,6 +250,27 @@ module _ (s : Setup) where
       store_asks written true v None address h of = plain_asks written v address h of
       store_asks written false v None address h of = tt
 
+      -- each operation on memory
+      memory_asks : (x : MemoryOp) → AsksByKind s (asked_as (memory_action p f slots registers x))
+      memory_asks (memory.Alloca held) = tt
+      memory_asks (memory.Load loaded place_type place) =
+          load_asks loaded (slot_at_place p.of_module f slots place_type place) (address_at_place p.of_module f slots registers place_type place) (place_fits place_type place)
+      memory_asks (memory.Store written v place_type place) =
+          store_asks written (is_usable p.of_module f slots registers written v) (value_of p.of_module registers written v) (slot_at_place p.of_module f slots place_type place)
+          (address_at_place p.of_module f slots registers place_type place) (operand_fits written v) (place_fits place_type place)
+
+      -- each instruction
+      op_asks : (x : Op) → AsksByKind s (asked_as (op_action p f slots registers x))
+      op_asks (op.Number x) = number_asks x
+      op_asks (op.Memory x) = memory_asks x
+      op_asks (op.Element x) = local_asks _
+      op_asks (op.Cast x) = cast_asks x
+      op_asks (op.Choice x) = local_asks _
+      op_asks (op.Call x) =
+          call_asks x.returned x.arguments (declare_of p.of_module x.callee) (function_numbered p.of_module (number_called p.of_module x.callee)) (runtime_called p.of_module x.callee)
+
+      -- ---- the end of a block
+
       -- an edge to a block touches no word
       enter_asks : (from : ℕ) (target : Option ℕ) → AsksByKind s (asked_as (enter_action p.of_module f slots from target))
       enter_asks from None = tt
@@ -245,52 +281,49 @@ module _ (s : Setup) where
       chosen_asks true from target = enter_asks from target
       chosen_asks false from target = tt
 
-      -- what an instruction asks for
-      pub op_asks : (from : ℕ) (op : Op) → AsksByKind s (asked_as (op_action p f slots from registers op))
-      op_asks from (Alloca held) = tt
-      op_asks from (Bitcast written o to) = cast_asks written o to (operand_slot slots.names o)
-      op_asks from (Load loaded place_type place) = load_asks loaded (slot_at_place p.of_module f slots place_type place) (address_at_place p.of_module f slots registers place_type place) (place_fits place_type place)
-      op_asks from (Store written v place_type place) =
-          store_asks written (is_usable p.of_module f slots registers written v) (value_of p.of_module registers written v) (slot_at_place p.of_module f slots place_type place)
-          (address_at_place p.of_module f slots registers place_type place) (operand_fits written v) (place_fits place_type place)
-      op_asks from (Element source base_type base indices) = local_asks _
-      op_asks from (Arithmetic k written first second) = local_asks _
-      op_asks from (Resize k written o to) = local_asks _
-      op_asks from (Compare k written first second) = local_asks _
-      op_asks from (Select condition_type condition written chosen other) = local_asks _
-      op_asks from (Phi written incoming) = tt
-      op_asks from (Call returned callee arguments) =
-          call_asks returned arguments (declare_of p.of_module callee) (function_numbered p.of_module (number_called p.of_module callee)) (runtime_called p.of_module callee)
-      op_asks from (Jump label) = enter_asks from (target_at f (way_of p.of_module registers (Jump label)))
-      op_asks from (Branch condition_type condition taken other) =
-          chosen_asks (is_condition p.of_module f slots registers condition_type condition) from (target_at f (way_of p.of_module registers (Branch condition_type condition taken other)))
-      op_asks from (Switch written v otherwise cases) =
-          chosen_asks (is_usable_number p.of_module f slots registers written v && cases_fit p.of_module written cases) from (target_at f (way_of p.of_module registers (Switch written v otherwise cases)))
-      op_asks from Unreachable = tt
-      op_asks from ReturnVoid = only_asks _ End (λ e. tt)
-      op_asks from (Return argument) = only_asks _ End (λ e. tt)
+      -- nor does any end of a block
+      end_asks : (from : ℕ) (x : AnEnd) → AsksByKind s (asked_as (end_action p.of_module f slots from registers x))
+      end_asks from (end.Jump label) = enter_asks from (target_at f (way_of p.of_module registers (end.Jump label)))
+      end_asks from (end.Branch condition_type condition taken other) =
+          chosen_asks (is_condition p.of_module f slots registers condition_type condition) from (target_at f (way_of p.of_module registers (end.Branch condition_type condition taken other)))
+      end_asks from (end.Switch written v otherwise cases) =
+          chosen_asks (is_usable_number p.of_module f slots registers written v && cases_fit p.of_module written cases) from (target_at f (way_of p.of_module registers (end.Switch written v otherwise cases)))
+      end_asks from end.Unreachable = tt
+      end_asks from end.ReturnVoid = only_asks _ End (λ e. tt)
+      end_asks from (end.Return argument) = only_asks _ End (λ e. tt)
 
     -- ---- frames
 
-    -- above other frames the same is asked for, or nothing
-    above_asks : (onward : Onward) (below : ℕ) (asked : Action) → AsksByKind s (asked_as asked) → AsksByKind s (asked_as (above onward below asked))
-    above_asks Back zero asked h = h
-    above_asks Back (suc below) End h = tt
-    above_asks Back (suc below) asked h = h
-    above_asks (Into function) below Local h = pick (has_room below) where
+    -- where a call may find no room the same is asked for, or nothing
+    room_asks : (called : Option ℕ) (below : ℕ) (asked : Action) → AsksByKind s (asked_as asked) → AsksByKind s (asked_as (with_room called below asked))
+    room_asks None below asked h = h
+    room_asks (Some function) below Local h = pick (has_room below) where
       pick : (b : Bool) → AsksByKind s (asked_as (if b then Local else End))
       pick true = tt
       pick false = tt
-    above_asks (Into function) below asked h = h
-    above_asks Next below asked h = h
-    above_asks Way below asked h = h
-    above_asks Nowhere below asked h = h
+    room_asks (Some function) below asked h = h
 
-    -- at the instruction of a frame, if there is one
+    -- and so at the end of a block above other frames
+    callers_asks : (x : AnEnd) (below : ℕ) (asked : Action) → AsksByKind s (asked_as asked) → AsksByKind s (asked_as (above_callers x below asked))
+    callers_asks end.ReturnVoid zero asked h = h
+    callers_asks end.ReturnVoid (suc below) End h = tt
+    callers_asks end.ReturnVoid (suc below) asked h = h
+    callers_asks (end.Return argument) zero asked h = h
+    callers_asks (end.Return argument) (suc below) End h = tt
+    callers_asks (end.Return argument) (suc below) asked h = h
+    callers_asks x below asked h = h
+
+    -- at the end of a frame's block, if there is one
+    last_asks : (f : Function) (frame : Frame) (below : ℕ) (x : Option AnEnd) → FrameFits s frame → AsksByKind s (asked_as (last_action p f frame below x))
+    last_asks f frame below None fits = tt
+    last_asks f frame below (Some x) fits =
+        callers_asks x below (end_action p.of_module f (slots_of p.of_module f) frame.block frame.registers x) (end_asks f (slots_of p.of_module f) frame.registers fits.registers frame.block x)
+
+    -- at the instruction of a frame, or where there is none at the end of its block
     step_asks : (f : Function) (frame : Frame) (below : ℕ) (instr : Option Instr) → FrameFits s frame → AsksByKind s (asked_as (step_action p f frame below instr))
-    step_asks f frame below None fits = tt
+    step_asks f frame below None fits = last_asks f frame below (end_at f frame) fits
     step_asks f frame below (Some instr) fits =
-        above_asks (onward_of p.of_module instr.op) below (instr_action p f frame (Some instr)) (op_asks f (slots_of p.of_module f) frame.registers fits.registers frame.block instr.op)
+        room_asks (function_called p.of_module instr.op) below (op_action p f (slots_of p.of_module f) frame.registers instr.op) (op_asks f (slots_of p.of_module f) frame.registers fits.registers instr.op)
 
     -- in its function, if there is one
     frame_asks : (frame : Frame) (below : ℕ) (f : Option Function) → FrameFits s frame → AsksByKind s (asked_as (frame_action p frame below f))

@@ -1,13 +1,20 @@
 -- What a thread holds after an answer that fits what it asked for: it fits the heap.
-use Rattle.std.proofs.Common.{ℕ, List, [], ◌∷◌, length, true, false, Bool, Option, Some, None, slice_get, inl, inr}
+use Rattle.std.proofs.Common.{ℕ, List, [], ◌∷◌, length, true, false, Bool, Option, Some, None, slice_get, slice_set, inl, inr}
 use Rattle.std.specs.Prelude.{◌⊎◌, if◌then◌else◌}
+use Rattle.ir_ast.specs.declared.argument.Argument.{Argument}
+use Rattle.ir_ast.specs.declared.choices.Phi.{Phi}
+use Rattle.ir_ast.specs.declared.ends.End.{End as AnEnd}
+use Rattle.ir_ast.specs.declared.ends.End.TheVariants as end
 use Rattle.ir_ast.specs.declared.function.Function.{Function}
 use Rattle.ir_ast.specs.declared.instr.Instr.{Instr}
 use Rattle.ir_ast.specs.declared.items_of_module.Declare.{Declare}
+use Rattle.ir_ast.specs.declared.memory.MemoryOp.{MemoryOp}
+use Rattle.ir_ast.specs.declared.memory.MemoryOp.TheVariants as memory
 use Rattle.ir_ast.specs.declared.module.Module.{Module}
-use Rattle.ir_ast.specs.declared.op.Argument.{Argument}
+use Rattle.ir_ast.specs.declared.numbers.NumberOp.{NumberOp}
+use Rattle.ir_ast.specs.declared.numbers.NumberOp.TheVariants as number
 use Rattle.ir_ast.specs.declared.op.Op.{Op}
-use Rattle.ir_ast.specs.declared.op.Op.TheVariants.{Alloca, Bitcast, Load, Store, Element, Arithmetic, Resize, Compare, Select, Phi, Call, Jump, Branch, Switch, Unreachable, ReturnVoid, Return}
+use Rattle.ir_ast.specs.declared.op.Op.TheVariants as op
 use Rattle.ir_ast.specs.declared.operand.Operand.{Operand}
 use Rattle.ir_ast.specs.declared.runtime.Runtime.{Runtime}
 use Rattle.ir_ast.specs.declared.runtime.Runtime.TheVariants as runtime
@@ -20,11 +27,11 @@ use Rattle.machine.specs.declared.frame.Frame.{Frame}
 use Rattle.machine.specs.declared.value.Place.{Place}
 use Rattle.machine.specs.declared.value.Value.{Value}
 use Rattle.machine.specs.declared.value.Value.TheVariants as value
-use Rattle.machine.specs.Asks.{read_action, load_action, gcread_action, alloc_of, alloc_action, layout_named, call_action, declare_of, function_numbered, number_called, target_at, way_of, op_action}
+use Rattle.machine.specs.Asks.{read_action, load_action, gcread_action, alloc_of, alloc_action, layout_named, call_action, declare_of, function_numbered, number_called, target_at, way_of, memory_action, op_action}
 use Rattle.machine.specs.Elements.{element_offset}
 use Rattle.machine.specs.Jumps.{entry_for, entry_value, phi_value, phis_of, put_register, put_phis}
 use Rattle.machine.specs.Kinds.{register_at, bits_at, value_of, slot_at_place, address_at_place}
-use Rattle.machine.specs.Machine.{State, entry_frame, Onward, Next, Way, Into, Back, Nowhere, has_room, onward_of, above, instr_at, step_action, frame_action, action, slot_value, set_register, set_slot, after_cast, read_at, loaded_from, alloc_value, layout_of_call, place_of_call, after_call, computed_value, element_address, after_op, go_on, enter_block, values_of, called_with, frames_called, result_of, frames_returned, after_onward, after_instr, after_frame, after_answer}
+use Rattle.machine.specs.Machine.{State, entry_frame, has_room, with_room, function_called, instr_at, end_at, step_action, frame_action, action, slot_value, set_register, set_slot, cast_from, read_at, loaded_from, alloc_value, layout_of_call, place_of_call, after_call, number_value, choice_value, element_address, after_memory, after_op, go_on, enter_block, values_of, called_with, frames_called, result_of, frames_returned, after_instr, after_end, after_last, after_step, after_frame, after_answer}
 use Rattle.program_runner.specs.Kinds.{FitsHeap, FrameFits, FramesFit, IsHeapWith}
 use Rattle.program_runner.specs.Values.{PlaceFits, computed_below, resized_below, compared_fits, selected_fits, set_fits, value_fits, element_fits}
 use Rattle.program_runner.specs.Given.{GivesNothing, FitsAsked, nothing_at, nothing_claimed, only_gives, read_fits}
@@ -39,9 +46,13 @@ module _ (s : Setup) where
   Registers registers = (name : ℕ) → FitsHeap s (register_at registers name)
 
   -- one more among them
+  set_fit : (name : ℕ) (v : Value) (registers : List Value) → FitsHeap s v → Registers registers → Registers (slice_set registers name v)
+  set_fit name v registers new all = λ other. set_fits s registers name other v new (all other)
+
+  -- and where there may be no name
   put_fits : (name : Option ℕ) (v : Value) (registers : List Value) → FitsHeap s v → Registers registers → Registers (put_register name v registers)
   put_fits None v registers new all = all
-  put_fits (Some name) v registers new all = λ other. set_fits s registers name other v new (all other)
+  put_fits (Some name) v registers new all = set_fit name v registers new all
 
   -- a frame with a value for a name
   register_fits : (name : Option ℕ) (v : Value) (frame : Frame) → FitsHeap s v → FrameFits s frame → FrameFits s (set_register name v frame)
@@ -53,7 +64,7 @@ module _ (s : Setup) where
   slot_fits (Some slot) v frame new fits = record { registers = fits.registers; slots = λ other. set_fits s frame.slots slot other v new (fits.slots other) }
 
   -- and after a bitcast
-  cast_fits : (name : Option ℕ) (v : Value) (slot : Option ℕ) (frame : Frame) → FitsHeap s v → FrameFits s frame → FrameFits s (after_cast name v slot frame)
+  cast_fits : (name : Option ℕ) (v : Value) (slot : Option ℕ) (frame : Frame) → FitsHeap s v → FrameFits s frame → FrameFits s (cast_from name v slot frame)
   cast_fits name v None frame new fits = register_fits name v frame new fits
   cast_fits name v (Some slot) frame new fits = fits
 
@@ -69,15 +80,14 @@ module _ (s : Setup) where
   entry_holds m registers all written (Some o) = value_fits s m registers all written o
 
   -- and of a phi
-  phi_fits : (m : Module) (f : Function) (registers : List Value) → Registers registers → (from : ℕ) (op : Op) → FitsHeap s (phi_value m f registers from op)
-  phi_fits m f registers all from (Phi written incoming) = entry_holds m registers all written (entry_for f from incoming)
-  phi_fits m f registers all from op = tt
+  phi_fits : (m : Module) (f : Function) (registers : List Value) → Registers registers → (from : ℕ) (phi : Phi) → FitsHeap s (phi_value m f registers from phi)
+  phi_fits m f registers all from phi = entry_holds m registers all phi.written (entry_for f from phi.incoming)
 
   -- each phi takes one
-  phis_fit : (m : Module) (f : Function) (before : List Value) → Registers before → (from : ℕ) (phis : List Instr) (registers : List Value) → Registers registers → Registers (put_phis m f before from phis registers)
+  phis_fit : (m : Module) (f : Function) (before : List Value) → Registers before → (from : ℕ) (phis : List Phi) (registers : List Value) → Registers registers → Registers (put_phis m f before from phis registers)
   phis_fit m f before all from [] registers some = some
   phis_fit m f before all from (phi ∷ phis) registers some =
-      phis_fit m f before all from phis (put_register phi.result (phi_value m f before from phi.op) registers) (put_fits phi.result (phi_value m f before from phi.op) registers (phi_fits m f before all from phi.op) some)
+      phis_fit m f before all from phis (slice_set registers phi.value (phi_value m f before from phi)) (set_fit phi.value (phi_value m f before from phi) registers (phi_fits m f before all from phi) some)
 
   -- the frame in the block to which it goes on
   block_fits : (m : Module) (f : Function) (target : Option ℕ) (frame : Frame) → FrameFits s frame → FrameFits s (enter_block m f target frame)
@@ -149,39 +159,38 @@ module _ (s : Setup) where
       abbrev operand : (written : ℕ) (o : Operand) → FitsHeap s (value_of p.of_module frame.registers written o)
       operand written o = operand_fits s p heap f slots frame.registers fits.registers written o
 
-      -- the frame after an instruction that stays in its block
-      op_fits : (name : Option ℕ) (op : Op) (given : Answer) → FitsAsked s (op_action p f slots frame.block frame.registers op) given → FrameFits s (after_op p f slots name op given frame)
-      op_fits name (Alloca held) given h = fits
-      op_fits name (Bitcast written o to) given h = cast_fits name (value_of p.of_module frame.registers written o) (operand_slot slots.names o) frame (operand written o) fits
-      op_fits name (Load loaded place_type place) given h =
+      -- what an operation on integers gives
+      number_fits : (x : NumberOp) → FitsHeap s (number_value p.of_module frame.registers x)
+      number_fits (number.Arithmetic k written first second) = computed_below k (bits_at p.of_module written) _ _
+      number_fits (number.Resize k written o to) = resized_below k (bits_at p.of_module written) (bits_at p.of_module to) _
+      number_fits (number.Compare k written first second) =
+          compared_fits s k (bits_at p.of_module written) (value_of p.of_module frame.registers written first) (value_of p.of_module frame.registers written second)
+
+      -- the frame after an operation on memory
+      memory_fits : (name : Option ℕ) (x : MemoryOp) (given : Answer) → FitsAsked s (memory_action p f slots frame.registers x) given → FrameFits s (after_memory p f slots name x given frame)
+      memory_fits name (memory.Alloca held) given h = fits
+      memory_fits name (memory.Load loaded place_type place) given h =
           register_fits name _ frame
           (load_fits slots frame.slots fits.slots loaded (slot_at_place p.of_module f slots place_type place) (address_at_place p.of_module f slots frame.registers place_type place) given
           (place_fits s p heap f slots frame.registers fits.registers place_type place) h)
           fits
-      op_fits name (Store written v place_type place) given h = slot_fits (slot_at_place p.of_module f slots place_type place) (value_of p.of_module frame.registers written v) frame (operand written v) fits
-      op_fits name (Element source base_type base indices) given h =
-          register_fits name (element_address p frame.registers (Element source base_type base indices)) frame
-          (element_fits s p (element_offset p frame.registers source indices) (value_of p.of_module frame.registers base_type base) (operand base_type base)) fits
-      op_fits name (Arithmetic k written first second) given h =
-          register_fits name (computed_value p.of_module frame.registers (Arithmetic k written first second)) frame (computed_below k (bits_at p.of_module written) _ _) fits
-      op_fits name (Resize k written o to) given h =
-          register_fits name (computed_value p.of_module frame.registers (Resize k written o to)) frame (resized_below k (bits_at p.of_module written) (bits_at p.of_module to) _) fits
-      op_fits name (Compare k written first second) given h =
-          register_fits name (computed_value p.of_module frame.registers (Compare k written first second)) frame
-          (compared_fits s k (bits_at p.of_module written) (value_of p.of_module frame.registers written first) (value_of p.of_module frame.registers written second)) fits
-      op_fits name (Select condition_type condition written chosen other) given h =
-          register_fits name (computed_value p.of_module frame.registers (Select condition_type condition written chosen other)) frame
-          (selected_fits s (value_of p.of_module frame.registers condition_type condition) (value_of p.of_module frame.registers written chosen) (value_of p.of_module frame.registers written other)
-          (operand written chosen) (operand written other)) fits
-      op_fits name (Phi written incoming) given h = fits
-      op_fits name (Call returned callee arguments) given h =
-          call_fits name returned arguments (declare_of p.of_module callee) (function_numbered p.of_module (number_called p.of_module callee)) (runtime_called p.of_module callee) given h
-      op_fits name (Jump label) given h = fits
-      op_fits name (Branch condition_type condition taken other) given h = fits
-      op_fits name (Switch written v otherwise cases) given h = fits
-      op_fits name Unreachable given h = fits
-      op_fits name ReturnVoid given h = fits
-      op_fits name (Return argument) given h = fits
+      memory_fits name (memory.Store written v place_type place) given h =
+          slot_fits (slot_at_place p.of_module f slots place_type place) (value_of p.of_module frame.registers written v) frame (operand written v) fits
+
+      -- the frame after an instruction that calls no defined function
+      op_fits : (name : Option ℕ) (x : Op) (given : Answer) → FitsAsked s (op_action p f slots frame.registers x) given → FrameFits s (after_op p f slots name x given frame)
+      op_fits name (op.Number x) given h = register_fits name (number_value p.of_module frame.registers x) frame (number_fits x) fits
+      op_fits name (op.Memory x) given h = memory_fits name x given h
+      op_fits name (op.Element x) given h =
+          register_fits name (element_address p frame.registers x) frame
+          (element_fits s p (element_offset p frame.registers x.source x.indices) (value_of p.of_module frame.registers x.base_type x.base) (operand x.base_type x.base)) fits
+      op_fits name (op.Cast x) given h = cast_fits name (value_of p.of_module frame.registers x.from x.operand) (operand_slot slots.names x.operand) frame (operand x.from x.operand) fits
+      op_fits name (op.Choice x) given h =
+          register_fits name (choice_value p.of_module frame.registers x) frame
+          (selected_fits s (value_of p.of_module frame.registers x.condition_type x.condition) (value_of p.of_module frame.registers x.written x.chosen) (value_of p.of_module frame.registers x.written x.other)
+          (operand x.written x.chosen) (operand x.written x.other)) fits
+      op_fits name (op.Call x) given h =
+          call_fits name x.returned x.arguments (declare_of p.of_module x.callee) (function_numbered p.of_module (number_called p.of_module x.callee)) (runtime_called p.of_module x.callee) given h
 
       -- ---- calls and returns
 
@@ -191,14 +200,14 @@ module _ (s : Setup) where
       arguments_fit (argument ∷ arguments) = (operand argument.written argument.operand, arguments_fit arguments)
 
       -- and of an instruction, if it is one
-      called_fit : (op : Op) → AllFit s (called_with p.of_module frame.registers op)
-      called_fit (Call returned callee arguments) = arguments_fit arguments
-      called_fit op = tt
+      called_fit : (x : Op) → AllFit s (called_with p.of_module frame.registers x)
+      called_fit (op.Call x) = arguments_fit x.arguments
+      called_fit x = tt
 
       -- what a return gives
-      result_fits : (op : Op) → FitsHeap s (result_of p.of_module frame.registers op)
-      result_fits (Return argument) = operand argument.written argument.operand
-      result_fits op = tt
+      result_fits : (x : AnEnd) → FitsHeap s (result_of p.of_module frame.registers x)
+      result_fits (end.Return argument) = operand argument.written argument.operand
+      result_fits x = tt
 
       -- the frames after a call
       entered_fit : (into : Option ℕ) (arguments : List Value) (function : ℕ) (callee : Option Function) (below : List Frame) → AllFit s arguments → FramesFit s below
@@ -215,26 +224,35 @@ module _ (s : Setup) where
       returned_fit into v (caller ∷ below) h others = (register_fits into v caller h others.0, others.1)
 
       -- the frames after an instruction
-      onward_fits : (instr : Instr) (given : Answer) (below : List Frame) (onward : Onward) → FitsAsked s (above onward (length below) (op_action p f (slots_of p.of_module f) frame.block frame.registers instr.op)) given
-          → FramesFit s below → FramesFit s (after_onward p f instr given frame below onward)
-      onward_fits instr given below Next h others = (moved_on (after_op p f (slots_of p.of_module f) instr.result instr.op given frame) (op_fits instr.result instr.op given h), others)
-      onward_fits instr given below Way h others = (block_fits p.of_module f (target_at f (way_of p.of_module frame.registers instr.op)) frame fits, others)
-      onward_fits instr given below (Into function) h others =
+      instr_fits : (instr : Instr) (given : Answer) (below : List Frame) (called : Option ℕ) → FitsAsked s (with_room called (length below) (op_action p f (slots_of p.of_module f) frame.registers instr.op)) given
+          → FramesFit s below → FramesFit s (after_instr p f instr given frame below called)
+      instr_fits instr given below None h others = (moved_on (after_op p f (slots_of p.of_module f) instr.result instr.op given frame) (op_fits instr.result instr.op given h), others)
+      instr_fits instr given below (Some function) h others =
           entered_fit instr.result (called_with p.of_module frame.registers instr.op) function (slice_get p.of_module.functions function) below (called_fit instr.op) others
-      onward_fits instr given below Back h others = returned_fit frame.into (result_of p.of_module frame.registers instr.op) below (result_fits instr.op) others
-      onward_fits instr given below Nowhere h others = tt
+
+      -- and after the end of a block
+      end_fits : (below : List Frame) (x : AnEnd) → FramesFit s below → FramesFit s (after_end p f frame below x)
+      end_fits below end.Unreachable others = tt
+      end_fits below end.ReturnVoid others = returned_fit frame.into (result_of p.of_module frame.registers end.ReturnVoid) below (result_fits end.ReturnVoid) others
+      end_fits below (end.Return argument) others = returned_fit frame.into (result_of p.of_module frame.registers (end.Return argument)) below (result_fits (end.Return argument)) others
+      end_fits below x others = (block_fits p.of_module f (target_at f (way_of p.of_module frame.registers x)) frame fits, others)
+
+      -- if there is one
+      last_fits : (below : List Frame) (x : Option AnEnd) → FramesFit s below → FramesFit s (after_last p f frame below x)
+      last_fits below None others = (fits, others)
+      last_fits below (Some x) others = end_fits below x others
 
     -- the frames after a step
-    instr_fits : (f : Function) (instr : Option Instr) (given : Answer) (frame : Frame) (below : List Frame) → FrameFits s frame → FramesFit s below
-        → FitsAsked s (step_action p f frame (length below) instr) given → FramesFit s (after_instr p f instr given frame below)
-    instr_fits f None given frame below fits others h = (fits, others)
-    instr_fits f (Some instr) given frame below fits others h = onward_fits f frame fits instr given below (onward_of p.of_module instr.op) h others
+    step_fits : (f : Function) (instr : Option Instr) (given : Answer) (frame : Frame) (below : List Frame) → FrameFits s frame → FramesFit s below
+        → FitsAsked s (step_action p f frame (length below) instr) given → FramesFit s (after_step p f given frame below instr)
+    step_fits f None given frame below fits others h = last_fits f frame fits below (end_at f frame) others
+    step_fits f (Some instr) given frame below fits others h = instr_fits f frame fits instr given below (function_called p.of_module instr.op) h others
 
     -- in the function of a frame, if there is one
     frame_fits : (f : Option Function) (given : Answer) (frame : Frame) (below : List Frame) → FrameFits s frame → FramesFit s below
         → FitsAsked s (frame_action p frame (length below) f) given → FramesFit s (after_frame p f given frame below)
     frame_fits None given frame below fits others h = (fits, others)
-    frame_fits (Some f) given frame below fits others h = instr_fits f (instr_at f frame) given frame below fits others h
+    frame_fits (Some f) given frame below fits others h = step_fits f (instr_at f frame) given frame below fits others h
 
     -- the state after an answer
     pub answer_fits : (state : State) (given : Answer) → FramesFit s state.frames → FitsAsked s (action p state) given → FramesFit s (after_answer p state given).frames

@@ -5,11 +5,11 @@ use Rattle.std.proofs.lemmas.Nat.{mod_below, pow_below, pow_pos}
 use Rattle.std.specs.Prelude.{◌⊎◌, ◌==◌, ◌%◌, is_some, replicate, if◌then◌else◌}
 use Rattle.lemmas.specs.Numbers.{lt_yes, lt_no}
 use Rattle.ir_ast.specs.declared.module.Module.{Module}
-use Rattle.ir_ast.specs.declared.op.Arithmetic.{Arithmetic as Operation}
-use Rattle.ir_ast.specs.declared.op.Arithmetic.TheVariants.{Add, Sub, Mul, And, Or, Xor}
-use Rattle.ir_ast.specs.declared.op.Comparison.{Comparison}
-use Rattle.ir_ast.specs.declared.op.Resize.{Resize as Width}
-use Rattle.ir_ast.specs.declared.op.Resize.TheVariants.{ZeroExtend, SignExtend, Truncate}
+use Rattle.ir_ast.specs.declared.numbers.Arithmetic.{Arithmetic as Operation}
+use Rattle.ir_ast.specs.declared.numbers.Arithmetic.TheVariants.{Add, Sub, Mul, And, Or, Xor}
+use Rattle.ir_ast.specs.declared.numbers.Comparison.{Comparison}
+use Rattle.ir_ast.specs.declared.numbers.Resize.{Resize as Width}
+use Rattle.ir_ast.specs.declared.numbers.Resize.TheVariants.{ZeroExtend, SignExtend, Truncate}
 use Rattle.ir_ast.specs.declared.operand.Constant.{Constant}
 use Rattle.ir_ast.specs.declared.operand.Constant.TheVariants as constant
 use Rattle.ir_ast.specs.declared.operand.Operand.{Operand}

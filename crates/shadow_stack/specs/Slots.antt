@@ -1,13 +1,14 @@
 -- The slots of a function.
 use Rattle.std.specs.Prelude.{◌≡◌, ℕ, zero, suc, nat_eq, Bool, false, if◌then◌else◌, List, [], ◌∷◌, ◌++◌, length, map, replicate, slice_get, slice_index_or, slice_set, unwrap_or, Option, Some, None, is_some}
 use Rattle.std.specs.List.{list_any}
+use Rattle.ir_ast.specs.declared.argument.Argument.{Argument}
 use Rattle.ir_ast.specs.declared.block.Block.{Block}
 use Rattle.ir_ast.specs.declared.function.Function.{Function}
 use Rattle.ir_ast.specs.declared.instr.Instr.{Instr}
+use Rattle.ir_ast.specs.declared.memory.MemoryOp.TheVariants.{Alloca}
 use Rattle.ir_ast.specs.declared.module.Module.{Module}
-use Rattle.ir_ast.specs.declared.op.Argument.{Argument}
 use Rattle.ir_ast.specs.declared.op.Op.{Op}
-use Rattle.ir_ast.specs.declared.op.Op.TheVariants.{Alloca, Bitcast, Call}
+use Rattle.ir_ast.specs.declared.op.Op.TheVariants.{Memory, Cast, Call}
 use Rattle.ir_ast.specs.declared.operand.Operand.{Operand}
 use Rattle.ir_ast.specs.declared.operand.Operand.TheVariants.{Local}
 use Rattle.ir_ast.specs.declared.runtime.Runtime.{Runtime}
@@ -48,8 +49,8 @@ origin_of _ = Nowhere
 
 -- with what an instruction defines: an alloca a new slot, a bitcast another name
 abbrev pub noted_op : (name : Option ℕ) → Op → Draft → Draft
-noted_op name (Alloca held) draft = record { origins = put name (Slot (length draft.held)) draft.origins; held = draft.held ++ held ∷ [] }
-noted_op name (Bitcast from operand to) draft = record { origins = put name (origin_of operand) draft.origins; held = draft.held }
+noted_op name (Memory (Alloca held)) draft = record { origins = put name (Slot (length draft.held)) draft.origins; held = draft.held ++ held ∷ [] }
+noted_op name (Cast x) draft = record { origins = put name (origin_of x.operand) draft.origins; held = draft.held }
 noted_op name _ draft = draft
 
 -- what is noted after these instructions
@@ -60,7 +61,7 @@ noted (instr ∷ instrs) draft = noted instrs (noted_op instr.result instr.op dr
 -- what is noted after these blocks
 abbrev pub noted_blocks : List Block → Draft → Draft
 noted_blocks [] draft = draft
-noted_blocks (block ∷ blocks) draft = noted_blocks blocks (noted block.instructions draft)
+noted_blocks (block ∷ blocks) draft = noted_blocks blocks (noted block.body draft)
 
 -- what each local name of a function was defined as, and the types of its allocas in text order
 abbrev pub draft_of : Function → Draft
@@ -118,7 +119,7 @@ slot_rooted names arguments _ = None
 
 -- the slot that an instruction makes a root, if it does
 abbrev pub slot_rooted_by : Module → List (Option ℕ) → Op → Option ℕ
-slot_rooted_by m names (Call returned callee arguments) = slot_rooted names arguments (runtime_called m callee)
+slot_rooted_by m names (Call x) = slot_rooted names x.arguments (runtime_called m x.callee)
 slot_rooted_by m names _ = None
 
 -- with a slot that is named as a root, where it is of reference type and new
@@ -134,7 +135,7 @@ with_roots m names held (instr ∷ instrs) roots = with_roots m names held instr
 -- the roots with those of these blocks after them
 abbrev pub with_roots_of : Module → (names : List (Option ℕ)) → (held : List ℕ) → List Block → (roots : List ℕ) → List ℕ
 with_roots_of m names held [] roots = roots
-with_roots_of m names held (block ∷ blocks) roots = with_roots_of m names held blocks (with_roots m names held block.instructions roots)
+with_roots_of m names held (block ∷ blocks) roots = with_roots_of m names held blocks (with_roots m names held block.body roots)
 
 -- the slots of a function
 abbrev pub slots_of : Module → Function → SlotTable

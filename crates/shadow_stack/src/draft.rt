@@ -3,7 +3,7 @@ ghost use Rattle.shadow_stack.specs.Slots.{put, origin_of, noted_op, noted, note
 ghost use Rattle.shadow_stack.specs.declared.draft.Origin.TheVariants.{Nowhere};
 
 use crate::slot_id::SlotId;
-use ir_ast::{Block, Function, Instr, Op, Operand, TypeId, ValueId};
+use ir_ast::{Block, Function, Instr, MemoryOp, Op, Operand, TypeId, ValueId};
 use items::Items;
 use std::alloc::{AllocError, Global};
 
@@ -42,15 +42,15 @@ impl Draft {
         ensures { OnOk result (self.new ≡ noted_blocks blocks.now self.old) }
     {
         for block in blocks {
-            self.note_all(block.instructions.as_slice())?;
+            self.note_all(block.body.as_slice())?;
         }
         Ok(())
     }
 
-    fn note_all(&mut self, instructions: &[Instr]) -> Result<(), AllocError>
-        ensures { OnOk result (self.new ≡ noted instructions.now self.old) }
+    fn note_all(&mut self, body: &[Instr]) -> Result<(), AllocError>
+        ensures { OnOk result (self.new ≡ noted body.now self.old) }
     {
-        for instr in instructions {
+        for instr in body {
             self.note(instr)?;
         }
         Ok(())
@@ -60,12 +60,12 @@ impl Draft {
         ensures { OnOk result (self.new ≡ noted_op instr.now.result instr.now.op self.old) }
     {
         match &instr.op {
-            Op::Alloca(held) => {
+            Op::Memory(MemoryOp::Alloca(held)) => {
                 let slot = SlotId::new(self.held.len());
                 self.held.push(*held)?;
                 self.put(instr.result, Origin::Slot(slot));
             }
-            Op::Bitcast { operand, .. } => self.put(instr.result, origin_of(*operand)),
+            Op::Cast(cast) => self.put(instr.result, origin_of(cast.operand)),
             _ => {}
         }
         Ok(())

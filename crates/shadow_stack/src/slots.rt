@@ -104,15 +104,15 @@ impl Slots {
         ensures { OnOk result (self.new ≡ record self.old { roots = with_roots_of «module».now self.old.names self.old.held blocks.now self.old.roots }) }
     {
         for block in blocks {
-            self.note_roots(module, block.instructions.as_slice())?;
+            self.note_roots(module, block.body.as_slice())?;
         }
         Ok(())
     }
 
-    fn note_roots(&mut self, module: &Module, instructions: &[Instr]) -> Result<(), AllocError>
-        ensures { OnOk result (self.new ≡ record self.old { roots = with_roots «module».now self.old.names self.old.held instructions.now self.old.roots }) }
+    fn note_roots(&mut self, module: &Module, body: &[Instr]) -> Result<(), AllocError>
+        ensures { OnOk result (self.new ≡ record self.old { roots = with_roots «module».now self.old.names self.old.held body.now self.old.roots }) }
     {
-        for instr in instructions {
+        for instr in body {
             let slot = self.slot_rooted_by(module, &instr.op);
             self.note_root(module, slot)?;
         }
@@ -154,12 +154,8 @@ impl Slots {
         ensures { result ≡ slot_rooted_by «module».now self.now.names op.now }
     {
         match op {
-            Op::Call {
-                callee,
-                arguments,
-                ..
-            } => match runtime_called(module, *callee) {
-                Some(Runtime::GcRoot) => self.first_slot(arguments.as_slice()),
+            Op::Call(call) => match runtime_called(module, call.callee) {
+                Some(Runtime::GcRoot) => self.first_slot(call.arguments.as_slice()),
                 _ => None,
             },
             _ => None,

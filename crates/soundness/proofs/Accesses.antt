@@ -6,7 +6,7 @@ use Rattle.lemmas.specs.Bools.{and_parts}
 use Rattle.ir_ast.specs.declared.function.Function.{Function}
 use Rattle.ir_ast.specs.declared.items_of_module.Declare.{Declare}
 use Rattle.ir_ast.specs.declared.module.Module.{Module}
-use Rattle.ir_ast.specs.declared.op.Argument.{Argument}
+use Rattle.ir_ast.specs.declared.argument.Argument.{Argument}
 use Rattle.ir_ast.specs.declared.operand.Constant.TheVariants as constant
 use Rattle.ir_ast.specs.declared.operand.Operand.{Operand}
 use Rattle.ir_ast.specs.declared.operand.Operand.TheVariants as operand
@@ -36,7 +36,6 @@ use Rattle.machine.specs.declared.answer.Answer.{Answer}
 use Rattle.machine.specs.declared.frame.Frame.{Frame}
 use Rattle.machine.specs.Asks as a
 use Rattle.machine.specs.Kinds as k
-use Rattle.machine.specs.Kinds.{value_of}
 use Rattle.machine.specs.Log.{Log, IsFresh}
 use Rattle.machine.specs.Machine as mc
 use Rattle.soundness.specs.Meaning.{Cells, Guarded, Holds}

@@ -1,8 +1,8 @@
 -- Any call that the rules allow and that is of no defined function.
-use Rattle.std.proofs.Common.{◌≡◌, ℕ, List, length, refl, sym, ap, ◌∙◌, subst, true, Bool, Option, Some, None}
+use Rattle.std.proofs.Common.{◌≡◌, ℕ, List, length, refl, sym, ◌∙◌, subst, true, Bool, Option, Some, None}
 use Rattle.ir_ast.specs.declared.function.Function.{Function}
 use Rattle.ir_ast.specs.declared.items_of_module.Declare.{Declare}
-use Rattle.ir_ast.specs.declared.op.Argument.{Argument}
+use Rattle.ir_ast.specs.declared.argument.Argument.{Argument}
 use Rattle.ir_ast.specs.declared.runtime.Runtime.{Runtime}
 use Rattle.ir_ast.specs.declared.runtime.Runtime.TheVariants as runtime
 use Rattle.pools.specs.Heap.{Setup}
@@ -74,15 +74,15 @@ module _ (heap : Setup) (p : LaidOut) (certs : List Section) (reaches : Bool) (f
       of_runtime callee arguments runtime.GcWrite _ c (gcwrite_goes heap p certs reaches f table guarded log guards fits here cells facts frame h members result returned (a.function_numbered p.of_module (a.number_called p.of_module callee)) c.0.declare arguments c.0.types c.0.arity e)
 
   -- a call that the rules allow, and that is of no defined function
-  pub call_goes : (callee : ℕ) (arguments : List Argument) → mc.onward_of_call (a.number_called p.of_module callee) ≡ mc.Next → first_failing (call_conditions p certs f table here facts returned arguments (callee_of p.of_module callee (length arguments))) ≡ None
+  pub call_goes : (callee : ℕ) (arguments : List Argument) → a.number_called p.of_module callee ≡ None → first_failing (call_conditions p certs f table here facts returned arguments (callee_of p.of_module callee (length arguments))) ≡ None
       → Goes heap p table frame.slots reaches guarded log (after_call p certs table result returned arguments (callee_of p.of_module callee (length arguments)) facts) (asked arguments callee (a.declare_of p.of_module callee) (runtime_called p.of_module callee))
       (behind arguments (runtime_called p.of_module callee))
-  call_goes callee arguments onward e = by (callee_of p.of_module callee (length arguments)) refl e where
+  call_goes callee arguments inside e = by (callee_of p.of_module callee (length arguments)) refl e where
     by : (called : Callee) → callee_of p.of_module callee (length arguments) ≡ called → first_failing (call_conditions p certs f table here facts returned arguments called) ≡ None
         → Goes heap p table frame.slots reaches guarded log (after_call p certs table result returned arguments (callee_of p.of_module callee (length arguments)) facts) (asked arguments callee (a.declare_of p.of_module callee) (runtime_called p.of_module callee))
         (behind arguments (runtime_called p.of_module callee))
     by (NoFunction named) is e = absurd (never named arguments e)
-    by (OfModule number) is e = absurd (let d = defined_is p.of_module callee (length arguments) number is in let x : mc.Into number ≡ mc.Next = sym (ap mc.onward_of_call d.named) ∙ onward in cc)
+    by (OfModule number) is e = absurd (let d = defined_is p.of_module callee (length arguments) number is in let x : Some number ≡ None = sym d.named ∙ inside in cc)
     by (OfRuntime called) is e =
         subst (λ x. Goes heap p table frame.slots reaches guarded log (after_call p certs table result returned arguments x facts) (asked arguments callee (a.declare_of p.of_module callee) (runtime_called p.of_module callee)) (behind arguments (runtime_called p.of_module callee))) (sym is)
         (runtime_goes callee arguments called (callee_is p.of_module callee (length arguments) called is) e)

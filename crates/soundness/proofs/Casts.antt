@@ -5,7 +5,8 @@ use Rattle.lemmas.specs.Lists.{at_map}
 use Rattle.lemmas.specs.Numbers.{test_true, test_false}
 use Rattle.lemmas.specs.Bools.{and_parts, or_first}
 use Rattle.ir_ast.specs.declared.function.Function.{Function}
-use Rattle.ir_ast.specs.declared.op.Op.TheVariants.{Bitcast}
+use Rattle.ir_ast.specs.declared.casts.Cast.{Cast}
+use Rattle.ir_ast.specs.declared.op.Op.TheVariants as op
 use Rattle.ir_ast.specs.declared.operand.Constant.{Constant}
 use Rattle.ir_ast.specs.declared.operand.Constant.TheVariants as constant
 use Rattle.ir_ast.specs.declared.operand.Operand.{Operand}
@@ -23,10 +24,13 @@ use Rattle.facts.specs.declared.known.Known.TheVariants.{Nothing, Number, Cell, 
 use Rattle.facts.specs.Facts.{FactSet, known_at, class_at, off_base, values_without, forget, define}
 use Rattle.block_rules.specs.declared.type_kind.TypeKind.{TypeKind}
 use Rattle.block_rules.specs.declared.type_kind.TypeKind.TheVariants.{NoValue, Bits, Reference, AnyReference, Address as AddressKind, Other}
+use Rattle.block_rules.specs.declared.standing.Standing.{Standing}
+use Rattle.block_rules.specs.FirstFailing.{first_failing}
+use Rattle.block_rules.specs.declared.rule.Rule.TheVariants.{K1, K2, K19}
 use Rattle.block_rules.specs.Casts as c
 use Rattle.block_rules.specs.Operands as o
 use Rattle.block_rules.specs.Places.{define_held, first_layout, cell_words, wanted_by_load, each_word}
-use Rattle.block_rules.specs.Rules.{after_op}
+use Rattle.block_rules.specs.Rules.{cast_conditions, after_op}
 use Rattle.block_rules.specs.TypeKinds.{kind_of, place_kind, fits_layout, may_be_reference}
 use Rattle.machine.specs.declared.value.Value.{Value}
 use Rattle.machine.specs.declared.value.Value.TheVariants as value
@@ -48,7 +52,13 @@ use Rattle.soundness.proofs.PlaceFacts.{holds_as_asked}
 use Rattle.soundness.specs.Goes.{Goes}
 use Rattle.soundness.proofs.Globals.{word_is, word_casts_to}
 use Rattle.soundness.proofs.SameKinds.{first_holds, part_refers, null_casts, layout_refers, held_casts, word_casts}
-use Rattle.soundness.proofs.Steps.{goes_local, chosen, below_itself, available, base_is, known_set}
+use Rattle.soundness.proofs.RulesHold.{rules_hold}
+use Rattle.soundness.proofs.Touches.{typed_so, operand_means}
+use Rattle.soundness.proofs.Steps.{OpGoes, goes_local, chosen, below_itself, available, base_is, known_set}
+
+-- a bitcast of an operand
+abbrev bitcast : (from : ℕ) → Operand → (to : ℕ) → Cast
+bitcast from x to = record { from = from; operand = x; to = to }
 
 module _ (heap : Setup) (p : LaidOut) (certs : List Section) (reaches : Bool) (f : Function) (table : SlotTable) (guarded : Guarded) (log : Log) (cells : Cells) (facts : FactSet) (frame : Frame) (h : Holds heap p table guarded log cells facts frame.registers frame.slots) where
   -- v is a reference of a new class that is not fresh, where a layout is known
@@ -101,24 +111,24 @@ module _ (heap : Setup) (p : LaidOut) (certs : List Section) (reaches : Bool) (f
     constant_casts (constant.Truth b) k2 e = absurd cc
     constant_casts constant.Null k2 e = chosen (from == to) (c.casts_null p.of_module from to) _ e (null_casts p.of_module from to)
 
-    pub constant_goes : (result : Option ℕ) (x : Constant) → o.constant_fits x (kind_of p.of_module from) ≡ true → c.may_cast p table facts from to (operand.Constant x) ≡ true
-        → Goes heap p table frame.slots reaches guarded log (after_op p certs table result (Bitcast from (operand.Constant x) to) facts) (a.cast_action p f table frame.registers from (operand.Constant x) to None) (λ given. mc.set_register result (constant_value p.of_module from x) frame)
+    constant_goes : (result : Option ℕ) (x : Constant) → o.constant_fits x (kind_of p.of_module from) ≡ true → c.may_cast p table facts from to (operand.Constant x) ≡ true
+        → Goes heap p table frame.slots reaches guarded log (after_op p certs table result (op.Cast (bitcast from (operand.Constant x) to)) facts) (a.cast_of p f table frame.registers (bitcast from (operand.Constant x) to) None) (λ given. mc.set_register result (constant_value p.of_module from x) frame)
     constant_goes result x k2 k19 = goes_local heap p table frame.slots reaches guarded log _ _ _ (rw (constant_passes p.of_module from x k2, constant_casts x k2 k19) refl) (kept result) where
-      kept : (result : Option ℕ) → (more : Cells) × Holds heap p table guarded log more (after_op p certs table result (Bitcast from (operand.Constant x) to) facts) (mc.set_register result (constant_value p.of_module from x) frame).registers (mc.set_register result (constant_value p.of_module from x) frame).slots
+      kept : (result : Option ℕ) → (more : Cells) × Holds heap p table guarded log more (after_op p certs table result (op.Cast (bitcast from (operand.Constant x) to)) facts) (mc.set_register result (constant_value p.of_module from x) frame).registers (mc.set_register result (constant_value p.of_module from x) frame).slots
       kept None = (cells, h)
       kept (Some v) = constant_keeps v x k19
 
     -- ---- slots
 
-    pub slot_goes : (result : Option ℕ) (u s : ℕ) → slot_of table u ≡ Some s → has_type p.of_module f from u ≡ true → c.may_cast p table facts from to (operand.Local u) ≡ true
-        → Goes heap p table frame.slots reaches guarded log (after_op p certs table result (Bitcast from (operand.Local u) to) facts) (a.cast_action p f table frame.registers from (operand.Local u) to (slot_of table u)) (λ given. mc.after_cast result (register_at frame.registers u) (slot_of table u) frame)
+    slot_goes : (result : Option ℕ) (u s : ℕ) → slot_of table u ≡ Some s → has_type p.of_module f from u ≡ true → c.may_cast p table facts from to (operand.Local u) ≡ true
+        → Goes heap p table frame.slots reaches guarded log (after_op p certs table result (op.Cast (bitcast from (operand.Local u) to)) facts) (a.cast_of p f table frame.registers (bitcast from (operand.Local u) to) (slot_of table u)) (λ given. mc.cast_from result (register_at frame.registers u) (slot_of table u) frame)
     slot_goes result u s is k2 k19 =
-        subst (λ x. Goes heap p table frame.slots reaches guarded log (after_op p certs table result (Bitcast from (operand.Local u) to) facts) (a.cast_action p f table frame.registers from (operand.Local u) to x) (λ given. mc.after_cast result (register_at frame.registers u) x frame)) (sym is)
+        subst (λ x. Goes heap p table frame.slots reaches guarded log (after_op p certs table result (op.Cast (bitcast from (operand.Local u) to)) facts) (a.cast_of p f table frame.registers (bitcast from (operand.Local u) to) x) (λ given. mc.cast_from result (register_at frame.registers u) x frame)) (sym is)
         (goes_local heap p table frame.slots reaches guarded log _ _ _ (rw (k2, casts (rw is at k19)) refl) (kept result)) where
           casts : ((from == to) || c.casts_held p.of_module to (held_type table s)) ≡ true → a.may_cast_slot p.of_module (held_type table s) from to ≡ true
           casts e = chosen (from == to) (c.casts_held p.of_module to (held_type table s)) _ e (held_casts p.of_module to (held_type table s))
 
-          kept : (result : Option ℕ) → (more : Cells) × Holds heap p table guarded log more (after_op p certs table result (Bitcast from (operand.Local u) to) facts) frame.registers frame.slots
+          kept : (result : Option ℕ) → (more : Cells) × Holds heap p table guarded log more (after_op p certs table result (op.Cast (bitcast from (operand.Local u) to)) facts) frame.registers frame.slots
           kept None = (cells, h)
           kept (Some v) = rw is (cells, h)
 
@@ -174,10 +184,10 @@ module _ (heap : Setup) (p : LaidOut) (certs : List Section) (reaches : Bool) (f
       copy_keeps = define_keeps heap p table guarded log cells facts frame.registers frame.slots h v (off_base v (known_at facts.values u)) (register_at frame.registers u)
           (means_without heap p table guarded log cells (length facts.classes) frame.registers v (register_at frame.registers u) (known_at facts.values u) (register_at frame.registers u) (h.values u)) beside
 
-    pub value_goes : (result : Option ℕ) (u : ℕ) → slot_of table u ≡ None → o.is_available table facts (operand.Local u) ≡ true → has_type p.of_module f from u ≡ true → c.may_cast p table facts from to (operand.Local u) ≡ true
-        → Goes heap p table frame.slots reaches guarded log (after_op p certs table result (Bitcast from (operand.Local u) to) facts) (a.cast_action p f table frame.registers from (operand.Local u) to (slot_of table u)) (λ given. mc.after_cast result (register_at frame.registers u) (slot_of table u) frame)
+    value_goes : (result : Option ℕ) (u : ℕ) → slot_of table u ≡ None → o.is_available table facts (operand.Local u) ≡ true → has_type p.of_module f from u ≡ true → c.may_cast p table facts from to (operand.Local u) ≡ true
+        → Goes heap p table frame.slots reaches guarded log (after_op p certs table result (op.Cast (bitcast from (operand.Local u) to)) facts) (a.cast_of p f table frame.registers (bitcast from (operand.Local u) to) (slot_of table u)) (λ given. mc.cast_from result (register_at frame.registers u) (slot_of table u) frame)
     value_goes result u none k1 k2 k19 =
-        subst (λ x. Goes heap p table frame.slots reaches guarded log (after_op p certs table result (Bitcast from (operand.Local u) to) facts) (a.cast_action p f table frame.registers from (operand.Local u) to x) (λ given. mc.after_cast result (register_at frame.registers u) x frame)) (sym none)
+        subst (λ x. Goes heap p table frame.slots reaches guarded log (after_op p certs table result (op.Cast (bitcast from (operand.Local u) to)) facts) (a.cast_of p f table frame.registers (bitcast from (operand.Local u) to) x) (λ given. mc.cast_from result (register_at frame.registers u) x frame)) (sym none)
         (goes_local heap p table frame.slots reaches guarded log _ _ _ (rw (k2, none, set, casts (rw none at k19)) refl) (kept result)) where
           known : o.is_known facts (known_at facts.values u) ≡ true
           known = available heap p certs reaches f table guarded log cells facts frame h u none k1
@@ -194,16 +204,16 @@ module _ (heap : Setup) (p : LaidOut) (certs : List Section) (reaches : Bool) (f
               (subst (λ xs. Holds heap p table guarded log cells facts xs frame.slots) (sym (same_written frame.registers u value.Unset)) h)
           named_so v false e = copy_keeps u v (test_false u v e)
 
-          kept : (result : Option ℕ) → (more : Cells) × Holds heap p table guarded log more (after_op p certs table result (Bitcast from (operand.Local u) to) facts) (mc.set_register result (register_at frame.registers u) frame).registers (mc.set_register result (register_at frame.registers u) frame).slots
+          kept : (result : Option ℕ) → (more : Cells) × Holds heap p table guarded log more (after_op p certs table result (op.Cast (bitcast from (operand.Local u) to)) facts) (mc.set_register result (register_at frame.registers u) frame).registers (mc.set_register result (register_at frame.registers u) frame).slots
           kept None = (cells, h)
           kept (Some v) = rw none (cells, named_so v (u == v) refl)
 
     -- ---- globals
 
     -- a global as an operand
-    pub global_goes : (result : Option ℕ) (x : Operand) (symbol : ℕ) (next : Option ℕ → FactSet) → next None ≡ facts → ((v : ℕ) → next (Some v) ≡ define v (GlobalAddress symbol) facts)
+    global_goes : (result : Option ℕ) (x : Operand) (symbol : ℕ) (next : Option ℕ → FactSet) → next None ≡ facts → ((v : ℕ) → next (Some v) ≡ define v (GlobalAddress symbol) facts)
         → k.is_typed p.of_module f table from x ≡ true → IsGlobal p.of_module symbol (value_of p.of_module frame.registers from x) → ((from == to) || c.casts_global p.of_module to symbol) ≡ true
-        → Goes heap p table frame.slots reaches guarded log (next result) (a.cast_action p f table frame.registers from x to None) (λ given. mc.set_register result (value_of p.of_module frame.registers from x) frame)
+        → Goes heap p table frame.slots reaches guarded log (next result) (a.cast_of p f table frame.registers (bitcast from x to) None) (λ given. mc.set_register result (value_of p.of_module frame.registers from x) frame)
     global_goes result x symbol next none some typed global k19 = goes_local heap p table frame.slots reaches guarded log _ _ _ (rw (typed, ap k.is_set global.2, casts) refl) (kept result) where
       new : Value
       new = value_of p.of_module frame.registers from x
@@ -218,3 +228,30 @@ module _ (heap : Setup) (p : LaidOut) (certs : List Section) (reaches : Bool) (f
         subst (λ y. Holds heap p table guarded log cells y (slice_set frame.registers v new) frame.slots) (sym (some v))
             (define_plain heap p table guarded log cells facts frame.registers frame.slots h v (GlobalAddress symbol) new (λ d l s e. cc) global),
       )
+
+  -- ---- by the conditions
+
+  -- a bitcast whose conditions hold goes: of a constant, of a slot, or of a value
+  cast_by : (fits : IsHeapFor heap p) (here : Standing) (result : Option ℕ) (from : ℕ) (x : Operand) (to : ℕ) → first_failing (cast_conditions p f table here facts (bitcast from x to)) ≡ None
+      → OpGoes heap p certs reaches f table guarded log facts frame result (op.Cast (bitcast from x to))
+  cast_by fits here result from x to e =
+      let all = rules_hold (cast_conditions p f table here facts (bitcast from x to)) e in
+      let k19 = and_parts (c.casts_operand p.of_module x) (c.may_cast p table facts from to x) (all K19) in
+      by x (all K1) (all K2) k19.0 k19.1 where
+        of_name : (u : ℕ) → o.is_available table facts (operand.Local u) ≡ true → has_type p.of_module f from u ≡ true → c.may_cast p table facts from to (operand.Local u) ≡ true → (slot : Option ℕ) → slot_of table u ≡ slot
+            → OpGoes heap p certs reaches f table guarded log facts frame result (op.Cast (bitcast from (operand.Local u) to))
+        of_name u k1 k2 k19 None none = value_goes fits from to result u none k1 k2 k19
+        of_name u k1 k2 k19 (Some s) is = slot_goes fits from to result u s is k2 k19
+
+        by : (x : Operand) → o.is_available table facts x ≡ true → o.is_typed p.of_module f from x ≡ true → c.casts_operand p.of_module x ≡ true → c.may_cast p table facts from to x ≡ true → OpGoes heap p certs reaches f table guarded log facts frame result (op.Cast (bitcast from x to))
+        by (operand.Constant d) k1 k2 casts k19 = constant_goes fits from to result d k2 k19
+        by (operand.Local u) k1 k2 casts k19 = of_name u k1 k2 k19 (slot_of table u) refl
+        by (operand.Global symbol) k1 k2 casts k19 =
+            global_goes fits from to result (operand.Global symbol) symbol (λ name. after_op p certs table name (op.Cast (bitcast from (operand.Global symbol) to)) facts) refl (λ v. refl)
+            (typed_so p f table from (operand.Global symbol) k2 casts refl) (operand_means heap p certs reaches f table guarded log fits cells facts frame h from (operand.Global symbol) k2) k19
+        by (operand.CastGlobal own symbol other) k1 k2 casts k19 =
+            global_goes fits from to result (operand.CastGlobal own symbol other) symbol (λ name. after_op p certs table name (op.Cast (bitcast from (operand.CastGlobal own symbol other) to)) facts) refl (λ v. refl)
+            (typed_so p f table from (operand.CastGlobal own symbol other) k2 casts refl) (operand_means heap p certs reaches f table guarded log fits cells facts frame h from (operand.CastGlobal own symbol other) k2) k19
+
+  pub cast_goes : (fits : IsHeapFor heap p) (here : Standing) (result : Option ℕ) (x : Cast) → first_failing (cast_conditions p f table here facts x) ≡ None → OpGoes heap p certs reaches f table guarded log facts frame result (op.Cast x)
+  cast_goes fits here result x e = cast_by fits here result x.from x.operand x.to e

@@ -4,7 +4,8 @@ use Rattle.std.specs.Prelude.{◌==◌, ◌&&◌, if◌then◌else◌}
 use Rattle.lemmas.specs.Numbers.{test_true, test_yes}
 use Rattle.lemmas.specs.Bools.{and_parts, or_second, or_first}
 use Rattle.ir_ast.specs.declared.function.Function.{Function}
-use Rattle.ir_ast.specs.declared.op.Op.TheVariants.{Select}
+use Rattle.ir_ast.specs.declared.choices.Choice.{Choice}
+use Rattle.ir_ast.specs.declared.op.Op.TheVariants as op
 use Rattle.ir_ast.specs.declared.operand.Constant.TheVariants as constant
 use Rattle.ir_ast.specs.declared.operand.Operand.{Operand}
 use Rattle.ir_ast.specs.declared.operand.Operand.TheVariants as operand
@@ -18,9 +19,12 @@ use Rattle.facts.specs.declared.known.Known.TheVariants.{Nothing, Number, Cell, 
 use Rattle.facts.specs.Facts.{FactSet, known_at, class_at, define, drop_fresh_of}
 use Rattle.block_rules.specs.declared.type_kind.TypeKind.{TypeKind}
 use Rattle.block_rules.specs.declared.type_kind.TypeKind.TheVariants.{NoValue, Bits, Reference, AnyReference, Address as AddressKind, Other}
+use Rattle.block_rules.specs.declared.standing.Standing.{Standing}
+use Rattle.block_rules.specs.FirstFailing.{first_failing}
+use Rattle.block_rules.specs.declared.rule.Rule.TheVariants.{K1, K2, K3, K10}
 use Rattle.block_rules.specs.Integers as r
 use Rattle.block_rules.specs.Operands as o
-use Rattle.block_rules.specs.Rules.{after_op}
+use Rattle.block_rules.specs.Rules.{is_condition, choice_conditions, after_op}
 use Rattle.block_rules.specs.TypeKinds.{kind_of, is_bits, layout_of_kind, may_be_reference}
 use Rattle.machine.specs.declared.value.Value.{Value}
 use Rattle.machine.specs.declared.value.Value.TheVariants as value
@@ -35,12 +39,15 @@ use Rattle.soundness.proofs.KindLemmas.{bits_same}
 use Rattle.soundness.proofs.Change.{apart_turned}
 use Rattle.soundness.proofs.PhiFacts.{drop_one, drop_of_values, drop_of_keeps}
 use Rattle.soundness.proofs.Casts.{held_keeps}
-use Rattle.soundness.proofs.Numbers.{chosen_below}
-use Rattle.soundness.specs.Goes.{Goes}
-use Rattle.soundness.proofs.Steps.{goes_local, no_value, no_number, null_fits, available, integer_is, number_usable}
-use Rattle.soundness.proofs.Sums.{defines, numbers_usable, references_usable}
+use Rattle.soundness.proofs.Numbers.{chosen_below, defines, numbers_usable, references_usable}
+use Rattle.soundness.proofs.RulesHold.{rules_hold}
+use Rattle.soundness.proofs.Steps.{OpGoes, goes_local, none_of, no_value, no_number, null_fits, available, integer_is, number_usable}
 
 -- a kind that passes as one of some bits is it
+-- a select between two operands
+abbrev select : (condition_type : ℕ) (condition : Operand) (written : ℕ) (chosen other : Operand) → Choice
+select condition_type condition written chosen other = record { condition_type = condition_type; condition = condition; written = written; chosen = chosen; other = other }
+
 bits_are_so : (n : ℕ) (x : TypeKind) → is_bits n x ≡ true → x ≡ Bits n
 bits_are_so n NoValue e = absurd cc
 bits_are_so n (Bits bits) e = ap Bits (test_true bits n e)
@@ -192,11 +199,10 @@ module _ (heap : Setup) (p : LaidOut) (certs : List Section) (reaches : Bool) (f
         apart false w d l s is z = let y = drop_one (o.known_of facts chosen) facts d z.0 in operand_apart written chosen a w d l s is y.0 y.1
 
   -- a choice
-  pub select_goes : (result : Option ℕ) (condition_type : ℕ) (condition : Operand) (written : ℕ) (chosen other : Operand) → o.is_available table facts condition ≡ true → is_bits 1 (kind_of p.of_module condition_type) ≡ true
+  select_goes : (result : Option ℕ) (condition_type : ℕ) (condition : Operand) (written : ℕ) (chosen other : Operand) → o.is_available table facts condition ≡ true → is_bits 1 (kind_of p.of_module condition_type) ≡ true
       → o.is_value p.of_module f facts condition_type condition ≡ true → o.slot_named table condition ≡ None → r.may_choose (kind_of p.of_module written) ≡ true → IsChoice written chosen → IsChoice written other
       → r.one_layout (r.known_layout (o.known_of facts chosen)) (r.known_layout (o.known_of facts other)) ≡ true
-      → Goes heap p table frame.slots reaches guarded log (after_op p certs table result (Select condition_type condition written chosen other) facts) (a.op_action p f table frame.block frame.registers (Select condition_type condition written chosen other))
-      (λ given. mc.after_op p f table result (Select condition_type condition written chosen other) given frame)
+      → OpGoes heap p certs reaches f table guarded log facts frame result (op.Choice (select condition_type condition written chosen other))
   select_goes result condition_type condition written chosen other k1 bit k2 none may x y one =
       goes_local heap p table frame.slots reaches guarded log _ _ _ (rw (sym (bits_same p.of_module 1 condition_type) ∙ bit, number_usable heap p certs reaches f table guarded log cells facts frame h condition_type 1 condition (bits_are_so 1 (kind_of p.of_module condition_type) bit) k1 k2 none, selects (kind_of p.of_module written) refl may) refl) (kept result) where
         of_references : (may_be_reference (kind_of p.of_module written) ≡ true) → a.may_select p.of_module f table frame.registers written chosen other ≡ true
@@ -244,7 +250,25 @@ module _ (heap : Setup) (p : LaidOut) (certs : List Section) (reaches : Bool) (f
         by_kind v AddressKind is e first = absurd cc
         by_kind v Other is e first = absurd cc
 
-        kept : (result : Option ℕ) → (more : Cells) × Holds heap p table guarded log more (after_op p certs table result (Select condition_type condition written chosen other) facts)
+        kept : (result : Option ℕ) → (more : Cells) × Holds heap p table guarded log more (after_op p certs table result (op.Choice (select condition_type condition written chosen other)) facts)
             (mc.set_register result (mc.selected (value_of p.of_module frame.registers condition_type condition) (value_of p.of_module frame.registers written chosen) (value_of p.of_module frame.registers written other)) frame).registers frame.slots
         kept None = (cells, h)
         kept (Some v) = by_kind v (kind_of p.of_module written) refl may (number_in (value_of p.of_module frame.registers condition_type condition) == 0)
+
+  -- a select whose conditions hold goes
+  pub choice_goes : (here : Standing) (result : Option ℕ) (x : Choice) → first_failing (choice_conditions p f table here facts x) ≡ None → OpGoes heap p certs reaches f table guarded log facts frame result (op.Choice x)
+  choice_goes here result x e =
+      let all = rules_hold (choice_conditions p f table here facts x) e in
+      let k1 = and_parts (o.is_available table facts x.condition && o.is_available table facts x.chosen) (o.is_available table facts x.other) (all K1) in
+      let k1s = and_parts (o.is_available table facts x.condition) (o.is_available table facts x.chosen) k1.0 in
+      let k2 = and_parts _ (o.is_no_slot table x.condition) (all K2) in
+      let one = and_parts _ (r.one_layout (r.known_layout (o.known_of facts x.chosen)) (r.known_layout (o.known_of facts x.other))) k2.0 in
+      let may = and_parts _ (r.may_choose (kind_of p.of_module x.written)) one.0 in
+      let v = and_parts _ (o.is_value p.of_module f facts x.written x.other) may.0 in
+      let w = and_parts (is_condition p.of_module f facts x.condition_type x.condition) (o.is_value p.of_module f facts x.written x.chosen) v.0 in
+      let d = and_parts (is_bits 1 (kind_of p.of_module x.condition_type)) (o.is_value p.of_module f facts x.condition_type x.condition) w.0 in
+      let k3 = and_parts (o.is_current facts (o.known_of facts x.chosen)) (o.is_current facts (o.known_of facts x.other)) (all K3) in
+      let k10 = and_parts (o.is_no_slot table x.chosen) (o.is_no_slot table x.other) (all K10) in
+      select_goes result x.condition_type x.condition x.written x.chosen x.other k1s.0 d.0 d.1 (none_of (o.slot_named table x.condition) k2.1) may.1
+      (record { there = k1s.1; typed = w.1; current = k3.0; no_slot = none_of (o.slot_named table x.chosen) k10.0 })
+      (record { there = k1.1; typed = v.1; current = k3.1; no_slot = none_of (o.slot_named table x.other) k10.1 }) one.1

@@ -1,18 +1,16 @@
 -- An edge from block to block: what is known after it holds of the frame that entered.
-use Rattle.std.proofs.Common.{◌≡◌, ℕ, suc, ◌+◌, ◌<◌, ◌≤◌, ◌^◌, List, [], ◌∷◌, length, refl, sym, ap, ◌∙◌, subst, arith, true, false, Bool, Option, Some, None, slice_get, slice_set, take, inl, inr}
+use Rattle.std.proofs.Common.{◌≡◌, ℕ, suc, ◌+◌, ◌<◌, ◌≤◌, ◌^◌, List, [], ◌∷◌, length, refl, sym, ap, ◌∙◌, subst, arith, true, false, Bool, Option, Some, None, slice_get, slice_set, inl, inr}
 use Rattle.std.proofs.lemmas.List.{length-set}
 use Rattle.std.proofs.lemmas.Nat.{mod_below, pow_pos}
 use Rattle.std.proofs.lemmas.Bool.{cases_lt}
 use Rattle.std.proofs.lemmas.Grind.{common_steps}
 use Rattle.std.specs.Prelude.{◌⊎◌, ◌==◌, ◌%◌, nat_lt, not, if◌then◌else◌, position}
-use Rattle.std.specs.List.{take_while, prefix_len, position_or_len}
+use Rattle.std.specs.List.{prefix_len, position_or_len}
 use Rattle.lemmas.specs.Numbers.{lt_yes}
 use Rattle.ir_ast.specs.declared.function.Function.{Function}
-use Rattle.ir_ast.specs.declared.instr.Instr.{Instr}
 use Rattle.ir_ast.specs.declared.module.Module.{Module}
-use Rattle.ir_ast.specs.declared.op.Incoming.{Incoming}
-use Rattle.ir_ast.specs.declared.op.Op.{Op}
-use Rattle.ir_ast.specs.declared.op.Op.TheVariants.{Phi}
+use Rattle.ir_ast.specs.declared.choices.Incoming.{Incoming}
+use Rattle.ir_ast.specs.declared.choices.Phi.{Phi}
 use Rattle.ir_ast.specs.declared.operand.Constant.TheVariants as constant
 use Rattle.ir_ast.specs.declared.operand.Operand.{Operand}
 use Rattle.ir_ast.specs.declared.operand.Operand.TheVariants as operand
@@ -32,15 +30,15 @@ use Rattle.facts.specs.Lines.{facts_of_lines, shows_line}
 use Rattle.block_rules.specs.declared.type_kind.TypeKind.{TypeKind}
 use Rattle.block_rules.specs.declared.type_kind.TypeKind.TheVariants as kind
 use Rattle.block_rules.specs.TypeKinds.{kind_of, kind_in, pointer_kind, struct_pointer}
-use Rattle.block_rules.specs.Standing.{instructions_of}
+use Rattle.block_rules.specs.Standing.{phis_of}
 use Rattle.block_rules.specs.Bounds.{below_next}
 use Rattle.block_rules.specs.Ways as w
-use Rattle.block_rules.specs.Ways.{Scene, operand_from, constant_comes_in, number_comes_in, known_comes_in, phi_comes_in, named_comes_in, comes_in}
+use Rattle.block_rules.specs.Ways.{Scene, operand_from, number_comes_in, known_comes_in, phi_comes_in, comes_in}
 use Rattle.machine.specs.WrappedFits.{wrapped_fits}
 use Rattle.machine.specs.declared.value.Value.{Value}
 use Rattle.machine.specs.declared.value.Value.TheVariants as value
 use Rattle.machine.specs.Kinds.{register_at, bits_of, bits_at, modulus, wrapped}
-use Rattle.machine.specs.Jumps.{is_phi_op, is_phi, is_block, entry_for, entry_value, phi_value, put_register, put_phis}
+use Rattle.machine.specs.Jumps.{is_block, entry_for, entry_value, phi_value, put_phis}
 use Rattle.machine.specs.Log.{Log}
 use Rattle.soundness.specs.Meaning.{Cells, Guarded, IsBelow, IsInteger, Means, Holds}
 use Rattle.soundness.proofs.PhiFacts.{entries_of, copied, ComesIn, AllComeIn, phis_keep}
@@ -98,15 +96,6 @@ constant_below bits n = pick (nat_lt n 18446744073709551615) where
   pick true = let l = wrapped_le bits n in omega (arith, l)
   pick false = tt
 
--- the front of a list, one element further, and at its end
-while_more : {X : Type 0} (test : X → Bool) (x : X) (xs : List X) → test x ≡ true → take_while test (x ∷ xs) ≡ x ∷ take_while test xs
-while_more test x xs e = rw e (subst (λ k. take k (x ∷ xs) ≡ x ∷ take_while test xs) (suc_is (prefix_len test xs)) refl) where
-  suc_is : (n : ℕ) → suc n ≡ 1 + n
-  suc_is n = omega arith
-
-while_less : {X : Type 0} (test : X → Bool) (x : X) (xs : List X) → test x ≡ false → take_while test (x ∷ xs) ≡ []
-while_less test x xs e = rw e refl
-
 -- ---- what comes in
 
 module _ (heap : Setup) (p : LaidOut) (table : SlotTable) (guarded : Guarded) (log : Log) (cells : Cells) (f : Function) (facts : FactSet) (registers slots : List Value) (h : Holds heap p table guarded log cells facts registers slots) (from : ℕ) where
@@ -147,45 +136,32 @@ module _ (heap : Setup) (p : LaidOut) (table : SlotTable) (guarded : Guarded) (l
       pick false = rest
 
   -- the phis of a block as copies
-  record Copies (instrs : List Instr) : Type 0 where
-    copies : List (Entry × Value)
-    entries : entries_of copies ≡ comes_in p.of_module f from facts instrs
-    puts : (before : List Value) → copied copies before ≡ put_phis p.of_module f registers from (take_while is_phi instrs) before
-    come : AllComeIn heap p table guarded log slots facts registers copies
+  abbrev copies : List Phi → List (Entry × Value)
+  copies [] = []
+  copies (phi ∷ phis) = (phi_comes_in p.of_module f from facts phi, phi_value p.of_module f registers from phi) ∷ copies phis
 
-  one_more : (result : Option ℕ) (written : ℕ) (incoming : List Incoming) (instrs : List Instr) → Copies instrs → Copies (record { result = result; op = Phi written incoming } ∷ instrs)
-  one_more None written incoming instrs c = record {
-    copies = c.copies;
-    entries = c.entries;
-    puts = λ before. subst (λ phis. copied c.copies before ≡ put_phis p.of_module f registers from phis before) (sym (while_more is_phi (record { result = None; op = Phi written incoming }) instrs refl)) (c.puts before);
-    come = c.come;
-  }
-  one_more (Some v) written incoming instrs c = record {
-    copies = (record { phi = v; known = known_comes_in facts (kind_of p.of_module written) (operand_from f from incoming) }, entry_value p.of_module registers written (entry_for f from incoming)) ∷ c.copies;
-    entries = ap (λ x. record { phi = v; known = known_comes_in facts (kind_of p.of_module written) (operand_from f from incoming) } ∷ x) c.entries;
-    puts = λ before. subst (λ phis. copied c.copies (slice_set before v (entry_value p.of_module registers written (entry_for f from incoming))) ≡ put_phis p.of_module f registers from phis before) (sym (while_more is_phi (record { result = Some v; op = Phi written incoming }) instrs refl)) (c.puts (slice_set before v (entry_value p.of_module registers written (entry_for f from incoming))));
-    come = (subst (λ o. ComesIn heap p table guarded log slots facts registers (known_comes_in facts (kind_of p.of_module written) o) (entry_value p.of_module registers written (entry_for f from incoming))) (sym (same_entry incoming)) (operand_in written (entry_for f from incoming)), c.come);
-  }
+  entries_are : (phis : List Phi) → entries_of (copies phis) ≡ comes_in p.of_module f from facts phis
+  entries_are [] = refl
+  entries_are (phi ∷ phis) = ap (λ entries. phi_comes_in p.of_module f from facts phi ∷ entries) (entries_are phis)
 
-  no_more : (result : Option ℕ) (op : Op) (instrs : List Instr) → is_phi_op op ≡ false → w.is_phi op ≡ false → Copies (record { result = result; op = op } ∷ instrs)
-  no_more result op instrs e z = record { copies = []; entries = sym (rw z refl); puts = λ before. subst (λ phis. before ≡ put_phis p.of_module f registers from phis before) (sym (while_less is_phi (record { result = result; op = op }) instrs e)) refl; come = tt }
+  all_put : (phis : List Phi) (before : List Value) → copied (copies phis) before ≡ put_phis p.of_module f registers from phis before
+  all_put [] before = refl
+  all_put (phi ∷ phis) before = all_put phis (slice_set before phi.value (phi_value p.of_module f registers from phi))
 
-  by_op : (result : Option ℕ) (op : Op) (instrs : List Instr) → Copies instrs → Copies (record { result = result; op = op } ∷ instrs)
-  by_op result (Phi written incoming) instrs c = one_more result written incoming instrs c
-  by_op result op instrs c = no_more result op instrs refl refl
-
-  all_copies : (instrs : List Instr) → Copies instrs
-  all_copies [] = record { copies = []; entries = refl; puts = λ before. refl; come = tt }
-  all_copies (instr ∷ instrs) = by_op instr.result instr.op instrs (all_copies instrs)
+  all_come : (phis : List Phi) → AllComeIn heap p table guarded log slots facts registers (copies phis)
+  all_come [] = tt
+  all_come (phi ∷ phis) = (
+    subst (λ o. ComesIn heap p table guarded log slots facts registers (known_comes_in facts (kind_of p.of_module phi.written) o) (phi_value p.of_module f registers from phi)) (sym (same_entry phi.incoming)) (operand_in phi.written (entry_for f from phi.incoming)),
+    all_come phis,
+  )
 
   -- after the phis of a block that is entered
-  pub entered_holds : (instrs : List Instr) → (more : Cells) × Holds heap p table guarded log more (after_phis (comes_in p.of_module f from facts instrs) facts) (put_phis p.of_module f registers from (take_while is_phi instrs) registers) slots
-  entered_holds instrs =
-      let c = all_copies instrs in
-      let k = phis_keep heap p table guarded log slots cells facts registers h c.copies c.come in (
+  pub entered_holds : (phis : List Phi) → (more : Cells) × Holds heap p table guarded log more (after_phis (comes_in p.of_module f from facts phis) facts) (put_phis p.of_module f registers from phis registers) slots
+  entered_holds phis =
+      let k = phis_keep heap p table guarded log slots cells facts registers h (copies phis) (all_come phis) in (
         k.0,
-        subst (λ e. Holds heap p table guarded log k.0 (after_phis e facts) (put_phis p.of_module f registers from (take_while is_phi instrs) registers) slots) c.entries
-            (subst (λ r. Holds heap p table guarded log k.0 (after_phis (entries_of c.copies) facts) r slots) (c.puts registers) k.1),
+        subst (λ e. Holds heap p table guarded log k.0 (after_phis e facts) (put_phis p.of_module f registers from phis registers) slots) (entries_are phis)
+            (subst (λ r. Holds heap p table guarded log k.0 (after_phis (entries_of (copies phis)) facts) r slots) (all_put phis registers) k.1),
       )
 
 -- ---- the lines of the target
@@ -218,22 +194,20 @@ module _ (table : SlotTable) (here there : FactSet) (heap : Setup) (p : LaidOut)
   pub all_shown : (lines : List Line) → position (λ l. not (shows_line table here there l)) lines ≡ None → AllShown heap p table guarded log cells here there registers slots h lines
   all_shown lines e = lines_shown lines (none_found (λ l. not (shows_line table here there l)) lines e)
 
-put_length : (m : Module) (f : Function) (before : List Value) (from : ℕ) (phis : List Instr) (registers : List Value) → length (put_phis m f before from phis registers) ≡ length registers
-put_length m f before from [] registers = refl
-put_length m f before from (phi ∷ phis) registers = put_length m f before from phis _ ∙ one phi.result where
-  one : (name : Option ℕ) → length (put_register name (phi_value m f before from phi.op) registers) ≡ length registers
-  one None = refl
-  one (Some v) = length-set registers v _
+-- phis take no more registers
+pub put_size : (m : Module) (f : Function) (before : List Value) (from : ℕ) (phis : List Phi) (registers : List Value) → length (put_phis m f before from phis registers) ≡ length registers
+put_size m f before from [] registers = refl
+put_size m f before from (phi ∷ phis) registers = put_size m f before from phis (slice_set registers phi.value (phi_value m f before from phi)) ∙ length-set registers phi.value (phi_value m f before from phi)
 
 -- after the phis of a target whose lines are shown, they hold
 module _ (heap : Setup) (s : Scene) (guarded : Guarded) (log : Log) where
   pub edge_holds : (cells : Cells) (facts : FactSet) (registers slots : List Value) (from to : ℕ) → Holds heap s.program s.slots guarded log cells facts registers slots → length registers ≡ length s.function.locals
       → w.unshown_line s to (w.entered s from to facts) ≡ None
-      → (more : Cells) × Holds heap s.program s.slots guarded log more (w.line_facts s to) (put_phis s.program.of_module s.function registers from (take_while is_phi (instructions_of s.function to)) registers) slots
+      → (more : Cells) × Holds heap s.program s.slots guarded log more (w.line_facts s to) (put_phis s.program.of_module s.function registers from (phis_of s.function to) registers) slots
   edge_holds cells facts registers slots from to h size e =
-      let k = entered_holds heap s.program s.slots guarded log cells s.function facts registers slots h from (instructions_of s.function to) in
-      let after = put_phis s.program.of_module s.function registers from (take_while is_phi (instructions_of s.function to)) registers in
-      let sized : length after ≡ length s.function.locals = put_length s.program.of_module s.function registers from (take_while is_phi (instructions_of s.function to)) registers ∙ size in
+      let k = entered_holds heap s.program s.slots guarded log cells s.function facts registers slots h from (phis_of s.function to) in
+      let after = put_phis s.program.of_module s.function registers from (phis_of s.function to) registers in
+      let sized : length after ≡ length s.function.locals = put_size s.program.of_module s.function registers from (phis_of s.function to) registers ∙ size in
       let is : w.line_facts s to ≡ facts_of_lines s.slots (length after) (length slots) (w.lines_in s.section to) =
       ap (λ n. facts_of_lines s.slots n (length s.slots.held) (w.lines_in s.section to)) (sym sized) ∙ ap (λ n. facts_of_lines s.slots (length after) n (w.lines_in s.section to)) (sym h.held_size) in (
         names heap s.program s.slots guarded log k.0 (w.entered s from to facts) (w.line_facts s to) after slots k.1,

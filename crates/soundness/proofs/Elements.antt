@@ -10,8 +10,9 @@ use Rattle.lemmas.specs.Bools.{and_parts}
 use Rattle.ir_ast.specs.declared.function.Function.{Function}
 use Rattle.ir_ast.specs.declared.ir_type.IrType.{IrType}
 use Rattle.ir_ast.specs.declared.ir_type.IrType.TheVariants.{Void, Integer, Pointer, Array, EmptyStruct, Struct, Named}
-use Rattle.ir_ast.specs.declared.op.Argument.{Argument}
-use Rattle.ir_ast.specs.declared.op.Op.TheVariants.{Element}
+use Rattle.ir_ast.specs.declared.argument.Argument.{Argument}
+use Rattle.ir_ast.specs.declared.elements.Element.{Element}
+use Rattle.ir_ast.specs.declared.op.Op.TheVariants as op
 use Rattle.ir_ast.specs.declared.operand.Constant.TheVariants as constant
 use Rattle.ir_ast.specs.declared.operand.Operand.{Operand}
 use Rattle.ir_ast.specs.declared.operand.Operand.TheVariants as operand
@@ -35,11 +36,14 @@ use Rattle.block_rules.specs.declared.stride.Stride.{Stride}
 use Rattle.block_rules.specs.declared.type_kind.TypeKind.TheVariants.{Bits}
 use Rattle.block_rules.specs.Calls.{no_slots}
 use Rattle.block_rules.specs.Casts.{casts_operand}
+use Rattle.block_rules.specs.declared.standing.Standing.{Standing}
+use Rattle.block_rules.specs.FirstFailing.{first_failing}
+use Rattle.block_rules.specs.declared.rule.Rule.TheVariants.{K1, K2, K5, K10, K19}
 use Rattle.block_rules.specs.Elements as r
 use Rattle.block_rules.specs.Integers.{below_known, known_layout}
 use Rattle.block_rules.specs.Operands as o
 use Rattle.block_rules.specs.Places.{cell_words}
-use Rattle.block_rules.specs.Rules.{after_op}
+use Rattle.block_rules.specs.Rules.{element_conditions, after_op}
 use Rattle.block_rules.specs.TypeKinds.{kind_of, is_integer, is_pointer}
 use Rattle.machine.specs.declared.value.Place.{Place}
 use Rattle.machine.specs.declared.value.Place.TheVariants as place
@@ -59,10 +63,14 @@ use Rattle.soundness.proofs.Lists.{by_equal, at_same, at_other, each_below}
 use Rattle.soundness.proofs.KindLemmas.{integer_same, constant_passes, bits_are}
 use Rattle.soundness.proofs.Keep.{off_cell, means_without, known_within}
 use Rattle.soundness.proofs.Change.{define_plain}
-use Rattle.soundness.specs.Goes.{Goes}
 use Rattle.soundness.proofs.Globals.{has_address}
 use Rattle.soundness.proofs.Touches.{typed_so}
-use Rattle.soundness.proofs.Steps.{goes_local, no_value, no_pointer, none_of, available, base_is, integer_is, number_usable, kind_bits}
+use Rattle.soundness.proofs.RulesHold.{rules_hold}
+use Rattle.soundness.proofs.Steps.{OpGoes, goes_local, no_value, no_pointer, none_of, available, base_is, integer_is, number_usable, kind_bits}
+
+-- a getelementptr from a base
+abbrev pub getelementptr : (source base_type : ℕ) → Operand → List Argument → Element
+getelementptr source base_type base indices = record { source = source; base_type = base_type; base = base; indices = indices }
 
 -- ---- the numbers of indices, read with their sign
 
@@ -558,13 +566,12 @@ module _ (heap : Setup) (p : LaidOut) (certs : List Section) (reaches : Bool) (f
     placed_goes : k.is_typed p.of_module f table base_type base ≡ true → is_some (t.element_type p.of_module source indices) ≡ true
         → (at : Place) → element_place p (element_offset p frame.registers source indices) (value_of p.of_module frame.registers base_type base) ≡ Some at
         → ((v : ℕ) → Holds heap p table guarded log cells (r.after_element p v source base indices facts) (slice_set frame.registers v (value.Address at)) frame.slots)
-        → Goes heap p table frame.slots reaches guarded log (after_op p certs table result (Element source base_type base indices) facts) (a.op_action p f table frame.block frame.registers (Element source base_type base indices))
-        (λ given. mc.after_op p f table result (Element source base_type base indices) given frame)
+        → OpGoes heap p certs reaches f table guarded log facts frame result (op.Element (getelementptr source base_type base indices))
     placed_goes typed has_type at is holds = goes_local heap p table frame.slots reaches guarded log _ _ _ (rw (typed, usable_indices indices fit, has_type, is) refl) (kept result) where
       new : Value
       new = address_of (element_place p (element_offset p frame.registers source indices) (value_of p.of_module frame.registers base_type base))
 
-      kept : (result : Option ℕ) → (more : Cells) × Holds heap p table guarded log more (after_op p certs table result (Element source base_type base indices) facts) (mc.set_register result new frame).registers (mc.set_register result new frame).slots
+      kept : (result : Option ℕ) → (more : Cells) × Holds heap p table guarded log more (after_op p certs table result (op.Element (getelementptr source base_type base indices)) facts) (mc.set_register result new frame).registers (mc.set_register result new frame).slots
       kept None = (cells, h)
       kept (Some v) = (cells, subst (λ x. Holds heap p table guarded log cells (r.after_element p v source base indices facts) (slice_set frame.registers v (address_of x)) frame.slots) (sym is) (holds v))
 
@@ -578,21 +585,19 @@ module _ (heap : Setup) (p : LaidOut) (certs : List Section) (reaches : Bool) (f
   first_words None e = absurd cc
   first_words (Some words) e = (words, refl, e)
 
-  -- a getelementptr whose conditions hold goes
-  pub element_goes : (result : Option ℕ) (source base_type : ℕ) (base : Operand) (indices : List Argument) → o.is_available table facts base ≡ true → list_all (λ index. o.is_available table facts index.operand) indices ≡ true
+  -- a getelementptr goes from a base that leads to a part
+  part_goes : (result : Option ℕ) (source base_type : ℕ) (base : Operand) (indices : List Argument) → o.is_available table facts base ≡ true → list_all (λ index. o.is_available table facts index.operand) indices ≡ true
       → o.is_typed p.of_module f base_type base ≡ true → is_pointer (kind_of p.of_module base_type) ≡ true → r.may_be_base (o.known_of facts base) ≡ true → r.are_indices p.of_module f facts indices ≡ true → no_slots table indices ≡ true
       → r.may_lead p facts source indices (o.known_of facts base) ≡ true → o.slot_named table base ≡ None → casts_operand p.of_module base ≡ true
-      → Goes heap p table frame.slots reaches guarded log (after_op p certs table result (Element source base_type base indices) facts) (a.op_action p f table frame.block frame.registers (Element source base_type base indices))
-      (λ given. mc.after_op p f table result (Element source base_type base indices) given frame)
-  element_goes result source base_type base indices k1 k1s k2 pointer may k2s nones k5 none k19 = by base k1 k2 may k5 none k19 where
+      → OpGoes heap p certs reaches f table guarded log facts frame result (op.Element (getelementptr source base_type base indices))
+  part_goes result source base_type base indices k1 k1s k2 pointer may k2s nones k5 none k19 = by base k1 k2 may k5 none k19 where
     fit : AllFit p f table facts indices
     fit = all_fit p f table facts indices k1s k2s nones
 
     -- a global as the base
     of_global : (x : Operand) (symbol : ℕ) → k.is_typed p.of_module f table base_type x ≡ true → IsGlobal p.of_module symbol (value_of p.of_module frame.registers base_type x) → r.may_lead p facts source indices (GlobalAddress symbol) ≡ true
         → ((v : ℕ) → r.after_element p v source x indices facts ≡ define v (GlobalAddress symbol) facts)
-        → Goes heap p table frame.slots reaches guarded log (after_op p certs table result (Element source base_type x indices) facts) (a.op_action p f table frame.block frame.registers (Element source base_type x indices))
-        (λ given. mc.after_op p f table result (Element source base_type x indices) given frame)
+        → OpGoes heap p certs reaches f table guarded log facts frame result (op.Element (getelementptr source base_type x indices))
     of_global x symbol typed global k5 next =
         let w = first_words (r.element_words p facts source indices (r.start_of (GlobalAddress symbol))) k5 in
         let l = led source indices (r.start_of (GlobalAddress symbol)) w.0 fit w.1 in
@@ -601,8 +606,7 @@ module _ (heap : Setup) (p : LaidOut) (certs : List Section) (reaches : Bool) (f
         (λ v. subst (λ y. Holds heap p table guarded log cells y (slice_set frame.registers v new) frame.slots) (sym (next v)) (global_address v symbol new (global.0, global.1, refl)))
 
     by : (base : Operand) → o.is_available table facts base ≡ true → o.is_typed p.of_module f base_type base ≡ true → r.may_be_base (o.known_of facts base) ≡ true → r.may_lead p facts source indices (o.known_of facts base) ≡ true → o.slot_named table base ≡ None → casts_operand p.of_module base ≡ true
-        → Goes heap p table frame.slots reaches guarded log (after_op p certs table result (Element source base_type base indices) facts) (a.op_action p f table frame.block frame.registers (Element source base_type base indices))
-        (λ given. mc.after_op p f table result (Element source base_type base indices) given frame)
+        → OpGoes heap p certs reaches f table guarded log facts frame result (op.Element (getelementptr source base_type base indices))
     by (operand.Constant (constant.Number n)) k1 k2 may k5 none k19 = absurd (no_pointer n (kind_of p.of_module base_type) k2 pointer)
     by (operand.Constant (constant.Truth b)) k1 k2 may k5 none k19 = absurd cc
     by (operand.Constant constant.Null) k1 k2 may k5 none k19 =
@@ -615,15 +619,13 @@ module _ (heap : Setup) (p : LaidOut) (certs : List Section) (reaches : Bool) (f
       goes : (known : Known) → known_at facts.values u ≡ known → is_some (t.element_type p.of_module source indices) ≡ true
           → (at : Place) → element_place p (element_offset p frame.registers source indices) (register_at frame.registers u) ≡ Some at
           → ((v : ℕ) → Holds heap p table guarded log cells (r.define_words v u known (r.element_words p facts source indices (r.start_of known)) facts) (slice_set frame.registers v (value.Address at)) frame.slots)
-          → Goes heap p table frame.slots reaches guarded log (after_op p certs table result (Element source base_type (operand.Local u) indices) facts) (a.op_action p f table frame.block frame.registers (Element source base_type (operand.Local u) indices))
-          (λ given. mc.after_op p f table result (Element source base_type (operand.Local u) indices) given frame)
+          → OpGoes heap p certs reaches f table guarded log facts frame result (op.Element (getelementptr source base_type (operand.Local u) indices))
       goes known is has at there holds =
           placed_goes result source base_type (operand.Local u) indices fit typed has at there
           (λ v. subst (λ x. Holds heap p table guarded log cells (r.define_words v u x (r.element_words p facts source indices (r.start_of x)) facts) (slice_set frame.registers v (value.Address at)) frame.slots) (sym is) (holds v))
 
       of_known : (known : Known) → known_at facts.values u ≡ known → o.is_known facts known ≡ true → r.may_be_base known ≡ true → r.may_lead p facts source indices known ≡ true
-          → Goes heap p table frame.slots reaches guarded log (after_op p certs table result (Element source base_type (operand.Local u) indices) facts) (a.op_action p f table frame.block frame.registers (Element source base_type (operand.Local u) indices))
-          (λ given. mc.after_op p f table result (Element source base_type (operand.Local u) indices) given frame)
+          → OpGoes heap p certs reaches f table guarded log facts frame result (op.Element (getelementptr source base_type (operand.Local u) indices))
       of_known Nothing is has may k5 = absurd cc
       of_known (Number bits below) is has may k5 = absurd cc
       of_known (Cell c layout stale) is has may k5 =
@@ -656,3 +658,14 @@ module _ (heap : Setup) (p : LaidOut) (certs : List Section) (reaches : Bool) (f
     by (operand.CastGlobal from symbol to) k1 k2 may k5 none k19 =
         of_global (operand.CastGlobal from symbol to) symbol (typed_so p f table base_type (operand.CastGlobal from symbol to) k2 k19 refl)
         (has_address p.of_module from symbol (and_parts (base_type == to) (points_to_global p.of_module from symbol) k2).1) k5 (λ v. refl)
+
+  -- a getelementptr whose conditions hold goes
+  pub element_goes : (here : Standing) (result : Option ℕ) (x : Element) → first_failing (element_conditions p f table here facts x) ≡ None → OpGoes heap p certs reaches f table guarded log facts frame result (op.Element x)
+  element_goes here result x e =
+      let all = rules_hold (element_conditions p f table here facts x) e in
+      let k1 = and_parts (o.is_available table facts x.base) (list_all (λ index. o.is_available table facts index.operand) x.indices) (all K1) in
+      let k2 = and_parts (o.is_typed p.of_module f x.base_type x.base && is_pointer (kind_of p.of_module x.base_type) && r.may_be_base (o.known_of facts x.base) && r.are_indices p.of_module f facts x.indices) (no_slots table x.indices) (all K2) in
+      let i = and_parts (o.is_typed p.of_module f x.base_type x.base && is_pointer (kind_of p.of_module x.base_type) && r.may_be_base (o.known_of facts x.base)) (r.are_indices p.of_module f facts x.indices) k2.0 in
+      let b = and_parts (o.is_typed p.of_module f x.base_type x.base && is_pointer (kind_of p.of_module x.base_type)) (r.may_be_base (o.known_of facts x.base)) i.0 in
+      let t = and_parts (o.is_typed p.of_module f x.base_type x.base) (is_pointer (kind_of p.of_module x.base_type)) b.0 in
+      part_goes result x.source x.base_type x.base x.indices k1.0 k1.1 t.0 t.1 b.1 i.1 k2.1 (all K5) (none_of (o.slot_named table x.base) (all K10)) (all K19)

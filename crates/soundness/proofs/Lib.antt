@@ -25,13 +25,13 @@ pub mod Callees
 pub mod StepCalls
 pub mod Accesses
 pub mod AnyCall
-pub mod Sums
 pub mod Choices
 pub mod Members
 pub mod Elements
-pub mod Rows
+pub mod Memory
+pub mod Instructions
 pub mod Phis
-pub mod Ways
+pub mod Ends
 pub mod Roots
 pub mod Slots
 pub mod Receive

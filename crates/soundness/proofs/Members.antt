@@ -7,10 +7,14 @@ use Rattle.std.specs.List.{enumerate_from, list_any, zip}
 use Rattle.lemmas.specs.Lists.{at_map}
 use Rattle.lemmas.specs.Numbers.{test_true, test_yes}
 use Rattle.ir_ast.specs.declared.module.Module.{Module}
-use Rattle.ir_ast.specs.declared.op.Argument.{Argument}
-use Rattle.ir_ast.specs.declared.op.Comparison.{Comparison}
+use Rattle.ir_ast.specs.declared.argument.Argument.{Argument}
+use Rattle.ir_ast.specs.declared.numbers.Comparison.{Comparison}
+use Rattle.ir_ast.specs.declared.memory.MemoryOp.{MemoryOp}
+use Rattle.ir_ast.specs.declared.memory.MemoryOp.TheVariants as memory
+use Rattle.ir_ast.specs.declared.numbers.NumberOp.{NumberOp}
+use Rattle.ir_ast.specs.declared.numbers.NumberOp.TheVariants as number
 use Rattle.ir_ast.specs.declared.op.Op.{Op}
-use Rattle.ir_ast.specs.declared.op.Op.TheVariants.{Alloca, Bitcast, Load, Store, Element, Arithmetic, Resize, Compare, Select, Phi, Call, Jump, Branch, Switch, Unreachable, ReturnVoid, Return}
+use Rattle.ir_ast.specs.declared.op.Op.TheVariants as op
 use Rattle.ir_ast.specs.declared.operand.Constant.{Constant}
 use Rattle.ir_ast.specs.declared.operand.Constant.TheVariants as constant
 use Rattle.ir_ast.specs.declared.operand.Operand.{Operand}
@@ -52,7 +56,7 @@ use Rattle.block_rules.specs.Casts.{layout_of_null, cast_number, cast_constant, 
 use Rattle.block_rules.specs.Elements.{element_words, start_of, define_element, define_words, after_element}
 use Rattle.block_rules.specs.Integers.{below_of, larger, arithmetic_below, define_number, resized_below, after_compare, chosen_layout, choose_reference, after_select}
 use Rattle.block_rules.specs.Calls.{after_root, after_root_call, alloc_numbered, alloc_layout, after_alloc_call, drop_arguments, receive_result, after_defined, after_call}
-use Rattle.block_rules.specs.Rules.{after_alloca, after_named, after_op}
+use Rattle.block_rules.specs.Rules.{after_alloca, after_number, after_memory, after_op}
 use Rattle.soundness.proofs.Lists.{at_set, at_other, at_old, at_end, longer, by_equal, replicated}
 use Rattle.soundness.specs.Goes.{IsNamed, HasMember, HaveClasses, HaveMembers, MembersStay}
 
@@ -495,60 +499,32 @@ module _ (facts : FactSet) (members : HaveMembers facts) where
 -- ---- any instruction
 
 module _ (p : LaidOut) (certs : List Section) (table : SlotTable) (facts : FactSet) (members : HaveMembers facts) where
-  -- after an instruction that defines a name
-  named_members : (v : ℕ) (op : Op) → HaveMembers (after_named p table v op facts)
-  named_members v (Alloca held) = alloca_members facts members (slot_of table v)
-  named_members v (Bitcast from x to) = cast_members facts members p.of_module table v from to x
-  named_members v (Load loaded place_type place) = load_place_members facts members p table v loaded place (slot_named table place)
-  named_members v (Store stored x place_type place) = members
-  named_members v (Element source base_type base indices) = after_element_members facts members p v source base indices
-  named_members v (Arithmetic kind written first second) = number_members facts members v (kind_of p.of_module written) (arithmetic_below kind first second)
-  named_members v (Resize kind from x to) = number_members facts members v (kind_of p.of_module to) (resized_below kind (below_of facts x))
-  named_members v (Compare kind written first second) = compare_members facts members v kind first second
-  named_members v (Select condition_type condition written chosen other) = select_members v (kind_of p.of_module written) chosen other facts members
-  named_members v (Phi written incoming) = members
-  named_members v (Call returned callee arguments) = members
-  named_members v (Jump target) = members
-  named_members v (Branch condition_type condition taken other) = members
-  named_members v (Switch written x otherwise cases) = members
-  named_members v Unreachable = members
-  named_members v ReturnVoid = members
-  named_members v (Return argument) = members
+  -- an operation on integers that defines a name
+  named_number : (v : ℕ) (x : NumberOp) → HaveMembers (after_number p.of_module v x facts)
+  named_number v (number.Arithmetic kind written first second) = number_members facts members v (kind_of p.of_module written) (arithmetic_below kind first second)
+  named_number v (number.Resize kind from x to) = number_members facts members v (kind_of p.of_module to) (resized_below kind (below_of facts x))
+  named_number v (number.Compare kind written first second) = compare_members facts members v kind first second
+
+  -- an operation on memory
+  memory_members : (result : Option ℕ) (x : MemoryOp) → HaveMembers (after_memory p table result x facts)
+  memory_members result (memory.Store stored x place_type place) = stored_members facts members x (slot_named table place)
+  memory_members None (memory.Alloca held) = members
+  memory_members None (memory.Load loaded place_type place) = members
+  memory_members (Some v) (memory.Alloca held) = alloca_members facts members (slot_of table v)
+  memory_members (Some v) (memory.Load loaded place_type place) = load_place_members facts members p table v loaded place (slot_named table place)
 
   -- by what an instruction does
-  op_members : (result : Option ℕ) (op : Op) → HaveMembers (after_op p certs table result op facts)
-  op_members result (Store stored x place_type place) = stored_members facts members x (slot_named table place)
-  op_members result (Call returned callee arguments) = call_members facts members p certs table result returned arguments (callee_of p.of_module callee (length arguments))
-  op_members None (Alloca held) = members
-  op_members None (Bitcast from x to) = members
-  op_members None (Load loaded place_type place) = members
-  op_members None (Element source base_type base indices) = members
-  op_members None (Arithmetic kind written first second) = members
-  op_members None (Resize kind from x to) = members
-  op_members None (Compare kind written first second) = members
-  op_members None (Select condition_type condition written chosen other) = members
-  op_members None (Phi written incoming) = members
-  op_members None (Jump target) = members
-  op_members None (Branch condition_type condition taken other) = members
-  op_members None (Switch written x otherwise cases) = members
-  op_members None Unreachable = members
-  op_members None ReturnVoid = members
-  op_members None (Return argument) = members
-  op_members (Some v) (Alloca held) = named_members v (Alloca held)
-  op_members (Some v) (Bitcast from x to) = named_members v (Bitcast from x to)
-  op_members (Some v) (Load loaded place_type place) = named_members v (Load loaded place_type place)
-  op_members (Some v) (Element source base_type base indices) = named_members v (Element source base_type base indices)
-  op_members (Some v) (Arithmetic kind written first second) = named_members v (Arithmetic kind written first second)
-  op_members (Some v) (Resize kind from x to) = named_members v (Resize kind from x to)
-  op_members (Some v) (Compare kind written first second) = named_members v (Compare kind written first second)
-  op_members (Some v) (Select condition_type condition written chosen other) = named_members v (Select condition_type condition written chosen other)
-  op_members (Some v) (Phi written incoming) = members
-  op_members (Some v) (Jump target) = members
-  op_members (Some v) (Branch condition_type condition taken other) = members
-  op_members (Some v) (Switch written x otherwise cases) = members
-  op_members (Some v) Unreachable = members
-  op_members (Some v) ReturnVoid = members
-  op_members (Some v) (Return argument) = members
+  op_members : (result : Option ℕ) (x : Op) → HaveMembers (after_op p certs table result x facts)
+  op_members result (op.Memory x) = memory_members result x
+  op_members result (op.Call x) = call_members facts members p certs table result x.returned x.arguments (callee_of p.of_module x.callee (length x.arguments))
+  op_members None (op.Number x) = members
+  op_members None (op.Element x) = members
+  op_members None (op.Cast x) = members
+  op_members None (op.Choice x) = members
+  op_members (Some v) (op.Number x) = named_number v x
+  op_members (Some v) (op.Element x) = after_element_members facts members p v x.source x.base x.indices
+  op_members (Some v) (op.Cast x) = cast_members facts members p.of_module table v x.from x.to x.operand
+  op_members (Some v) (op.Choice x) = select_members v (kind_of p.of_module x.written) x.chosen x.other facts members
 
 pub members_stay : MembersStay
 members_stay p certs table facts instr members = op_members p certs table facts members instr.result instr.op

@@ -5,7 +5,7 @@ use Rattle.std.proofs.lemmas.List.{length-set}
 use Rattle.lemmas.specs.Numbers.{test_true, test_yes}
 use Rattle.lemmas.specs.Bools.{and_parts, or_second, or_first}
 use Rattle.ir_ast.specs.declared.function.Function.{Function}
-use Rattle.ir_ast.specs.declared.op.Op.TheVariants.{Load, Store}
+use Rattle.ir_ast.specs.declared.memory.MemoryOp.TheVariants as memory
 use Rattle.ir_ast.specs.declared.operand.Constant.TheVariants as constant
 use Rattle.ir_ast.specs.declared.operand.Operand.{Operand}
 use Rattle.ir_ast.specs.declared.operand.Operand.TheVariants as operand
@@ -23,14 +23,14 @@ use Rattle.block_rules.specs.declared.type_kind.TypeKind.{TypeKind}
 use Rattle.block_rules.specs.declared.type_kind.TypeKind.TheVariants.{NoValue, Bits, Reference, AnyReference, Address as AddressKind, Other}
 use Rattle.block_rules.specs.Operands as o
 use Rattle.block_rules.specs.Places as r
-use Rattle.block_rules.specs.Rules.{after_op}
+use Rattle.block_rules.specs.Rules.{after_memory}
 use Rattle.block_rules.specs.TypeKinds.{kind_of, is_integer, is_any_reference, layout_of_kind}
 use Rattle.machine.specs.declared.value.Value.{Value}
 use Rattle.machine.specs.declared.value.Value.TheVariants as value
 use Rattle.machine.specs.declared.frame.Frame.{Frame}
 use Rattle.machine.specs.Asks as a
 use Rattle.machine.specs.Kinds as k
-use Rattle.machine.specs.Kinds.{register_at, bits_at, value_of, fits_layout_of}
+use Rattle.machine.specs.Kinds.{register_at, value_of, fits_layout_of}
 use Rattle.machine.specs.Machine as mc
 use Rattle.machine.specs.Machine.{slot_value}
 use Rattle.machine.specs.Log.{Log}
@@ -195,17 +195,17 @@ module _ (heap : Setup) (p : LaidOut) (certs : List Section) (reaches : Bool) (f
 
   -- a load from a slot
   pub slot_load_goes : (result : Option ℕ) (loaded place_type u s : ℕ) → ((v : ℕ) → result ≡ Some v → HaveMembers (forget v facts)) → slot_of table u ≡ Some s → has_type p.of_module f place_type u ≡ true → r.loads_slot p.of_module loaded (held_type table s) ≡ true
-      → Goes heap p table frame.slots reaches guarded log (after_op p certs table result (Load loaded place_type (operand.Local u)) facts)
+      → Goes heap p table frame.slots reaches guarded log (after_memory p table result (memory.Load loaded place_type (operand.Local u)) facts)
       (a.load_action p table loaded (k.slot_at_place p.of_module f table place_type (operand.Local u)) (k.address_at_place p.of_module f table frame.registers place_type (operand.Local u)))
       (λ given. mc.set_register result (mc.loaded_from p frame.slots (k.slot_at_place p.of_module f table place_type (operand.Local u)) (k.address_at_place p.of_module f table frame.registers place_type (operand.Local u)) given) frame)
   slot_load_goes result loaded place_type u s members is k2 loads =
-      subst (λ x. Goes heap p table frame.slots reaches guarded log (after_op p certs table result (Load loaded place_type (operand.Local u)) facts)
+      subst (λ x. Goes heap p table frame.slots reaches guarded log (after_memory p table result (memory.Load loaded place_type (operand.Local u)) facts)
       (a.load_action p table loaded x (k.address_at_place p.of_module f table frame.registers place_type (operand.Local u)))
       (λ given. mc.set_register result (mc.loaded_from p frame.slots x (k.address_at_place p.of_module f table frame.registers place_type (operand.Local u)) given) frame))
       (sym (place_is p f table place_type u s k2 is))
       (goes_local heap p table frame.slots reaches guarded log _ _ _ (rw (loaded_as p f table loaded (held_type table s) loads) refl) (loaded_keeps result members)) where
         loaded_keeps : (result : Option ℕ) → ((v : ℕ) → result ≡ Some v → HaveMembers (forget v facts))
-            → (more : Cells) × Holds heap p table guarded log more (after_op p certs table result (Load loaded place_type (operand.Local u)) facts) (mc.set_register result (slot_value frame.slots s) frame).registers (mc.set_register result (slot_value frame.slots s) frame).slots
+            → (more : Cells) × Holds heap p table guarded log more (after_memory p table result (memory.Load loaded place_type (operand.Local u)) facts) (mc.set_register result (slot_value frame.slots s) frame).registers (mc.set_register result (slot_value frame.slots s) frame).slots
         loaded_keeps None members = (cells, h)
         loaded_keeps (Some v) members = rw is (load_of_type v s (held_type table s) (members v refl) (h.slot_types s))
 
@@ -329,11 +329,11 @@ module _ (heap : Setup) (p : LaidOut) (certs : List Section) (reaches : Bool) (f
   -- a store to a slot
   pub slot_store_goes : (result : Option ℕ) (stored : ℕ) (x : Operand) (place_type u s : ℕ) → o.is_available table facts x ≡ true → o.is_value p.of_module f facts stored x ≡ true → o.is_current facts (o.known_of facts x) ≡ true → o.slot_named table x ≡ None
       → slot_of table u ≡ Some s → has_type p.of_module f place_type u ≡ true → r.stores_slot p.of_module table stored (o.known_of facts x) s ≡ true
-      → Goes heap p table frame.slots reaches guarded log (after_op p certs table result (Store stored x place_type (operand.Local u)) facts)
+      → Goes heap p table frame.slots reaches guarded log (after_memory p table result (memory.Store stored x place_type (operand.Local u)) facts)
       (a.store_action p table stored (k.is_usable p.of_module f table frame.registers stored x) (value_of p.of_module frame.registers stored x) (k.slot_at_place p.of_module f table place_type (operand.Local u)) (k.address_at_place p.of_module f table frame.registers place_type (operand.Local u)))
       (λ given. mc.set_slot (k.slot_at_place p.of_module f table place_type (operand.Local u)) (value_of p.of_module frame.registers stored x) frame)
   slot_store_goes result stored x place_type u s k1 k2 k3 none is k2p stores =
-      subst (λ y. Goes heap p table frame.slots reaches guarded log (after_op p certs table result (Store stored x place_type (operand.Local u)) facts)
+      subst (λ y. Goes heap p table frame.slots reaches guarded log (after_memory p table result (memory.Store stored x place_type (operand.Local u)) facts)
       (a.store_action p table stored (k.is_usable p.of_module f table frame.registers stored x) (value_of p.of_module frame.registers stored x) y (k.address_at_place p.of_module f table frame.registers place_type (operand.Local u)))
       (λ given. mc.set_slot y (value_of p.of_module frame.registers stored x) frame)) (sym (place_is p f table place_type u s k2p is))
       (by (held_type table s) refl stores) where
@@ -341,7 +341,7 @@ module _ (heap : Setup) (p : LaidOut) (certs : List Section) (reaches : Bool) (f
         new = value_of p.of_module frame.registers stored x
 
         by : (held : Option ℕ) → held_type table s ≡ held → (r.moves p.of_module stored held && r.fits_held p.of_module (o.known_of facts x) held) ≡ true
-            → Goes heap p table frame.slots reaches guarded log (after_op p certs table result (Store stored x place_type (operand.Local u)) facts)
+            → Goes heap p table frame.slots reaches guarded log (after_memory p table result (memory.Store stored x place_type (operand.Local u)) facts)
             (a.store_action p table stored (k.is_usable p.of_module f table frame.registers stored x) new (Some s) (k.address_at_place p.of_module f table frame.registers place_type (operand.Local u))) (λ given. mc.set_slot (Some s) new frame)
         by None at e = absurd cc
         by (Some held) at e =

@@ -51,7 +51,7 @@ module _ (m : Module) (names : List (Option ℕ)) (held : List ℕ) where
 
   all_kept : (blocks : List Block) (roots : List ℕ) → AllReferences roots → AllReferences (with_roots_of m names held blocks roots)
   all_kept [] roots all = all
-  all_kept (block ∷ blocks) roots all = all_kept blocks (with_roots m names held block.instructions roots) (roots_kept block.instructions roots all)
+  all_kept (block ∷ blocks) roots all = all_kept blocks (with_roots m names held block.body roots) (roots_kept block.body roots all)
 
 -- ---- and holds null or a held cell
 

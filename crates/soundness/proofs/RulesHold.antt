@@ -1,7 +1,9 @@
 -- What an allowed instruction keeps: the condition of each rule, picked by the rule.
-use Rattle.std.proofs.Common.{◌≡◌, ℕ, ◌==◌, Bool, true, false, if◌then◌else◌, List, [], ◌∷◌, Some, None, refl}
+use Rattle.std.proofs.Common.{◌≡◌, ℕ, ◌==◌, Bool, true, false, if◌then◌else◌, List, [], ◌∷◌, Option, Some, None, refl}
+use Rattle.std.specs.Prelude.{◌++◌}
 use Rattle.block_rules.specs.declared.rule.Rule.{Rule}
 use Rattle.block_rules.specs.declared.rule.Rule.TheVariants.{K1, K2, K3, K4, K5, K6, K7, K8, K9, K10, K11, K12, K13, K14, K15, K16, K17, K18, K19, K20}
+use Rattle.block_rules.specs.Certified.{breach_by}
 use Rattle.block_rules.specs.FirstFailing.{first_failing}
 
 -- the number in a rule's printed code
@@ -45,3 +47,16 @@ rules_hold (condition ∷ rest) e rule = pick (code condition.0 == code rule) co
   pick true true is e others = is
   pick false true is e others = others e
   pick same false is e others = absurd cc
+
+-- where no condition of a list fails, none of its front does
+pub first_passes : (first rest : List (Rule × Bool)) → first_failing (first ++ rest) ≡ None → first_failing first ≡ None
+first_passes [] rest e = refl
+first_passes (condition ∷ first) rest e = pick condition.1 (first_passes first rest) e where
+  pick : (b : Bool) → (first_failing (first ++ rest) ≡ None → first_failing first ≡ None) → (if b then first_failing (first ++ rest) else Some condition.0) ≡ None → (if b then first_failing first else Some condition.0) ≡ None
+  pick true others e = others e
+  pick false others e = absurd cc
+
+-- where no rule is broken, none is failed
+pub unbroken : (rule : Option Rule) → breach_by rule ≡ None → rule ≡ None
+unbroken None e = refl
+unbroken (Some rule) e = absurd cc

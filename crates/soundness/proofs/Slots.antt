@@ -5,11 +5,13 @@ use Rattle.std.specs.List.{Contains}
 use Rattle.lemmas.specs.Numbers.{test_true}
 use Rattle.lemmas.specs.Bools.{or_parts}
 use Rattle.ir_ast.specs.declared.block.Block.{Block}
+use Rattle.ir_ast.specs.declared.casts.Cast.{Cast}
 use Rattle.ir_ast.specs.declared.function.Function.{Function}
 use Rattle.ir_ast.specs.declared.instr.Instr.{Instr}
 use Rattle.ir_ast.specs.declared.module.Module.{Module}
+use Rattle.ir_ast.specs.declared.memory.MemoryOp.TheVariants as memory
 use Rattle.ir_ast.specs.declared.op.Op.{Op}
-use Rattle.ir_ast.specs.declared.op.Op.TheVariants.{Alloca, Bitcast}
+use Rattle.ir_ast.specs.declared.op.Op.TheVariants as op
 use Rattle.ir_ast.specs.declared.operand.Operand.{Operand}
 use Rattle.ir_ast.specs.declared.operand.Operand.TheVariants as operand
 use Rattle.types.specs.References.{referenced_layout}
@@ -32,7 +34,7 @@ use Rattle.soundness.proofs.Roots.{no_integer}
 
 -- an instruction, if it is an alloca that has a name, is as this says of its name and type
 abbrev pub AllocaIs : (P : (name held : ℕ) → Type 0) → (result : Option ℕ) → Op → Type 0
-AllocaIs P result (Alloca held) = (w : ℕ) → result ≡ Some w → P w held
+AllocaIs P result (op.Memory (memory.Alloca held)) = (w : ℕ) → result ≡ Some w → P w held
 AllocaIs P result _ = Unit {0}
 
 -- so is each of some instructions
@@ -43,7 +45,7 @@ AllNamed P (instr ∷ instrs) = AllocaIs P instr.result instr.op × AllNamed P i
 -- and each of some blocks
 abbrev pub BlocksNamed : (P : (name held : ℕ) → Type 0) → List Block → Type 0
 BlocksNamed P [] = Unit {0}
-BlocksNamed P (block ∷ blocks) = AllNamed P block.instructions × BlocksNamed P blocks
+BlocksNamed P (block ∷ blocks) = AllNamed P block.body × BlocksNamed P blocks
 
 -- a list with one element more has what it had
 still_there : (xs : List ℕ) (y s t : ℕ) → slice_get xs s ≡ Some t → slice_get (xs ++ y ∷ []) s ≡ Some t
@@ -68,20 +70,20 @@ module _ (P : (name held : ℕ) → Type 0) where
   abbrev Comes : Draft → Type 0
   Comes draft = (w s : ℕ) → origin_at draft.origins w ≡ Slot s → (held : ℕ) × (slice_get draft.held s ≡ Some held) × P w held
 
-  comes_alloca : (result : Option ℕ) (held : ℕ) (draft : Draft) → AllocaIs P result (Alloca held) → Comes draft → Comes (noted_op result (Alloca held) draft)
+  comes_alloca : (result : Option ℕ) (held : ℕ) (draft : Draft) → AllocaIs P result (op.Memory (memory.Alloca held)) → Comes draft → Comes (noted_op result (op.Memory (memory.Alloca held)) draft)
   comes_alloca None held draft is comes = λ w s e. let c = comes w s e in (c.0, still_there draft.held held s c.0 c.1, c.2)
   comes_alloca (Some v) held draft is comes = λ w s. at_set (λ o. o ≡ Slot s → (t : ℕ) × (slice_get (draft.held ++ held ∷ []) s ≡ Some t) × P w t) draft.origins v w (Slot (length draft.held)) Nowhere
       (λ same lt e. let n : length draft.held ≡ s = cc in (held, subst (λ i. slice_get (draft.held ++ held ∷ []) i ≡ Some held) n (last_there draft.held held), is w (ap Some same)))
       (λ ne e. let c = comes w s e in (c.0, still_there draft.held held s c.0 c.1, c.2)) (λ e. absurd cc)
 
-  comes_cast : (result : Option ℕ) (from to : ℕ) (x : Operand) (draft : Draft) → Comes draft → Comes (noted_op result (Bitcast from x to) draft)
-  comes_cast None from to x draft comes = comes
-  comes_cast (Some v) from to x draft comes = λ w s. at_set (λ o. o ≡ Slot s → (t : ℕ) × (slice_get draft.held s ≡ Some t) × P w t) draft.origins v w (origin_of x) Nowhere
-      (λ same lt e. absurd (no_new x s e)) (λ ne e. comes w s e) (λ e. absurd cc)
+  comes_cast : (result : Option ℕ) (x : Cast) (draft : Draft) → Comes draft → Comes (noted_op result (op.Cast x) draft)
+  comes_cast None x draft comes = comes
+  comes_cast (Some v) x draft comes = λ w s. at_set (λ o. o ≡ Slot s → (t : ℕ) × (slice_get draft.held s ≡ Some t) × P w t) draft.origins v w (origin_of x.operand) Nowhere
+      (λ same lt e. absurd (no_new x.operand s e)) (λ ne e. comes w s e) (λ e. absurd cc)
 
-  comes_op : (result : Option ℕ) (op : Op) (draft : Draft) → AllocaIs P result op → Comes draft → Comes (noted_op result op draft)
-  comes_op result (Alloca held) draft is comes = comes_alloca result held draft is comes
-  comes_op result (Bitcast from x to) draft is comes = comes_cast result from to x draft comes
+  comes_op : (result : Option ℕ) (x : Op) (draft : Draft) → AllocaIs P result x → Comes draft → Comes (noted_op result x draft)
+  comes_op result (op.Memory (memory.Alloca held)) draft is comes = comes_alloca result held draft is comes
+  comes_op result (op.Cast x) draft is comes = comes_cast result x draft comes
   comes_op result _ draft is comes = comes
 
   comes_all : (instrs : List Instr) (draft : Draft) → AllNamed P instrs → Comes draft → Comes (noted instrs draft)
@@ -90,7 +92,7 @@ module _ (P : (name held : ℕ) → Type 0) where
 
   comes_blocks : (blocks : List Block) (draft : Draft) → BlocksNamed P blocks → Comes draft → Comes (noted_blocks blocks draft)
   comes_blocks [] draft all comes = comes
-  comes_blocks (block ∷ blocks) draft all comes = comes_blocks blocks (noted block.instructions draft) all.1 (comes_all block.instructions draft all.0 comes)
+  comes_blocks (block ∷ blocks) draft all comes = comes_blocks blocks (noted block.body draft) all.1 (comes_all block.body draft all.0 comes)
 
   comes_of : (f : Function) → BlocksNamed P f.blocks → Comes (draft_of f)
   comes_of f all = comes_blocks f.blocks _ all (λ w s e. absurd (let z : Nowhere ≡ Slot s = sym (replicated (length f.locals) w Nowhere) ∙ e in cc))

@@ -1,5 +1,5 @@
 -- What holds of the frames of a thread.
-use Rattle.std.proofs.Common.{◌≡◌, ℕ, List, [], ◌∷◌, ◌++◌, length, map, drop, refl, sym, ◌∙◌, subst, arith, true, Bool, Option, Some, inl, inr, slice_get}
+use Rattle.std.proofs.Common.{◌≡◌, ℕ, List, [], ◌∷◌, ◌++◌, ◌+◌, length, map, drop, refl, sym, ◌∙◌, subst, arith, true, Bool, Option, Some, inl, inr, slice_get}
 use Rattle.std.proofs.lemmas.List.Elements.{Contains-append_left, Contains-append_right, Contains-append_cases}
 use Rattle.std.specs.Prelude.{◌⊎◌}
 use Rattle.std.specs.List.{Contains}
@@ -11,10 +11,10 @@ use Rattle.certs.specs.declared.section.Section.{Section}
 use Rattle.facts.specs.Facts.{FactSet, known_at, class_at}
 use Rattle.facts.specs.declared.known.Known.TheVariants.{Cell}
 use Rattle.safepoints.specs.Marks.{is_may}
-use Rattle.block_rules.specs.Standing.{instructions_of}
+use Rattle.block_rules.specs.Standing.{body_of, end_of}
 use Rattle.block_rules.specs.Promises.{promised_in, own_mark}
 use Rattle.block_rules.specs.Calls.{receive_result}
-use Rattle.block_rules.specs.Certified.{Follows, scene_of}
+use Rattle.block_rules.specs.Certified.{Follows, EndPasses, phi_count, end_place, scene_of}
 use Rattle.machine.specs.declared.action.Action.{Action}
 use Rattle.machine.specs.declared.action.Action.TheVariants.{Local, Read, StorePlain, Write, Alloc, Safepoint, End, Wrong}
 use Rattle.machine.specs.declared.answer.Answer.{Answer}
@@ -56,7 +56,7 @@ GuardedBy (w ∷ saves) cell = FreshIn w cell ⊎ GuardedBy saves cell
 
 -- ---- the frames
 
--- a frame's facts hold, and from the next ones the rest of its block is certified
+-- a frame's facts hold, and from the next ones the rest of its block's body is certified, and its end
 pub record IsAt (heap : Setup) (program : LaidOut) (certs : List Section) (guarded : Guarded) (log : Log) (frame : Frame) (f : Function) (w : Saved) (next : FactSet) : Type 0 where
   pub there : slice_get program.of_module.functions frame.function ≡ Some f
   pub size : length frame.registers ≡ length f.locals
@@ -64,7 +64,8 @@ pub record IsAt (heap : Setup) (program : LaidOut) (certs : List Section) (guard
   pub members : HaveMembers w.facts
   pub rooted : AreRooted program.of_module (slots_of program.of_module f) frame.slots
   pub last : FactSet
-  pub rest : Follows (scene_of program certs f (slice_get certs frame.function)) frame.block frame.place next (drop frame.place (instructions_of f frame.block)) last
+  pub rest : Follows (scene_of program certs f (slice_get certs frame.function)) frame.block (phi_count (scene_of program certs f (slice_get certs frame.function)) frame.block + frame.place) next (drop frame.place (body_of f frame.block)) last
+  pub ends : EndPasses (scene_of program certs f (slice_get certs frame.function)) frame.block (end_place (scene_of program certs f (slice_get certs frame.function)) frame.block) last (end_of f frame.block)
 
 -- a function is marked as one that may reach a safepoint
 abbrev pub Reaches : List Section → (function : ℕ) → Type 0
@@ -149,7 +150,7 @@ fresh_spared guarded log later spared (value.Address at) guards fresh = fresh
 module _ (heap : Setup) (program : LaidOut) (certs : List Section) where
   with_holds : (guarded : Guarded) (log later : Log) (frame : Frame) (f : Function) (w : Saved) (next : FactSet) → IsAt heap program certs guarded log frame f w next
       → Holds heap program (slots_of program.of_module f) guarded later w.cells w.facts frame.registers frame.slots → IsAt heap program certs guarded later frame f w next
-  with_holds guarded log later frame f w next s h = record { there = s.there; size = s.size; holds = h; members = s.members; rooted = s.rooted; last = s.last; rest = s.rest }
+  with_holds guarded log later frame f w next s h = record { there = s.there; size = s.size; holds = h; members = s.members; rooted = s.rooted; last = s.last; rest = s.rest; ends = s.ends }
 
   -- a frame stays where it is while its log grows
   pub stands_on : (guarded : Guarded) (log later : Log) (frame : Frame) (f : Function) (w : Saved) (next : FactSet) → Grows log later → IsAt heap program certs guarded log frame f w next → IsAt heap program certs guarded later frame f w next

@@ -4,7 +4,8 @@ use Rattle.std.specs.Prelude.{◌||◌, ◌&&◌, not, is_some, if◌then◌else
 use Rattle.lemmas.specs.Numbers.{test_true}
 use Rattle.lemmas.specs.Bools.{and_parts}
 use Rattle.ir_ast.specs.declared.function.Function.{Function}
-use Rattle.ir_ast.specs.declared.op.Op.TheVariants.{Alloca}
+use Rattle.ir_ast.specs.declared.memory.MemoryOp.TheVariants as memory
+use Rattle.ir_ast.specs.declared.op.Op.{Op}
 use Rattle.ir_ast.specs.declared.operand.Constant.{Constant}
 use Rattle.ir_ast.specs.declared.operand.Constant.TheVariants as constant
 use Rattle.ir_ast.specs.declared.operand.Operand.{Operand}
@@ -22,7 +23,7 @@ use Rattle.block_rules.specs.declared.type_kind.TypeKind.TheVariants.{NoValue, B
 use Rattle.block_rules.specs.Bounds.{below_next}
 use Rattle.block_rules.specs.Integers.{below_of, below_known}
 use Rattle.block_rules.specs.Operands as o
-use Rattle.block_rules.specs.Rules.{after_op, after_alloca}
+use Rattle.block_rules.specs.Rules.{after_memory, after_alloca, after_op}
 use Rattle.block_rules.specs.TypeKinds.{kind_of, is_integer, is_pointer, may_be_reference}
 use Rattle.machine.specs.declared.value.Reference.{Reference as Ref}
 use Rattle.machine.specs.declared.value.Value.{Value}
@@ -34,6 +35,8 @@ use Rattle.machine.specs.declared.answer.Answer.{Answer}
 use Rattle.machine.specs.declared.answer.Answer.TheVariants as answer
 use Rattle.machine.specs.Kinds as k
 use Rattle.machine.specs.Kinds.{register_at, wrapped, bits_at, value_of, constant_value}
+use Rattle.machine.specs.Asks as a
+use Rattle.machine.specs.Machine as mc
 use Rattle.machine.specs.Machine.{set_register}
 use Rattle.machine.specs.Log.{Log, IsFresh, Possible}
 use Rattle.soundness.specs.Meaning.{Cells, Guarded, IsReferenceTo, IsOwn, IsNullOrFresh, AreApart, FitsReference, IsBelow, IsInteger, IsAddressOf, Means, Holds}
@@ -107,6 +110,11 @@ below_itself n m lt = pick (nat_lt n 18446744073709551615) where
   pick : (b : Bool) → IsBelow m (if b then Some (suc n) else None)
   pick true = lt
   pick false = tt
+
+-- the step of an instruction
+abbrev pub OpGoes : (heap : Setup) (p : LaidOut) (certs : List Section) (reaches : Bool) (f : Function) (table : SlotTable) (guarded : Guarded) (log : Log) (facts : FactSet) (frame : Frame) (result : Option ℕ) → Op → Type 0
+OpGoes heap p certs reaches f table guarded log facts frame result x =
+    Goes heap p table frame.slots reaches guarded log (after_op p certs table result x facts) (a.op_action p f table frame.registers x) (λ given. mc.after_op p f table result x given frame)
 
 module _ (heap : Setup) (p : LaidOut) (certs : List Section) (reaches : Bool) (f : Function) (table : SlotTable) (guarded : Guarded) (log : Log) (cells : Cells) (facts : FactSet) (frame : Frame) (h : Holds heap p table guarded log cells facts frame.registers frame.slots) where
   -- a value that has a name, or none
@@ -238,12 +246,12 @@ module _ (heap : Setup) (p : LaidOut) (certs : List Section) (reaches : Bool) (f
   -- ---- alloca
 
   -- what was known of the slot ends
-  pub alloca_goes : (result : Option ℕ) (held : ℕ) → Goes heap p table frame.slots reaches guarded log (after_op p certs table result (Alloca held) facts) Local (λ given. frame)
+  pub alloca_goes : (result : Option ℕ) (held : ℕ) → Goes heap p table frame.slots reaches guarded log (after_memory p table result (memory.Alloca held) facts) Local (λ given. frame)
   alloca_goes result held = goes_local heap p table frame.slots reaches guarded log _ Local (λ given. frame) refl (cells, by result) where
     of_slot : (slot : Option ℕ) → Holds heap p table guarded log cells (after_alloca slot facts) frame.registers frame.slots
     of_slot None = h
     of_slot (Some s) = end_keeps heap p table guarded log cells facts frame.registers frame.slots h s
 
-    by : (result : Option ℕ) → Holds heap p table guarded log cells (after_op p certs table result (Alloca held) facts) frame.registers frame.slots
+    by : (result : Option ℕ) → Holds heap p table guarded log cells (after_memory p table result (memory.Alloca held) facts) frame.registers frame.slots
     by None = h
     by (Some v) = of_slot (slot_of table v)

@@ -2,7 +2,7 @@
 use Rattle.std.proofs.Common.{◌≡◌, ℕ, ◌∷◌, refl, sym, ap, ◌∙◌, subst, true, false, Bool, Option, Some, None, inl, inr, slice_set, slice_get, List}
 use Rattle.lemmas.specs.Numbers.{test_true, test_yes}
 use Rattle.ir_ast.specs.declared.function.Function.{Function}
-use Rattle.ir_ast.specs.declared.op.Op.TheVariants.{Load}
+use Rattle.ir_ast.specs.declared.memory.MemoryOp.TheVariants as memory
 use Rattle.ir_ast.specs.declared.operand.Operand.{Operand}
 use Rattle.pools.specs.Heap.{Setup, IsOfLayout}
 use Rattle.pools.specs.declared.word_kind.WordKind.{WordKind}
@@ -20,7 +20,7 @@ use Rattle.block_rules.specs.declared.type_kind.TypeKind.{TypeKind}
 use Rattle.block_rules.specs.declared.type_kind.TypeKind.TheVariants.{NoValue, Bits, Reference, AnyReference, Address as AddressKind, Other}
 use Rattle.block_rules.specs.Operands as o
 use Rattle.block_rules.specs.Places as r
-use Rattle.block_rules.specs.Rules.{after_op}
+use Rattle.block_rules.specs.Rules.{after_memory}
 use Rattle.block_rules.specs.TypeKinds.{kind_of, is_bits, fits_layout}
 use Rattle.machine.specs.declared.action.Action.TheVariants.{Read}
 use Rattle.machine.specs.declared.answer.Answer.{Answer}
@@ -210,11 +210,11 @@ module _ (heap : Setup) (p : LaidOut) (certs : List Section) (reaches : Bool) (f
 
   -- a load from an operand that is a place
   pub load_goes : (result : Option ℕ) (loaded place_type : ℕ) (place : Operand) → IsPlace p f table facts place_type place → r.loads_known p facts (kind_of p.of_module loaded) (o.known_of facts place) ≡ true
-      → Goes heap p table frame.slots reaches guarded log (after_op p certs table result (Load loaded place_type place) facts)
+      → Goes heap p table frame.slots reaches guarded log (after_memory p table result (memory.Load loaded place_type place) facts)
       (a.load_action p table loaded (k.slot_at_place p.of_module f table place_type place) (k.address_at_place p.of_module f table frame.registers place_type place))
       (λ given. mc.set_register result (mc.loaded_from p frame.slots (k.slot_at_place p.of_module f table place_type place) (k.address_at_place p.of_module f table frame.registers place_type place) given) frame)
   load_goes result loaded place_type place s loads =
-      subst (λ y. Goes heap p table frame.slots reaches guarded log (after_op p certs table result (Load loaded place_type place) facts) (a.load_action p table loaded y (k.address_at_place p.of_module f table frame.registers place_type place))
+      subst (λ y. Goes heap p table frame.slots reaches guarded log (after_memory p table result (memory.Load loaded place_type place) facts) (a.load_action p table loaded y (k.address_at_place p.of_module f table frame.registers place_type place))
       (λ given. mc.set_register result (mc.loaded_from p frame.slots y (k.address_at_place p.of_module f table frame.registers place_type place) given) frame))
       (sym (no_slot_at p f table place_type place s.no_slot))
-      (read_goes result loaded place_type place (λ name. after_op p certs table name (Load loaded place_type place) facts) s loads refl (λ n. ap (λ y. r.load_place p table n loaded place y facts) s.no_slot))
+      (read_goes result loaded place_type place (λ name. after_memory p table name (memory.Load loaded place_type place) facts) s loads refl (λ n. ap (λ y. r.load_place p table n loaded place y facts) s.no_slot))

@@ -4,7 +4,7 @@ use Rattle.std.specs.Prelude.{◌||◌, not, if◌then◌else◌}
 use Rattle.lemmas.specs.Numbers.{test_true, test_yes}
 use Rattle.lemmas.specs.Bools.{and_parts}
 use Rattle.ir_ast.specs.declared.function.Function.{Function}
-use Rattle.ir_ast.specs.declared.op.Op.TheVariants.{Store}
+use Rattle.ir_ast.specs.declared.memory.MemoryOp.TheVariants as memory
 use Rattle.ir_ast.specs.declared.operand.Constant.TheVariants as constant
 use Rattle.ir_ast.specs.declared.operand.Operand.{Operand}
 use Rattle.ir_ast.specs.declared.operand.Operand.TheVariants as operand
@@ -30,7 +30,7 @@ use Rattle.block_rules.specs.Barriers.{is_own_place, needs_no_barrier}
 use Rattle.block_rules.specs.Integers.{below_of}
 use Rattle.block_rules.specs.Operands as o
 use Rattle.block_rules.specs.Places as r
-use Rattle.block_rules.specs.Rules.{after_op}
+use Rattle.block_rules.specs.Rules.{after_memory}
 use Rattle.block_rules.specs.TypeKinds.{kind_of, fits_layout, may_be_reference}
 use Rattle.machine.specs.declared.action.Action.TheVariants.{Write, StorePlain, Wrong}
 use Rattle.machine.specs.declared.frame.Frame.{Frame}
@@ -277,7 +277,7 @@ module _ (heap : Setup) (p : LaidOut) (certs : List Section) (reaches : Bool) (f
   -- a store to an operand that is a place
   pub store_goes : (result : Option ℕ) (stored : ℕ) (x : Operand) (place_type : ℕ) (place : Operand) → IsStored p f table facts stored x → IsPlace p f table facts place_type place
       → r.stores_known p facts (kind_of p.of_module stored) (o.known_of facts x) (o.known_of facts place) ≡ true → needs_no_barrier p.of_module table facts stored place ≡ true
-      → Goes heap p table frame.slots reaches guarded log (after_op p certs table result (Store stored x place_type place) facts)
+      → Goes heap p table frame.slots reaches guarded log (after_memory p table result (memory.Store stored x place_type place) facts)
       (a.store_action p table stored (k.is_usable p.of_module f table frame.registers stored x) (value_of p.of_module frame.registers stored x) (k.slot_at_place p.of_module f table place_type place) (k.address_at_place p.of_module f table frame.registers place_type place))
       (λ given. mc.set_slot (k.slot_at_place p.of_module f table place_type place) (value_of p.of_module frame.registers stored x) frame)
   store_goes result stored x place_type place i s stores k6 =

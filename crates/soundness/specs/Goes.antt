@@ -16,6 +16,7 @@ use Rattle.block_rules.specs.declared.standing.Standing.{Standing}
 use Rattle.safepoints.specs.Marks.{is_may}
 use Rattle.block_rules.specs.FirstFailing.{first_failing}
 use Rattle.block_rules.specs.Rules.{conditions, after}
+use Rattle.machine.specs.Asks.{op_action}
 use Rattle.machine.specs.declared.frame.Frame.{Frame}
 use Rattle.machine.specs.declared.action.Action.{Action}
 use Rattle.machine.specs.declared.action.Action.TheVariants.{StorePlain, Write, Safepoint}
@@ -23,7 +24,7 @@ use Rattle.machine.specs.declared.answer.Answer.{Answer}
 use Rattle.machine.specs.declared.value.Reference.{Reference}
 use Rattle.machine.specs.declared.value.Value.{Value}
 use Rattle.machine.specs.declared.value.Value.TheVariants as value
-use Rattle.machine.specs.Machine.{Next, slot_value, instr_action, after_op, onward_of}
+use Rattle.machine.specs.Machine.{slot_value, after_op, function_called}
 use Rattle.machine.specs.Log.{Log, IsFresh, RefersTo, Possible, Keeps}
 use Rattle.soundness.specs.Meaning.{Cells, Guarded, Holds}
 
@@ -65,12 +66,12 @@ HaveClasses facts = length facts.values ≤ length facts.classes
 abbrev pub HaveMembers : FactSet → Type 0
 HaveMembers facts = ((s c : ℕ) → (slot_at facts.slots s).holds ≡ Some c → HasMember facts c) × HaveClasses facts
 
--- the step of each instruction that the rules allow, and after which a thread goes on in its block, is such a step
+-- the step of each instruction that the rules allow, and that calls no defined function, is such a step
 abbrev pub InstructionsGo : Guarded → Type 0
 InstructionsGo guarded =
     (heap : Setup) (p : LaidOut) (certs : List Section) (f : Function) (log : Log) (cells : Cells) (facts : FactSet) (frame : Frame) (here : Standing) (instr : Instr) → ((cell : ℕ) → guarded cell → IsFresh log cell) → IsHeapFor heap p → length frame.registers ≡ length f.locals
-    → Holds heap p (slots_of p.of_module f) guarded log cells facts frame.registers frame.slots → HaveMembers facts → first_failing (conditions p certs f (slots_of p.of_module f) here facts instr) ≡ None → onward_of p.of_module instr.op ≡ Next
-    → Goes heap p (slots_of p.of_module f) frame.slots (is_may here.mark) guarded log (after p certs (slots_of p.of_module f) facts instr) (instr_action p f frame (Some instr)) (λ given. after_op p f (slots_of p.of_module f) instr.result instr.op given frame)
+    → Holds heap p (slots_of p.of_module f) guarded log cells facts frame.registers frame.slots → HaveMembers facts → first_failing (conditions p certs f (slots_of p.of_module f) here facts instr) ≡ None → function_called p.of_module instr.op ≡ None
+    → Goes heap p (slots_of p.of_module f) frame.slots (is_may here.mark) guarded log (after p certs (slots_of p.of_module f) facts instr) (op_action p f (slots_of p.of_module f) frame.registers instr.op) (λ given. after_op p f (slots_of p.of_module f) instr.result instr.op given frame)
 
 -- after each instruction a slot still holds a fresh class only while some value is of it, and each value has a class for itself
 abbrev pub MembersStay : Type 0

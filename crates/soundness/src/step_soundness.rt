@@ -3,7 +3,7 @@ ghost use Rattle.std.specs.Prelude.{ℕ, List};
 ghost use Rattle.std.specs.List.{Contains};
 ghost use Rattle.soundness.specs.Goes.{InstructionsGo, MembersStay};
 
-/// Each instruction that the rules allow, and after which a thread goes on in its block, obeys the discipline. What the rules know after it is then true, whatever cells frames below it know to be fresh.
+/// Each instruction that the rules allow, and that calls no defined function, obeys the discipline. What the rules know after it is then true, whatever cells frames below it know to be fresh.
 pub fn step_law()
     ensures { (known : List ℕ) → InstructionsGo (Contains known) }
 {}

@@ -11,18 +11,18 @@ use Rattle.ir_ast.specs.declared.op.Op.TheVariants.{Element}
 use Rattle.types.specs.Elements.{element_type}
 use Rattle.types.specs.References.{pointee}
 
--- the instruction at a place of a block
+-- the instruction at a place of a block's body
 abbrev pub instruction_in : Option ABlock → (place : ℕ) → Option Instr
 instruction_in None place = None
-instruction_in (Some block) place = slice_get block.instructions place
+instruction_in (Some block) place = slice_get block.body place
 
--- the instruction at a place of a block of a function
+-- the instruction at a place of the body of a function's block
 abbrev pub instruction_at : Function → (block place : ℕ) → Option Instr
 instruction_at f block place = instruction_in (slice_get f.blocks block) place
 
 -- the type that a getelementptr selects
 abbrev pub element_of_op : Module → Op → Option ℕ
-element_of_op m (Element source base_type base indices) = element_type m source indices
+element_of_op m (Element x) = element_type m x.source x.indices
 element_of_op m _ = None
 
 -- the type that an instruction selects, if it is a getelementptr

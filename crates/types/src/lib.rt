@@ -11,4 +11,4 @@ pub use element::{body_named, element_type, field_at, index_number, part_at, wri
 pub use global::{global_held, global_named, points_to_global};
 pub use reference::{is_reference, pointee};
 pub use runtime_call::runtime_called;
-pub use value_type::{has_type, target_of};
+pub use value_type::{element_of, has_type, target_of};

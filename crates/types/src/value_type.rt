@@ -3,20 +3,21 @@ ghost use Rattle.types.specs.ValueTypes.{element_of, instruction_at, has_type, t
 
 use crate::element::element_type;
 use crate::reference::pointee;
-use ir_ast::{BlockId, Function, Instr, LocalSort, Module, Op, TypeId, ValueId};
+use ir_ast::{BlockId, Function, LocalSort, Module, Op, TypeId, ValueId};
 
-/// The type that the getelementptr at a place of a block selects.
-fn element_of(module: &Module, function: &Function, block: BlockId, place: u32) -> Option<TypeId>
+/// The type that the getelementptr at a place of a block's body selects.
+pub fn element_of(
+    module: &Module,
+    function: &Function,
+    block: BlockId,
+    place: u32,
+) -> Option<TypeId>
     ensures { result ≡ element_of «module».now (instruction_at function.now block place) }
 {
     let block = function.blocks.get(block.number() as usize)?;
-    let instr = block.instructions.get(place as usize)?;
+    let instr = block.body.get(place as usize)?;
     match &instr.op {
-        Op::Element {
-            source,
-            indices,
-            ..
-        } => element_type(module, *source, indices.as_slice()),
+        Op::Element(element) => element_type(module, element.source, element.indices.as_slice()),
         _ => None,
     }
 }

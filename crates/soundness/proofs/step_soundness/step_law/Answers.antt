@@ -1,5 +1,5 @@
 use Rattle.std.specs.List.{Contains}
-use Rattle.soundness.proofs.Rows.{instructions_go}
+use Rattle.soundness.proofs.Instructions.{instructions_go}
 use Rattle.soundness.proofs.step_soundness.step_law.Goals as goal
 
 pub returns : goal.returns

@@ -1,0 +1,10 @@
+use Rattle.std.proofs.Common.{sym, ap, ◌∙◌}
+use Rattle.block_rules.specs.FirstFailing.{first_failing}
+use Rattle.block_rules.specs.Rules.{memory_conditions}
+use Rattle.block_rules.proofs.memory.memory_refusal.Goals as goal
+
+pub returns-in-Alloca : goal.returns-in-Alloca
+returns-in-Alloca c =
+    let scene = c.args.scene.now in
+    c.alloca_refusal.ensures c.args.facts.now
+    ∙ ap (λ op. first_failing (memory_conditions scene.program.now scene.function.now scene.slots.now c.args.here c.args.facts.now c.args.defined op)) (sym c.in-Alloca.is)

@@ -1,0 +1,10 @@
+use Rattle.std.proofs.Common.{sym, ap, ◌∙◌}
+use Rattle.block_rules.specs.FirstFailing.{first_failing}
+use Rattle.block_rules.specs.Rules.{number_conditions}
+use Rattle.block_rules.proofs.numbers.number_refusal.Goals as goal
+
+pub returns-in-Arithmetic : goal.returns-in-Arithmetic
+returns-in-Arithmetic c =
+    let scene = c.args.scene.now in
+    c.arithmetic_refusal.ensures c.in-Arithmetic.kind
+    ∙ ap (λ op. first_failing (number_conditions scene.program.now scene.function.now scene.slots.now c.args.here c.args.facts.now op)) (sym c.in-Arithmetic.is)

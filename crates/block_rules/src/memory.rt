@@ -1,0 +1,172 @@
+//! Slots, and what is read from places and put there.
+ghost use Rattle.std.specs.Prelude.{◌≡◌, None, OnOk};
+ghost use Rattle.facts.specs.Facts.{FactSet};
+ghost use Rattle.block_rules.specs.FirstFailing.{first_failing};
+ghost use Rattle.block_rules.specs.Rules.{names_root, gives_root, may_hold, memory_conditions, after_memory};
+
+use crate::barrier::needs_no_barrier;
+use crate::casts::casts_operand;
+use crate::conditions::first_failing;
+use crate::operands::{
+    is_available, is_based, is_no_slot, is_operand_current, is_typed, is_value, known_of,
+    slot_named,
+};
+use crate::places::{after_load, after_store, may_load, may_store};
+use crate::rule::Rule;
+use crate::scene::Scene;
+use crate::standing::Standing;
+use crate::type_kind::TypeKind;
+use facts::Facts;
+use ir_ast::{MemoryOp, Operand, TypeId, ValueId};
+use shadow_stack::{SlotId, Slots};
+use std::alloc::AllocError;
+
+fn names_root(slots: &Slots, slot: Option<SlotId>) -> bool
+    ensures { result ≡ names_root slots.now slot }
+{
+    match slot {
+        Some(s) => slots.is_root(s),
+        None => false,
+    }
+}
+
+fn gives_root(slots: &Slots, defined: Option<ValueId>) -> bool
+    ensures { result ≡ gives_root slots.now defined }
+{
+    match defined {
+        Some(v) => names_root(slots, slots.slot_of(v)),
+        None => false,
+    }
+}
+
+/// Whether an alloca of this type is allowed.
+fn may_hold(scene: &Scene, defined: Option<ValueId>, held: TypeId) -> bool
+    ensures { result ≡ may_hold scene.now.program.now.of_module scene.now.slots.now defined held }
+{
+    TypeKind::of(scene.module(), held).is_integer() || gives_root(scene.slots, defined)
+}
+
+fn alloca_refusal(
+    scene: &Scene,
+    here: Standing,
+    defined: Option<ValueId>,
+    held: TypeId,
+) -> Option<Rule>
+    ensures { (facts : FactSet) → result ≡ first_failing (memory_conditions scene.now.program.now scene.now.function.now scene.now.slots.now here facts defined (MemoryOp.Alloca held)) }
+{
+    first_failing(&[
+        (Rule::K8, may_hold(scene, defined, held)),
+        (Rule::K11, here.in_entry),
+        (Rule::K12, here.collected),
+    ])
+}
+
+fn load_refusal(
+    scene: &Scene,
+    here: Standing,
+    facts: &Facts,
+    loaded: TypeId,
+    place_type: TypeId,
+    place: &Operand,
+) -> Option<Rule>
+    ensures { result ≡ first_failing (memory_conditions scene.now.program.now scene.now.function.now scene.now.slots.now here facts.now None (MemoryOp.Load loaded place_type place.now)) }
+{
+    first_failing(&[
+        (Rule::K1, is_available(scene.slots, facts, place)),
+        (
+            Rule::K2,
+            is_typed(scene, place_type, place) && may_load(scene, facts, loaded, place),
+        ),
+        (Rule::K3, is_operand_current(facts, place)),
+        (Rule::K4, is_based(facts, place)),
+        (Rule::K12, here.collected),
+        (Rule::K19, casts_operand(scene.module(), place)),
+    ])
+}
+
+fn store_refusal(
+    scene: &Scene,
+    here: Standing,
+    facts: &Facts,
+    stored: TypeId,
+    value: &Operand,
+    place_type: TypeId,
+    place: &Operand,
+) -> Option<Rule>
+    ensures { result ≡ first_failing (memory_conditions scene.now.program.now scene.now.function.now scene.now.slots.now here facts.now None (MemoryOp.Store stored value.now place_type place.now)) }
+{
+    let known = known_of(facts, value);
+    first_failing(&[
+        (
+            Rule::K1,
+            is_available(scene.slots, facts, value) && is_available(scene.slots, facts, place),
+        ),
+        (
+            Rule::K2,
+            is_value(scene, facts, stored, value)
+                && is_typed(scene, place_type, place)
+                && may_store(scene, facts, stored, &known, place),
+        ),
+        (
+            Rule::K3,
+            is_operand_current(facts, value) && is_operand_current(facts, place),
+        ),
+        (Rule::K4, is_based(facts, place)),
+        (Rule::K6, needs_no_barrier(scene, facts, stored, place)),
+        (Rule::K10, is_no_slot(scene.slots, value)),
+        (Rule::K12, here.collected),
+        (Rule::K19, casts_operand(scene.module(), place)),
+    ])
+}
+
+/// The rule that an operation on memory breaks, if it breaks one.
+pub fn memory_refusal(
+    scene: &Scene,
+    here: Standing,
+    facts: &Facts,
+    defined: Option<ValueId>,
+    op: &MemoryOp,
+) -> Option<Rule>
+    ensures { result ≡ first_failing (memory_conditions scene.now.program.now scene.now.function.now scene.now.slots.now here facts.now defined op.now) }
+{
+    match op {
+        MemoryOp::Alloca(held) => alloca_refusal(scene, here, defined, *held),
+        MemoryOp::Load {
+            loaded,
+            place_type,
+            place,
+        } => load_refusal(scene, here, facts, *loaded, *place_type, place),
+        MemoryOp::Store {
+            stored,
+            value,
+            place_type,
+            place,
+        } => store_refusal(scene, here, facts, *stored, value, *place_type, place),
+    }
+}
+
+/// Goes on to what is known after an operation on memory, by the name that it defines, if it does.
+pub fn after_memory(
+    scene: &Scene,
+    facts: &mut Facts,
+    defined: Option<ValueId>,
+    op: &MemoryOp,
+) -> Result<(), AllocError>
+    ensures { OnOk result (facts.new ≡ after_memory scene.now.program.now scene.now.slots.now defined op.now facts.old) }
+{
+    match (op, defined) {
+        (MemoryOp::Store { value, place, .. }, _) => {
+            after_store(facts, value, slot_named(scene.slots, place))
+        }
+        (MemoryOp::Alloca(_), Some(v)) => {
+            if let Some(s) = scene.slots.slot_of(v) {
+                facts.end_slot(s);
+            }
+            Ok(())
+        }
+        (MemoryOp::Load { loaded, place, .. }, Some(v)) => {
+            after_load(scene, facts, v, *loaded, place)
+        }
+        (_, None) => Ok(()),
+    }
+}

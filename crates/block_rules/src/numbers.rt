@@ -1,0 +1,356 @@
+ghost use Rattle.std.specs.Prelude.{◌≡◌, OnOk};
+ghost use Rattle.block_rules.specs.Bounds.{below_next};
+ghost use Rattle.block_rules.specs.FirstFailing.{first_failing};
+ghost use Rattle.block_rules.specs.Integers.{below_known, constant_below, below_of, smaller, larger, arithmetic_below, define_number, changes_width, may_resize, resized_below, is_equality, may_compare, after_compare};
+ghost use Rattle.block_rules.specs.Rules.{number_conditions, after_number};
+ghost use Rattle.ir_ast.specs.declared.numbers.Arithmetic.{Arithmetic};
+
+use crate::conditions::first_failing;
+use crate::operands::{
+    is_available, is_no_slot, is_operand_current, is_value, known_of, number_of,
+};
+use crate::rule::Rule;
+use crate::scene::Scene;
+use crate::standing::Standing;
+use crate::type_kind::TypeKind;
+use facts::{Facts, Known, Test};
+use ir_ast::{Arithmetic, Comparison, NumberOp, Operand, Resize, TypeId, ValueId};
+use std::alloc::AllocError;
+
+/// The number after this one, which it is below; 2 to the 64 is no bound.
+pub fn below_next(number: u64) -> Option<u64>
+    ensures { result ≡ below_next number }
+{
+    if number < u64::MAX {
+        Some(number + 1)
+    } else {
+        None
+    }
+}
+
+/// What a number is shown to be below.
+pub fn below_known(known: &Known) -> Option<u64>
+    ensures { result ≡ below_known known.now }
+{
+    match known {
+        Known::Number { below, .. } => *below,
+        _ => None,
+    }
+}
+
+fn constant_below(number: Option<u64>) -> Option<u64>
+    ensures { result ≡ constant_below number }
+{
+    match number {
+        Some(number) => below_next(number),
+        None => None,
+    }
+}
+
+/// What an operand is shown to be below.
+pub fn below_of(facts: &Facts, operand: &Operand) -> Option<u64>
+    ensures { result ≡ below_of facts.now operand.now }
+{
+    match operand {
+        Operand::Constant(_) => constant_below(number_of(operand)),
+        _ => below_known(&known_of(facts, operand)),
+    }
+}
+
+fn smaller(one: Option<u64>, other: Option<u64>) -> Option<u64>
+    ensures { result ≡ smaller one other }
+{
+    match (one, other) {
+        (Some(n), Some(m)) if m < n => Some(m),
+        (Some(n), _) => Some(n),
+        (None, other) => other,
+    }
+}
+
+pub fn larger(one: Option<u64>, other: Option<u64>) -> Option<u64>
+    ensures { result ≡ larger one other }
+{
+    match (one, other) {
+        (Some(n), Some(m)) if n < m => Some(m),
+        (Some(n), Some(_)) => Some(n),
+        _ => None,
+    }
+}
+
+/// What arithmetic shows its result to be below.
+pub fn arithmetic_below(kind: Arithmetic, first: &Operand, second: &Operand) -> Option<u64>
+    ensures { result ≡ arithmetic_below kind first.now second.now }
+{
+    match kind {
+        Arithmetic::And => smaller(
+            constant_below(number_of(first)),
+            constant_below(number_of(second)),
+        ),
+        _ => None,
+    }
+}
+
+/// A value is an integer of a type of this kind.
+pub fn define_number(
+    facts: &mut Facts,
+    v: ValueId,
+    kind: TypeKind,
+    below: Option<u64>,
+) -> Result<(), AllocError>
+    ensures { OnOk result (facts.new ≡ define_number v kind below facts.old) }
+{
+    match kind {
+        TypeKind::Bits(bits) => facts.define(v, Known::Number { bits, below }),
+        _ => facts.define(v, Known::Nothing),
+    }
+}
+
+fn changes_width(kind: Resize, from: u32, to: u32) -> bool
+    ensures { result ≡ changes_width kind from to }
+{
+    match kind {
+        Resize::ZeroExtend | Resize::SignExtend => from < to,
+        Resize::Truncate => to < from,
+    }
+}
+
+/// Whether one type may be changed to the other.
+pub fn may_resize(kind: Resize, from: TypeKind, to: TypeKind) -> bool
+    ensures { result ≡ may_resize kind from to }
+{
+    match from {
+        TypeKind::Bits(from) => match to {
+            TypeKind::Bits(to) => changes_width(kind, from, to),
+            _ => false,
+        },
+        _ => false,
+    }
+}
+
+/// What a number of another width is shown to be below.
+pub fn resized_below(kind: Resize, below: Option<u64>) -> Option<u64>
+    ensures { result ≡ resized_below kind below }
+{
+    match kind {
+        Resize::ZeroExtend => below,
+        Resize::SignExtend | Resize::Truncate => None,
+    }
+}
+
+fn is_equality(kind: Comparison) -> bool
+    ensures { result ≡ is_equality kind }
+{
+    matches!(kind, Comparison::Equal | Comparison::NotEqual)
+}
+
+/// Whether values of this kind may be compared so.
+pub fn may_compare(comparison: Comparison, kind: TypeKind) -> bool
+    ensures { result ≡ may_compare comparison kind }
+{
+    match kind {
+        TypeKind::Bits(_) => true,
+        TypeKind::Reference(_) | TypeKind::AnyReference => is_equality(comparison),
+        _ => false,
+    }
+}
+
+/// Goes on to the facts after a comparison.
+pub fn after_compare(
+    facts: &mut Facts,
+    v: ValueId,
+    kind: Comparison,
+    first: &Operand,
+    second: &Operand,
+) -> Result<(), AllocError>
+    ensures { OnOk result (facts.new ≡ after_compare v kind first.now second.now facts.old) }
+{
+    match first {
+        Operand::Local(tested) => compare_value(facts, v, kind, *tested, second),
+        _ => facts.define(
+            v,
+            Known::Number {
+                bits: 1,
+                below: None,
+            },
+        ),
+    }
+}
+
+fn compare_value(
+    facts: &mut Facts,
+    v: ValueId,
+    kind: Comparison,
+    tested: ValueId,
+    second: &Operand,
+) -> Result<(), AllocError>
+    ensures { OnOk result (facts.new ≡ after_compare v kind (Operand.Local tested) second.now facts.old) }
+{
+    match second {
+        Operand::Constant(constant) => facts.define_test(
+            v,
+            Test {
+                tested,
+                kind,
+                constant: *constant,
+            },
+        ),
+        _ => facts.define(
+            v,
+            Known::Number {
+                bits: 1,
+                below: None,
+            },
+        ),
+    }
+}
+
+fn arithmetic_refusal(
+    scene: &Scene,
+    here: Standing,
+    facts: &Facts,
+    written: TypeId,
+    first: &Operand,
+    second: &Operand,
+) -> Option<Rule>
+    ensures { (kind : Arithmetic) → result ≡ first_failing (number_conditions scene.now.program.now scene.now.function.now scene.now.slots.now here facts.now (NumberOp.Arithmetic kind written first.now second.now)) }
+{
+    first_failing(&[
+        (
+            Rule::K1,
+            is_available(scene.slots, facts, first) && is_available(scene.slots, facts, second),
+        ),
+        (
+            Rule::K2,
+            is_value(scene, facts, written, first)
+                && is_value(scene, facts, written, second)
+                && TypeKind::of(scene.module(), written).is_integer()
+                && is_no_slot(scene.slots, first)
+                && is_no_slot(scene.slots, second),
+        ),
+        (Rule::K12, here.collected),
+    ])
+}
+
+fn resize_refusal(
+    scene: &Scene,
+    here: Standing,
+    facts: &Facts,
+    kind: Resize,
+    from: TypeId,
+    operand: &Operand,
+    to: TypeId,
+) -> Option<Rule>
+    ensures { result ≡ first_failing (number_conditions scene.now.program.now scene.now.function.now scene.now.slots.now here facts.now (NumberOp.Resize kind from operand.now to)) }
+{
+    first_failing(&[
+        (Rule::K1, is_available(scene.slots, facts, operand)),
+        (
+            Rule::K2,
+            is_value(scene, facts, from, operand)
+                && may_resize(
+                    kind,
+                    TypeKind::of(scene.module(), from),
+                    TypeKind::of(scene.module(), to),
+                )
+                && is_no_slot(scene.slots, operand),
+        ),
+        (Rule::K12, here.collected),
+    ])
+}
+
+fn compare_refusal(
+    scene: &Scene,
+    here: Standing,
+    facts: &Facts,
+    kind: Comparison,
+    written: TypeId,
+    first: &Operand,
+    second: &Operand,
+) -> Option<Rule>
+    ensures { result ≡ first_failing (number_conditions scene.now.program.now scene.now.function.now scene.now.slots.now here facts.now (NumberOp.Compare kind written first.now second.now)) }
+{
+    first_failing(&[
+        (
+            Rule::K1,
+            is_available(scene.slots, facts, first) && is_available(scene.slots, facts, second),
+        ),
+        (
+            Rule::K2,
+            is_value(scene, facts, written, first)
+                && is_value(scene, facts, written, second)
+                && may_compare(kind, TypeKind::of(scene.module(), written)),
+        ),
+        (
+            Rule::K3,
+            is_operand_current(facts, first) && is_operand_current(facts, second),
+        ),
+        (
+            Rule::K10,
+            is_no_slot(scene.slots, first) && is_no_slot(scene.slots, second),
+        ),
+        (Rule::K12, here.collected),
+    ])
+}
+
+/// The rule that an operation on integers breaks, if it breaks one.
+pub fn number_refusal(scene: &Scene, here: Standing, facts: &Facts, op: &NumberOp) -> Option<Rule>
+    ensures { result ≡ first_failing (number_conditions scene.now.program.now scene.now.function.now scene.now.slots.now here facts.now op.now) }
+{
+    match op {
+        NumberOp::Arithmetic {
+            written,
+            first,
+            second,
+            ..
+        } => arithmetic_refusal(scene, here, facts, *written, first, second),
+        NumberOp::Resize {
+            kind,
+            from,
+            operand,
+            to,
+        } => resize_refusal(scene, here, facts, *kind, *from, operand, *to),
+        NumberOp::Compare {
+            kind,
+            written,
+            first,
+            second,
+        } => compare_refusal(scene, here, facts, *kind, *written, first, second),
+    }
+}
+
+/// Goes on to what is known after an operation on integers that defines this name.
+pub fn after_number(
+    scene: &Scene,
+    facts: &mut Facts,
+    v: ValueId,
+    op: &NumberOp,
+) -> Result<(), AllocError>
+    ensures { OnOk result (facts.new ≡ after_number scene.now.program.now.of_module v op.now facts.old) }
+{
+    match op {
+        NumberOp::Arithmetic {
+            kind,
+            written,
+            first,
+            second,
+        } => {
+            let below = arithmetic_below(*kind, first, second);
+            define_number(facts, v, TypeKind::of(scene.module(), *written), below)
+        }
+        NumberOp::Resize {
+            kind,
+            operand,
+            to,
+            ..
+        } => {
+            let below = resized_below(*kind, below_of(facts, operand));
+            define_number(facts, v, TypeKind::of(scene.module(), *to), below)
+        }
+        NumberOp::Compare {
+            kind,
+            first,
+            second,
+            ..
+        } => after_compare(facts, v, *kind, first, second),
+    }
+}

@@ -1,0 +1,10 @@
+pub mod Sounds
+pub mod Steps
+pub mod Allocs
+pub mod Ranges
+pub mod Turning
+pub mod Barriers
+pub mod Safepoints
+pub mod Stores
+pub mod Begins
+pub mod Ends

@@ -1,0 +1,5 @@
+use Rattle.colours.specs.Steps.{StoreStage}
+use Rattle.heap_table.proofs.heap.Heap.answer.Given as goal
+
+abbrev pub ghosts-store_stage : goal.ghosts-store_stage
+ghosts-store_stage a = record { step = λ n. StoreStage n a.about.now }

@@ -1,0 +1,12 @@
+pub mod Holders
+pub mod MutatorView
+pub mod Nexts
+pub mod Allocs
+pub mod Begins
+pub mod HeapView
+pub mod Sweepers
+pub mod SweeperView
+pub mod Writes
+pub mod Safepoints
+pub mod Opening
+pub mod Closing

@@ -1,0 +1,23 @@
+//! Slots, and what is read from places and put there.
+use crate::operand::Operand;
+use crate::type_id::TypeId;
+
+/// An operation on memory.
+#[derive(Clone, Copy, PartialEq, Eq)]
+pub enum MemoryOp {
+    /// A slot that holds a value of this type.
+    Alloca(TypeId),
+    /// The value at a place, whose written type is `place_type`.
+    Load {
+        loaded: TypeId,
+        place_type: TypeId,
+        place: Operand,
+    },
+    /// A value is put at a place, whose written type is `place_type`.
+    Store {
+        stored: TypeId,
+        value: Operand,
+        place_type: TypeId,
+        place: Operand,
+    },
+}

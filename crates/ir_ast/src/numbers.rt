@@ -1,0 +1,61 @@
+//! Operations on integers. icmp compares references too.
+use crate::operand::Operand;
+use crate::type_id::TypeId;
+
+/// Integer instructions of two operands, which are taken modulo 2 to the bits.
+#[derive(Clone, Copy, PartialEq, Eq)]
+pub enum Arithmetic {
+    Add,
+    Sub,
+    Mul,
+    And,
+    Or,
+    Xor,
+}
+
+/// Changes of an integer's width.
+#[derive(Clone, Copy, PartialEq, Eq)]
+pub enum Resize {
+    ZeroExtend,
+    SignExtend,
+    Truncate,
+}
+
+/// What icmp asks of its operands.
+#[derive(Clone, Copy, PartialEq, Eq)]
+pub enum Comparison {
+    Equal,
+    NotEqual,
+    UnsignedGreater,
+    UnsignedGreaterOrEqual,
+    UnsignedLess,
+    UnsignedLessOrEqual,
+    SignedGreater,
+    SignedGreaterOrEqual,
+    SignedLess,
+    SignedLessOrEqual,
+}
+
+/// An operation that gives an integer.
+#[derive(Clone, Copy, PartialEq, Eq)]
+pub enum NumberOp {
+    Arithmetic {
+        kind: Arithmetic,
+        written: TypeId,
+        first: Operand,
+        second: Operand,
+    },
+    Resize {
+        kind: Resize,
+        from: TypeId,
+        operand: Operand,
+        to: TypeId,
+    },
+    /// icmp
+    Compare {
+        kind: Comparison,
+        written: TypeId,
+        first: Operand,
+        second: Operand,
+    },
+}

@@ -1,0 +1,150 @@
+-- Operations on integers.
+use Rattle.std.specs.Prelude.{ℕ, Bool, true, false, Option, Some, None}
+use Rattle.grammar.specs.Grammar.{pure, refuse, look, ◌>>=◌, ◌>>◌}
+use Rattle.ir_tokens.specs.declared.token.Kind.{Kind}
+use Rattle.ir_tokens.specs.declared.token.Kind.TheVariants as k
+use Rattle.ir_ast.specs.declared.ir_type.IrType.TheVariants as type
+use Rattle.ir_ast.specs.declared.argument.Argument.{Argument}
+use Rattle.ir_ast.specs.declared.numbers.Arithmetic.{Arithmetic}
+use Rattle.ir_ast.specs.declared.numbers.Arithmetic.TheVariants as a
+use Rattle.ir_ast.specs.declared.numbers.Resize.{Resize}
+use Rattle.ir_ast.specs.declared.numbers.Resize.TheVariants as r
+use Rattle.ir_ast.specs.declared.numbers.Comparison.{Comparison}
+use Rattle.ir_ast.specs.declared.numbers.Comparison.TheVariants as c
+use Rattle.ir_ast.specs.declared.numbers.NumberOp.{NumberOp}
+use Rattle.ir_ast.specs.declared.numbers.NumberOp.TheVariants as number
+use Rattle.ir_forms.specs.declared.written.Base.TheVariants.{Integer}
+use Rattle.ir_forms.specs.declared.written.WrittenType.{WrittenType}
+use Rattle.ir_forms.specs.Cursor.{kind}
+use Rattle.ir_forms.specs.Input.{Form, unexpected, skip, expect}
+use Rattle.ir_forms.specs.Names.{set_type}
+use Rattle.ir_forms.specs.Written.{scalar, intern, again, bits_of}
+use Rattle.ir_forms.specs.Operand.{operand}
+use Rattle.ir_forms.specs.declared.numbers.TwoOperands.{TwoOperands}
+use Rattle.ir_forms.specs.Lists.{typed}
+use Rattle.ir_forms.specs.Decorations.{flags}
+
+-- `T V, W`
+unfoldable pub pair : Form TwoOperands
+pair = do
+  w ← scalar
+  x ← operand (bits_of w)
+  expect k.Comma
+  y ← operand (bits_of w)
+  pure (record { written = w.id; first = x; second = y })
+
+-- ---- sums and the like
+
+-- the operation of two integers that a word names
+abbrev pub arithmetic_of : Kind → Option Arithmetic
+arithmetic_of k.Add = Some a.Add
+arithmetic_of k.Sub = Some a.Sub
+arithmetic_of k.Mul = Some a.Mul
+arithmetic_of k.And = Some a.And
+arithmetic_of k.Or = Some a.Or
+arithmetic_of k.Xor = Some a.Xor
+arithmetic_of _ = None
+
+-- those that flags may follow
+abbrev pub may_wrap : Arithmetic → Bool
+may_wrap a.Add = true
+may_wrap a.Sub = true
+may_wrap a.Mul = true
+may_wrap _ = false
+
+-- `add T V, W`, and so for the other five
+unfoldable pub arithmetic : Arithmetic → ℕ → Form NumberOp
+arithmetic x value = do
+  skip
+  flags (may_wrap x)
+  p ← pair
+  set_type value p.written
+  pure (number.Arithmetic x p.written p.first p.second)
+
+-- ---- changes of width
+
+-- the change of width that a word names
+abbrev pub resize_of : Kind → Option Resize
+resize_of k.Zext = Some r.ZeroExtend
+resize_of k.Sext = Some r.SignExtend
+resize_of k.Trunc = Some r.Truncate
+resize_of _ = None
+
+-- `zext T V to U`, and so for the other two
+unfoldable pub resize : Resize → ℕ → Form NumberOp
+resize x value = do
+  skip
+  from ← typed
+  expect k.To
+  to ← scalar
+  set_type value to.id
+  pure (number.Resize x from.written from.operand to.id)
+
+-- ---- comparisons
+
+-- the comparison that a word names
+abbrev pub comparison_of : Kind → Option Comparison
+comparison_of k.Eq = Some c.Equal
+comparison_of k.Ne = Some c.NotEqual
+comparison_of k.Ugt = Some c.UnsignedGreater
+comparison_of k.Uge = Some c.UnsignedGreaterOrEqual
+comparison_of k.Ult = Some c.UnsignedLess
+comparison_of k.Ule = Some c.UnsignedLessOrEqual
+comparison_of k.Sgt = Some c.SignedGreater
+comparison_of k.Sge = Some c.SignedGreaterOrEqual
+comparison_of k.Slt = Some c.SignedLess
+comparison_of k.Sle = Some c.SignedLessOrEqual
+comparison_of _ = None
+
+-- the word of a comparison
+abbrev pub comparison_by : Option Comparison → Form Comparison
+comparison_by None = refuse unexpected
+comparison_by (Some x) = skip >> pure x
+
+-- what is asked of the operands
+unfoldable pub comparison : Form Comparison
+comparison = look (λ i. comparison_of (kind i.cursor)) comparison_by
+
+-- `icmp C T V, W`, whose value is an i1
+unfoldable pub compare : ℕ → Form NumberOp
+compare value = do
+  skip
+  x ← comparison
+  p ← pair
+  bit ← intern (type.Integer 1)
+  set_type value bit
+  pure (number.Compare x p.written p.first p.second)
+
+-- ---- conditions
+
+-- `i1`, with this number in the table of types
+abbrev pub bit_type : ℕ → WrittenType
+bit_type id = record { base = Integer 1; stars = 0; id = id; room = 63 }
+
+-- `i1 V`
+unfoldable pub condition : Form Argument
+condition = do
+  id ← intern (type.Integer 1)
+  again (bit_type id)
+  x ← operand (Some 1)
+  pure (record { written = id; operand = x })
+
+-- ---- by the word
+
+-- a change of width, if the word names one
+abbrev pub resize_by : ℕ → Option Resize → Form NumberOp
+resize_by value None = refuse unexpected
+resize_by value (Some x) = resize x value
+
+-- `zext`, `sext` or `trunc`, with what follows it
+unfoldable pub resized : ℕ → Form NumberOp
+resized value = look (λ i. resize_of (kind i.cursor)) (resize_by value)
+
+-- an operation of two integers, if the word names one, or else a change of width
+abbrev pub arithmetic_by : ℕ → Option Arithmetic → Form NumberOp
+arithmetic_by value None = resized value
+arithmetic_by value (Some x) = arithmetic x value
+
+-- an operation on integers
+unfoldable pub integer_op : ℕ → Form NumberOp
+integer_op value = look (λ i. arithmetic_of (kind i.cursor)) (arithmetic_by value)

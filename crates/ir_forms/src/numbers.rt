@@ -1,0 +1,209 @@
+//! Operations on integers.
+ghost use Rattle.std.specs.Prelude.{◌≡◌};
+ghost use Rattle.ir_forms.specs.Input.{Reads};
+ghost use Rattle.ir_forms.specs.Numbers as form;
+
+use crate::decorating::flags;
+use crate::fault::Fault;
+use crate::input::Input;
+use crate::lists::typed;
+use crate::written::{Base, ROOM, WrittenType, bits_of};
+use ir_ast::{
+    Argument, Arithmetic, Comparison, IrType, NumberOp, Operand, Resize, TypeId, ValueId,
+};
+use ir_tokens::Kind;
+use std::alloc::Global;
+
+/// Two operands of one type.
+#[derive(Clone, Copy, PartialEq, Eq)]
+pub struct TwoOperands {
+    pub written: TypeId,
+    pub first: Operand,
+    pub second: Operand,
+}
+
+/// Two operands, after their type.
+#[tactic(auto, unfolding(crate::specs::Numbers::pair))]
+fn pair(alloc: Global, input: &mut Input<'_>) -> Result<TwoOperands, Fault>
+    ensures { Reads (form.pair.read input.old) result input.new }
+{
+    let written = input.scalar(alloc)?;
+    let first = input.operand(alloc, bits_of(&written))?;
+    input.expect(Kind::Comma)?;
+    let second = input.operand(alloc, bits_of(&written))?;
+    Ok(TwoOperands {
+        written: written.id,
+        first,
+        second,
+    })
+}
+
+fn arithmetic_of(kind: Kind) -> Option<Arithmetic>
+    ensures { result ≡ form.arithmetic_of kind }
+{
+    match kind {
+        Kind::Add => Some(Arithmetic::Add),
+        Kind::Sub => Some(Arithmetic::Sub),
+        Kind::Mul => Some(Arithmetic::Mul),
+        Kind::And => Some(Arithmetic::And),
+        Kind::Or => Some(Arithmetic::Or),
+        Kind::Xor => Some(Arithmetic::Xor),
+        _ => None,
+    }
+}
+
+/// Whether flags may follow its word.
+fn may_wrap(kind: Arithmetic) -> bool
+    ensures { result ≡ form.may_wrap kind }
+{
+    matches!(kind, Arithmetic::Add | Arithmetic::Sub | Arithmetic::Mul)
+}
+
+#[tactic(auto, unfolding(crate::specs::Numbers::arithmetic))]
+fn arithmetic(
+    alloc: Global,
+    input: &mut Input<'_>,
+    kind: Arithmetic,
+    value: ValueId,
+) -> Result<NumberOp, Fault>
+    ensures { Reads ((form.arithmetic kind value).read input.old) result input.new }
+{
+    input.skip();
+    flags(alloc, input, may_wrap(kind))?;
+    let pair = pair(alloc, input)?;
+    input.set_type(value, pair.written);
+    Ok(NumberOp::Arithmetic {
+        kind,
+        written: pair.written,
+        first: pair.first,
+        second: pair.second,
+    })
+}
+
+fn resize_of(kind: Kind) -> Option<Resize>
+    ensures { result ≡ form.resize_of kind }
+{
+    match kind {
+        Kind::Zext => Some(Resize::ZeroExtend),
+        Kind::Sext => Some(Resize::SignExtend),
+        Kind::Trunc => Some(Resize::Truncate),
+        _ => None,
+    }
+}
+
+#[tactic(auto, unfolding(crate::specs::Numbers::resize))]
+fn resize(
+    alloc: Global,
+    input: &mut Input<'_>,
+    kind: Resize,
+    value: ValueId,
+) -> Result<NumberOp, Fault>
+    ensures { Reads ((form.resize kind value).read input.old) result input.new }
+{
+    input.skip();
+    let from = typed(alloc, input)?;
+    input.expect(Kind::To)?;
+    let to = input.scalar(alloc)?.id;
+    input.set_type(value, to);
+    Ok(NumberOp::Resize {
+        kind,
+        from: from.written,
+        operand: from.operand,
+        to,
+    })
+}
+
+fn comparison_of(kind: Kind) -> Option<Comparison>
+    ensures { result ≡ form.comparison_of kind }
+{
+    match kind {
+        Kind::Eq => Some(Comparison::Equal),
+        Kind::Ne => Some(Comparison::NotEqual),
+        Kind::Ugt => Some(Comparison::UnsignedGreater),
+        Kind::Uge => Some(Comparison::UnsignedGreaterOrEqual),
+        Kind::Ult => Some(Comparison::UnsignedLess),
+        Kind::Ule => Some(Comparison::UnsignedLessOrEqual),
+        Kind::Sgt => Some(Comparison::SignedGreater),
+        Kind::Sge => Some(Comparison::SignedGreaterOrEqual),
+        Kind::Slt => Some(Comparison::SignedLess),
+        Kind::Sle => Some(Comparison::SignedLessOrEqual),
+        _ => None,
+    }
+}
+
+/// What icmp asks of its operands.
+#[tactic(auto, unfolding(crate::specs::Numbers::comparison))]
+fn comparison(input: &mut Input<'_>) -> Result<Comparison, Fault>
+    ensures { Reads (form.comparison.read input.old) result input.new }
+{
+    match comparison_of(input.kind()) {
+        Some(kind) => {
+            input.skip();
+            Ok(kind)
+        }
+        None => Err(input.refuse(false)),
+    }
+}
+
+/// icmp.
+#[tactic(auto, unfolding(crate::specs::Numbers::compare))]
+pub fn compare(alloc: Global, input: &mut Input<'_>, value: ValueId) -> Result<NumberOp, Fault>
+    ensures { Reads ((form.compare value).read input.old) result input.new }
+{
+    input.skip();
+    let kind = comparison(input)?;
+    let pair = pair(alloc, input)?;
+    let bit = input.intern(IrType::Integer(1))?;
+    input.set_type(value, bit);
+    Ok(NumberOp::Compare {
+        kind,
+        written: pair.written,
+        first: pair.first,
+        second: pair.second,
+    })
+}
+
+/// The type i1, which has this place in the table.
+fn bit_type(id: TypeId) -> WrittenType
+    ensures { result ≡ form.bit_type id }
+{
+    WrittenType {
+        base: Base::Integer(1),
+        stars: 0,
+        id,
+        room: ROOM,
+    }
+}
+
+/// An operand after the type i1.
+#[tactic(auto, unfolding(crate::specs::Numbers::condition))]
+pub fn condition(alloc: Global, input: &mut Input<'_>) -> Result<Argument, Fault>
+    ensures { Reads (form.condition.read input.old) result input.new }
+{
+    let written = input.intern(IrType::Integer(1))?;
+    input.again(alloc, &bit_type(written))?;
+    let operand = input.operand(alloc, Some(1))?;
+    Ok(Argument { written, operand })
+}
+
+/// A change of width.
+#[tactic(auto, unfolding(crate::specs::Numbers::resized))]
+fn resized(alloc: Global, input: &mut Input<'_>, value: ValueId) -> Result<NumberOp, Fault>
+    ensures { Reads ((form.resized value).read input.old) result input.new }
+{
+    match resize_of(input.kind()) {
+        Some(kind) => resize(alloc, input, kind, value),
+        None => Err(input.refuse(false)),
+    }
+}
+
+/// An operation on integers that is named by its word.
+#[tactic(auto, unfolding(crate::specs::Numbers::integer_op))]
+pub fn integer_op(alloc: Global, input: &mut Input<'_>, value: ValueId) -> Result<NumberOp, Fault>
+    ensures { Reads ((form.integer_op value).read input.old) result input.new }
+{
+    match arithmetic_of(input.kind()) {
+        Some(kind) => arithmetic(alloc, input, kind, value),
+        None => resized(alloc, input, value),
+    }
+}

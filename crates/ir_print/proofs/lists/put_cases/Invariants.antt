@@ -1,7 +1,0 @@
-use Rattle.std.proofs.Common.{◌≡◌, ◌++◌, take}
-use Rattle.std.specs.List.{flat_map}
-use Rattle.ir_print.specs.Instructions.{case_text}
-use Rattle.ir_print.proofs.lists.put_cases.Given as goal
-
-abbrev pub invariant-loop-case : goal.invariant-loop-case
-invariant-loop-case l = l.out.items ≡ l.fn.out.items ++ flat_map (case_text l.«module» l.locals l.written) (take l.case-index l.cases)

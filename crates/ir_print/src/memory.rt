@@ -1,0 +1,47 @@
+//! The text of operations on memory.
+ghost use Rattle.std.specs.Prelude.{◌≡◌, ◌++◌, OnOk};
+ghost use Rattle.ir_print.specs.Memory as spec;
+
+use crate::operands::put_typed;
+use crate::parts::{put_placed, typed};
+use crate::types::put_type;
+use ir_ast::{MemoryOp, Module, Names};
+use std::alloc::{AllocError, Global};
+
+/// An operation on memory.
+pub fn put_memory(
+    alloc: Global,
+    out: &mut Vec<u8>,
+    module: &Module,
+    locals: &Names,
+    op: &MemoryOp,
+) -> Result<(), AllocError>
+    ensures { OnOk result (out.new.items ≡ out.old.items ++ spec.memory_op_text «module».now locals.now op.now) }
+{
+    match *op {
+        MemoryOp::Alloca(held) => {
+            out.extend_from_slice(b"alloca ")?;
+            put_type(alloc, out, module, held)
+        }
+        MemoryOp::Load {
+            loaded,
+            place_type,
+            place,
+        } => {
+            let place = typed(place_type, place);
+            out.extend_from_slice(b"load ")?;
+            put_placed(alloc, out, module, locals, loaded, &place)
+        }
+        MemoryOp::Store {
+            stored,
+            value,
+            place_type,
+            place,
+        } => {
+            out.extend_from_slice(b"store ")?;
+            put_typed(alloc, out, module, locals, stored, value)?;
+            out.extend_from_slice(b", ")?;
+            put_typed(alloc, out, module, locals, place_type, place)
+        }
+    }
+}

@@ -1,0 +1,223 @@
+-- Printed operations on integers, and conditions, are read as they were printed.
+use Rattle.std.proofs.Common.{◌≡◌, ℕ, ◌+◌, Bool, true, false, not, List, [], ◌∷◌, ◌++◌, slice_get, None, Some, refl, ap, subst, ◌∙◌, arith, append_assoc}
+use Rattle.std.specs.Prelude.{codes}
+use Rattle.grammar.specs.Grammar.{pure, ◌>>=◌, ◌>>◌}
+use Rattle.ir_ast.specs.declared.argument.Argument.{Argument}
+use Rattle.ir_ast.specs.declared.function.Function.{Function}
+use Rattle.ir_ast.specs.declared.function.LocalSort.TheVariants as local
+use Rattle.ir_ast.specs.declared.ir_type.IrType.TheVariants as type
+use Rattle.ir_ast.specs.declared.module.Module.{Module}
+use Rattle.ir_ast.specs.declared.numbers.Arithmetic.{Arithmetic}
+use Rattle.ir_ast.specs.declared.numbers.Comparison.{Comparison}
+use Rattle.ir_ast.specs.declared.numbers.Comparison.TheVariants as comparison
+use Rattle.ir_ast.specs.declared.numbers.NumberOp.{NumberOp}
+use Rattle.ir_ast.specs.declared.numbers.NumberOp.TheVariants as number
+use Rattle.ir_ast.specs.declared.numbers.Resize.{Resize}
+use Rattle.ir_ast.specs.declared.operand.Operand.{Operand}
+use Rattle.ir_tokens.specs.declared.token.Kind.{Kind}
+use Rattle.ir_tokens.specs.declared.token.Kind.TheVariants as k
+use Rattle.ir_tokens.specs.Bytes.{Text, class_of}
+use Rattle.ir_tokens.specs.Keywords.{word_kind, keywords}
+use Rattle.ir_forms.specs.Cursor.{kind}
+use Rattle.ir_forms.specs.declared.input.Input.{Input}
+use Rattle.ir_forms.specs.Input.{Form, advanced, skip, expect}
+use Rattle.ir_forms.specs.Names.{set_type}
+use Rattle.ir_forms.specs.Operand as form
+use Rattle.ir_forms.specs.Written as w
+use Rattle.ir_forms.specs.declared.numbers.TwoOperands.{TwoOperands}
+use Rattle.ir_forms.specs.Decorations.{flags}
+use Rattle.ir_forms.specs.Starts.{is_flag}
+use Rattle.ir_forms.specs.Lists as lists
+use Rattle.ir_forms.specs.Numbers as numbers
+use Rattle.ir_print.specs.Numbers.{arithmetic_word, comparison_word}
+use Rattle.ir_print.specs.Operands.{operand_text, typed_text}
+use Rattle.ir_print.specs.Parts.{typed, pair_text, converted_text}
+use Rattle.ir_print.specs.Standing.{Stands, IsSeam, AreBlanks}
+use Rattle.ir_print.specs.Types.{type_text}
+use Rattle.name_text.specs.Names.{is_plain}
+use Rattle.ir_print_law.specs.Again.{IsNumberOpAgain}
+use Rattle.ir_print_law.specs.Printable.{ArePair, IsConverted, IsCondition}
+use Rattle.ir_print_law.specs.Shapes.{Integer}
+use Rattle.ir_print_law.proofs.State.{Invariant, Ready, Reads, Any}
+use Rattle.ir_print_law.proofs.Shown.{shown}
+use Rattle.ir_print_law.proofs.Steps.{looked, given, word_skipped, word_seen, intern_reads, grows_further, later_before}
+use Rattle.ir_print_law.proofs.Types.{EndsType}
+use Rattle.ir_print_law.proofs.WholeTypes.{type_begins}
+use Rattle.ir_print_law.proofs.PrintedTypes.{type_shown, read_again}
+use Rattle.ir_print_law.proofs.OperandsAgain.{OperandAgain, operand_reads, ends_operand}
+use Rattle.ir_print_law.proofs.AgainTypes.{again_reads}
+use Rattle.ir_print_law.proofs.Parts.{ends_again, IsLaterAgain, ArgumentAgain, PairAgain, Sets, pair_reads}
+use Rattle.ir_print_law.proofs.Setting.{on, said_on, set_reads, converted_reads}
+
+-- an operation on integers is this one again, in each module later on
+abbrev pub NumberAgain : Module → (locals : List Text) → NumberOp → NumberOp → Input → Type 0
+NumberAgain m locals = IsLaterAgain (λ n others. IsNumberOpAgain m n locals others)
+
+-- a type is no flag
+no_flag_of : (x : Kind) → w.begins_type x ≡ true → not (is_flag x) ≡ true
+no_flag_of k.Nsw e = absurd cc
+no_flag_of k.Nuw e = absurd cc
+no_flag_of _ e = refl
+
+-- there are no flags before a type
+flags_said : (may_wrap : Bool) (i : Input) → w.begins_type (kind i.cursor) ≡ true → (flags may_wrap).says i tt i
+unfolding flags
+flags_said true i e = ([], i, (no_flag_of (kind i.cursor) e, refl), (refl, refl))
+flags_said false i e = (refl, refl)
+
+module _ {m : Module} {f : Function} (v : Invariant m f) where
+  -- `i1 V`
+  pub condition_reads : (t : ℕ) (x : Operand) (i : Input) (gap rest : Text) (s : ℕ) → IsCondition m f t x → AreBlanks gap → IsSeam rest
+      → Ready v (s + 1) i (gap ++ (typed_text m f.locals t x ++ rest)) → Reads v s numbers.condition i rest (ArgumentAgain m f.locals (typed t x))
+  unfolding numbers.condition class_of
+  condition_reads t x i gap rest s own blanks seam ready =
+      let shape = Integer 1 in
+      let type_is = type_shown m (Integer 1) t own.0 (omega arith) in
+      let good = ArgumentAgain m f.locals (typed t x) in
+      let text = operand_text m f.locals t x in
+      let ready = subst (λ (y : Text). Ready v (s + 1) i (gap ++ ((y ++ 32 ∷ operand_text m f.locals t x) ++ rest))) type_is ready in
+      let ready = subst (λ (y : Text). Ready v (s + 1) i (gap ++ y)) (append_assoc (shown false (Integer 1)) (32 ∷ text) rest) ready in
+      let behind = 32 ∷ (operand_text m f.locals t x ++ rest) in
+      on v v (w.intern (type.Integer 1)) again_form i (gap ++ (shown false (Integer 1) ++ behind)) rest s s (λ n o. slice_get o.types n ≡ Some (type.Integer 1)) good
+      (intern_reads v (type.Integer 1) i (gap ++ (shown false (Integer 1) ++ behind)) s tt ready)
+      (λ bit o ready g there.
+      on v v (w.again (numbers.bit_type bit)) (λ _. operand_form bit) o behind rest s s Any good
+      (again_reads v (Integer 1) (numbers.bit_type bit) o gap behind s (omega arith, omega arith) there (omega arith) blanks (ends_again behind (ends_operand v (Integer 1) t x rest own.0 own.1 seam)) ready)
+      (λ _ q ready h e.
+      on v v (form.operand (Some 1)) (λ y. pure (record { written = bit; operand = y })) q rest rest s s (OperandAgain m f.locals x) good
+      (operand_reads v (Integer 1) t x q (32 ∷ []) rest s own.0 own.1 refl seam ready)
+      (λ y r ready hh again. given v (record { written = bit; operand = y }) r rest s good ready
+      (λ n others later. (read_again m (Integer 1) t bit o n others own.0 there (later_before o r n others (grows_further o q r h hh) later), again n others later)))))
+    where
+      operand_form : ℕ → Form Argument
+      operand_form bit = form.operand (Some 1) >>= λ y. pure (record { written = bit; operand = y })
+
+      again_form : ℕ → Form Argument
+      again_form bit = w.again (numbers.bit_type bit) >> operand_form bit
+
+module _ {m : Module} {f : Function} (v u : Invariant m f) where
+  -- ---- sums and the like
+
+  -- `add T V, W`, and so for the other five
+  pub arithmetic_reads : (x : Arithmetic) (name : Text) (value t : ℕ) (a b : Operand) (i : Input) (gap rest : Text) (s : ℕ) → arithmetic_word x ≡ name ++ 32 ∷ [] → is_plain name ≡ true → ArePair m f t a b
+      → Sets v u value → AreBlanks gap → IsSeam rest
+      → Ready v s i (gap ++ (name ++ (32 ∷ (pair_text m f.locals (typed t a) b ++ rest)))) → Reads u s (numbers.arithmetic x value) i rest (NumberAgain m f.locals (number.Arithmetic x t a b))
+  unfolding numbers.arithmetic class_of
+  arithmetic_reads x name value t a b i gap rest s is plain own sets blanks seam ready =
+      let good = NumberAgain m f.locals (number.Arithmetic x t a b) in
+      let behind = 32 ∷ (pair_text m f.locals (typed t a) b ++ rest) in
+      on v u skip (λ _. flags_form) i behind rest s s (λ _ o. advanced i ≡ o) good
+      (word_skipped v name i gap behind s s blanks plain refl (omega arith) ready)
+      (λ _ o ready g e.
+      let starts = subst (λ (y : Text). Stands o.cursor (32 ∷ y)) (front (type_text m t) (operand_text m f.locals t a) (operand_text m f.locals t b)) ready.stands in
+      let begins = type_begins v own.0 o (32 ∷ []) (32 ∷ (operand_text m f.locals t a ++ (codes ", " ++ (operand_text m f.locals t b ++ rest)))) own.1.0.2 refl refl
+      (subst (λ (y : Text). Stands o.cursor (32 ∷ (y ++ (32 ∷ (operand_text m f.locals t a ++ (codes ", " ++ (operand_text m f.locals t b ++ rest))))))) (type_shown m own.0 t own.1.0.0 own.1.0.1) starts) in
+      said_on u (flags (numbers.may_wrap x)) (λ _. pair_form) o tt rest s good (flags_said (numbers.may_wrap x) o begins)
+      (on v u numbers.pair set_form o rest rest s s (PairAgain m f.locals t a b) good
+      (pair_reads v t a b o (32 ∷ []) rest s own refl seam ready)
+      (λ p q ready h again. set_reads v u (λ n others. IsNumberOpAgain m n f.locals others) value (local.Value p.written) (number.Arithmetic x t a b) (number.Arithmetic x p.written p.first p.second) q rest s sets refl ready
+      (λ n others later. (refl, again n others later)))))
+    where
+      front : (a b c : Text) → ((a ++ 32 ∷ b) ++ codes ", " ++ c) ++ rest ≡ a ++ (32 ∷ (b ++ (codes ", " ++ (c ++ rest))))
+      front a b c = simp append_assoc
+
+      set_form : TwoOperands → Form NumberOp
+      set_form p = set_type value p.written >> pure (number.Arithmetic x p.written p.first p.second)
+
+      pair_form : Form NumberOp
+      pair_form = numbers.pair >>= set_form
+
+      flags_form : Form NumberOp
+      flags_form = flags (numbers.may_wrap x) >> pair_form
+
+  -- ---- comparisons
+
+  -- `icmp C T V, W`
+  pub compare_reads : (x : Comparison) (name : Text) (value t : ℕ) (a b : Operand) (i : Input) (gap rest : Text) (s : ℕ) → numbers.comparison_of (word_kind name) ≡ Some x → is_plain name ≡ true → ArePair m f t a b
+      → Sets v u value → AreBlanks gap → IsSeam rest
+      → Ready v s i (gap ++ (codes "icmp" ++ (32 ∷ (name ++ (32 ∷ (pair_text m f.locals (typed t a) b ++ rest)))))) → Reads u s (numbers.compare value) i rest (NumberAgain m f.locals (number.Compare x t a b))
+  unfolding numbers.compare numbers.comparison class_of
+  compare_reads x name value t a b i gap rest s is plain own sets blanks seam ready =
+      let good = NumberAgain m f.locals (number.Compare x t a b) in
+      let t2 = 32 ∷ (pair_text m f.locals (typed t a) b ++ rest) in
+      let t1 = 32 ∷ (name ++ t2) in
+      on v u skip (λ _. kind_form) i t1 rest (s + 1) s (λ _ o. advanced i ≡ o) good
+      (word_skipped v (codes "icmp") i gap t1 s (s + 1) blanks refl refl (omega arith) ready)
+      (λ _ o ready g e.
+      on v u numbers.comparison pair_form o t2 rest (s + 1) s (λ y _. x ≡ y) good
+      (looked v (λ i. numbers.comparison_of (kind i.cursor)) numbers.comparison_by o t2 (s + 1) (λ y _. x ≡ y) (Some x) (ap numbers.comparison_of (word_seen v name o (32 ∷ []) t2 (s + 1) refl plain refl ready) ∙ is)
+      (on v v skip (λ _. pure x) o t2 t2 (s + 1) (s + 1) (λ _ q. advanced o ≡ q) (λ y _. x ≡ y)
+      (word_skipped v name o (32 ∷ []) t2 (s + 1) (s + 1) refl plain refl (omega arith) ready)
+      (λ _ q ready h e. given v x q t2 (s + 1) (λ y _. x ≡ y) ready refl)))
+      (λ y q ready h same.
+      on v u numbers.pair (bit_form y) q rest rest (s + 1) s (PairAgain m f.locals t a b) good
+      (pair_reads v t a b q (32 ∷ []) rest (s + 1) own refl seam ready)
+      (λ p r ready hh again.
+      on v u (w.intern (type.Integer 1)) (set_form y p) r rest rest s s (λ n o. slice_get o.types n ≡ Some (type.Integer 1)) good
+      (intern_reads v (type.Integer 1) r rest s tt ready)
+      (λ bit z ready h3 there. set_reads v u (λ n others. IsNumberOpAgain m n f.locals others) value (local.Value bit) (number.Compare x t a b) (number.Compare y p.written p.first p.second) z rest s sets refl ready
+      (λ n others later. (same, again n others (later_before r z n others h3 later)))))))
+    where
+      set_form : Comparison → TwoOperands → ℕ → Form NumberOp
+      set_form y p bit = set_type value bit >> pure (number.Compare y p.written p.first p.second)
+
+      bit_form : Comparison → TwoOperands → Form NumberOp
+      bit_form y p = w.intern (type.Integer 1) >>= set_form y p
+
+      pair_form : Comparison → Form NumberOp
+      pair_form y = numbers.pair >>= bit_form y
+
+      kind_form : Form NumberOp
+      kind_form = numbers.comparison >>= pair_form
+
+  -- ---- changes of width
+
+  -- `zext T V to U`, and so for the other two
+  pub resize_reads : (x : Resize) (name : Text) (value from : ℕ) (a : Operand) (to : ℕ) (i : Input) (gap rest : Text) (s : ℕ) → is_plain name ≡ true → IsConverted m f from a to → Sets v u value → AreBlanks gap → EndsType rest
+      → Ready v s i (gap ++ (name ++ (32 ∷ (converted_text m f.locals (typed from a) to ++ rest)))) → Reads u s (numbers.resize x value) i rest (NumberAgain m f.locals (number.Resize x from a to))
+  unfolding numbers.resize class_of
+  resize_reads x name value from a to i gap rest s plain own sets blanks ends ready =
+      let good = NumberAgain m f.locals (number.Resize x from a to) in
+      let behind = 32 ∷ (converted_text m f.locals (typed from a) to ++ rest) in
+      on v u skip (λ _. lists.typed >>= λ from. expect k.To >> (w.scalar >>= λ to. set_type value to.id >> pure (number.Resize x from.written from.operand to.id))) i behind rest s s (λ _ o. advanced i ≡ o) good
+      (word_skipped v name i gap behind s s blanks plain refl (omega arith) ready)
+      (λ _ o ready g e. converted_reads v u (λ n others. IsNumberOpAgain m n f.locals others) (λ b k. number.Resize x b.written b.operand k) (number.Resize x from a to) value from a to o (32 ∷ []) rest s (λ n others b k argument type. (refl, argument.0, argument.1, type)) own sets refl ends ready)
+
+  -- ---- by the word
+
+  -- a sum or the like, by its word
+  pub by_arithmetic : (value : ℕ) (x : Arithmetic) (name : Text) (t : ℕ) (a b : Operand) (i : Input) (gap rest : Text) (s : ℕ) → arithmetic_word x ≡ name ++ 32 ∷ [] → numbers.arithmetic_of (word_kind name) ≡ Some x → is_plain name ≡ true
+      → ArePair m f t a b → Sets v u value → AreBlanks gap → IsSeam rest → Ready v s i (gap ++ (name ++ (32 ∷ (pair_text m f.locals (typed t a) b ++ rest))))
+      → Reads u s (numbers.integer_op value) i rest (NumberAgain m f.locals (number.Arithmetic x t a b))
+  unfolding numbers.integer_op class_of
+  by_arithmetic value x name t a b i gap rest s is of plain own sets blanks seam ready =
+      looked u (λ i. numbers.arithmetic_of (kind i.cursor)) (numbers.arithmetic_by value) i rest s (NumberAgain m f.locals (number.Arithmetic x t a b)) (Some x)
+      (ap numbers.arithmetic_of (word_seen v name i gap (32 ∷ (pair_text m f.locals (typed t a) b ++ rest)) s blanks plain refl ready) ∙ of)
+      (arithmetic_reads x name value t a b i gap rest s is plain own sets blanks seam ready)
+
+  -- a change of width, by its word
+  pub by_resize : (value : ℕ) (x : Resize) (name : Text) (from : ℕ) (a : Operand) (to : ℕ) (i : Input) (gap rest : Text) (s : ℕ) → numbers.arithmetic_of (word_kind name) ≡ None → numbers.resize_of (word_kind name) ≡ Some x → is_plain name ≡ true
+      → IsConverted m f from a to → Sets v u value → AreBlanks gap → EndsType rest → Ready v s i (gap ++ (name ++ (32 ∷ (converted_text m f.locals (typed from a) to ++ rest))))
+      → Reads u s (numbers.integer_op value) i rest (NumberAgain m f.locals (number.Resize x from a to))
+  unfolding numbers.integer_op numbers.resized class_of
+  by_resize value x name from a to i gap rest s none of plain own sets blanks ends ready =
+      let is = word_seen v name i gap (32 ∷ (converted_text m f.locals (typed from a) to ++ rest)) s blanks plain refl ready in
+      let good = NumberAgain m f.locals (number.Resize x from a to) in
+      looked u (λ i. numbers.arithmetic_of (kind i.cursor)) (numbers.arithmetic_by value) i rest s good None (ap numbers.arithmetic_of is ∙ none)
+      (looked u (λ i. numbers.resize_of (kind i.cursor)) (numbers.resize_by value) i rest s good (Some x) (ap numbers.resize_of is ∙ of)
+      (resize_reads x name value from a to i gap rest s plain own sets blanks ends ready))
+
+  -- a comparison, by what it asks
+  pub by_compare : (value : ℕ) (c : Comparison) (t : ℕ) (a b : Operand) (i : Input) (gap rest : Text) (s : ℕ) → ArePair m f t a b → Sets v u value → AreBlanks gap → IsSeam rest
+      → Ready v s i (gap ++ (codes "icmp" ++ (32 ∷ ((comparison_word c ++ pair_text m f.locals (typed t a) b) ++ rest)))) → Reads u s (numbers.compare value) i rest (NumberAgain m f.locals (number.Compare c t a b))
+  unfolding word_kind keywords class_of
+  by_compare value comparison.Equal t a b i gap rest s own sets blanks seam ready = compare_reads comparison.Equal (codes "eq") value t a b i gap rest s refl refl own sets blanks seam ready
+  by_compare value comparison.NotEqual t a b i gap rest s own sets blanks seam ready = compare_reads comparison.NotEqual (codes "ne") value t a b i gap rest s refl refl own sets blanks seam ready
+  by_compare value comparison.UnsignedGreater t a b i gap rest s own sets blanks seam ready = compare_reads comparison.UnsignedGreater (codes "ugt") value t a b i gap rest s refl refl own sets blanks seam ready
+  by_compare value comparison.UnsignedGreaterOrEqual t a b i gap rest s own sets blanks seam ready = compare_reads comparison.UnsignedGreaterOrEqual (codes "uge") value t a b i gap rest s refl refl own sets blanks seam ready
+  by_compare value comparison.UnsignedLess t a b i gap rest s own sets blanks seam ready = compare_reads comparison.UnsignedLess (codes "ult") value t a b i gap rest s refl refl own sets blanks seam ready
+  by_compare value comparison.UnsignedLessOrEqual t a b i gap rest s own sets blanks seam ready = compare_reads comparison.UnsignedLessOrEqual (codes "ule") value t a b i gap rest s refl refl own sets blanks seam ready
+  by_compare value comparison.SignedGreater t a b i gap rest s own sets blanks seam ready = compare_reads comparison.SignedGreater (codes "sgt") value t a b i gap rest s refl refl own sets blanks seam ready
+  by_compare value comparison.SignedGreaterOrEqual t a b i gap rest s own sets blanks seam ready = compare_reads comparison.SignedGreaterOrEqual (codes "sge") value t a b i gap rest s refl refl own sets blanks seam ready
+  by_compare value comparison.SignedLess t a b i gap rest s own sets blanks seam ready = compare_reads comparison.SignedLess (codes "slt") value t a b i gap rest s refl refl own sets blanks seam ready
+  by_compare value comparison.SignedLessOrEqual t a b i gap rest s own sets blanks seam ready = compare_reads comparison.SignedLessOrEqual (codes "sle") value t a b i gap rest s refl refl own sets blanks seam ready

@@ -1,4 +1,0 @@
-use Rattle.machine.proofs.frames.step.Goals as goal
-
-pub returns-in-ReturnVoid-clause-entered : goal.returns-in-ReturnVoid-clause-entered
-returns-in-ReturnVoid-clause-entered c = c.leave_function.ensures.entered c.args.entered.now.tables c.requires.entered

@@ -1,0 +1,266 @@
+//! Slots, loads and stores: what they ask for, and what is read.
+ghost use Rattle.std.specs.Prelude.{◌≡◌};
+ghost use Rattle.machine.specs.Elements.{is_read_as, takes_value};
+ghost use Rattle.machine.specs.Kinds.{slot_at_place, address_at_place, is_usable, value_of};
+ghost use Rattle.machine.specs.Asks.{is_slot_type, is_held_as, fits_type, fits_held, read_action, load_action, plain_action, barrier_action, store_action, memory_action};
+ghost use Rattle.machine.specs.Machine.{slot_value, read_at, loaded_from};
+
+use crate::action::{Action, only_if};
+use crate::answer::Answer;
+use crate::elements::{
+    global_kind, globals_cell, is_read_as, kind_of_word, read_value, takes_value,
+};
+use crate::kinds::{fits_layout_of, is_byte_pointer};
+use crate::operands::{address_at_place, is_usable, slot_at_place, value_of};
+use crate::scene::Scene;
+use crate::value::{Place, Value};
+use ir_ast::{MemoryOp, Module, Operand, TypeId};
+use layout::Program;
+use shadow_stack::SlotId;
+use types::is_reference;
+
+fn is_slot_type(of_module: &Module, held: TypeId, written: TypeId) -> bool
+    ensures { result ≡ is_slot_type of_module.now held written }
+{
+    held == written
+        || (is_reference(of_module, held).is_some() && is_byte_pointer(of_module, written))
+}
+
+/// Whether a slot of this type is loaded or stored under a type.
+fn is_held_as(of_module: &Module, held: Option<TypeId>, written: TypeId) -> bool
+    ensures { result ≡ is_held_as of_module.now held written }
+{
+    match held {
+        Some(held) => is_slot_type(of_module, held, written),
+        None => false,
+    }
+}
+
+fn fits_held(of_module: &Module, held: Option<TypeId>, value: &Value) -> bool
+    ensures { result ≡ fits_held of_module.now held value.now }
+{
+    match held {
+        Some(held) => fits_layout_of(is_reference(of_module, held), value),
+        None => false,
+    }
+}
+
+/// What a read of the word to which an address points asks for.
+pub fn read_action(program: &Program, loaded: TypeId, address: Option<Place>) -> Action
+    ensures { result ≡ read_action program.now loaded address }
+{
+    match &address {
+        Some(Place::Word { layout, at, word }) => only_if(
+            is_read_as(
+                program.module(),
+                loaded,
+                kind_of_word(program, *layout, *word),
+            ),
+            Action::Read {
+                at: *at,
+                word: *word,
+            },
+        ),
+        Some(Place::Global(global)) => only_if(
+            is_read_as(
+                program.module(),
+                loaded,
+                global_kind(program.module(), *global),
+            ),
+            Action::Read {
+                at: globals_cell(),
+                word: global.number(),
+            },
+        ),
+        _ => Action::Wrong,
+    }
+}
+
+/// What a load asks for: nothing of a slot, the word of an address.
+fn load_action(scene: &Scene<'_>, loaded: TypeId, place_type: TypeId, place: &Operand) -> Action
+    ensures { let m = scene.now.program.now.of_module in let f = scene.now.function.now in let slots = scene.now.slots.now in result ≡ load_action scene.now.program.now slots loaded (slot_at_place m f slots place_type place.now) (address_at_place m f slots scene.now.registers.now place_type place.now) }
+{
+    match slot_at_place(scene, place_type, place) {
+        Some(slot) => only_if(
+            is_held_as(scene.of_module(), scene.slots.held_type(slot), loaded),
+            Action::Local,
+        ),
+        None => read_action(
+            scene.program,
+            loaded,
+            address_at_place(scene, place_type, place),
+        ),
+    }
+}
+
+fn plain_action(program: &Program, stored: TypeId, value: Value, address: Option<Place>) -> Action
+    ensures { result ≡ plain_action program.now stored value address }
+{
+    match &address {
+        Some(Place::Word { layout, at, word }) => only_if(
+            takes_value(
+                program.module(),
+                stored,
+                kind_of_word(program, *layout, *word),
+                &value,
+            ),
+            Action::StorePlain {
+                at: *at,
+                word: *word,
+                value,
+            },
+        ),
+        Some(Place::Global(global)) => only_if(
+            takes_value(
+                program.module(),
+                stored,
+                global_kind(program.module(), *global),
+                &value,
+            ),
+            Action::StorePlain {
+                at: globals_cell(),
+                word: global.number(),
+                value,
+            },
+        ),
+        _ => Action::Wrong,
+    }
+}
+
+/// What a store with the barrier asks for, to the word to which an address points.
+pub fn barrier_action(
+    program: &Program,
+    stored: TypeId,
+    value: Value,
+    address: Option<Place>,
+) -> Action
+    ensures { result ≡ barrier_action program.now stored value address }
+{
+    match &address {
+        Some(Place::Word { layout, at, word }) => only_if(
+            takes_value(
+                program.module(),
+                stored,
+                kind_of_word(program, *layout, *word),
+                &value,
+            ),
+            Action::Write {
+                at: *at,
+                word: *word,
+                value,
+            },
+        ),
+        Some(Place::Global(global)) => only_if(
+            takes_value(
+                program.module(),
+                stored,
+                global_kind(program.module(), *global),
+                &value,
+            ),
+            Action::Write {
+                at: globals_cell(),
+                word: global.number(),
+                value,
+            },
+        ),
+        _ => Action::Wrong,
+    }
+}
+
+/// What a store asks for: nothing of a slot, a plain store of the word of an address.
+fn store_action(
+    scene: &Scene<'_>,
+    stored: TypeId,
+    operand: &Operand,
+    place_type: TypeId,
+    place: &Operand,
+) -> Action
+    ensures { let m = scene.now.program.now.of_module in let f = scene.now.function.now in let slots = scene.now.slots.now in let registers = scene.now.registers.now in result ≡ store_action scene.now.program.now slots stored (is_usable m f slots registers stored operand.now) (value_of m registers stored operand.now) (slot_at_place m f slots place_type place.now) (address_at_place m f slots registers place_type place.now) }
+{
+    let value = value_of(scene, stored, operand);
+    let usable = is_usable(scene, stored, operand);
+    match slot_at_place(scene, place_type, place) {
+        Some(slot) => {
+            let held = scene.slots.held_type(slot);
+            only_if(
+                usable
+                    && (is_held_as(scene.of_module(), held, stored)
+                        && fits_held(scene.of_module(), held, &value)),
+                Action::Local,
+            )
+        }
+        None => {
+            if usable {
+                plain_action(
+                    scene.program,
+                    stored,
+                    value,
+                    address_at_place(scene, place_type, place),
+                )
+            } else {
+                Action::Wrong
+            }
+        }
+    }
+}
+
+/// What an operation on memory asks for.
+pub fn memory_action(scene: &Scene<'_>, op: &MemoryOp) -> Action
+    ensures { result ≡ memory_action scene.now.program.now scene.now.function.now scene.now.slots.now scene.now.registers.now op.now }
+{
+    match op {
+        MemoryOp::Alloca(_) => Action::Local,
+        MemoryOp::Load {
+            loaded,
+            place_type,
+            place,
+        } => load_action(scene, *loaded, *place_type, place),
+        MemoryOp::Store {
+            stored,
+            value,
+            place_type,
+            place,
+        } => store_action(scene, *stored, value, *place_type, place),
+    }
+}
+
+/// What a slot holds.
+pub fn slot_value(slots: &[Value], slot: SlotId) -> Value
+    ensures { result ≡ slot_value slots.now slot }
+{
+    match slots.get(slot.number()) {
+        Some(value) => *value,
+        None => Value::Unset,
+    }
+}
+
+/// What is read at an address.
+pub fn read_at(program: &Program, address: Option<Place>, answer: Answer) -> Value
+    ensures { result ≡ read_at program.now address answer }
+{
+    match &address {
+        Some(Place::Word { layout, word, .. }) => {
+            read_value(kind_of_word(program, *layout, *word), answer)
+        }
+        Some(Place::Global(global)) => {
+            read_value(global_kind(program.module(), *global), answer)
+        }
+        _ => Value::Unset,
+    }
+}
+
+/// What a load gives: what the slot holds, or what is read at the address.
+pub fn loaded_from(
+    program: &Program,
+    slots: &[Value],
+    slot: Option<SlotId>,
+    address: Option<Place>,
+    answer: Answer,
+) -> Value
+    ensures { result ≡ loaded_from program.now slots.now slot address answer }
+{
+    match slot {
+        Some(slot) => slot_value(slots, slot),
+        None => read_at(program, address, answer),
+    }
+}

@@ -1,0 +1,161 @@
+//! Operations on integers: what they ask for, and what they give.
+ghost use Rattle.std.specs.Prelude.{◌≡◌, ◌&&◌, slice_get};
+ghost use Rattle.machine.specs.Kinds.{value_of, is_integer, is_usable_number, bits_at, number_in};
+ghost use Rattle.machine.specs.Integers.{may_resize, computed, resized};
+ghost use Rattle.machine.specs.Asks.{may_compare, number_action};
+ghost use Rattle.machine.specs.Machine.{are_equal, compared, number_value};
+ghost use Rattle.machine.specs.declared.value.Value.TheVariants as value;
+
+use crate::action::{Action, only_if};
+use crate::integers::{
+    compares, compares_equal, computed, is_equality, may_resize, resized, truth,
+};
+use crate::kinds::{bits_at, is_integer, number_in};
+use crate::operands::{are_numbers, are_references, is_usable_number, value_of};
+use crate::scene::Scene;
+use crate::value::Value;
+use ir_ast::{Arithmetic, Comparison, NumberOp, Operand, Resize, TypeId};
+
+fn may_compare(
+    scene: &Scene<'_>,
+    kind: Comparison,
+    written: TypeId,
+    first: &Operand,
+    second: &Operand,
+) -> bool
+    ensures { result ≡ may_compare scene.now.program.now.of_module scene.now.function.now scene.now.slots.now scene.now.registers.now kind written first.now second.now }
+{
+    are_numbers(scene, written, first, second)
+        || (is_equality(kind) && are_references(scene, written, first, second))
+}
+
+fn may_resize_to(
+    scene: &Scene<'_>,
+    kind: Resize,
+    from: TypeId,
+    operand: &Operand,
+    to: TypeId,
+) -> bool
+    ensures { let m = scene.now.program.now.of_module in result ≡ is_usable_number m scene.now.function.now scene.now.slots.now scene.now.registers.now from operand.now && (is_integer (slice_get m.types to) && may_resize kind (bits_at m from) (bits_at m to)) }
+{
+    let of_module = scene.of_module();
+    is_usable_number(scene, from, operand)
+        && (is_integer(of_module, to)
+            && may_resize(kind, bits_at(of_module, from), bits_at(of_module, to)))
+}
+
+/// What an operation on integers asks for.
+pub fn number_action(scene: &Scene<'_>, op: &NumberOp) -> Action
+    ensures { result ≡ number_action scene.now.program.now.of_module scene.now.function.now scene.now.slots.now scene.now.registers.now op.now }
+{
+    let has_meaning = match op {
+        NumberOp::Arithmetic {
+            written,
+            first,
+            second,
+            ..
+        } => are_numbers(scene, *written, first, second),
+        NumberOp::Resize {
+            kind,
+            from,
+            operand,
+            to,
+        } => may_resize_to(scene, *kind, *from, operand, *to),
+        NumberOp::Compare {
+            kind,
+            written,
+            first,
+            second,
+        } => may_compare(scene, *kind, *written, first, second),
+    };
+    only_if(has_meaning, Action::Local)
+}
+
+/// What an integer instruction of two operands gives.
+fn arithmetic_value(
+    scene: &Scene<'_>,
+    kind: Arithmetic,
+    written: TypeId,
+    first: &Operand,
+    second: &Operand,
+) -> Value
+    ensures { let m = scene.now.program.now.of_module in result ≡ value.Number (computed kind (bits_at m written) (number_in (value_of m scene.now.registers.now written first.now)) (number_in (value_of m scene.now.registers.now written second.now))) }
+{
+    Value::Number(computed(
+        kind,
+        bits_at(scene.of_module(), written),
+        number_in(&value_of(scene, written, first)),
+        number_in(&value_of(scene, written, second)),
+    ))
+}
+
+/// What a change of an integer's width gives.
+fn resized_value(
+    scene: &Scene<'_>,
+    kind: Resize,
+    from: TypeId,
+    operand: &Operand,
+    to: TypeId,
+) -> Value
+    ensures { let m = scene.now.program.now.of_module in result ≡ value.Number (resized kind (bits_at m from) (bits_at m to) (number_in (value_of m scene.now.registers.now from operand.now))) }
+{
+    Value::Number(resized(
+        kind,
+        bits_at(scene.of_module(), from),
+        bits_at(scene.of_module(), to),
+        number_in(&value_of(scene, from, operand)),
+    ))
+}
+
+fn are_equal(first: Value, second: Value) -> bool
+    ensures { result ≡ are_equal first second }
+{
+    match (first, second) {
+        (Value::Null, Value::Null) => true,
+        (Value::Cell(_, at), Value::Cell(_, there)) => at.cell == there.cell,
+        _ => false,
+    }
+}
+
+/// What an icmp of operands of `bits` bits gives: of two integers, or else of references.
+fn compared(kind: Comparison, bits: u32, first: Value, second: Value) -> Value
+    ensures { result ≡ compared kind bits first second }
+{
+    match (first, second) {
+        (Value::Number(one), Value::Number(other)) => {
+            Value::Number(truth(compares(kind, bits, one, other)))
+        }
+        _ => Value::Number(truth(compares_equal(kind, are_equal(first, second)))),
+    }
+}
+
+/// What an operation on integers gives.
+pub fn number_value(scene: &Scene<'_>, op: &NumberOp) -> Value
+    ensures { result ≡ number_value scene.now.program.now.of_module scene.now.registers.now op.now }
+{
+    match op {
+        NumberOp::Arithmetic {
+            kind,
+            written,
+            first,
+            second,
+        } => arithmetic_value(scene, *kind, *written, first, second),
+        NumberOp::Resize {
+            kind,
+            from,
+            operand,
+            to,
+        } => resized_value(scene, *kind, *from, operand, *to),
+        NumberOp::Compare {
+            kind,
+            written,
+            first,
+            second,
+        } => compared(
+            *kind,
+            bits_at(scene.of_module(), *written),
+            value_of(scene, *written, first),
+            value_of(scene, *written, second),
+        ),
+    }
+}

@@ -1,0 +1,13 @@
+pub mod PoolSizes
+pub mod Conditions
+pub mod UnderWay
+pub mod ReadServed
+pub mod WriteServed
+pub mod AllocServed
+pub mod SafepointServed
+pub mod Roots
+pub mod Endings
+pub mod Loops
+pub mod Arrivals
+pub mod Results
+pub mod Turns
