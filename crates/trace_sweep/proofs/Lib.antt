@@ -1,3 +1,4 @@
 pub mod WordPlaces
 pub mod Newest
 mod ChainTurns
+mod CycleCounts

@@ -9,3 +9,4 @@ pub mod Stands
 pub mod Laws
 pub mod Order
 pub mod Extends
+pub mod Cycles

@@ -6,6 +6,7 @@ ghost use Rattle.colours.specs.Steps as steps;
 ghost use Rattle.trace_sweep.specs.Turns.{is_at_limit, next_reference, next_cell, pass_after_look, list_after, kept_list, behind};
 ghost use Rattle.trace_sweep.specs.Collecting.{plan, in_order, plan_of, begun, ask_of, turn_of, posted_by, moved, FitsNext, NamesCells, stored_by};
 ghost use Rattle.trace_sweep.specs.Stands.{StandsBehind, IsStepOn, ExtendsLogs, ExtendsRuns};
+ghost use Rattle.trace_sweep.specs.Cycles.{swept, HasSwept};
 ghost use Rattle.colours.specs.Runs.{Event, turns_of, word_after};
 ghost use Rattle.colours.specs.declared.place.Place.{Place};
 ghost use Rattle.trace_sweep.specs.Words.{reference_in};
@@ -125,6 +126,21 @@ impl<'a> Collector<'a> {
             place,
             stored: stored_by(ask, found),
         })
+    }
+
+    /// How many sweeps have looked at their last cell; without cells, how many traces have ended.
+    pub fn cycles(&self) -> u64
+        ensures count { result ≡ swept self.now.heap self.now.posted self.now.at }
+
+        // After each log that led here that many sweeps are over.
+        ensures swept { (s : Setup) (log : List Turn) → StandsBehind s log self.now → HasSwept s log result }
+    {
+        let cycle = cycle_of(self.posted);
+        match self.position {
+            Position::Posting => self.posted / 3,
+            Position::Clearing(cell, _) if cell + 1 == self.cells => cycle,
+            _ => cycle.saturating_sub(1),
+        }
     }
 
     /// The next step in turn, whose word held this number.
