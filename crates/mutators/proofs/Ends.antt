@@ -1,28 +1,37 @@
 -- What the threads left that were served, and what is told of them.
-use Rattle.std.proofs.Common.{◌≡◌, ◌<◌, ℕ, zero, suc, List, [], ◌∷◌, length, map, Some, slice_get, slice_index_or, refl, sym, ap, subst, ◌∙◌}
+use Rattle.std.proofs.Common.{◌≡◌, ◌<◌, ◌≤◌, ℕ, zero, suc, List, [], ◌∷◌, ◌++◌, length, map, Some, slice_get, slice_index_or, refl, sym, ap, subst, ◌∙◌}
+use Rattle.std.proofs.lemmas.List.{append-nil}
 use Rattle.std.proofs.lemmas.Option.{slice_get_within}
 use Rattle.std.specs.List.{AllByRecursion}
 use Rattle.lemmas.specs.Lists.{get_some}
 use Rattle.pools.specs.Heap.{Setup as HeapSetup}
-use Rattle.colours.specs.Runs.{Event, log_of}
+use Rattle.colours.specs.declared.turn.Turn.{Turn}
+use Rattle.colours.specs.Runs.{Event, ByThread, log_of, IsHeapRun, TouchesAlive}
+use Rattle.colours.specs.Safety.{KeptIsAlive}
 use Rattle.colours.specs.Steps.{Step}
 use Rattle.layout.specs.Layouts.{LaidOut}
 use Rattle.runs.specs.RealThreads.{Left}
 use Rattle.heap_words.specs.Tokens.{Shared}
+use Rattle.trace_sweep.specs.Cycles.{HasSwept}
+use Rattle.heap_words.specs.Endings.{Closing}
+use Rattle.heap_table.specs.Closing as closing
 use Rattle.heap_table.specs.Closing.{AreOf, HaveLogs}
+use Rattle.heap_table.specs.Sweepers.{SweeperLog, IsSweeperOf, IsNowAt}
 use Rattle.heap_table.specs.Holders.{Holder, IsOf}
 use Rattle.program_runner.specs.Heaps.{heap_of}
 use Rattle.program_runner.specs.Kinds.{FitsThread}
 use Rattle.program_runner.specs.Threads.{ProgramThread, program_machine}
 use Rattle.serving.specs.declared.beside.Job.{Job}
+use Rattle.serving.specs.declared.beside.Limits.{Limits}
 use Rattle.serving.specs.Endings.{EndsSo}
 use Rattle.serving.specs.Jobs.{MayBegin, WasServed, token_of}
 use Rattle.setups.specs.Setups.{starts_of}
 use Rattle.trace_text.specs.declared.trace.Setup.{Setup}
 use Rattle.mutators.specs.declared.thread_end.ThreadEnd.{ThreadEnd}
 use Rattle.mutators.specs.Jobs.{IsJobOf, AreJobs}
-use Rattle.mutators.specs.Reports.{IsThreadEnd, end_of}
-use Rattle.mutators.proofs.Lists.{get_mapped, read_there, all_places}
+use Rattle.mutators.specs.Reports.{IsThreadEnd, IsReport, end_of}
+use Rattle.mutators.proofs.Lists.{get_mapped, read_there, all_places, length_mapped}
+use Rattle.mutators.proofs.Runs.{safe_run}
 
 -- the heap may serve them all
 pub all_may : (p : LaidOut) (setup : Setup) (heap : Shared) (jobs : List (Job ProgramThread)) → AreJobs p setup heap jobs → AllByRecursion (MayBegin program_machine FitsThread heap) jobs
@@ -88,3 +97,28 @@ thread_ends p setup heap run limit before after ends same many each are have tol
     let was = was_served limit before after many each t there.0 there.1.0 in
     subst (IsThreadEnd p setup limit t (log_of t run)) there.1.1
     (thread_end p setup heap run limit t was.0 there.0 same (are t was.0 was.1.0) was.1.1 (log_there run after t there.0 have there.1.0))
+
+-- what came of it all
+pub report : (p : LaidOut) (setup : Setup) (heap : Shared) (limits : Limits) (before after left : List (Job ProgramThread)) (first last : SweeperLog) (closed : Closing) (threads : List ThreadEnd) (turns cycles : ℕ)
+    → ((s : HeapSetup) (run : List Event) → IsHeapRun s run → KeptIsAlive s run)
+    → ((s : HeapSetup) (run : List Event) (t : ℕ) (step : Step) → IsHeapRun s (ByThread t step ∷ run) → TouchesAlive s run t step)
+    → heap.setup ≡ heap_of p setup → AreJobs p setup heap before → length before ≡ length setup.starts → length after ≡ length before → left ≡ after → WereServed limits.steps before after
+    → IsSweeperOf heap first → first.log ≡ [] → IsNowAt first last.log last → (made : List Turn) × (last.log ≡ made ++ first.log) × (length made ≡ turns) → turns ≤ limits.turns
+    → HasSwept last.setup last.log cycles → closing.EndsSo heap.setup (map token_of left) last closed → threads ≡ map end_of left
+    → IsReport p setup limits (record { threads = threads; turns = turns; cycles = cycles })
+report p setup heap limits before after left first last closed threads turns cycles kept touched over are count same is each of none now made within swept ends told =
+    let s = heap_of p setup in
+    let run = ends.run in
+    let is_run = subst (λ (q : HeapSetup). IsHeapRun q run) over ends.is_run in
+    let have = subst (λ (all : List (Job ProgramThread)). HaveLogs run (map token_of all)) is ends.threads in
+    let here = ap (λ (w : SweeperLog). w.setup) now ∙ of.setup ∙ over in
+    record {
+      run = run;
+      is_run = is_run;
+      safe = safe_run s run (kept s) (touched s) is_run;
+      one_each = ap length told ∙ length_mapped end_of left ∙ ap length is ∙ same ∙ count;
+      threads = thread_ends p setup heap run limits.steps before after threads over same each are have (told ∙ ap (map end_of) is);
+      turns = ap length (ends.collector ∙ made.1.0 ∙ ap (λ log. made.0 ++ log) none ∙ append-nil made.0) ∙ made.1.1;
+      within = within;
+      cycles = subst (λ log. HasSwept s log cycles) (sym ends.collector) (subst (λ (q : HeapSetup). HasSwept q last.log cycles) here swept);
+    }

@@ -1,5 +1,7 @@
 pub mod Lists
-pub mod Promises
+pub mod Bounds
 pub mod Beginnings
+pub mod Tokens
 pub mod Runs
+pub mod Plans
 pub mod Ends

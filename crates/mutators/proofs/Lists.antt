@@ -1,5 +1,6 @@
 -- Lists: what is at a place of one that was made longer, mapped, or read by its places.
-use Rattle.std.proofs.Common.{◌≡◌, ◌⊎◌, inl, inr, ℕ, zero, suc, List, [], ◌∷◌, ◌++◌, length, map, Some, slice_get, slice_index_or, refl, ap}
+use Rattle.std.proofs.Common.{◌≡◌, ◌⊎◌, inl, inr, ℕ, zero, suc, List, [], ◌∷◌, ◌++◌, length, map, Some, slice_get, slice_index_or, refl, ap, arith}
+use Rattle.std.specs.Prelude.{take, drop}
 use Rattle.std.specs.List.{AllByRecursion}
 
 -- what is at a place of a list with one element more
@@ -28,3 +29,17 @@ read_there (y ∷ xs) (suc t) x d e = read_there xs t x d e
 pub all_places : {A : Type 0} {P : A → Type 0} (xs : List A) → ((t : ℕ) (x : A) → slice_get xs t ≡ Some x → P x) → AllByRecursion P xs
 all_places [] each = tt
 all_places (x ∷ xs) each = (each zero x refl, all_places xs (λ t y e. each (suc t) y e))
+
+-- a mapped list has as many elements
+pub length_mapped : {A B : Type 0} (f : A → B) (xs : List A) → length (map f xs) ≡ length xs
+length_mapped f [] = refl
+length_mapped f (x ∷ xs) = ap suc (length_mapped f xs)
+
+-- a list of which each element was written again
+pub written_over : {A : Type 0} (n : ℕ) (new old : List A) → length new ≡ length old → n ≡ length old → take n (new ++ drop (length new) old) ≡ new
+written_over zero [] [] same many = refl
+written_over (suc n) [] [] same many = refl
+written_over n [] (y ∷ old) same many = absurd (omega (arith, same))
+written_over n (x ∷ new) [] same many = absurd (omega (arith, same))
+written_over zero (x ∷ new) (y ∷ old) same many = absurd (omega (arith, many))
+written_over (suc n) (x ∷ new) (y ∷ old) same many = ap (λ rest. x ∷ rest) (written_over n new old (omega (arith, same)) (omega (arith, many)))

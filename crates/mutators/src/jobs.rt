@@ -30,6 +30,7 @@ pub(crate) fn new_jobs<'a>(
     requires count { length tokens.items ≡ length setup.now.starts }
     requires tokens { AreNew heap.now 0 tokens.items }
     ensures ok { IfOk result (λ jobs. AreJobs accepted.now.program setup.now heap.now jobs.items) }
+    ensures count { IfOk result (λ jobs. length jobs.items ≡ length setup.now.starts) }
     ensures no_fault { IfOk result (λ _. HasNoRunFault accepted.now.program accepted.now.certs setup.now) }
     ensures fault { IfErr result (λ e. e ≢ fault.Memory → IsRunFault accepted.now.program accepted.now.certs setup.now e) }
 {

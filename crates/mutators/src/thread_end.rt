@@ -31,11 +31,8 @@ pub(crate) fn ends_of(
 ) -> Result<Items<ThreadEnd>, AllocError>
     ensures { IfOk result (λ ends. ends ≡ map end_of jobs.now) }
 {
-    let mut ends = Items::new(alloc);
-    for job in jobs {
-        ends.push(end_of(job))?;
-    }
-    Ok(ends)
+    let ends: Vec<ThreadEnd> = jobs.iter().map(|job| end_of(job)).collect(alloc)?;
+    Ok(Items::from_vec(ends))
 }
 
 /// How a thread ended that was served.

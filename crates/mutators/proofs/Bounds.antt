@@ -1,11 +1,14 @@
 -- Arguments are below what is promised of their parameters exactly where the code says so.
-use Rattle.std.proofs.Common.{◌≡◌, ◌<◌, ℕ, Bool, true, false, Option, Some, None, List, [], ◌∷◌, refl, sym, ◌∙◌, true≢false, arith, lt_true}
+use Rattle.std.proofs.Common.{◌≡◌, ◌<◌, ℕ, Bool, true, false, Option, Some, None, List, [], ◌∷◌, slice_get, refl, sym, subst, ◌∙◌, true≢false, arith, lt_true}
 use Rattle.lemmas.specs.Bools.{and_parts, and_true}
 use Rattle.certs.specs.declared.section.Promise.{Promise}
 use Rattle.facts.specs.Lines.{promised_below}
 use Rattle.soundness.specs.Meaning.{IsBelow}
 use Rattle.program_runner.specs.Threads.{MeetPromises}
-use Rattle.mutators.specs.Faults.{is_below, is_under, are_under}
+use Rattle.certs.specs.declared.section.Section.{Section}
+use Rattle.block_rules.specs.Promises.{promises_in}
+use Rattle.trace_text.specs.declared.trace.Start.{Start}
+use Rattle.mutators.specs.Faults.{MeetsPromises, is_below, is_under, are_under}
 
 below : (bound : Option ℕ) (argument : ℕ) → is_below bound argument ≡ true → IsBelow argument bound
 below None argument e = tt
@@ -32,3 +35,12 @@ all_under (promise ∷ promises) (argument ∷ arguments) meets =
 
 pub not_met : (promises : List (Option Promise)) (arguments : List ℕ) → are_under promises arguments ≡ false → ¬ MeetPromises promises arguments
 not_met promises arguments e meets = true≢false (sym (all_under promises arguments meets) ∙ e)
+
+-- so of the arguments with which a thread begins, as the code finds them
+module _ (certs : List Section) (begun : Start) (promises : List (Option Promise)) (arguments : List ℕ) (these : promises ≡ promises_in (slice_get certs begun.function)) (those : arguments ≡ begun.arguments) where
+  pub met_by : are_under promises arguments ≡ true → MeetsPromises certs begun
+  met_by e = subst (MeetPromises (promises_in (slice_get certs begun.function))) those (subst (λ (q : List (Option Promise)). MeetPromises q arguments) these (met promises arguments e))
+
+  pub not_met_by : are_under promises arguments ≡ false → ¬ MeetsPromises certs begun
+  not_met_by e meets =
+      not_met promises arguments e (subst (λ (q : List (Option Promise)). MeetPromises q arguments) (sym these) (subst (MeetPromises (promises_in (slice_get certs begun.function))) (sym those) meets))

@@ -1,0 +1,51 @@
+use Rattle.std.proofs.Common.{◌≡◌, ◌≤◌, ◌<◌, ◌+◌, ℕ, suc, List, ◌++◌, [], ◌∷◌, Some, length, slice_get, refl, sym, ap, ◌∙◌, subst, arith, add-one}
+use Rattle.std.proofs.lemmas.Option.{slice_get_read, slice_get_within}
+use Rattle.std.proofs.lemmas.Result.{err_from_is_err_and}
+use Rattle.heap_table.specs.Opening.{IsNew, AreNew}
+use Rattle.program_runner.specs.Threads.{ProgramThread}
+use Rattle.serving.specs.declared.beside.Job.{Job}
+use Rattle.setups.specs.SafeSetups.{one_more}
+use Rattle.setups.specs.Setups.{EachBefore}
+use Rattle.trace_text.specs.declared.trace.Start.{Start}
+use Rattle.mutators.specs.Faults.{MayStart}
+use Rattle.mutators.specs.Jobs.{AreJobs}
+use Rattle.mutators.proofs.Tokens.{first_token, other_tokens, one_job_more, no_jobs}
+use Rattle.mutators.proofs.jobs.new_jobs.Goals as goal
+
+pub loop-number-init : goal.loop-number-init
+loop-number-init c = record {
+  starts = c.as_slice-begun-items.ensures;
+  fresh = c.requires.tokens;
+  rest = omega (arith, c.requires.count);
+  count = ap length c.new-jobs.ensures.items;
+  jobs = no_jobs c.args.accepted.now.program c.args.setup.now c.args.heap.now c.new-jobs.result.items c.new-jobs.ensures.items;
+  begun = λ u begun lt at. absurd (omega arith);
+}
+
+pub remove-me-requires : goal.remove-me-requires
+remove-me-requires c = omega (arith, c.loop-number.invariant.rest, c.loop-number-test.true, ap length c.as_slice-begun-items.ensures, c.loop-number.tokens.ok.0)
+
+pub new_job-requires-clause-at : goal.new_job-requires-clause-at
+new_job-requires-clause-at c =
+    let read = slice_get_read c.as_slice-begun-items.result.now (length c.as_slice-begun-items.result.now) c.loop-number.number c.begun-item.result refl c.loop-number-test.true c.begun-item.is in
+    subst (λ (all : List Start). slice_get all c.loop-number.number ≡ Some c.begun-item.result) c.as_slice-begun-items.ensures read
+
+pub new_job-requires-clause-token : goal.new_job-requires-clause-token
+new_job-requires-clause-token c =
+    first_token c.args.heap.now c.loop-number.number c.loop-number.tokens.items c.remove-me.result
+    (omega (arith, c.loop-number.invariant.rest, c.loop-number-test.true, ap length c.as_slice-begun-items.ensures)) c.remove-me.ensures.value c.loop-number.invariant.fresh
+
+pub returns-in_err-job-clause-fault : goal.returns-in_err-job-clause-fault
+returns-in_err-job-clause-fault c = ?
+
+pub loop-number-preserved : goal.loop-number-preserved
+loop-number-preserved c = ?
+
+pub returns-clause-ok : goal.returns-clause-ok
+returns-clause-ok c = c.loop-number.invariant.jobs
+
+pub returns-clause-count : goal.returns-clause-count
+returns-clause-count c = ?
+
+pub returns-clause-no_fault : goal.returns-clause-no_fault
+returns-clause-no_fault c = ?
