@@ -43,3 +43,8 @@ written_over n [] (y ∷ old) same many = absurd (omega (arith, same))
 written_over n (x ∷ new) [] same many = absurd (omega (arith, same))
 written_over zero (x ∷ new) (y ∷ old) same many = absurd (omega (arith, many))
 written_over (suc n) (x ∷ new) (y ∷ old) same many = ap (λ rest. x ∷ rest) (written_over n new old (omega (arith, same)) (omega (arith, many)))
+
+-- and one with one element more has one more
+pub length_pushed : {A : Type 0} (xs : List A) (x : A) → length (xs ++ x ∷ []) ≡ suc (length xs)
+length_pushed [] x = refl
+length_pushed (y ∷ xs) x = ap suc (length_pushed xs x)
