@@ -1,6 +1,7 @@
 -- Arguments are below what is promised of their parameters exactly where the code says so.
-use Rattle.std.proofs.Common.{◌≡◌, ◌<◌, ℕ, Bool, true, false, Option, Some, None, List, [], ◌∷◌, slice_get, refl, sym, subst, ◌∙◌, true≢false, arith, lt_true}
+use Rattle.std.proofs.Common.{◌≡◌, ℕ, true, false, Option, Some, None, List, [], ◌∷◌, slice_get, refl, sym, ap, subst, ◌∙◌, true≢false}
 use Rattle.lemmas.specs.Bools.{and_parts, and_true}
+use Rattle.lemmas.specs.Numbers.{lt_true, lt_yes}
 use Rattle.certs.specs.declared.section.Promise.{Promise}
 use Rattle.facts.specs.Lines.{promised_below}
 use Rattle.soundness.specs.Meaning.{IsBelow}
@@ -12,11 +13,11 @@ use Rattle.mutators.specs.Faults.{MeetsPromises, is_below, is_under, are_under}
 
 below : (bound : Option ℕ) (argument : ℕ) → is_below bound argument ≡ true → IsBelow argument bound
 below None argument e = tt
-below (Some bound) argument e = omega (arith, e)
+below (Some bound) argument e = lt_true argument bound e
 
 is_so : (bound : Option ℕ) (argument : ℕ) → IsBelow argument bound → is_below bound argument ≡ true
 is_so None argument below = refl
-is_so (Some bound) argument below = lt_true argument bound below
+is_so (Some bound) argument below = lt_yes argument bound below
 
 -- arguments of which the code says so meet what is promised
 pub met : (promises : List (Option Promise)) (arguments : List ℕ) → are_under promises arguments ≡ true → MeetPromises promises arguments
@@ -37,10 +38,14 @@ pub not_met : (promises : List (Option Promise)) (arguments : List ℕ) → are_
 not_met promises arguments e meets = true≢false (sym (all_under promises arguments meets) ∙ e)
 
 -- so of the arguments with which a thread begins, as the code finds them
-module _ (certs : List Section) (begun : Start) (promises : List (Option Promise)) (arguments : List ℕ) (these : promises ≡ promises_in (slice_get certs begun.function)) (those : arguments ≡ begun.arguments) where
+module _ (certs : List Section) (begun : Start) (given : List Section) (section : Option Section) (promises : List (Option Promise)) (arguments : List ℕ) (same : given ≡ certs)
+    (found : section ≡ slice_get given begun.function) (these : promises ≡ promises_in section) (those : arguments ≡ begun.arguments) where
+  promised : promises ≡ promises_in (slice_get certs begun.function)
+  promised = these ∙ ap promises_in (found ∙ ap (λ (all : List Section). slice_get all begun.function) same)
+
   pub met_by : are_under promises arguments ≡ true → MeetsPromises certs begun
-  met_by e = subst (MeetPromises (promises_in (slice_get certs begun.function))) those (subst (λ (q : List (Option Promise)). MeetPromises q arguments) these (met promises arguments e))
+  met_by e = subst (MeetPromises (promises_in (slice_get certs begun.function))) those (subst (λ (q : List (Option Promise)). MeetPromises q arguments) promised (met promises arguments e))
 
   pub not_met_by : are_under promises arguments ≡ false → ¬ MeetsPromises certs begun
   not_met_by e meets =
-      not_met promises arguments e (subst (λ (q : List (Option Promise)). MeetPromises q arguments) (sym these) (subst (MeetPromises (promises_in (slice_get certs begun.function))) (sym those) meets))
+      not_met promises arguments e (subst (λ (q : List (Option Promise)). MeetPromises q arguments) (sym promised) (subst (MeetPromises (promises_in (slice_get certs begun.function))) (sym those) meets))

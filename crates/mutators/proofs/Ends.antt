@@ -25,7 +25,6 @@ use Rattle.serving.specs.declared.beside.Job.{Job}
 use Rattle.serving.specs.declared.beside.Limits.{Limits}
 use Rattle.serving.specs.Endings.{EndsSo}
 use Rattle.serving.specs.Jobs.{MayBegin, WasServed, token_of}
-use Rattle.setups.specs.Setups.{starts_of}
 use Rattle.trace_text.specs.declared.trace.Setup.{Setup}
 use Rattle.mutators.specs.declared.thread_end.ThreadEnd.{ThreadEnd}
 use Rattle.mutators.specs.Jobs.{IsJobOf, AreJobs}
@@ -46,17 +45,20 @@ was_served : (limit : ℕ) (before after : List (Job ProgramThread)) → length 
     → (first : Job ProgramThread) × (slice_get before t ≡ Some first) × WasServed program_machine limit first job
 was_served limit before after same each t job at =
     let within : t < length before = subst (λ n. t < n) same (slice_get_within after t job at) in
-    let first = get_some before t within in
-    (first.0, first.1, subst (λ (q : Job ProgramThread). WasServed program_machine limit first.0 q) (read_there after t job job at)
-        (subst (λ (q : Job ProgramThread). WasServed program_machine limit q (slice_index_or after t job)) (read_there before t first.0 job first.1) (each t job within)))
+    let first = get_some before t within in (
+      first.0,
+      first.1,
+      subst (λ (q : Job ProgramThread). WasServed program_machine limit first.0 q) (read_there after t job job at)
+          (subst (λ (q : Job ProgramThread). WasServed program_machine limit q (slice_index_or after t job)) (read_there before t first.0 job first.1) (each t job within)),
+    )
 
 -- its token is of the heap still
 pub are_of : (p : LaidOut) (setup : Setup) (heap : Shared) (limit : ℕ) (before after : List (Job ProgramThread)) → length after ≡ length before → WereServed limit before after → AreJobs p setup heap before
     → AreOf heap (map token_of after)
 are_of p setup heap limit before after same each are = tokens after (λ t job at.
     let was = was_served limit before after same each t job at in
-    let first = are t was.0 was.1.0 in
-    subst (IsOf heap) (sym was.1.1.token) (record { table = first.of.table; setup = first.of.setup }))
+    let first = are t was.0 was.1 in
+    subst (IsOf heap) (sym was.2.token) (record { table = first.of.table; setup = first.of.setup }))
   where
     tokens : (jobs : List (Job ProgramThread)) → ((t : ℕ) (job : Job ProgramThread) → slice_get jobs t ≡ Some job → IsOf heap job.me) → AreOf heap (map token_of jobs)
     tokens [] of = tt
@@ -94,9 +96,9 @@ pub thread_ends : (p : LaidOut) (setup : Setup) (heap : Shared) (run : List Even
     → (t : ℕ) (end : ThreadEnd) → slice_get ends t ≡ Some end → IsThreadEnd p setup limit t (log_of t run) end
 thread_ends p setup heap run limit before after ends same many each are have told t end at =
     let there = get_mapped end_of after t end (subst (λ (all : List ThreadEnd). slice_get all t ≡ Some end) told at) in
-    let was = was_served limit before after many each t there.0 there.1.0 in
-    subst (IsThreadEnd p setup limit t (log_of t run)) there.1.1
-    (thread_end p setup heap run limit t was.0 there.0 same (are t was.0 was.1.0) was.1.1 (log_there run after t there.0 have there.1.0))
+    let was = was_served limit before after many each t there.0 there.1 in
+    subst (IsThreadEnd p setup limit t (log_of t run)) there.2
+    (thread_end p setup heap run limit t was.0 there.0 same (are t was.0 was.1) was.2 (log_there run after t there.0 have there.1))
 
 -- what came of it all
 pub report : (p : LaidOut) (setup : Setup) (heap : Shared) (limits : Limits) (before after left : List (Job ProgramThread)) (first last : SweeperLog) (closed : Closing) (threads : List ThreadEnd) (turns cycles : ℕ)
@@ -118,7 +120,7 @@ report p setup heap limits before after left first last closed threads turns cyc
       safe = safe_run s run (kept s) (touched s) is_run;
       one_each = ap length told ∙ length_mapped end_of left ∙ ap length is ∙ same ∙ count;
       threads = thread_ends p setup heap run limits.steps before after threads over same each are have (told ∙ ap (map end_of) is);
-      turns = ap length (ends.collector ∙ made.1.0 ∙ ap (λ log. made.0 ++ log) none ∙ append-nil made.0) ∙ made.1.1;
+      turns = ap length (ends.collector ∙ made.1 ∙ ap (λ log. made.0 ++ log) none ∙ append-nil made.0) ∙ made.2;
       within = within;
       cycles = subst (λ log. HasSwept s log cycles) (sym ends.collector) (subst (λ (q : HeapSetup). HasSwept q last.log cycles) here swept);
     }

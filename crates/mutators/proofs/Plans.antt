@@ -1,5 +1,5 @@
 -- The plan of a setup's heap.
-use Rattle.std.proofs.Common.{◌≡◌, ℕ, Bool, List, length, map, slice_get, slice_index, refl, sym, ap, subst, ◌∙◌}
+use Rattle.std.proofs.Common.{◌≡◌, ℕ, Bool, List, length, map, slice_get, slice_index, sym, ap, subst, ◌∙◌}
 use Rattle.pools.specs.Heap.{Setup as HeapSetup, kind_of, IsStartOf, IsSetup}
 use Rattle.pools.specs.declared.word_kind.WordKind.{WordKind}
 use Rattle.layout.specs.Globals.{globals_of}

@@ -1,5 +1,5 @@
 -- A heap run is safe at each of its moments.
-use Rattle.std.proofs.Common.{◌≡◌, ℕ, List, [], ◌∷◌, ◌++◌, refl, subst}
+use Rattle.std.proofs.Common.{ℕ, List, [], ◌∷◌, ◌++◌, subst}
 use Rattle.pools.specs.Heap.{Setup}
 use Rattle.colours.specs.Steps.{Step}
 use Rattle.colours.specs.Runs.{Event, ByThread, ByCollector, IsHeapRun, TouchesAlive}

@@ -1,5 +1,5 @@
 -- The tokens of threads that have made no step, taken one after another.
-use Rattle.std.proofs.Common.{◌≡◌, ◌<◌, ◌⊎◌, inl, inr, ℕ, zero, suc, Some, List, [], ◌∷◌, ◌++◌, length, slice_get, slice_index_or, refl, sym, ap, subst, ◌∙◌, arith}
+use Rattle.std.proofs.Common.{◌≡◌, ◌<◌, inl, inr, ℕ, suc, Some, List, [], ◌∷◌, ◌++◌, length, slice_get, slice_index_or, sym, ap, subst, ◌∙◌, arith}
 use Rattle.std.specs.List.{remove}
 use Rattle.layout.specs.Layouts.{LaidOut}
 use Rattle.heap_words.specs.Tokens.{Shared}

@@ -1,5 +1,5 @@
 -- Which threads of a setup may begin, and the fault of the first one that may not.
-use Rattle.std.specs.Prelude.{ℕ, ◌≡◌, ◌<◌, ◌⊎◌, Bool, true, List, [], ◌∷◌, length, Option, Some, None, slice_get, nat_lt}
+use Rattle.std.specs.Prelude.{ℕ, ◌≡◌, ◌⊎◌, Bool, true, List, length, Option, Some, None, slice_get, nat_lt}
 use Rattle.std.specs.List.{list_all, zip}
 use Rattle.layout.specs.Layouts.{LaidOut}
 use Rattle.certs.specs.declared.section.Promise.{Promise}

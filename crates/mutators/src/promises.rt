@@ -18,10 +18,12 @@ fn is_under(promise: Option<Promise>, argument: u64) -> bool
     ensures { result ≡ is_under promise argument }
 {
     match promise {
-        Some(Promise {
-            below: Some(below),
-            ..
-        }) => argument < below,
+        Some(
+            Promise {
+                below: Some(below),
+                ..
+            },
+        ) => argument < below,
         _ => true,
     }
 }

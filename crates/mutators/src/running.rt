@@ -67,7 +67,9 @@ pub fn run<T: Threads + Sync, G: Gate + Sync>(
     };
     let (heap, tokens, sweeper) = Heap::new(alloc, plan)?;
     let jobs = new_jobs(alloc, accepted, setup, &heap, tokens)?;
-    let report = run_jobs(rt, alloc, accepted, setup, heap, jobs, sweeper, limits, gate)?;
+    let report = run_jobs(
+        rt, alloc, accepted, setup, heap, jobs, sweeper, limits, gate,
+    )?;
     Ok(report)
 }
 

@@ -1,7 +1,5 @@
 ghost use Rattle.std.specs.Prelude.{◌≡◌, map, IfOk};
 ghost use Rattle.mutators.specs.Reports.{told, end_of};
-ghost use Rattle.program_runner.specs.Threads.{ProgramThread as AThread};
-ghost use Rattle.serving.specs.declared.beside.Job.{Job as AJob};
 
 use items::Items;
 use machine::{Ending, Value};
@@ -31,8 +29,15 @@ pub(crate) fn ends_of(
 ) -> Result<Items<ThreadEnd>, AllocError>
     ensures { IfOk result (λ ends. ends ≡ map end_of jobs.now) }
 {
-    let ends: Vec<ThreadEnd> = jobs.iter().map(|job| end_of(job)).collect(alloc)?;
+    let ends = each_end(alloc, jobs)?;
     Ok(Items::from_vec(ends))
+}
+
+/// The same, as they are collected.
+fn each_end(alloc: Global, jobs: &[Job<ProgramThread<'_>>]) -> Result<Vec<ThreadEnd>, AllocError>
+    ensures { IfOk result (λ ends. ends.items ≡ map end_of jobs.now) }
+{
+    jobs.iter().map(|job| end_of(job)).collect(alloc)
 }
 
 /// How a thread ended that was served.

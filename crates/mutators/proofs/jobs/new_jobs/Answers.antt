@@ -1,13 +1,8 @@
-use Rattle.std.proofs.Common.{◌≡◌, ◌≤◌, ◌<◌, ◌+◌, ℕ, suc, List, ◌++◌, [], ◌∷◌, Some, length, slice_get, refl, sym, ap, ◌∙◌, subst, arith, add-one}
-use Rattle.std.proofs.lemmas.Option.{slice_get_read, slice_get_within}
+use Rattle.std.proofs.Common.{◌≡◌, ◌<◌, List, Some, length, slice_get, refl, sym, ap, subst, arith, add-one}
+use Rattle.std.proofs.lemmas.Option.{slice_get_read}
 use Rattle.std.proofs.lemmas.Result.{err_from_is_err_and}
-use Rattle.heap_table.specs.Opening.{IsNew, AreNew}
-use Rattle.program_runner.specs.Threads.{ProgramThread}
-use Rattle.serving.specs.declared.beside.Job.{Job}
 use Rattle.setups.specs.SafeSetups.{one_more}
-use Rattle.setups.specs.Setups.{EachBefore}
 use Rattle.trace_text.specs.declared.trace.Start.{Start}
-use Rattle.mutators.specs.Faults.{MayStart}
 use Rattle.mutators.specs.Jobs.{AreJobs}
 use Rattle.mutators.proofs.Lists.{length_pushed}
 use Rattle.mutators.proofs.Tokens.{first_token, other_tokens, one_job_more, no_jobs}

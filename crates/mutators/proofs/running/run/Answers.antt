@@ -1,4 +1,4 @@
-use Rattle.std.proofs.Common.{◌≡◌, length, map, sym, ap, ◌∙◌, arith}
+use Rattle.std.proofs.Common.{map, ap, ◌∙◌, arith}
 use Rattle.std.proofs.lemmas.Result.{err_from_is_err_and}
 use Rattle.ir_ast.specs.declared.module.Module.{Module}
 use Rattle.layout.specs.Globals.{globals_of}
@@ -23,8 +23,8 @@ pub new_jobs-requires-clause-heap : goal.new_jobs-requires-clause-heap
 new_jobs-requires-clause-heap g c =
     c.in_ok-heap.ensures.heap
     ∙ plan_is c.args.accepted.now.program c.args.setup.now c.len.ensures (c.as_slice-2.ensures.value ∙ c.in_ok-late.ensures) (c.layouts.ensures.layouts ∙ ap (λ (p : LaidOut). p.layouts) c.program-program.ensures.program)
-        (c.globals-globals.ensures ∙ ap (λ (p : LaidOut). globals_of p.of_module) c.program-program.ensures.program)
-        (c.as_slice.ensures.value ∙ c.in_ok-values.ensures ∙ ap (λ (m : Module). map (value_of_global m) m.globals) (c.module.ensures.of_module ∙ ap (λ (p : LaidOut). p.of_module) c.program-program.ensures.program))
+    (c.globals-globals.ensures ∙ ap (λ (p : LaidOut). globals_of p.of_module) c.program-program.ensures.program)
+    (c.as_slice.ensures.value ∙ c.in_ok-values.ensures ∙ ap (λ (m : Module). map (value_of_global m) m.globals) (c.module.ensures.of_module ∙ ap (λ (p : LaidOut). p.of_module) c.program-program.ensures.program))
 
 pub new_jobs-requires-clause-count : goal.new_jobs-requires-clause-count
 new_jobs-requires-clause-count g c = c.in_ok-heap.ensures.mutators.0 ∙ c.len.ensures

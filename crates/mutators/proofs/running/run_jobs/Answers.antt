@@ -12,9 +12,10 @@ use Rattle.mutators.proofs.Ends.{all_may, are_of, report}
 use Rattle.mutators.proofs.Lists.{written_over}
 use Rattle.mutators.proofs.running.run_jobs.Goals as goal
 
-pub serve_programs-turns-requires-clause-jobs : goal.serve_programs-turns-requires-clause-jobs
-serve_programs-turns-requires-clause-jobs g c =
-    subst (AllByRecursion (MayBegin program_machine FitsThread c.args.heap)) (sym c.as_mut_slice.ensures.value) (all_may c.args.accepted.now.program c.args.setup.now c.args.heap c.args.jobs.items c.requires.jobs)
+pub serve_programs-turns-requires : goal.serve_programs-turns-requires
+serve_programs-turns-requires g c =
+    let may = all_may c.args.accepted.now.program c.args.setup.now c.args.heap c.args.jobs.items c.requires.jobs in
+    (c.type_bounds.sync-T, (c.type_bounds.sync-G, (subst (AllByRecursion (MayBegin program_machine FitsThread c.args.heap)) (sym c.as_mut_slice.ensures.value) may, c.requires.sweeper)))
 
 pub close_after-requires-clause-jobs : goal.close_after-requires-clause-jobs
 close_after-requires-clause-jobs g c =
@@ -37,7 +38,7 @@ returns g c =
     let same : length after ≡ length before = omega (arith, c.serve_programs-turns.auto.jobs) in
     let are = subst (AreJobs c.args.accepted.now.program c.args.setup.now c.args.heap) (sym value) c.requires.jobs in
     report c.args.accepted.now.program c.args.setup.now c.args.heap c.args.limits before after _ c.args.sweeper c.serve_programs-turns.new.sweeper c.in_ok-close_after.field-0 c.in_ok-threads.threads
-        c.serve_programs-turns.result c.cycles-cycles.result c.heap_law.ensures.kept c.heap_law.ensures.touched c.requires.heap are (ap length value ∙ c.requires.count) same
-        (written_over c.args.jobs.len after c.args.jobs.items (same ∙ ap length value) (omega (arith, c.args.jobs.ok.0))) c.serve_programs-turns.ensures.jobs c.requires.sweeper c.requires.fresh
-        c.serve_programs-turns.ensures.token c.serve_programs-turns.ensures.turns c.serve_programs-turns.ensures.limit c.cycles-cycles.ensures c.in_ok-close_after.ensures.run
-        (c.in_ok-threads.ensures ∙ ap (map end_of) c.as_slice.ensures.value)
+    c.serve_programs-turns.result c.cycles-cycles.result c.heap_law.ensures.kept c.heap_law.ensures.touched c.requires.heap are (ap length value ∙ c.requires.count) same
+    (written_over c.args.jobs.len after c.args.jobs.items (same ∙ ap length value) (omega (arith, c.args.jobs.ok.0))) c.serve_programs-turns.ensures.jobs c.requires.sweeper c.requires.fresh
+    c.serve_programs-turns.ensures.token c.serve_programs-turns.ensures.turns c.serve_programs-turns.ensures.limit c.cycles-cycles.ensures c.in_ok-close_after.ensures.run
+    (c.in_ok-threads.ensures ∙ ap (map end_of) c.as_slice.ensures.value)
