@@ -1,5 +1,5 @@
 -- The first fault of all workers is the first fault of the module.
-use Rattle.std.proofs.Common.{◌≡◌, ◌⊎◌, ◌<◌, ◌≤◌, ◌∙◌, ℕ, zero, suc, ◌+◌, ◌%◌, nat_lt, Bool, true, false, List, [], ◌∷◌, length, fold, slice_index_or, Option, Some, None, MatchOption, if◌then◌else◌, arith, inl, inr, refl, subst, sym, ltb-true, ltb-false}
+use Rattle.std.proofs.Common.{◌≡◌, ◌⊎◌, ◌<◌, ◌≤◌, ℕ, zero, suc, ◌+◌, ◌%◌, nat_lt, Bool, true, false, List, [], ◌∷◌, length, fold, slice_index_or, Option, Some, None, MatchOption, if◌then◌else◌, arith, inl, inr, refl, subst, ltb-true, ltb-false}
 use Rattle.std.proofs.lemmas.Bool.{cases_lt}
 use Rattle.std.proofs.lemmas.Nat.{mod_below}
 use Rattle.certs.specs.declared.section.Section.{Section}
@@ -9,7 +9,7 @@ use Rattle.block_rules.specs.declared.block_fault.BlockFault.{BlockFault}
 use Rattle.block_rules.specs.declared.block_fault.BlockFault.TheVariants.{Refused, Memory}
 use Rattle.block_rules.specs.declared.block_fault.Refusal.{Refusal}
 use Rattle.module_check.specs.Accepted.{IsModuleCertified, IsModuleFault}
-use Rattle.parallel_check.specs.Shares.{IsFirstFault, IsFirstInShare, IsOf, IsOfFirst, IsShareCertified, IsShareFault, earlier}
+use Rattle.parallel_check.specs.Shares.{IsFirstFault, IsFirstInShare, IsOf, IsOfFirst, IsShareCertified, earlier}
 
 module _ (program : LaidOut) (certs : List Section) (count : ℕ) where
   module _ (One Other Both : ℕ → Type 0) (divided : (func : ℕ) → Both func → One func ⊎ Other func) where
