@@ -1,5 +1,5 @@
 -- What a command line asks for, and what becomes of an error of `clap`.
-use Rattle.std.specs.Prelude.{ℕ, List, [], ◌∷◌, Bool, true, false, if◌then◌else◌}
+use Rattle.std.specs.Prelude.{◌≤◌, ℕ, List, [], ◌∷◌, Bool, true, false, if◌then◌else◌}
 use Rattle.clap.specs.Words.{Text, kind_of}
 use Rattle.clap.specs.declared.error.Error.{Error}
 use Rattle.clap.specs.declared.error.kind.ErrorKind.{ErrorKind}
@@ -20,18 +20,23 @@ fault_of_error error = if is_memory_kind (kind_of error) then Memory else Words 
 
 -- what a line asks for: a command on the files of these paths, with its numbers
 pub data Asked : Type 0 where
-  check : (module_path certificate_path : Text) → Asked
+  check : (module_path certificate_path : Text) (workers : ℕ) → Asked
   replay : (module_path trace_path : Text) → Asked
   soak : (module_path trace_path : Text) (seeds steps : ℕ) → Asked
 
 -- what a line asks for, as plain text and numbers
 abbrev pub asked_by : Line → Asked
-asked_by (Check module_path certificate_path) = check module_path.now certificate_path.now
+asked_by (Check module_path certificate_path workers) = check module_path.now certificate_path.now workers
 asked_by (Replay module_path trace_path) = replay module_path.now trace_path.now
 asked_by (Soak module_path trace_path seeds steps) = soak module_path.now trace_path.now seeds steps
 
 -- the paths of the command's files, in the line's order
 abbrev pub paths_of : Asked → List Text
-paths_of (check module_path certificate_path) = module_path ∷ certificate_path ∷ []
+paths_of (check module_path certificate_path workers) = module_path ∷ certificate_path ∷ []
 paths_of (replay module_path trace_path) = module_path ∷ trace_path ∷ []
 paths_of (soak module_path trace_path seeds steps) = module_path ∷ trace_path ∷ []
+
+-- a check has from 1 to 64 workers
+abbrev pub HasWorkers : Asked → Type 0
+HasWorkers (check module_path certificate_path workers) = (1 ≤ workers) × (workers ≤ 64)
+HasWorkers _ = Unit {0}

@@ -87,6 +87,6 @@ pub data OfRun (Run : LaidOut → Trace → Said → Type 0) (module_path trace_
 
 -- what a command says of its files, in the line's order
 abbrev pub OfCommand : Asked → (first second : Option (List ℕ)) → Said → Type 0
-OfCommand (check module_path cert_path) first second = OfCheck module_path cert_path first second
+OfCommand (check module_path cert_path workers) first second = OfCheck module_path cert_path first second
 OfCommand (replay module_path trace_path) first second = OfRun OfTrace module_path trace_path first second
 OfCommand (soak module_path trace_path seeds steps) first second = OfRun (OfSeeds seeds steps) module_path trace_path first second

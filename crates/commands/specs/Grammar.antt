@@ -1,5 +1,5 @@
 -- The grammar of the command line, as `clap` has it, and what the words of a line ask for.
-use Rattle.std.specs.Prelude.{◌≡◌, ◌&&◌, ◌^◌, ℕ, pos, length, nat_lt, List, Option, Some, None, true, codes, option_map, option_and_then, if◌then◌else◌}
+use Rattle.std.specs.Prelude.{◌≡◌, ◌&&◌, ◌^◌, ℕ, pos, length, nat_lt, List, [], ◌∷◌, Option, Some, None, true, codes, option_map, option_and_then, if◌then◌else◌}
 use Rattle.std.specs.Str.{all_ascii_digits, bytes_eq}
 use Rattle.std.specs.Str.Parse.{digits_value, without_leading_plus}
 use Rattle.clap.specs.Words.{App, IsAmong, Row, Rule, Text, fault_of, first_of, kind_of, new_app, new_rule, one_of, subcommand_of, with_rule, with_subcommand}
@@ -21,13 +21,22 @@ number_rule name = record (new_rule name) {
   parser = Some (Signed (pos 0) (pos 4294967295));
 }
 
+-- an option whose value is a number from 1 to 64, and 1 where it is not given
+abbrev pub workers_rule : Rule
+workers_rule = record (new_rule (codes "workers")) {
+  long = Some (codes "workers");
+  value_names = 1;
+  defaults = codes "1" ∷ [];
+  parser = Some (Signed (pos 1) (pos 64));
+}
+
 -- NAME MODULE SECOND: a command on two files
 abbrev pub files_app : (name second : Text) → App
 files_app name second = with_rule (with_rule (new_app name) (file_rule (codes "MODULE"))) (file_rule second)
 
--- check MODULE CERT
+-- check MODULE CERT --workers N
 abbrev pub check_app : App
-check_app = files_app (codes "check") (codes "CERT")
+check_app = with_rule (files_app (codes "check") (codes "CERT")) workers_rule
 
 -- replay MODULE TRACE
 abbrev pub replay_app : App
@@ -63,9 +72,14 @@ abbrev pub paths_in : (second : Text) → List Row → Option (Text × Text)
 paths_in second given =
     option_and_then (λ module_path. option_map (λ path. (module_path, path)) (first_of second given)) (first_of (codes "MODULE") given)
 
--- `check` with what was given to it, if that is a module and a certificate
+-- how many workers were given, from 1 to 64
+abbrev pub workers_of : List Row → Option ℕ
+workers_of given = option_and_then (λ workers. if nat_lt 0 workers && nat_lt workers 65 then Some workers else None) (number_of (codes "workers") given)
+
+-- `check` with what was given to it, if that is a module, a certificate and a number of workers
 abbrev pub check_of : List Row → Option Asked
-check_of given = option_map (λ paths. check paths.0 paths.1) (paths_in (codes "CERT") given)
+check_of given =
+    option_and_then (λ paths. option_map (λ workers. check paths.0 paths.1 workers) (workers_of given)) (paths_in (codes "CERT") given)
 
 -- `replay` with what was given to it, if that is a module and a trace
 abbrev pub replay_of : List Row → Option Asked

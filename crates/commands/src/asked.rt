@@ -10,10 +10,11 @@ use std::alloc::{AllocError, Global};
 /// A command with the paths of its files.
 #[derive(Clone, Copy, PartialEq, Eq)]
 pub enum Line<'a> {
-    /// Check a module against a certificate.
+    /// Check a module against a certificate, by `workers` workers.
     Check {
         module_path: &'a str,
         certificate_path: &'a str,
+        workers: u32,
     },
     /// Make the steps of a trace of a module.
     Replay {
@@ -69,6 +70,7 @@ impl<'a> Line<'a> {
             Line::Check {
                 module_path,
                 certificate_path,
+                ..
             } => vec![in alloc; module_path, certificate_path]?,
             Line::Replay {
                 module_path,

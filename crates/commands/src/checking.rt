@@ -1,5 +1,5 @@
 //! The command `check`.
-ghost use Rattle.std.specs.Prelude.{IfOk};
+ghost use Rattle.std.specs.Prelude.{◌≤◌, IfOk};
 ghost use Rattle.std.specs.Option.{option_copied};
 ghost use Rattle.commands.specs.Commands.{OfCertFile, OfCerts, OfCheck, Says};
 ghost use Rattle.commands.specs.Files as spec;
@@ -10,10 +10,12 @@ use certificate::read_cert;
 use certs::Certs;
 use ir_ast::Module;
 use ir_text::read;
-use module_check::{NotAccepted, Refusal, Verdict, check};
+use module_check::{NotAccepted, Refusal, Verdict};
+use parallel_check::{OpenGate, check_with};
 use std::alloc::Global;
 use std::io;
 use std::io::Write;
+use std::thread::Threads;
 
 /// Prints the first refusal of a module.
 fn report_refusal<O: Write, E: Write>(
@@ -51,15 +53,19 @@ fn report_verdict<O: Write, E: Write>(
 
 /// Checks a module and its certificates.
 fn check_certs<O: Write, E: Write>(
+    rt: &(impl Threads + Sync),
     alloc: Global,
     of_module: Module,
     certs: Certs,
+    workers: u32,
     out: &mut O,
     err: &mut E,
 ) -> io::Result<u8>
+    requires some { 1 ≤ workers }
+    requires few { workers ≤ 64 }
     ensures { IfOk result (Says (OfCerts of_module certs) (O.contents out.old) (O.contents out.new) (E.contents err.old) (E.contents err.new)) }
 {
-    match check(alloc, of_module, certs) {
+    match check_with(rt, alloc, workers, &OpenGate, of_module, certs) {
         Ok(accepted) => {
             let count = accepted.program().module().functions.len();
             drop(accepted);
@@ -75,13 +81,17 @@ fn check_certs<O: Write, E: Write>(
 
 /// Checks a module and the file of its certificates, which has this path.
 fn check_module<O: Write, E: Write>(
+    rt: &(impl Threads + Sync),
     alloc: Global,
     of_module: Module,
     path: &str,
+    workers: u32,
     file: Option<&[u8]>,
     out: &mut O,
     err: &mut E,
 ) -> io::Result<u8>
+    requires some { 1 ≤ workers }
+    requires few { workers ≤ 64 }
     ensures { IfOk result (Says (OfCertFile of_module path.now (option_copied file.entry)) (O.contents out.old) (O.contents out.new) (E.contents err.old) (E.contents err.new)) }
 {
     let Some(certificate) = file else {
@@ -89,7 +99,7 @@ fn check_module<O: Write, E: Write>(
         return crate::faults::no_file(err, path);
     };
     match read_cert(alloc, certificate, &of_module) {
-        Ok(certs) => check_certs(alloc, of_module, certs, out, err),
+        Ok(certs) => check_certs(rt, alloc, of_module, certs, workers, out, err),
         Err(fault) => {
             let status = crate::faults::no_certificate(err, &of_module, fault);
             drop(of_module);
@@ -98,22 +108,35 @@ fn check_module<O: Write, E: Write>(
     }
 }
 
-/// Checks the module and the certificate of these paths. The first fault counts: of each file in the line's order, its
+/// Checks the module and the certificate of these paths, by this number of workers. The first fault counts: of each file in the line's order, its
 /// path and then its text, then of the layouts, then of the check.
 pub fn check_files<O: Write, E: Write>(
+    rt: &(impl Threads + Sync),
     alloc: Global,
     paths: (&str, &str),
+    workers: u32,
     files: &[Option<Vec<u8>>],
     out: &mut O,
     err: &mut E,
 ) -> io::Result<u8>
+    requires some { 1 ≤ workers }
+    requires few { workers ≤ 64 }
     ensures { IfOk result (Says (OfCheck paths.entry.0.now paths.entry.1.now (spec.file_at files.now 0) (spec.file_at files.now 1)) (O.contents out.old) (O.contents out.new) (E.contents err.old) (E.contents err.new)) }
 {
     let Some(text) = file_at(files, 0) else {
         return crate::faults::no_file(err, paths.0);
     };
     match read(alloc, text) {
-        Ok(of_module) => check_module(alloc, of_module, paths.1, file_at(files, 1), out, err),
+        Ok(of_module) => check_module(
+            rt,
+            alloc,
+            of_module,
+            paths.1,
+            workers,
+            file_at(files, 1),
+            out,
+            err,
+        ),
         Err(fault) => crate::faults::no_module(err, &fault),
     }
 }

@@ -1,6 +1,6 @@
 //! The commands, from the bytes of their files to the printed lines and the status.
 ghost use Rattle.std.specs.Prelude.{IfOk};
-ghost use Rattle.commands.specs.Asked.{asked_by};
+ghost use Rattle.commands.specs.Asked.{asked_by, HasWorkers};
 ghost use Rattle.commands.specs.Commands.{OfCommand, Says};
 ghost use Rattle.commands.specs.Files as spec;
 
@@ -23,13 +23,23 @@ pub fn work<O: Write, E: Write>(
     out: &mut O,
     err: &mut E,
 ) -> io::Result<u8>
+    requires { HasWorkers (asked_by line.now) }
     ensures { IfOk result (Says (OfCommand (asked_by line.now) (spec.file_at files.now 0) (spec.file_at files.now 1)) (O.contents out.old) (O.contents out.new) (E.contents err.old) (E.contents err.new)) }
 {
     match *line {
         Line::Check {
             module_path,
             certificate_path,
-        } => check_files(alloc, (module_path, certificate_path), files, out, err),
+            workers,
+        } => check_files(
+            rt,
+            alloc,
+            (module_path, certificate_path),
+            workers,
+            files,
+            out,
+            err,
+        ),
         Line::Replay {
             module_path,
             trace_path,

@@ -14,6 +14,9 @@ pub(crate) struct CommandHelp {
 pub(crate) const MODULE: &str =
     "A module: textual LLVM IR with typed pointers, gcroot and the shadow stack (docs/TEXT.md)";
 
+pub(crate) const WORKERS: &str =
+    "How many threads check functions, from 1 to 64; the answer is the same";
+
 pub(crate) const SEEDS: &str = "How many seeds; the seeds are 0 to N-1";
 
 pub(crate) const STEPS: &str = "How many steps each seed makes";

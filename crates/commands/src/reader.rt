@@ -2,11 +2,13 @@
 ghost use Rattle.std.specs.Prelude.{◌≡◌, IfOk, IfErr, IsOk, [], map, option_map, false};
 ghost use Rattle.clap.specs.Words.{app_of, fault_of, found_of, new_app, rows_of, rule_of};
 ghost use Rattle.clap.specs.declared.builder.command.Command.TheViews.{out-Command};
-ghost use Rattle.commands.specs.Asked.{asked_by};
-ghost use Rattle.commands.specs.Grammar.{asked_in, asked_of, check_of, dgc_app, file_rule, files_app, IsRefusalOf, number_of, number_rule, paths_in, replay_of, soak_app, soak_of};
+ghost use Rattle.commands.specs.Asked.{asked_by, HasWorkers};
+ghost use Rattle.commands.specs.Grammar.{asked_in, asked_of, check_app, check_of, dgc_app, file_rule, files_app, IsRefusalOf, number_of, number_rule, paths_in, replay_of, soak_app, soak_of, workers_of, workers_rule};
 
 use crate::asked::{Line, LineFault};
-use crate::help::{CHECK, CommandHelp, DGC_ABOUT, DGC_AFTER, MODULE, REPLAY, SEEDS, SOAK, STEPS};
+use crate::help::{
+    CHECK, CommandHelp, DGC_ABOUT, DGC_AFTER, MODULE, REPLAY, SEEDS, SOAK, STEPS, WORKERS,
+};
 use clap::{Arg, ArgMatches, Command, value_parser};
 use std::alloc::{AllocError, Global};
 
@@ -29,6 +31,19 @@ fn number<'a>(alloc: Global, name: &'a str, shown: &'a str, help: &'a str) -> Ar
         .value_parser(value_parser!(u32))
         .required(true)
         .help(help)
+}
+
+/// The number of workers, which may be given.
+fn workers<'a>(alloc: Global) -> Arg<'a>
+    ensures rule { rule_of result ≡ workers_rule }
+    ensures own { result.global ≡ false }
+{
+    Arg::new(alloc, "workers")
+        .long("workers")
+        .value_name("N")
+        .value_parser(value_parser!(u32).range(1..65))
+        .default_value("1")
+        .help(WORKERS)
 }
 
 /// A command of this name, with the texts that its help begins and ends with.
@@ -54,6 +69,13 @@ fn files_command<'a>(
         .arg(file(alloc, second, help.second))
 }
 
+fn check_command<'a>(alloc: Global) -> Result<Command<'a>, AllocError>
+    ensures app { IfOk result (λ command. app_of command ≡ check_app) }
+    ensures own { IfOk result (λ command. (out-Command command).has_globals ≡ false) }
+{
+    files_command(alloc, "check", "CERT", CHECK)?.arg(workers(alloc))
+}
+
 fn soak_command<'a>(alloc: Global) -> Result<Command<'a>, AllocError>
     ensures app { IfOk result (λ command. app_of command ≡ soak_app) }
     ensures own { IfOk result (λ command. (out-Command command).has_globals ≡ false) }
@@ -67,7 +89,7 @@ fn dgc_command<'a>(alloc: Global) -> Result<Command<'a>, AllocError>
     ensures app { IfOk result (λ command. app_of command ≡ dgc_app) }
     ensures own { IfOk result (λ command. (out-Command command).has_globals ≡ false) }
 {
-    let check = files_command(alloc, "check", "CERT", CHECK)?;
+    let check = check_command(alloc)?;
     let command = told_command(alloc, "dgc", DGC_ABOUT, DGC_AFTER)
         .version("0.1.0")
         .subcommand_required(true)
@@ -104,6 +126,18 @@ fn number_given(given: &ArgMatches<'_>, name: &str) -> Option<u32>
     given.get_one::<u32>(name)
 }
 
+/// The number of workers that was given, from 1 to 64.
+fn workers_given(given: &ArgMatches<'_>) -> Option<u32>
+    ensures { result ≡ workers_of (rows_of (found_of given.now)) }
+{
+    let workers = number_given(given, "workers")?;
+    if (1..65).contains(&workers) {
+        Some(workers)
+    } else {
+        None
+    }
+}
+
 /// The line of `check`, from what was given to it.
 fn check_line<'a>(given: &ArgMatches<'a>) -> Option<Line<'a>>
     ensures { option_map asked_by result ≡ check_of (rows_of (found_of given.now)) }
@@ -111,9 +145,13 @@ fn check_line<'a>(given: &ArgMatches<'a>) -> Option<Line<'a>>
     let Some((module_path, certificate_path)) = paths_given(given, "CERT") else {
         return None;
     };
+    let Some(workers) = workers_given(given) else {
+        return None;
+    };
     Some(Line::Check {
         module_path,
         certificate_path,
+        workers,
     })
 }
 
@@ -166,6 +204,7 @@ fn command_line<'a>(name: &str, given: &ArgMatches<'a>) -> Option<Line<'a>>
 /// Reads the command line, the program's own name first.
 pub fn line<'a>(alloc: Global, words: &'a [&'a str]) -> Result<Line<'a>, LineFault>
     ensures found { IfOk result (λ line. asked_in (map (λ word. word.now) words.now) ≡ Some (asked_by line)) }
+    ensures workers { IfOk result (λ line. HasWorkers (asked_by line)) }
     ensures taken { IsOk result → fault_of dgc_app (map (λ word. word.now) words.now) ≡ [] }
     ensures refused { IfErr result (IsRefusalOf (map (λ word. word.now) words.now)) }
 {

@@ -3,6 +3,8 @@
 
 mod failure;
 
+ghost use Rattle.commands.specs.Asked.{asked_by, HasWorkers};
+
 use commands::{Line, LineFault, STATUS_USAGE, STATUS_YES, line, memory, status_of, work};
 use failure::Failure;
 use std::io::Write;
@@ -28,7 +30,9 @@ fn answer<O: Write, E: Write>(
     line: &Line<'_>,
     out: &mut O,
     err: &mut E,
-) -> Result<u8, Failure> {
+) -> Result<u8, Failure>
+    requires { HasWorkers (asked_by line.now) }
+{
     let mut files = Vec::new(rt.alloc());
     for path in line.paths(rt.alloc())? {
         files.push(bytes_of(rt, path)?)?;

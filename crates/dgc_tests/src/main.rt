@@ -1,4 +1,5 @@
-//! `dgc_tests`, the program: runs commands of `dgc` on files and compares what they print with what is wanted.
+//! `dgc_tests`, the program: runs commands of `dgc` on files and compares what they print with what is wanted. Each check is run
+//! by one worker and by three.
 //!
 //! `rows.txt` names the rows, one a line. The folder `rows/NAME` of a row has these files:
 //! - `args`: the command line after `dgc`, one word a line.
@@ -25,6 +26,8 @@ mod replaying_tests;
 mod row;
 #[cfg(test)]
 mod texts;
+#[cfg(test)]
+mod worker_tests;
 
 use failure::Failure;
 use row::Row;
@@ -44,15 +47,22 @@ struct Tally {
     different: u32,
 }
 
-/// Runs the command of a row. Returns whether it prints what is wanted, and writes what differs.
+/// Runs the command of a row, and a check once more by three workers. Returns whether it prints what is wanted, and writes
+/// what differs.
 fn compare_row<O: Write>(
     rt: &(impl Runtime + AllocGlobal + Threads + Sync),
     name: &str,
     out: &mut O,
 ) -> Result<bool, Failure> {
     let row = Row::read(rt, name)?;
-    let printed = row.printed(rt)?;
-    Ok(printed.compare(out, name, row.wanted())?)
+    let printed = row.printed(rt, [].as_slice())?;
+    let is_alike = printed.compare(out, name, row.wanted())?;
+    if !row.is_plain_check() {
+        return Ok(is_alike);
+    }
+    let printed = row.printed(rt, ["--workers", "3"].as_slice())?;
+    let is_alike_by_three = printed.compare(out, name, row.wanted())?;
+    Ok(is_alike && is_alike_by_three)
 }
 
 /// Runs the command of a row. A row whose own files cannot be read is not as wanted.

@@ -1,4 +1,6 @@
 //! A row: a command line, the folder of its files, and what it has to print.
+ghost use Rattle.commands.specs.Asked.{asked_by, HasWorkers};
+
 use crate::failure::Failure;
 use crate::printed::Printed;
 use commands::{Line, LineFault, STATUS_USAGE, line, status_of, work};
@@ -51,13 +53,25 @@ impl Row {
         &self.wanted
     }
 
-    /// Runs the command line.
+    /// Whether it checks a module and a certificate, with no options.
+    pub fn is_plain_check(&self) -> bool {
+        self.words.len() == 4 && self.words[1].as_str() == "check"
+    }
+
+    /// Runs the command line with these words after it.
     pub fn printed(
         &self,
         rt: &(impl Runtime + AllocGlobal + Threads + Sync),
+        more: &[&str],
     ) -> Result<Printed, Failure> {
         let alloc = rt.alloc();
-        let words: Vec<&str> = self.words.iter().map(|word| word.as_str()).collect(alloc)?;
+        let mut words = Vec::new(alloc);
+        for word in self.words.as_slice() {
+            words.push(word.as_str())?;
+        }
+        for word in more {
+            words.push(*word)?;
+        }
         match line(alloc, words.as_slice()) {
             Ok(line) => self.done(rt, &line),
             Err(LineFault::Words(error)) => {
@@ -78,7 +92,9 @@ impl Row {
         &self,
         rt: &(impl Runtime + AllocGlobal + Threads + Sync),
         line: &Line<'_>,
-    ) -> Result<Printed, Failure> {
+    ) -> Result<Printed, Failure>
+        requires { HasWorkers (asked_by line.now) }
+    {
         let alloc = rt.alloc();
         let mut files = Vec::new(alloc);
         for path in line.paths(alloc)? {

@@ -30,8 +30,13 @@ impl Accepted {
     /// A program and certificates with which each of its blocks is certified.
     pub fn of(program: Program, certs: Certs) -> Self
         requires { IsModuleCertified program certs (length program.of_module.functions) }
-        ensures { result ≡ record { program = program; certs = certs } }
+        ensures holds { result ≡ record { program = program; certs = certs } }
+        ensures disciplined { AreDisciplined result.program result.certs }
+        ensures careful { IsCarefulProgram result.program result.certs }
+        ensures safe { IsSafeProgram result.program result.certs }
     {
+        discipline_law();
+        program_law();
         Accepted { program, certs }
     }
 

@@ -9,7 +9,6 @@ use block_rules::{BlockFault, Refusal};
 use certs::Certs;
 use ir_ast::{FuncId, Module};
 use layout::{LayoutFault, Program};
-use program_safety::{discipline_law, program_law};
 use std::alloc::Global;
 
 /// Why a module is not accepted.
@@ -102,8 +101,6 @@ pub fn check(alloc: Global, of_module: Module, certs: Certs) -> Result<Accepted,
     ensures only { IsAccepted of_module certs → IfErr result (λ refused. refused.verdict ≡ Verdict.Memory) }
     ensures given_back { IfErr result (λ refused. (refused.of_module ≡ of_module) × (refused.certs ≡ certs)) }
 {
-    discipline_law();
-    program_law();
     let program = match Program::new(alloc, of_module) {
         Ok(program) => program,
         Err(refused) => {

@@ -1,21 +1,6 @@
-use Rattle.std.proofs.Common.{◌∙◌, sym, subst}
-use Rattle.module_check.specs.Discipline.{AreDisciplined}
-use Rattle.program_safety.specs.Safety.{IsCarefulProgram, IsSafeProgram}
-use Rattle.module_check.proofs.Threads.{disciplined, promised}
+use Rattle.std.proofs.Common.{◌∙◌}
 use Rattle.module_check.proofs.Exclusive.{only_memory}
 use Rattle.module_check.proofs.verdict.check.Goals as goal
-
-pub returns-in-None-clause-disciplined : goal.returns-in-None-clause-disciplined
-returns-in-None-clause-disciplined c =
-    subst (λ accepted. AreDisciplined accepted.program accepted.certs) (sym c.of.ensures) (disciplined c.discipline_law.ensures c.in-Ok.program c.args.certs c.in-None.ensures)
-
-pub returns-in-None-clause-careful : goal.returns-in-None-clause-careful
-returns-in-None-clause-careful c =
-    subst (λ accepted. IsCarefulProgram accepted.program accepted.certs) (sym c.of.ensures) (promised c.program_law.ensures.careful c.in-Ok.program c.args.certs c.in-None.ensures)
-
-pub returns-in-None-clause-safe : goal.returns-in-None-clause-safe
-returns-in-None-clause-safe c =
-    subst (λ accepted. IsSafeProgram accepted.program accepted.certs) (sym c.of.ensures) (promised c.program_law.ensures.safe c.in-Ok.program c.args.certs c.in-None.ensures)
 
 pub returns-in-Some-clause-only : goal.returns-in-Some-clause-only
 returns-in-Some-clause-only c accepted =

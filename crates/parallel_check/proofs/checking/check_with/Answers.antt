@@ -1,0 +1,8 @@
+use Rattle.std.proofs.Common.{◌∙◌}
+use Rattle.module_check.proofs.Exclusive.{only_memory}
+use Rattle.parallel_check.proofs.checking.check_with.Goals as goal
+
+pub returns-in-Some-clause-only : goal.returns-in-Some-clause-only
+returns-in-Some-clause-only g c accepted =
+    let found = c.in-Ok.ensures.found in
+    c.from-in-Some.ensures ∙ only_memory c.in-Ok.program c.args.of_module c.args.certs c.in-Some.fault found.0 found.1 found.2 c.in-Some.ensures accepted

@@ -1,0 +1,110 @@
+//! The check by workers.
+ghost use Rattle.std.specs.Prelude.{◌≡◌, ◌<◌, ◌≤◌, length, IfErr, IfOk, MatchOption, OnOk};
+ghost use Rattle.module_check.specs.Accepted.{IsAccepted, IsModuleCertified, IsModuleFault, IsVerdictOf};
+ghost use Rattle.module_check.specs.Discipline.{AreDisciplined};
+ghost use Rattle.program_safety.specs.Safety.{IsCarefulProgram, IsSafeProgram};
+ghost use Rattle.parallel_check.specs.Shares.{IsFirstFault, IsOf};
+
+use crate::first::first_of;
+use crate::share::fault_in_share;
+use block_rules::BlockFault;
+use certs::Certs;
+use gate::Gate;
+use ir_ast::Module;
+use layout::Program;
+use module_check::{Accepted, NotAccepted, Verdict};
+use std::alloc::Global;
+use std::thread::{Threads, map_indices};
+
+/// The first fault in the first `count` functions of a module, whichever worker finds it.
+fn fault_by_workers<R: Threads + Sync, G: Gate + Sync>(
+    rt: &R,
+    alloc: Global,
+    workers: u32,
+    gate: &G,
+    program: &Program,
+    certs: &Certs,
+    count: u32,
+) -> Option<BlockFault>
+    requires some { 1 ≤ workers }
+    requires few { workers ≤ 64 }
+    requires count { count ≤ length program.now.of_module.functions }
+    ensures { MatchOption result (IsModuleCertified program.now certs.now count) (IsModuleFault program.now certs.now count) }
+{
+    let faults = map_indices(
+        rt,
+        alloc,
+        workers as usize,
+        &|worker: usize| -> Option<BlockFault>
+            requires { (worker < workers) × (workers ≤ 64) × (count ≤ length program.now.of_module.functions) }
+            ensures { IsFirstFault program.entry.now certs.entry.now (IsOf workers worker) count result }
+        { fault_in_share(alloc, workers, worker as u32, gate, program, certs, count) },
+    );
+    match faults {
+        Ok(faults) => first_of(faults),
+        Err(_) => Some(BlockFault::Memory),
+    }
+}
+
+/// The first fault in a module.
+fn fault_in_module<R: Threads + Sync, G: Gate + Sync>(
+    rt: &R,
+    alloc: Global,
+    workers: u32,
+    gate: &G,
+    program: &Program,
+    certs: &Certs,
+) -> Option<BlockFault>
+    requires some { 1 ≤ workers }
+    requires few { workers ≤ 64 }
+    ensures { let count = length program.now.of_module.functions in MatchOption result (IsModuleCertified program.now certs.now count) (IsModuleFault program.now certs.now count) }
+{
+    // No memory holds more functions than there are numbers for them.
+    match u32::try_from(program.module().functions.len()) {
+        Ok(count) => fault_by_workers(rt, alloc, workers, gate, program, certs, count),
+        Err(_) => Some(BlockFault::Memory),
+    }
+}
+
+/// The same check as `module_check::check`, by workers, from 1 to 64, each on a thread of its own where one can be started.
+/// Worker `w` of `n` checks the functions `w`, `w + n`, `w + 2n` and so on, up to its first fault, and calls the gate round the
+/// check of each, by the function's number. It is no matter which worker is done first: the verdict is the first refusal of
+/// the module. Memory may be refused to any of the workers.
+pub fn check_with<R: Threads + Sync, G: Gate + Sync>(
+    rt: &R,
+    alloc: Global,
+    workers: u32,
+    gate: &G,
+    of_module: Module,
+    certs: Certs,
+) -> Result<Accepted, NotAccepted>
+    requires some { 1 ≤ workers }
+    requires few { workers ≤ 64 }
+    ensures kept { IfOk result (λ accepted. (accepted.program.of_module ≡ of_module) × (accepted.certs ≡ certs)) }
+    ensures accepted { OnOk result (IsAccepted of_module certs) }
+    ensures disciplined { IfOk result (λ accepted. AreDisciplined accepted.program accepted.certs) }
+    ensures careful { IfOk result (λ accepted. IsCarefulProgram accepted.program accepted.certs) }
+    ensures safe { IfOk result (λ accepted. IsSafeProgram accepted.program accepted.certs) }
+    ensures verdict { IfErr result (λ refused. IsVerdictOf of_module certs refused.verdict) }
+    ensures only { IsAccepted of_module certs → IfErr result (λ refused. refused.verdict ≡ Verdict.Memory) }
+    ensures given_back { IfErr result (λ refused. (refused.of_module ≡ of_module) × (refused.certs ≡ certs)) }
+{
+    let program = match Program::new(alloc, of_module) {
+        Ok(program) => program,
+        Err(refused) => {
+            return Err(NotAccepted {
+                verdict: Verdict::from(refused.fault),
+                of_module: refused.of_module,
+                certs,
+            });
+        }
+    };
+    match fault_in_module(rt, alloc, workers, gate, &program, &certs) {
+        None => Ok(Accepted::of(program, certs)),
+        Some(fault) => Err(NotAccepted {
+            verdict: Verdict::from(fault),
+            of_module: program.into_module(),
+            certs,
+        }),
+    }
+}
