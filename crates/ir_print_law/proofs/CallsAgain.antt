@@ -23,8 +23,8 @@ use Rattle.ir_forms.specs.Lists as lists
 use Rattle.ir_print.specs.Operands.{argument_text}
 use Rattle.ir_print.specs.Calls.{call_text}
 use Rattle.ir_print.specs.Standing.{AreBlanks}
-use Rattle.ir_print.specs.Types.{type_text, type_within, type_by}
-use Rattle.ir_print_law.specs.Again.{IsResultAgain, IsCallAgain, IsInstrAgain}
+use Rattle.ir_print.specs.Types.{type_text}
+use Rattle.ir_print_law.specs.Again.{IsResultAgain, IsCallAgain, IsInstrAgain, IsArgumentAgain}
 use Rattle.ir_print_law.specs.Printable.{IsScalar, IsArgument}
 use Rattle.ir_print_law.specs.Shapes.{IsIn, Shape}
 use Rattle.ir_print_law.proofs.Tables.{stays}
@@ -32,7 +32,7 @@ use Rattle.ir_print_law.proofs.State.{Invariant, Ready, IsLater, Reads}
 use Rattle.ir_print_law.proofs.Shown.{shown, IsTypeRead}
 use Rattle.ir_print_law.proofs.Steps.{looked, given, sign_reads, word_skipped, word_seen, intern_reads, grows_itself, later_before}
 use Rattle.ir_print_law.proofs.WholeTypes.{type_begins}
-use Rattle.ir_print_law.proofs.PrintedTypes.{type_shown, read_again, scalar_reads}
+use Rattle.ir_print_law.proofs.PrintedTypes.{void_shown, type_shown, read_again, scalar_reads}
 use Rattle.ir_print_law.proofs.Parts.{IsLaterAgain, OpAgain, Sets}
 use Rattle.ir_print_law.proofs.Setting.{on, said_on, set_reads}
 use Rattle.std.specs.List.{AllByRecursion}
@@ -56,6 +56,7 @@ use Rattle.ir_forms.specs.Decorations.{trail_of}
 use Rattle.ir_forms.specs.Ops.{as_op}
 use Rattle.ir_print_law.proofs.ListsAgain.{no_comma_seen, trailing_said}
 use Rattle.ir_print_law.proofs.ArgumentsAgain.{EndsLine, undecorated_line, undecorated_type, decorations_said, AllArgumentsAgain, arguments_read}
+use Rattle.ir_print_law.proofs.SameParts.{same3, listed_same, result_same, global_same, argument_same}
 
 -- a call of these texts
 abbrev call_by : (returned callee arguments : Text) → Text
@@ -64,11 +65,6 @@ call_by returned callee arguments = codes "call " ++ returned ++ 32 ∷ callee +
 -- the parts of a call, and what follows it
 call_front : (returned callee arguments rest : Text) → call_by returned callee arguments ++ rest ≡ codes "call" ++ (32 ∷ (returned ++ (32 ∷ (callee ++ (40 ∷ (arguments ++ 41 ∷ rest))))))
 call_front returned callee arguments rest = simp append_assoc
-
--- how `void` is printed
-pub void_shown : (n : Module) (t : ℕ) → slice_get n.types t ≡ Some type.Void → type_text n t ≡ codes "void"
-unfolding type_within
-void_shown n t e = ap (type_by (type_within 63 n) n) e
 
 -- a call is this one again, in each module later on
 abbrev pub CallAgain : Module → (locals : List Text) → Call → Call → Input → Type 0
@@ -202,3 +198,12 @@ module _ {m : Module} {f : Function} (v u : Invariant m f) where
 
       typed_form : Form Call
       typed_form = decorations spot.Result >> calls.typed_call value
+
+-- ---- its text
+
+module _ (m n : Module) (locals others : List Text) where
+  -- a call that is another one again has its text
+  pub call_same : (x y : Call) → IsCallAgain m n locals others x y → call_text m locals x ≡ call_text n others y
+  call_same x y h =
+      same3 (λ a b c. codes "call " ++ a ++ 32 ∷ b ++ 40 ∷ c ++ 41 ∷ []) (result_same m n x.returned y.returned h.0) (global_same m n x.callee y.callee h.1)
+      (listed_same (IsArgumentAgain m n locals others) (argument_text m locals) (argument_text n others) x.arguments y.arguments (argument_same m n locals others) h.2)

@@ -53,6 +53,7 @@ pub mod WholeTypes
 pub mod PrintedTypes
 pub mod OperandsAgain
 pub mod AgainTypes
+pub mod SameParts
 pub mod Parts
 pub mod Setting
 pub mod ArgumentsAgain

@@ -1,5 +1,5 @@
 -- Printed operations on memory are read as these operations again.
-use Rattle.std.proofs.Common.{◌≡◌, ℕ, ◌+◌, Bool, true, false, List, [], ◌∷◌, ◌++◌, slice_get, None, Some, refl, sym, subst, arith, append_assoc}
+use Rattle.std.proofs.Common.{◌≡◌, ℕ, ◌+◌, Bool, true, false, List, [], ◌∷◌, ◌++◌, slice_get, None, Some, refl, sym, subst, arith, append_assoc, ap}
 use Rattle.std.specs.Prelude.{codes}
 use Rattle.grammar.specs.Grammar.{pure, ◌>>=◌, ◌>>◌}
 use Rattle.ir_ast.specs.declared.argument.Argument.{Argument}
@@ -51,6 +51,7 @@ use Rattle.ir_print_law.proofs.Words.{word_comes}
 use Rattle.ir_print_law.proofs.ArgumentsAgain.{EndsLine, line_ends_type}
 use Rattle.ir_print_law.proofs.CallsAgain.{PlainAgain, unnamed_reads}
 use Rattle.ir_print_law.proofs.ByWord.{no_phi, op_reads, by_word, plain_by_word}
+use Rattle.ir_print_law.proofs.SameParts.{same2, type_same, typed_same, placed_same}
 
 -- an operation on memory is this one again, in each module later on
 abbrev pub MemoryAgain : Module → (locals : List Text) → MemoryOp → MemoryOp → Input → Type 0
@@ -268,3 +269,14 @@ unfolding class_of word_kind keywords
 plain_memory_kind m locals (memory.Store stored value place_type x) place rest gives at = (word_comes place (10 ∷ 32 ∷ 32 ∷ []) (codes "store") _ refl refl refl at).0
 plain_memory_kind m locals (memory.Alloca held) place rest gives at = absurd cc
 plain_memory_kind m locals (memory.Load loaded place_type x) place rest gives at = absurd cc
+
+-- ---- its text
+
+module _ (m n : Module) (locals others : List Text) where
+  -- an operation on memory that is another one again has its text
+  pub memory_op_same : (x y : MemoryOp) → IsMemoryOpAgain m n locals others x y → memory_op_text m locals x ≡ memory_op_text n others y
+  memory_op_same (memory.Alloca t) (memory.Alloca u) h = ap (λ (x : Text). codes "alloca " ++ x) (type_same m n t u h)
+  memory_op_same (memory.Load t place x) (memory.Load u other y) h = ap (λ (z : Text). codes "load " ++ z) (placed_same m n locals others t u (typed place x) (typed other y) h.0 (h.1, h.2))
+  memory_op_same (memory.Store t v place x) (memory.Store u w other y) h =
+      same2 (λ a b. codes "store " ++ a ++ codes ", " ++ b) (typed_same m n locals others t u v w h.0 h.1) (typed_same m n locals others place other x y h.2 h.3)
+  memory_op_same _ _ h = absurd h

@@ -37,7 +37,7 @@ use Rattle.ir_forms.specs.Lists as lists
 use Rattle.ir_forms.specs.Numbers as numbers
 use Rattle.ir_forms.specs.Instructions as whole
 use Rattle.ir_forms.specs.Ops.{as_op}
-use Rattle.ir_print.specs.Numbers.{arithmetic_word, comparison_word, number_op_text}
+use Rattle.ir_print.specs.Numbers.{arithmetic_word, comparison_word, number_op_text, resize_word}
 use Rattle.ir_print.specs.Operands.{operand_text, typed_text}
 use Rattle.ir_print.specs.Parts.{typed, pair_text, converted_text}
 use Rattle.ir_print.specs.Standing.{Stands, IsSeam, AreBlanks}
@@ -58,6 +58,7 @@ use Rattle.ir_print_law.proofs.Parts.{ends_again, IsLaterAgain, OpAgain, Argumen
 use Rattle.ir_print_law.proofs.Setting.{on, said_on, set_reads, converted_reads}
 use Rattle.ir_print_law.proofs.ArgumentsAgain.{EndsLine, line_ends_type}
 use Rattle.ir_print_law.proofs.ByWord.{no_phi, op_reads, by_word}
+use Rattle.ir_print_law.proofs.SameParts.{same2, pair_same, converted_same}
 
 -- an operation on integers is this one again, in each module later on
 abbrev pub NumberAgain : Module → (locals : List Text) → NumberOp → NumberOp → Input → Type 0
@@ -301,3 +302,16 @@ number_word m locals (number.Resize resize.ZeroExtend from a to) place rest at =
 number_word m locals (number.Resize resize.SignExtend from a to) place rest at = no_phi place (codes "sext") _ refl refl refl at
 number_word m locals (number.Resize resize.Truncate from a to) place rest at = no_phi place (codes "trunc") _ refl refl refl at
 number_word m locals (number.Compare c t a b) place rest at = no_phi place (codes "icmp") _ refl refl refl at
+
+-- ---- its text
+
+module _ (m n : Module) (locals others : List Text) where
+  -- an operation on integers that is another one again has its text
+  pub number_op_same : (x y : NumberOp) → IsNumberOpAgain m n locals others x y → number_op_text m locals x ≡ number_op_text n others y
+  number_op_same (number.Arithmetic kind t a b) (number.Arithmetic other u x y) h =
+      same2 (λ c d. c ++ d) (ap arithmetic_word h.0) (pair_same m n locals others (typed t a) (typed u x) b y (h.1.0, h.1.1) h.1.2)
+  number_op_same (number.Resize kind t x to) (number.Resize other u y into) h =
+      same2 (λ a b. a ++ b) (ap resize_word h.0) (converted_same m n locals others (typed t x) (typed u y) to into (h.1, h.2) h.3)
+  number_op_same (number.Compare kind t a b) (number.Compare other u x y) h =
+      same2 (λ c d. codes "icmp " ++ c ++ d) (ap comparison_word h.0) (pair_same m n locals others (typed t a) (typed u x) b y (h.1.0, h.1.1) h.1.2)
+  number_op_same _ _ h = absurd h
