@@ -62,7 +62,8 @@ use Rattle.soundness.specs.Meaning.{Guarded, IsOwn, AreApart, Holds}
 use Rattle.soundness.proofs.KindLemmas.{void_same}
 use Rattle.soundness.specs.Goes.{HaveMembers, HasRoots}
 use Rattle.soundness.proofs.Callees.{IsDefined, callee_is, defined_is}
-use Rattle.soundness.proofs.Members.{members_stay, line_members, parameter_members, arguments_members, mark_members, result_members}
+use Rattle.soundness.proofs.Members.{line_members, parameter_members, arguments_members, mark_members, result_members}
+use Rattle.soundness.proofs.MembersKept.{members_stay}
 use Rattle.soundness.proofs.Instructions.{instructions_go}
 use Rattle.soundness.proofs.Steps.{none_of, usable}
 use Rattle.soundness.proofs.RulesHold.{RulesHold, rules_hold, unbroken}
