@@ -115,7 +115,7 @@ impl<'a> Input<'a> {
     fn no_void(&self) -> Fault
         ensures { form.no_void.read self.now ≡ Err result }
     {
-        self.refuse(matches!(self.cursor.kind_behind(), Kind::OpenRound))
+        self.refuse(matches!(self.cursor.kind_after(), Kind::OpenRound))
     }
 
     /// The struct that has this field before those of another struct.

@@ -11,7 +11,7 @@ use Rattle.ir_ast.specs.declared.op.Op.{Op}
 use Rattle.ir_tokens.specs.declared.token.Kind.{Kind}
 use Rattle.ir_tokens.specs.declared.token.Kind.TheVariants as k
 use Rattle.ir_tokens.specs.Bytes.{Text, class_of}
-use Rattle.ir_forms.specs.Cursor.{kind, kind_behind, kind_third, next}
+use Rattle.ir_forms.specs.Cursor.{kind, kind_after, kind_third, next}
 use Rattle.ir_forms.specs.declared.input.Input.{Input}
 use Rattle.ir_forms.specs.declared.site.Site.{Site}
 use Rattle.ir_forms.specs.Choices.{is_local, begins_phi}
@@ -76,7 +76,7 @@ module _ (m : Module) (f : Function) (named : AreNamed m f) (ops : OpsRead m f n
   -- which token an instruction's line begins with, and that no phi begins there
   line_kind_by : (result : Option ℕ) (x : Op) (i : Input) (rest : Text) → IsInstr m f (record { result = result; op = x }) → AllByRecursion IsKey (result_keys f.locals (record { result = result; op = x }))
       → Stands i.cursor (10 ∷ (instruction_line m f.locals (record { result = result; op = x }) ++ rest)) → IsInnerKind (kind i.cursor) × (begins_phi i ≡ false)
-  unfolding class_of kind kind_behind kind_third next
+  unfolding class_of kind kind_after kind_third next
   line_kind_by None x i rest own keys at =
       let e = plain_inner_kind (kind i.cursor) (plain_kind m f.locals x i.cursor (10 ∷ rest) (sym own.1) (subst (λ (t : Text). Stands i.cursor (10 ∷ t)) (plain_line m f.locals x rest) at)) in
       (e.0, no_local i e.1)
@@ -85,7 +85,7 @@ module _ (m : Module) (f : Function) (named : AreNamed m f) (ops : OpsRead m f n
       let a = local_passed i.cursor (10 ∷ 32 ∷ 32 ∷ []) (name_at f.locals value) (codes " = " ++ (op_text m f.locals x ++ 10 ∷ rest)) keys.0 refl refl at in
       let b = sign_comes (next i.cursor) (32 ∷ []) 61 (32 ∷ (op_text m f.locals x ++ 10 ∷ rest)) k.Equals refl refl refl a.1 in
       let c = value_word m f.locals x (next (next i.cursor)) rest (sym own.1) b.3 in
-      (inner_kind (kind i.cursor) a.0, other_word (kind i.cursor) (kind_behind i.cursor) (kind_third i.cursor) c)
+      (inner_kind (kind i.cursor) a.0, other_word (kind i.cursor) (kind_after i.cursor) (kind_third i.cursor) c)
 
   pub line_kind : (x : Instr) (i : Input) (rest : Text) → IsInstr m f x → AllByRecursion IsKey (result_keys f.locals x)
       → Stands i.cursor (10 ∷ (instruction_line m f.locals x ++ rest)) → IsInnerKind (kind i.cursor) × (begins_phi i ≡ false)

@@ -78,14 +78,14 @@ module _ {m : Module} {f : Function} (v : Invariant m f) where
       stops false e = refl
 
   -- further indices are read
-  indices_behind : (xs : List Argument) (i : Input) (rest : Text) (s : ℕ) → AllByRecursion (IsArgument m f) xs → EndsLine rest → Ready v s i (flat_map (index_text m f.locals) xs ++ rest)
+  indices_after : (xs : List Argument) (i : Input) (rest : Text) (s : ℕ) → AllByRecursion (IsArgument m f) xs → EndsLine rest → Ready v s i (flat_map (index_text m f.locals) xs ++ rest)
       → (ys : List Argument) × (o : Input) × Follows lists.ends_indices (λ c. (lists.any_index c).says) lists.behind_index (record { is_further = true }) i ys o × Ready v s o rest × Grows i o × AllArgumentsAgain m f.locals xs ys o
-  indices_behind [] i rest s own ends ready = ([], i, (list_ends i (ends.1 i ready.stands), refl), ready, grows_itself i, λ n others later. tt)
-  indices_behind (x ∷ xs) i rest s own ends ready =
+  indices_after [] i rest s own ends ready = ([], i, (list_ends i (ends.1 i ready.stands), refl), ready, grows_itself i, λ n others later. tt)
+  indices_after (x ∷ xs) i rest s own ends ready =
       let ready = subst (λ (y : Text). Ready v s i y) (append_assoc (codes ", " ++ argument_text m f.locals x) (flat_map (index_text m f.locals) xs) rest ∙ append_assoc (codes ", ") (argument_text m f.locals x) (flat_map (index_text m f.locals) xs ++ rest)) ready in
       let h = index_reads x xs true i rest s own.0 ends ready in
       let a = h.1 in
-      let b = indices_behind xs a.1 rest s own.1 ends a.3 in (
+      let b = indices_after xs a.1 rest s own.1 ends a.3 in (
         a.0 ∷ b.0,
         b.1,
         (h.0, a.1, a.2, b.2),
@@ -103,7 +103,7 @@ module _ {m : Module} {f : Function} (v : Invariant m f) where
       let ready = subst (λ (y : Text). Ready v s i y) (append_assoc (codes ", " ++ argument_text m f.locals x) (flat_map (index_text m f.locals) xs) rest ∙ append_assoc (codes ", ") (argument_text m f.locals x) (flat_map (index_text m f.locals) xs ++ rest)) ready in
       let h = index_reads x xs false i rest s own.0 ends ready in
       let a = h.1 in
-      let b = indices_behind xs a.1 rest s own.1 ends a.3 in (
+      let b = indices_after xs a.1 rest s own.1 ends a.3 in (
         a.0 ∷ b.0,
         b.1,
         (h.0, a.1, a.2, b.2),

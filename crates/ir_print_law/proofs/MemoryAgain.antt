@@ -107,7 +107,7 @@ module _ {m : Module} {f : Function} (v : Invariant m f) where
       (word_skipped v (codes "store") i gap (32 ∷ t1) s s blanks refl refl (omega arith) ready)
       (λ _ o ready g e.
       let begins = type_begins v shape o (32 ∷ []) (32 ∷ (operand_text m f.locals stored x ++ t2)) scalar.0.2 refl refl ready.stands in
-      said_on v (optional k.Volatile) (λ _. forms.stored_behind) o tt rest s good (optional_said k.Volatile o (unlike k.Volatile w.begins_type o refl begins))
+      said_on v (optional k.Volatile) (λ _. forms.stored_after) o tt rest s good (optional_said k.Volatile o (unlike k.Volatile w.begins_type o refl begins))
       (on v v w.scalar value_form o (32 ∷ (operand_text m f.locals stored x ++ t2)) rest s s (IsTypeRead shape 64) good
       (scalar_reads v shape o (32 ∷ []) (32 ∷ (operand_text m f.locals stored x ++ t2)) s scalar.0.2 scalar.0.1 scalar.1 refl (ends_operand v shape stored x t2 scalar.0.0 own.2 refl) ready)
       (λ p q ready h read.
@@ -140,7 +140,7 @@ module _ {m : Module} {f : Function} (v : Invariant m f) where
       value_form p = form.operand (w.bits_of p) >>= comma_form p
 
       volatile_form : Form MemoryOp
-      volatile_form = optional k.Volatile >> forms.stored_behind
+      volatile_form = optional k.Volatile >> forms.stored_after
 
 module _ {m : Module} {f : Function} (v u : Invariant m f) where
   -- `load T, T* V`
