@@ -17,7 +17,7 @@ use Rattle.ir_forms.specs.declared.written.Base.{Base}
 use Rattle.ir_forms.specs.declared.written.Base.TheVariants.{Integer, Named, Aggregate}
 use Rattle.ir_forms.specs.declared.written.WrittenType.{WrittenType}
 use Rattle.ir_forms.specs.Cursor.{kind, kind_after, sees, start, name, spelled, spelling, left_out, refused}
-use Rattle.ir_forms.specs.Number.{decimal, natural}
+use Rattle.ir_forms.specs.Literals.{decimal, natural}
 use Rattle.ir_forms.specs.Input.{Form, left, limit, unexpected, unread, advanced, advanced_falls, advanced_left, advance_takes, skip, skip_takes, sees_a, expect, IsKind}
 use Rattle.ir_forms.specs.Starts.{makes_level}
 use Rattle.ir_forms.specs.Names.{has_number, is_at, struct_name, struct_name_takes}

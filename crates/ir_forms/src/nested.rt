@@ -6,7 +6,7 @@ ghost use Rattle.ir_forms.specs.Written as form;
 
 use crate::fault::Fault;
 use crate::input::Input;
-use crate::number::natural;
+use crate::literals::natural;
 use crate::starts::makes_level;
 use crate::written::{Base, ROOM, WrittenType, begins_unread_type};
 use ir_ast::{IrType, TypeId};
