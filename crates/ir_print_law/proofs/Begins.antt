@@ -25,7 +25,7 @@ use Rattle.ir_print_law.specs.Printable.{gives_value}
 use Rattle.ir_print_law.proofs.ByWord.{no_phi}
 use Rattle.ir_print_law.proofs.MemoryAgain.{memory_word, plain_memory_kind}
 use Rattle.ir_print_law.proofs.NumbersAgain.{number_word}
-use Rattle.ir_print_law.proofs.OpNeeds.{begins_body_line}
+use Rattle.ir_print_law.proofs.ArgumentsAgain.{ends_line}
 
 -- a value's name begins a line
 abbrev pub IsLocalKind : Kind → Type 0
@@ -69,7 +69,7 @@ end_kind m locals end.Unreachable place rest at = ap ends.ends_block (word_comes
 end_kind m locals end.ReturnVoid place rest at = ap ends.ends_block (word_comes place (10 ∷ 32 ∷ 32 ∷ []) (codes "ret") _ refl refl refl at).0
 end_kind m locals (end.Return x) place rest at = ap ends.ends_block (word_comes place (10 ∷ 32 ∷ 32 ∷ []) (codes "ret") _ refl refl refl at).0
 
-pub ends_begins : (x : Kind) → ends.ends_block x ≡ true → begins_body_line x ≡ true
+pub ends_begins : (x : Kind) → ends.ends_block x ≡ true → ends_line x ≡ true
 ends_begins k.Ret e = refl
 ends_begins k.Br e = refl
 ends_begins k.Switch e = refl

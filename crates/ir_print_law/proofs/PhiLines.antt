@@ -31,11 +31,12 @@ use Rattle.ir_print_law.proofs.InnerLines.{far_result}
 use Rattle.ir_print_law.proofs.Known.{Far, AreNamed, known, is_last}
 use Rattle.ir_print_law.proofs.NamesRead.{digits_text, name_key_text}
 use Rattle.ir_print_law.proofs.NewValues.{IsNext, unnamed_then, far_value, value_by, value_goes, kind_then}
-use Rattle.ir_print_law.proofs.OpNeeds.{begins_body_line, EndsOp, OpsRead, phi_rest}
+use Rattle.ir_print_law.proofs.OpNeeds.{OpsRead, phi_rest}
 use Rattle.ir_print_law.proofs.Parts.{IsLaterAgain}
 use Rattle.ir_print_law.proofs.Steady.{Steady, Onward, onward_itself, onward_further, next_key, steady_value}
 use Rattle.ir_print_law.proofs.WholeForms.{Widens, widens_itself, widens_further, grows_widens, Leads, later_widened}
 use Rattle.ir_print_law.proofs.Words.{word_comes, sign_comes, local_comes, local_number_comes}
+use Rattle.ir_print_law.proofs.ArgumentsAgain.{EndsLine, ends_line}
 
 -- ---- with which tokens a phi begins
 
@@ -88,9 +89,9 @@ phi_begins m locals x i rest own at =
     let c = word_comes (next (next i.cursor)) (32 ∷ []) (codes "phi") _ refl refl refl b.3 in
     (a.0, three_tokens (kind i.cursor) (kind_after i.cursor) (kind_third i.cursor) a.0 b.0 c.0)
 
-local_line : (x : Kind) → IsLocalKind x → begins_body_line x ≡ true
-local_line x (inl e) = ap begins_body_line e
-local_line x (inr e) = ap begins_body_line e
+local_line : (x : Kind) → IsLocalKind x → ends_line x ≡ true
+local_line x (inl e) = ap ends_line e
+local_line x (inr e) = ap ends_line e
 
 -- a token ends before a new line
 pub seam_line : (rest : Text) → IsSeam (10 ∷ rest)
@@ -110,7 +111,7 @@ module _ (m : Module) (f : Function) (named : AreNamed m f) (ops : OpsRead m f n
   IsOneRead far more x y now o = Onward far now (phi_key f.locals x ∷ []) [] more × IsLaterAgain (λ n others. IsPhiAgain m n f.locals others) x y o
 
   one_goes : (x : Phi) (more : List Text) (far : Far) (i : Input) (rest : Text) → IsPhi m f x → Steady far (phi_key f.locals x ∷ more) → length far.values + 1 ≤ 1000000 → length far.labels ≤ 65535
-      → EndsOp (10 ∷ rest) → Ready (known m f named far) 0 i (10 ∷ (phi_line m f.locals x ++ rest)) → Leads m f named 0 phi i (10 ∷ rest) (IsOneRead far more x)
+      → EndsLine (10 ∷ rest) → Ready (known m f named far) 0 i (10 ∷ (phi_line m f.locals x ++ rest)) → Leads m f named 0 phi i (10 ∷ rest) (IsOneRead far more x)
   unfolding phi class_of
   one_goes x more far i rest own steady room blocks ends ready =
       let key = name_at f.locals x.value in
@@ -149,7 +150,7 @@ module _ (m : Module) (f : Function) (named : AreNamed m f) (ops : OpsRead m f n
   phi_lines xs = flat_map (phi_line m f.locals) xs
 
   -- the next line is one of a phi, or what follows the phis
-  pub phis_end : (xs : List Phi) (rest : Text) → AllByRecursion IsKey (map (phi_key f.locals) xs) → EndsOp (10 ∷ rest) → EndsOp (10 ∷ (phi_lines xs ++ rest))
+  pub phis_end : (xs : List Phi) (rest : Text) → AllByRecursion IsKey (map (phi_key f.locals) xs) → EndsLine (10 ∷ rest) → EndsLine (10 ∷ (phi_lines xs ++ rest))
   phis_end [] rest keys ends = ends
   phis_end (x ∷ xs) rest keys ends = (
     seam_line (phi_lines (x ∷ xs) ++ rest),
@@ -163,7 +164,7 @@ module _ (m : Module) (f : Function) (named : AreNamed m f) (ops : OpsRead m f n
       × Onward far now (map (phi_key f.locals) xs) [] more × IsLaterAgain (λ n others. AreAlike (IsPhiAgain m n f.locals others)) xs ys o
 
   pub phis_go : (xs : List Phi) (more : List Text) (far : Far) (i : Input) (rest : Text) → AllByRecursion (IsPhi m f) xs → AllByRecursion IsKey (map (phi_key f.locals) xs)
-      → Steady far (map (phi_key f.locals) xs ++ more) → length far.values + length xs ≤ 1000000 → length far.labels ≤ 65535 → EndsOp (10 ∷ rest) → BeginsNoPhi (10 ∷ rest)
+      → Steady far (map (phi_key f.locals) xs ++ more) → length far.values + length xs ≤ 1000000 → length far.labels ≤ 65535 → EndsLine (10 ∷ rest) → BeginsNoPhi (10 ∷ rest)
       → Ready (known m f named far) 0 i (10 ∷ (phi_lines xs ++ rest)) → PhisGo xs more far i rest
   phis_go [] more far i rest own keys steady room blocks ends none ready =
       ([], i, far, (ap not (none i ready.stands), refl), ready, widens_itself i, onward_itself far more steady, λ n others later. tt)
