@@ -84,12 +84,12 @@ module _ (s : Setup) where
   -- ---- registers
 
   -- one more value among others that fit
-  pub set_fits : (values : List Value) (i j : ℕ) (v : Value) → FitsHeap s v → FitsHeap s (register_at values j) → FitsHeap s (register_at (slice_set values i v) j)
-  set_fits [] i j v new same = same
-  set_fits (x ∷ xs) zero zero v new same = new
-  set_fits (x ∷ xs) zero (suc j) v new same = same
-  set_fits (x ∷ xs) (suc i) zero v new same = same
-  set_fits (x ∷ xs) (suc i) (suc j) v new same = set_fits xs i j v new same
+  pub one_more_fits : (values : List Value) (i j : ℕ) (v : Value) → FitsHeap s v → FitsHeap s (register_at values j) → FitsHeap s (register_at (slice_set values i v) j)
+  one_more_fits [] i j v new same = same
+  one_more_fits (x ∷ xs) zero zero v new same = new
+  one_more_fits (x ∷ xs) zero (suc j) v new same = same
+  one_more_fits (x ∷ xs) (suc i) zero v new same = same
+  one_more_fits (x ∷ xs) (suc i) (suc j) v new same = one_more_fits xs i j v new same
 
   -- registers in which nothing was put
   pub unset_fits : (count j : ℕ) → FitsHeap s (register_at (replicate count value.Unset) j)
