@@ -1,7 +1,7 @@
 pub mod Place
 pub mod View
 pub mod Cursor
-pub mod Number
+pub mod Literals
 pub mod Table
 pub mod Intrinsics
 pub mod Input

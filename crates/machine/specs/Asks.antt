@@ -364,12 +364,16 @@ end_action m f slots from registers (end.Return argument) =
 
 -- ---- instructions
 
+-- an operation on integers gives a number: its operands are set and of its types; a comparison for equality may be one of references
+abbrev pub gives_number : Module → Function → SlotTable → List Value → NumberOp → Bool
+gives_number m f slots registers (number.Arithmetic kind written first second) = are_numbers m f slots registers written first second
+gives_number m f slots registers (number.Resize kind written o to) =
+    is_usable_number m f slots registers written o && (is_integer (slice_get m.types to) && may_resize kind (bits_at m written) (bits_at m to))
+gives_number m f slots registers (number.Compare kind written first second) = may_compare m f slots registers kind written first second
+
 -- an operation on integers
 abbrev pub number_action : Module → Function → SlotTable → List Value → NumberOp → Action
-number_action m f slots registers (number.Arithmetic kind written first second) = only_if (are_numbers m f slots registers written first second) Local
-number_action m f slots registers (number.Resize kind written o to) =
-    only_if (is_usable_number m f slots registers written o && (is_integer (slice_get m.types to) && may_resize kind (bits_at m written) (bits_at m to))) Local
-number_action m f slots registers (number.Compare kind written first second) = only_if (may_compare m f slots registers kind written first second) Local
+number_action m f slots registers x = only_if (gives_number m f slots registers x) Local
 
 -- a select
 abbrev pub choice_action : Module → Function → SlotTable → List Value → Choice → Action

@@ -32,11 +32,11 @@ stepped offset index (Some (Field words part)) = Some (wrapped 64 (offset + word
 stepped offset index (Some (Elements length words part)) = Some (wrapped 64 (offset + index * words), part)
 
 -- how many words some indices pass, one after the other, after `offset` words of a type; none where a number of words on the way is not known
-abbrev pub offset_behind : LaidOut → List Value → Option (ℕ × ℕ) → List Argument → Option ℕ
-offset_behind p registers None indices = None
-offset_behind p registers (Some (offset, written)) [] = Some offset
-offset_behind p registers (Some (offset, written)) (index ∷ indices) =
-    offset_behind p registers (stepped offset (index_value p.of_module registers index) (step_of p written index)) indices
+abbrev pub offset_after : LaidOut → List Value → Option (ℕ × ℕ) → List Argument → Option ℕ
+offset_after p registers None indices = None
+offset_after p registers (Some (offset, written)) [] = Some offset
+offset_after p registers (Some (offset, written)) (index ∷ indices) =
+    offset_after p registers (stepped offset (index_value p.of_module registers index) (step_of p written index)) indices
 
 -- after `index` whole types of this size
 abbrev pub behind_whole : (source index : ℕ) → (size : Option ℕ) → Option (ℕ × ℕ)
@@ -51,29 +51,29 @@ first_place source index size = if index == 0 then Some (0, source) else behind_
 abbrev pub element_offset : LaidOut → List Value → (source : ℕ) → List Argument → Option ℕ
 element_offset p registers source [] = None
 element_offset p registers source (first ∷ indices) =
-    offset_behind p registers (first_place source (index_value p.of_module registers first) (size_of p source)) indices
+    offset_after p registers (first_place source (index_value p.of_module registers first) (size_of p source)) indices
 
 -- a word of a cell, if its layout has it
 abbrev pub word_in : LaidOut → (layout : ℕ) → Reference → (word : ℕ) → Option Place
 word_in p layout at word = if is_some (kind_of_word p.layouts layout word) then Some (place.Word layout at word) else None
 
 -- the place `offset` words after a word of a cell
-abbrev pub word_behind : LaidOut → (layout : ℕ) → Reference → (word : ℕ) → (offset : Option ℕ) → Option Place
-word_behind p layout at word None = None
-word_behind p layout at word (Some offset) = word_in p layout at (wrapped 64 (word + offset))
+abbrev pub word_after : LaidOut → (layout : ℕ) → Reference → (word : ℕ) → (offset : Option ℕ) → Option Place
+word_after p layout at word None = None
+word_after p layout at word (Some offset) = word_in p layout at (wrapped 64 (word + offset))
 
 -- a global has one word: its place is the only one to which it leads
-abbrev pub global_behind : (g : ℕ) → (offset : Option ℕ) → Option Place
-global_behind g None = None
-global_behind g (Some offset) = if offset == 0 then Some (place.Global g) else None
+abbrev pub global_after : (g : ℕ) → (offset : Option ℕ) → Option Place
+global_after g None = None
+global_after g (Some offset) = if offset == 0 then Some (place.Global g) else None
 
 -- the place `offset` words after a base; from null it is no word
 abbrev pub element_place : LaidOut → (offset : Option ℕ) → (base : Value) → Option Place
 element_place p offset value.Null = Some place.OfNull
-element_place p offset (value.Cell layout at) = word_behind p layout at 0 offset
+element_place p offset (value.Cell layout at) = word_after p layout at 0 offset
 element_place p offset (value.Address place.OfNull) = Some place.OfNull
-element_place p offset (value.Address (place.Word layout at word)) = word_behind p layout at word offset
-element_place p offset (value.Address (place.Global g)) = global_behind g offset
+element_place p offset (value.Address (place.Word layout at word)) = word_after p layout at word offset
+element_place p offset (value.Address (place.Global g)) = global_after g offset
 element_place p offset _ = None
 
 -- what a getelementptr gives

@@ -2,7 +2,7 @@
 ghost use Rattle.std.specs.Prelude.{◌≡◌, ◌+◌, ◌*◌, Some};
 ghost use Rattle.pools.specs.Layouts.{kind_of_word};
 ghost use Rattle.machine.specs.Kinds.{wrapped};
-ghost use Rattle.machine.specs.Elements.{index_value, stepped, offset_behind, first_place, element_offset, word_in, word_behind, global_behind, element_place, globals_cell, global_kind, is_read_as, takes_value, read_value, address_of};
+ghost use Rattle.machine.specs.Elements.{index_value, stepped, offset_after, first_place, element_offset, word_in, word_after, global_after, element_place, globals_cell, global_kind, is_read_as, takes_value, read_value, address_of};
 ghost use Rattle.machine.specs.Asks.{are_indices, element_action};
 ghost use Rattle.machine.specs.Machine.{element_address};
 
@@ -68,14 +68,14 @@ fn further(offset: u64, count: u64, words: u32) -> u64
 }
 
 /// How many words some indices pass, after `offset` words of a type.
-fn offset_behind(
+fn offset_after(
     program: &Program,
     registers: &[Value],
     offset: u64,
     written: TypeId,
     indices: &[Argument],
 ) -> Option<u64>
-    ensures { result ≡ offset_behind program.now registers.now (Some (offset, written)) indices.now }
+    ensures { result ≡ offset_after program.now registers.now (Some (offset, written)) indices.now }
 {
     let mut offset = offset;
     let mut written = written;
@@ -113,7 +113,7 @@ fn element_offset(
             } else {
                 further(0, count, program.size_of(source)?)
             };
-            offset_behind(program, registers, offset, source, parts)
+            offset_after(program, registers, offset, source, parts)
         }
     }
 }
@@ -133,21 +133,21 @@ fn word_in(program: &Program, layout: LayoutId, at: Reference, word: u64) -> Opt
     }
 }
 
-fn word_behind(
+fn word_after(
     program: &Program,
     layout: LayoutId,
     at: Reference,
     word: u32,
     offset: Option<u64>,
 ) -> Option<Place>
-    ensures { result ≡ word_behind program.now layout at word offset }
+    ensures { result ≡ word_after program.now layout at word offset }
 {
     word_in(program, layout, at, behind(u64::from(word), offset?))
 }
 
 /// A global has one word: its place is the only one to which it leads.
-fn global_behind(global: GlobalId, offset: Option<u64>) -> Option<Place>
-    ensures { result ≡ global_behind global offset }
+fn global_after(global: GlobalId, offset: Option<u64>) -> Option<Place>
+    ensures { result ≡ global_after global offset }
 {
     if offset? == 0 {
         Some(Place::Global(global))
@@ -161,11 +161,11 @@ fn element_place(program: &Program, offset: Option<u64>, base: &Value) -> Option
 {
     match base {
         Value::Null | Value::Address(Place::OfNull) => Some(Place::OfNull),
-        Value::Cell(layout, at) => word_behind(program, *layout, *at, 0, offset),
+        Value::Cell(layout, at) => word_after(program, *layout, *at, 0, offset),
         Value::Address(Place::Word { layout, at, word }) => {
-            word_behind(program, *layout, *at, *word, offset)
+            word_after(program, *layout, *at, *word, offset)
         }
-        Value::Address(Place::Global(global)) => global_behind(*global, offset),
+        Value::Address(Place::Global(global)) => global_after(*global, offset),
         Value::Unset | Value::Number(_) => None,
     }
 }

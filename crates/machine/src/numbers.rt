@@ -2,7 +2,7 @@
 ghost use Rattle.std.specs.Prelude.{◌≡◌, ◌&&◌, slice_get};
 ghost use Rattle.machine.specs.Kinds.{value_of, is_integer, is_usable_number, bits_at, number_in};
 ghost use Rattle.machine.specs.Integers.{may_resize, computed, resized};
-ghost use Rattle.machine.specs.Asks.{may_compare, number_action};
+ghost use Rattle.machine.specs.Asks.{may_compare, gives_number, number_action};
 ghost use Rattle.machine.specs.Machine.{are_equal, compared, number_value};
 ghost use Rattle.machine.specs.declared.value.Value.TheVariants as value;
 
@@ -44,11 +44,10 @@ fn may_resize_to(
             && may_resize(kind, bits_at(of_module, from), bits_at(of_module, to)))
 }
 
-/// What an operation on integers asks for.
-pub fn number_action(scene: &Scene<'_>, op: &NumberOp) -> Action
-    ensures { result ≡ number_action scene.now.program.now.of_module scene.now.function.now scene.now.slots.now scene.now.registers.now op.now }
+fn gives_number(scene: &Scene<'_>, op: &NumberOp) -> bool
+    ensures { result ≡ gives_number scene.now.program.now.of_module scene.now.function.now scene.now.slots.now scene.now.registers.now op.now }
 {
-    let has_meaning = match op {
+    match op {
         NumberOp::Arithmetic {
             written,
             first,
@@ -67,8 +66,14 @@ pub fn number_action(scene: &Scene<'_>, op: &NumberOp) -> Action
             first,
             second,
         } => may_compare(scene, *kind, *written, first, second),
-    };
-    only_if(has_meaning, Action::Local)
+    }
+}
+
+/// What an operation on integers asks for.
+pub fn number_action(scene: &Scene<'_>, op: &NumberOp) -> Action
+    ensures { result ≡ number_action scene.now.program.now.of_module scene.now.function.now scene.now.slots.now scene.now.registers.now op.now }
+{
+    only_if(gives_number(scene, op), Action::Local)
 }
 
 /// What an integer instruction of two operands gives.

@@ -16,7 +16,6 @@ use Rattle.ir_ast.specs.declared.memory.MemoryOp.{MemoryOp}
 use Rattle.ir_ast.specs.declared.memory.MemoryOp.TheVariants as memory
 use Rattle.ir_ast.specs.declared.module.Module.{Module}
 use Rattle.ir_ast.specs.declared.numbers.NumberOp.{NumberOp}
-use Rattle.ir_ast.specs.declared.numbers.NumberOp.TheVariants as number
 use Rattle.ir_ast.specs.declared.op.Op.{Op}
 use Rattle.ir_ast.specs.declared.op.Op.TheVariants as op
 use Rattle.ir_ast.specs.declared.operand.Operand.{Operand}
@@ -37,7 +36,7 @@ use Rattle.machine.specs.declared.value.Place.{Place}
 use Rattle.machine.specs.declared.value.Place.TheVariants as place
 use Rattle.machine.specs.declared.value.Value.{Value}
 use Rattle.machine.specs.declared.value.Value.TheVariants as value
-use Rattle.machine.specs.Asks.{only_if, cast_of, cast_action, read_action, load_action, plain_action, barrier_action, store_action, gcroot_action, gcread_action, gcwrite_action, are_gcwrite_types, layout_named, alloc_of, alloc_action, safepoint_action, defined_action, call_action, declare_of, function_numbered, number_called, enter_action, target_at, way_of, is_condition, end_action, number_action, memory_action, op_action}
+use Rattle.machine.specs.Asks.{only_if, cast_of, cast_action, read_action, load_action, plain_action, barrier_action, store_action, gcroot_action, gcread_action, gcwrite_action, are_gcwrite_types, layout_named, alloc_of, alloc_action, safepoint_action, defined_action, call_action, declare_of, function_numbered, number_called, enter_action, target_at, way_of, is_condition, end_action, gives_number, number_action, memory_action, op_action}
 use Rattle.machine.specs.Elements.{globals_cell, global_kind, is_read_as, takes_value}
 use Rattle.machine.specs.Jumps.{cases_fit}
 use Rattle.machine.specs.Kinds.{is_integer_of, is_byte_pointer, is_number, fits_layout, refers_to, leads_to, register_at, value_of, is_typed, is_usable, is_usable_number, slot_at_place, address_at_place, address_in}
@@ -234,9 +233,7 @@ module _ (s : Setup) where
 
       -- nor does an operation on integers
       number_asks : (x : NumberOp) → AsksByKind s (asked_as (number_action p.of_module f slots registers x))
-      number_asks (number.Arithmetic k written first second) = local_asks _
-      number_asks (number.Resize k written o to) = local_asks _
-      number_asks (number.Compare k written first second) = local_asks _
+      number_asks x = local_asks (gives_number p.of_module f slots registers x)
 
       -- a load reads a slot, or a word that is there
       load_asks : (loaded : ℕ) (slot : Option ℕ) (address : Option Place) → PlaceFits s address → AsksByKind s (asked_as (load_action p slots loaded slot address))

@@ -23,7 +23,7 @@ use Rattle.machine.specs.Start.{takes_reference, argument_fits, arguments_fit, a
 use Rattle.trace_text.specs.declared.trace.Setup.{Setup as Begin}
 use Rattle.program_runner.specs.Heaps.{heap_of}
 use Rattle.program_runner.specs.Kinds.{FitsHeap, FrameFits, FramesFit, IsHeapWith}
-use Rattle.program_runner.specs.Values.{wrapped_below, set_fits, unset_fits}
+use Rattle.program_runner.specs.Values.{wrapped_below, one_more_fits, unset_fits}
 
 module _ (s : Setup) where
   -- each of these values fits
@@ -37,7 +37,7 @@ module _ (s : Setup) where
   arguments_enter [] arguments registers all r = r
   arguments_enter (parameter ∷ parameters) [] registers all r = r
   arguments_enter (parameter ∷ parameters) (argument ∷ arguments) registers all r =
-      arguments_enter parameters arguments (slice_set registers parameter.value argument) all.1 (λ name. set_fits s registers parameter.value name argument all.0 (r name))
+      arguments_enter parameters arguments (slice_set registers parameter.value argument) all.1 (λ name. one_more_fits s registers parameter.value name argument all.0 (r name))
 
   -- slots begin with 0 or null
   slots_begin : (m : Module) (held : List ℕ) (slot : ℕ) → FitsHeap s (slot_value (map (initial m) held) slot)

@@ -33,7 +33,7 @@ use Rattle.machine.specs.Jumps.{entry_for, entry_value, phi_value, phis_of, put_
 use Rattle.machine.specs.Kinds.{register_at, bits_at, value_of, slot_at_place, address_at_place}
 use Rattle.machine.specs.Machine.{State, entry_frame, has_room, with_room, function_called, instr_at, end_at, step_action, frame_action, action, slot_value, set_register, set_slot, cast_from, read_at, loaded_from, alloc_value, layout_of_call, place_of_call, after_call, number_value, choice_value, element_address, after_memory, after_op, go_on, enter_block, values_of, called_with, frames_called, result_of, frames_returned, after_instr, after_end, after_last, after_step, after_frame, after_answer}
 use Rattle.program_runner.specs.Kinds.{FitsHeap, FrameFits, FramesFit, IsHeapWith}
-use Rattle.program_runner.specs.Values.{PlaceFits, computed_below, resized_below, compared_fits, selected_fits, set_fits, value_fits, element_fits}
+use Rattle.program_runner.specs.Values.{PlaceFits, computed_below, resized_below, compared_fits, selected_fits, one_more_fits, value_fits, element_fits}
 use Rattle.program_runner.specs.Given.{GivesNothing, FitsAsked, nothing_at, nothing_claimed, only_gives, read_fits}
 use Rattle.program_runner.specs.Asks.{operand_fits, place_fits}
 use Rattle.program_runner.specs.Begun.{AllFit, entry_fits}
@@ -46,13 +46,13 @@ module _ (s : Setup) where
   Registers registers = (name : ℕ) → FitsHeap s (register_at registers name)
 
   -- one more among them
-  set_fit : (name : ℕ) (v : Value) (registers : List Value) → FitsHeap s v → Registers registers → Registers (slice_set registers name v)
-  set_fit name v registers new all = λ other. set_fits s registers name other v new (all other)
+  registers_fit : (name : ℕ) (v : Value) (registers : List Value) → FitsHeap s v → Registers registers → Registers (slice_set registers name v)
+  registers_fit name v registers new all = λ other. one_more_fits s registers name other v new (all other)
 
   -- and where there may be no name
   put_fits : (name : Option ℕ) (v : Value) (registers : List Value) → FitsHeap s v → Registers registers → Registers (put_register name v registers)
   put_fits None v registers new all = all
-  put_fits (Some name) v registers new all = set_fit name v registers new all
+  put_fits (Some name) v registers new all = registers_fit name v registers new all
 
   -- a frame with a value for a name
   register_fits : (name : Option ℕ) (v : Value) (frame : Frame) → FitsHeap s v → FrameFits s frame → FrameFits s (set_register name v frame)
@@ -61,7 +61,7 @@ module _ (s : Setup) where
   -- and with one in a slot
   slot_fits : (slot : Option ℕ) (v : Value) (frame : Frame) → FitsHeap s v → FrameFits s frame → FrameFits s (set_slot slot v frame)
   slot_fits None v frame new fits = fits
-  slot_fits (Some slot) v frame new fits = record { registers = fits.registers; slots = λ other. set_fits s frame.slots slot other v new (fits.slots other) }
+  slot_fits (Some slot) v frame new fits = record { registers = fits.registers; slots = λ other. one_more_fits s frame.slots slot other v new (fits.slots other) }
 
   -- and after a bitcast
   cast_fits : (name : Option ℕ) (v : Value) (slot : Option ℕ) (frame : Frame) → FitsHeap s v → FrameFits s frame → FrameFits s (cast_from name v slot frame)
@@ -87,7 +87,7 @@ module _ (s : Setup) where
   phis_fit : (m : Module) (f : Function) (before : List Value) → Registers before → (from : ℕ) (phis : List Phi) (registers : List Value) → Registers registers → Registers (put_phis m f before from phis registers)
   phis_fit m f before all from [] registers some = some
   phis_fit m f before all from (phi ∷ phis) registers some =
-      phis_fit m f before all from phis (slice_set registers phi.value (phi_value m f before from phi)) (set_fit phi.value (phi_value m f before from phi) registers (phi_fits m f before all from phi) some)
+      phis_fit m f before all from phis (slice_set registers phi.value (phi_value m f before from phi)) (registers_fit phi.value (phi_value m f before from phi) registers (phi_fits m f before all from phi) some)
 
   -- the frame in the block to which it goes on
   block_fits : (m : Module) (f : Function) (target : Option ℕ) (frame : Frame) → FrameFits s frame → FrameFits s (enter_block m f target frame)

@@ -23,7 +23,7 @@ use Rattle.machine.specs.declared.value.Place.TheVariants as place
 use Rattle.machine.specs.declared.value.Reference.{Reference}
 use Rattle.machine.specs.declared.value.Value.{Value}
 use Rattle.machine.specs.declared.value.Value.TheVariants as value
-use Rattle.machine.specs.Elements.{word_behind, global_behind, element_place, address_of}
+use Rattle.machine.specs.Elements.{word_after, global_after, element_place, address_of}
 use Rattle.machine.specs.Integers.{computed, resized, compares, truth}
 use Rattle.machine.specs.Kinds.{wrapped, number_in, register_at, constant_value, global_address, value_of, address_in}
 use Rattle.machine.specs.Machine.{compared, selected}
@@ -84,12 +84,12 @@ module _ (s : Setup) where
   -- ---- registers
 
   -- one more value among others that fit
-  pub set_fits : (values : List Value) (i j : ℕ) (v : Value) → FitsHeap s v → FitsHeap s (register_at values j) → FitsHeap s (register_at (slice_set values i v) j)
-  set_fits [] i j v new same = same
-  set_fits (x ∷ xs) zero zero v new same = new
-  set_fits (x ∷ xs) zero (suc j) v new same = same
-  set_fits (x ∷ xs) (suc i) zero v new same = same
-  set_fits (x ∷ xs) (suc i) (suc j) v new same = set_fits xs i j v new same
+  pub one_more_fits : (values : List Value) (i j : ℕ) (v : Value) → FitsHeap s v → FitsHeap s (register_at values j) → FitsHeap s (register_at (slice_set values i v) j)
+  one_more_fits [] i j v new same = same
+  one_more_fits (x ∷ xs) zero zero v new same = new
+  one_more_fits (x ∷ xs) zero (suc j) v new same = same
+  one_more_fits (x ∷ xs) (suc i) zero v new same = same
+  one_more_fits (x ∷ xs) (suc i) (suc j) v new same = one_more_fits xs i j v new same
 
   -- registers in which nothing was put
   pub unset_fits : (count j : ℕ) → FitsHeap s (register_at (replicate count value.Unset) j)
@@ -133,7 +133,7 @@ module _ (s : Setup) where
   address_fits (value.Address at) h = h
 
   -- a word of a cell, `offset` words after another one
-  word_fits : (p : LaidOut) (layout : ℕ) (at : Reference) (word : ℕ) (offset : Option ℕ) → IsOfLayout s layout at.cell → FitsHeap s (address_of (word_behind p layout at word offset))
+  word_fits : (p : LaidOut) (layout : ℕ) (at : Reference) (word : ℕ) (offset : Option ℕ) → IsOfLayout s layout at.cell → FitsHeap s (address_of (word_after p layout at word offset))
   word_fits p layout at word None of = tt
   word_fits p layout at word (Some offset) of = pick (is_some (kind_of_word p.layouts layout there)) where
     there : ℕ
@@ -144,7 +144,7 @@ module _ (s : Setup) where
     pick false = tt
 
   -- the place of a global leads to it alone
-  other_global_fits : (g : ℕ) (offset : Option ℕ) → FitsHeap s (address_of (global_behind g offset))
+  other_global_fits : (g : ℕ) (offset : Option ℕ) → FitsHeap s (address_of (global_after g offset))
   other_global_fits g None = tt
   other_global_fits g (Some offset) = pick (offset == 0) where
     pick : (b : Bool) → FitsHeap s (address_of (if b then Some (place.Global g) else None))

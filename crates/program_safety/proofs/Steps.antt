@@ -65,10 +65,10 @@ put_plain s share log cell (Some (kind.Integer bits)) (value.Number n) b h = (λ
 put_plain s share log cell (Some (kind.Integer bits)) v b h = absurd h
 put_plain s share log cell (Some (kind.Reference layout)) v b h = (λ x. (b.fresh cell h.0).1, put s share log layout v b h.1)
 
-put_behind : (s : Setup) (share : List Move) (log : Log) (k : Option WordKind) (v : Value) → BearsOut s share log → MayBeWritten s log k v → IsTrue (is_reference_kind k) × MayPut s share k (stored v)
-put_behind s share log None v b h = absurd h
-put_behind s share log (Some (kind.Integer bits)) v b h = absurd h
-put_behind s share log (Some (kind.Reference layout)) v b h = (refl, put s share log layout v b h)
+put_after : (s : Setup) (share : List Move) (log : Log) (k : Option WordKind) (v : Value) → BearsOut s share log → MayBeWritten s log k v → IsTrue (is_reference_kind k) × MayPut s share k (stored v)
+put_after s share log None v b h = absurd h
+put_after s share log (Some (kind.Integer bits)) v b h = absurd h
+put_after s share log (Some (kind.Reference layout)) v b h = (refl, put s share log layout v b h)
 
 -- a call that obeys the discipline of a log obeys that of the share
 pub may_call : (s : Setup) (share : List Move) (log : Log) (asked : Action) → BearsOut s share log → Keeps s log asked → MayCall s share (asked_as asked)
@@ -78,7 +78,7 @@ may_call s share log (StorePlain at word v) b k =
     let fits = put_plain s share log at.cell (kind_of s at.cell word) v b k.1 in
     (touch s share log at b k.0, fits.0, fits.1)
 may_call s share log (Write at word v) b k =
-    let fits = put_behind s share log (kind_of s at.cell word) v b k.1 in
+    let fits = put_after s share log (kind_of s at.cell word) v b k.1 in
     (touch s share log at b k.0, fits.0, fits.1)
 may_call s share log (Alloc layout) b k = tt
 may_call s share log Safepoint b k = tt
@@ -121,13 +121,13 @@ read_found s share log at word v roots layout false is e b find =
     brought r (inl g) = inl (ap in_run (sym g), rw is refl, not_null)
     brought r (inr h) = inr (tt, b.held r h)
 
-read_behind : (s : Setup) (share : List Move) (log : Log) (at : ThreadReference) (word : ℕ) (v : Reference) (roots : List Value) (k : Option WordKind)
+read_after : (s : Setup) (share : List Move) (log : Log) (at : ThreadReference) (word : ℕ) (v : Reference) (roots : List Value) (k : Option WordKind)
     → kind_of s at.cell word ≡ k → BearsOut s share log → k ≢ None → MayFind s (steps_of share) k v.cell
     → MayBeRead s log k (word_read k v) × BearsOut s (ReadsWord (in_run at) word v ∷ share) (with_step (Read at word) (word_read k v) roots log)
-read_behind s share log at word v roots None is b there find = absurd (there refl)
-read_behind s share log at word v roots (Some (kind.Integer bits)) is b there find =
+read_after s share log at word v roots None is b there find = absurd (there refl)
+read_after s share log at word v roots (Some (kind.Integer bits)) is b there find =
     (find, record { held = λ r. none_more (b.held r); fresh = λ c f. ((b.fresh c f).0, inr (refl, refl, (b.fresh c f).1)) })
-read_behind s share log at word v roots (Some (kind.Reference layout)) is b there find = read_found s share log at word v roots layout (v.cell == 0) is refl b find
+read_after s share log at word v roots (Some (kind.Reference layout)) is b there find = read_found s share log at word v roots layout (v.cell == 0) is refl b find
 
 -- ---- a store
 
@@ -204,7 +204,7 @@ behind_call s share log roots (Read at word) (ReadsWord base w v) b k rooted e p
   where
     read : Left s share log (Read at word) (word_read (kind_of s at.cell word) v) roots (ReadsWord (in_run at) word v)
     read =
-        let found = read_behind s share log at word v roots (kind_of s at.cell word) refl b k.1 (subst (λ q. MayFind s (steps_of share) (kind_of s q.cell word) v.cell) e.0 (subst (λ i. MayFind s (steps_of share) (kind_of s base.cell i) v.cell) e.1 p)) in
+        let found = read_after s share log at word v roots (kind_of s at.cell word) refl b k.1 (subst (λ q. MayFind s (steps_of share) (kind_of s q.cell word) v.cell) e.0 (subst (λ i. MayFind s (steps_of share) (kind_of s base.cell i) v.cell) e.1 p)) in
         record { possible = found.0; borne_out = found.1 }
 behind_call s share log roots (StorePlain at word v) (StoresPlain base w u) b k rooted e p = rw (e.0, e.1, e.2) (record {
   possible = tt;

@@ -7,8 +7,8 @@ use Rattle.replay.specs.declared.outcome.SeedBreak.{SeedBreak}
 use Rattle.replay.specs.Soaks.{AreSoundBelow, IsLeastBreak, IsLeastFrom, IsSoundSeed}
 
 -- a seed lies before the chunk, or it does not
-before_or_behind : (seed first : ℕ) → (seed < first) ⊎ (first ≤ seed)
-before_or_behind seed first = grind arith
+before_or_after : (seed first : ℕ) → (seed < first) ⊎ (first ≤ seed)
+before_or_after seed first = grind arith
 
 -- a chunk ends within the seeds
 pub chunk_ends : (seeds first chunk size : ℕ) → first ≤ seeds → size ≡ min chunk (seeds - first) → first + size ≤ seeds
@@ -19,7 +19,7 @@ pub least_of_all : (p : LaidOut) (setup : Setup) (seeds steps first past : ℕ) 
     → IsLeastFrom p setup steps first past (Some b) → IsLeastBreak p setup seeds steps b
 least_of_all p setup seeds steps first past b sound within least = record {
   is_seed = let high = least.1 in omega (arith, high, within);
-  before = λ seed below. sound_before seed below (before_or_behind seed first);
+  before = λ seed below. sound_before seed below (before_or_after seed first);
   breaks = least.3;
 }
   where

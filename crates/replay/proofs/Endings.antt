@@ -32,7 +32,7 @@ use Rattle.program_runner.specs.Threads.{ProgramThread, program_machine, names}
 use Rattle.program_runner.specs.Heaps as heaps
 use Rattle.program_runner.specs.Kinds.{FitsThread}
 use Rattle.trace_text.specs.declared.trace.Setup as traced
-use Rattle.replay.specs.Keeping.{ending_in, ending_behind}
+use Rattle.replay.specs.Keeping.{ending_in, ending_after}
 use Rattle.setups.specs.Setups.{starts_of}
 use Rattle.replay.specs.Worlds.{AreEndings, ending_at, ending_of, run_of}
 
@@ -141,7 +141,7 @@ module _ (p : LaidOut) (setup : traced.Setup) (run : List Happening) (t : ℕ) (
 pub kept : (p : LaidOut) (setup : traced.Setup) (before : List Actor) (threads : List (Stand ProgramThread)) (shared : Shared) (c : Collecting) (endings : List ThreadEnd) (t : ℕ)
     → stepping.IsEnd (heaps.heap_of p setup) program_machine (FitsThread (heaps.heap_of p setup)) (starts_of p setup) (run_of p setup before) threads shared c
     → t < length setup.starts → AreEndings p setup (run_of p setup before) endings
-    → AreEndings p setup (run_of p setup (Thread t ∷ before)) (slice_set endings t (ending_behind (slice_get threads t) (slice_get endings t)))
+    → AreEndings p setup (run_of p setup (Thread t ∷ before)) (slice_set endings t (ending_after (slice_get threads t) (slice_get endings t)))
 unfolding run_by
 kept p setup before threads shared c endings t end is_thread are =
     let s = heaps.heap_of p setup in
@@ -154,8 +154,8 @@ kept p setup before threads shared c endings t end is_thread are =
     let none : phase_at cells (names found.0.state) found.0.stance ≡ order.Ended → next ≡ None =
     λ e. none_next s (sight_in s shared found.0.hints) found.0.stage (names found.0.state) found.0.replaced (program_machine.action found.0.state) (phase_at cells (names found.0.state) found.0.stance) e in
     let one = either p setup run t found.0 endings next none stands is_thread are in
-    let said = subst (λ (x : Option (Stand ProgramThread)). AreEndings p setup (with_next (by_thread t next) run) (slice_set endings t (ending_behind x (slice_get endings t)))) (sym found.1) one in
-    subst (λ (o : Option Happening). AreEndings p setup (with_next o run) (slice_set endings t (ending_behind (slice_get threads t) (slice_get endings t)))) (sym by) said
+    let said = subst (λ (x : Option (Stand ProgramThread)). AreEndings p setup (with_next (by_thread t next) run) (slice_set endings t (ending_after x (slice_get endings t)))) (sym found.1) one in
+    subst (λ (o : Option Happening). AreEndings p setup (with_next o run) (slice_set endings t (ending_after (slice_get threads t) (slice_get endings t)))) (sym by) said
 
 -- a step of the collector ends no thread
 pub kept_by_collector : (p : LaidOut) (setup : traced.Setup) (before : List Actor) (endings : List ThreadEnd) → AreEndings p setup (run_of p setup before) endings

@@ -21,7 +21,7 @@ use Rattle.trace_text.specs.declared.trace.Actor.TheVariants.{Thread, Collector}
 use Rattle.trace_text.specs.declared.trace.Setup.{Setup}
 use Rattle.trace_text.specs.declared.trace.Start.{Start}
 use Rattle.replay.specs.declared.world.World.TheInside.{Inside}
-use Rattle.replay.specs.Keeping.{endings_behind}
+use Rattle.replay.specs.Keeping.{endings_after}
 use Rattle.setups.specs.Setups.{HasNoFault, IsCertifiedSetup, AreBegun, begun_at, new_thread, starts_of}
 use Rattle.replay.specs.Worlds.{World, AreEndings, IsBehind, IsStepBehind, IsBrokenWorld, actor_in, run_of}
 use Rattle.replay.specs.WorldView.{world_seen, IsKept}
@@ -52,13 +52,13 @@ is_actor threads Collector is = tt
 are_endings : (p : LaidOut) (setup : Setup) (before : List run.Actor) (actors : Actors ProgramThread) (endings : List ThreadEnd) (actor : Actor)
     → stepping.AreBehindSteps (heap_of p setup) program_machine (FitsThread (heap_of p setup)) (starts_of p setup) before actors → IsActorOf (length setup.starts) actor
     → AreEndings p setup (run_of p setup before) endings
-    → AreEndings p setup (run_of p setup (actor_in actor ∷ before)) (endings_behind actor actors.threads.items endings)
+    → AreEndings p setup (run_of p setup (actor_in actor ∷ before)) (endings_after actor actors.threads.items endings)
 are_endings p setup before actors endings (Thread t) b is are = kept p setup before actors.threads.items actors.shared actors.collector endings t b.is_behind.is_end is are
 are_endings p setup before actors endings Collector b is are = kept_by_collector p setup before endings are
 
 -- the fields of a world after a step
 abbrev pub stepped : Inside → (actor : Actor) → Actors ProgramThread → Inside
-stepped i actor actors = record i { actors = actors; endings = endings_behind actor i.actors.threads.items i.endings }
+stepped i actor actors = record i { actors = actors; endings = endings_after actor i.actors.threads.items i.endings }
 
 -- what a step of the actor tells, and where it leads
 abbrev pub IsStepOf : Inside → (before : List run.Actor) → Actor → Option Step → Actors ProgramThread → Type 0
@@ -90,7 +90,7 @@ is_safe law i certs before kept certified b = certified_setup law i.program.now 
 -- a step of an actor, as the code made it: which actor it was, the actors after it and the endings that are kept
 pub record IsMadeBy (i : Inside) (actor : Actor) (made : Option Step) (actors : Actors ProgramThread) (endings : List ThreadEnd) : Type 0 where
   pub is_actor : IsActorOf (length i.setup.now.starts) actor
-  pub endings_are : endings ≡ endings_behind actor i.actors.threads.items i.endings
+  pub endings_are : endings ≡ endings_after actor i.actors.threads.items i.endings
   pub makes : (before : List run.Actor)
       → stepping.AreBehindSteps (heap_of i.program.now i.setup.now) program_machine (FitsThread (heap_of i.program.now i.setup.now)) (starts_of i.program.now i.setup.now) before i.actors
       → IsStepOf i before actor made actors

@@ -16,14 +16,14 @@ ending_in Ended t kept = unwrap_or kept thread.Ended
 ending_in stance t kept = ending_at t
 
 -- so of a thread of a list, if it is there
-abbrev pub ending_behind : Option (Stand ProgramThread) → (kept : Option ThreadEnd) → ThreadEnd
-ending_behind None kept = unwrap_or kept thread.Ended
-ending_behind (Some stand) kept = ending_in stand.stance stand.state kept
+abbrev pub ending_after : Option (Stand ProgramThread) → (kept : Option ThreadEnd) → ThreadEnd
+ending_after None kept = unwrap_or kept thread.Ended
+ending_after (Some stand) kept = ending_in stand.stance stand.state kept
 
 -- the endings after a step of an actor; the collector ends no thread
-abbrev pub endings_behind : Actor → List (Stand ProgramThread) → List ThreadEnd → List ThreadEnd
-endings_behind (Thread t) threads endings = slice_set endings t (ending_behind (slice_get threads t) (slice_get endings t))
-endings_behind Collector threads endings = endings
+abbrev pub endings_after : Actor → List (Stand ProgramThread) → List ThreadEnd → List ThreadEnd
+endings_after (Thread t) threads endings = slice_set endings t (ending_after (slice_get threads t) (slice_get endings t))
+endings_after Collector threads endings = endings
 
 -- where a thread in this stance is, at this stage, and how it ended if it has
 abbrev pub end_at : Stance → (stage : ℕ) → (ending : ThreadEnd) → ThreadEnd

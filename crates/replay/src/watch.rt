@@ -94,7 +94,7 @@ impl<'a> Watch<'a> {
             → IfOk result (IsWatchedOn p setup before (actor_in actor ∷ []) self.new) }
     {
         self.count(made);
-        match cause_behind(&self.world, made)? {
+        match cause_after(&self.world, made)? {
             None => Ok(None),
             Some(cause) => Ok(Some(Break {
                 step: self.steps,
@@ -151,7 +151,7 @@ fn frees_cell(made: &Option<Step>) -> bool
 }
 
 /// The first cause by which the run is broken after a step, if it is, where it was not broken before it.
-fn cause_behind(world: &World<'_>, made: &Option<Step>) -> Result<Option<Cause>, AllocError>
+fn cause_after(world: &World<'_>, made: &Option<Step>) -> Result<Option<Cause>, AllocError>
     ensures { (before : List AnActor) (actor : AnActor) → IsBehind world.now (actor ∷ before)
         → IsMadeBehind world.now before actor made.now → ¬ IsBrokenWorld world.now before
         → IfOk result (IsCauseBehind world.now.program world.now.setup (actor ∷ before)) }

@@ -4,7 +4,7 @@ ghost use Rattle.moves.specs.declared.actor.Actor.{Actor as AnActor};
 ghost use Rattle.trace_text.specs.Traces.{IsActorOf};
 ghost use Rattle.setups.specs.Setups.{IsSetupOf, IsSetupFault, HasNoFault, IsCertifiedSetup};
 ghost use Rattle.replay.specs.Worlds.{IsBehind, actor_in, ended_by, IsStepBehind, IsBrokenWorld, IsFirstGoneOf};
-ghost use Rattle.replay.specs.Keeping.{ending_behind, end_told};
+ghost use Rattle.replay.specs.Keeping.{ending_after, end_told};
 ghost use Rattle.replay.specs.ThreadEnds.{AreEndsOf};
 ghost use Rattle.setups.specs.declared.setup_fault.SetupFault.TheVariants as fault;
 ghost use Rattle.replay.specs.declared.thread_end.ThreadEnd.TheVariants as end;
@@ -95,7 +95,7 @@ impl<'a> World<'a> {
                 Ok(made)
             }
             Actor::Thread(thread) => {
-                let ending = ending_behind(&self.actors, self.endings.as_slice(), thread as usize);
+                let ending = ending_after(&self.actors, self.endings.as_slice(), thread as usize);
                 let made = self.actors.step(moves::Actor::Thread(thread))?;
                 self.endings.set(thread as usize, ending);
                 Ok(made)
@@ -159,12 +159,12 @@ fn ended_by(ending: &Ending) -> ThreadEnd
 }
 
 /// How a thread has ended, if its next step is its last one.
-fn ending_behind(
+fn ending_after(
     actors: &Actors<'_, ProgramThread<'_>>,
     endings: &[ThreadEnd],
     thread: usize,
 ) -> ThreadEnd
-    ensures { result ≡ ending_behind (slice_get actors.now.threads.items thread) (slice_get endings.now thread) }
+    ensures { result ≡ ending_after (slice_get actors.now.threads.items thread) (slice_get endings.now thread) }
 {
     match actors.thread(thread) {
         None

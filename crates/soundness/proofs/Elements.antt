@@ -52,7 +52,7 @@ use Rattle.machine.specs.declared.value.Value.{Value}
 use Rattle.machine.specs.declared.value.Value.TheVariants as value
 use Rattle.machine.specs.declared.frame.Frame.{Frame}
 use Rattle.machine.specs.Asks as a
-use Rattle.machine.specs.Elements.{index_value, stepped, offset_behind, first_place, element_offset, word_in, word_behind, element_place, address_of}
+use Rattle.machine.specs.Elements.{index_value, stepped, offset_after, first_place, element_offset, word_in, word_after, element_place, address_of}
 use Rattle.machine.specs.Integers.{sign_extended}
 use Rattle.machine.specs.Kinds as k
 use Rattle.machine.specs.Kinds.{modulus, wrapped, bits_at, register_at, number_in, value_of}
@@ -230,10 +230,10 @@ module _ (p : LaidOut) where
     by (Some (Named name)) e = struct_part written (t.index_number p.of_module index) step e
 
   -- from nowhere nothing is reached
-  none_behind : (facts : FactSet) (part : Option ℕ) (indices : List Argument) → r.words_behind p facts part indices None ≡ None
-  none_behind facts None indices = refl
-  none_behind facts (Some written) [] = refl
-  none_behind facts (Some written) (index ∷ indices) = refl
+  none_after : (facts : FactSet) (part : Option ℕ) (indices : List Argument) → r.words_behind p facts part indices None ≡ None
+  none_after facts None indices = refl
+  none_after facts (Some written) [] = refl
+  none_after facts (Some written) (index ∷ indices) = refl
 
   -- a word of a set that lies below a count does
   lies_below : (count : ℕ) (set : WordSet) (w : ℕ) → r.lie_below count set ≡ true → w < 64 → has_word set.members w ≡ true → w < count
@@ -387,7 +387,7 @@ module _ (heap : Setup) (p : LaidOut) (certs : List Section) (reaches : Bool) (f
   -- where the machine's indices lead, from a word to one of a set
   record Walked (to : WordSet) (word : ℕ) (from : Option (ℕ × ℕ)) (indices : List Argument) : Type 0 where
     offset : ℕ
-    is : offset_behind p frame.registers from indices ≡ Some offset
+    is : offset_after p frame.registers from indices ≡ Some offset
     within : word + offset < 64
     has : has_word to.members (word + offset) ≡ true
 
@@ -407,10 +407,10 @@ module _ (heap : Setup) (p : LaidOut) (certs : List Section) (reaches : Bool) (f
         by None is e rest = absurd cc
         by (Some step) is e rest = strides (r.step_stride facts (kind_of p.of_module index.written) index (Some step)) refl e where
           strides : (q : Option Stride) → r.step_stride facts (kind_of p.of_module index.written) index (Some step) ≡ q → r.words_behind p facts (r.step_part (Some step)) indices (r.strode q from) ≡ Some to → Walked to word (Some (offset, written)) (index ∷ indices)
-          strides None so e = absurd (let x = none_behind p facts (r.step_part (Some step)) indices in cc)
+          strides None so e = absurd (let x = none_after p facts (r.step_part (Some step)) indices in cc)
           strides (Some stride) so e = reach (r.strode (Some stride) from) refl e where
             reach : (q : Option WordSet) → r.strode (Some stride) from ≡ q → r.words_behind p facts (r.step_part (Some step)) indices q ≡ Some to → Walked to word (Some (offset, written)) (index ∷ indices)
-            reach None reaches e = absurd (let x = none_behind p facts (r.step_part (Some step)) indices in cc)
+            reach None reaches e = absurd (let x = none_after p facts (r.step_part (Some step)) indices in cc)
             reach (Some next) reaches e =
                 let l = index_leads index fit step stride so in
                 let turn : word + offset + l.number * stride.size ≡ word + (offset + l.number * stride.size) = omega arith in
@@ -419,7 +419,7 @@ module _ (heap : Setup) (p : LaidOut) (certs : List Section) (reaches : Bool) (f
                 let w = rest l.part next (subst (λ x. r.words_behind p facts x indices (Some next) ≡ Some to) l.is_part e) (offset + l.number * stride.size) less (subst (λ x. has_word next.members x ≡ true) turn there.1) in
                 record {
                   offset = w.offset;
-                  is = ap (λ x. offset_behind p frame.registers (stepped offset number x) indices) is ∙ ap (λ x. offset_behind p frame.registers x indices) (l.steps offset (omega (arith, less))) ∙ w.is;
+                  is = ap (λ x. offset_after p frame.registers (stepped offset number x) indices) is ∙ ap (λ x. offset_after p frame.registers x indices) (l.steps offset (omega (arith, less))) ∙ w.is;
                   within = w.within;
                   has = w.has;
                 }
@@ -437,7 +437,7 @@ module _ (heap : Setup) (p : LaidOut) (certs : List Section) (reaches : Bool) (f
             (at (r.step_part (Some step)) (r.strode (r.step_stride facts (kind_of p.of_module index.written) index (Some step)) from) e) where
               at : (part : Option ℕ) (q : Option WordSet) → r.words_behind p facts part indices q ≡ Some to → is_some (t.part_behind p.of_module part indices) ≡ true
               at None q e = absurd cc
-              at (Some part) None e = absurd (let x = none_behind p facts (Some part) indices in cc)
+              at (Some part) None e = absurd (let x = none_after p facts (Some part) indices in cc)
               at (Some part) (Some next) e = rest part next e
 
   -- where the rules' indices lead to a part of the type, so do the machine's
@@ -494,7 +494,7 @@ module _ (heap : Setup) (p : LaidOut) (certs : List Section) (reaches : Bool) (f
       walked = λ word lt has.
           let more : word ≡ word + 0 = omega arith in
           let w = walk source (index ∷ indices) from to others e word 0 (omega (arith, lt)) (subst (λ x. has_word from.members x ≡ true) more has) in
-          (w.offset, ap (λ x. offset_behind p frame.registers (first_place source x (size_of p source)) (index ∷ indices)) (first_index first is) ∙ w.is, w.within, w.has);
+          (w.offset, ap (λ x. offset_after p frame.registers (first_place source x (size_of p source)) (index ∷ indices)) (first_index first is) ∙ w.is, w.within, w.has);
     }
 
   -- the place to which a getelementptr leads from a base, and what its address means
@@ -505,7 +505,7 @@ module _ (heap : Setup) (p : LaidOut) (certs : List Section) (reaches : Bool) (f
 
   -- a word of the set, of a cell of the layout
   word_placed : (layout : ℕ) (cell : Ref) (word offset : ℕ) (to : WordSet) → r.lie_below (length (words_of p.layouts layout)) to ≡ true → word + offset < 64 → has_word to.members (word + offset) ≡ true
-      → (word_behind p layout cell word (Some offset) ≡ Some (place.Word layout cell (word + offset))) × IsAddressOf p to.members (value.Cell layout cell) (value.Address (place.Word layout cell (word + offset)))
+      → (word_after p layout cell word (Some offset) ≡ Some (place.Word layout cell (word + offset))) × IsAddressOf p to.members (value.Cell layout cell) (value.Address (place.Word layout cell (word + offset)))
   word_placed layout cell word offset to lies lt has =
       let there = in_layout p layout to (word + offset) lies lt has in
       (ap (word_in p layout cell) (wrapped_word (word + offset) lt) ∙ rw there refl, (word + offset, refl, has, lt, λ z. absurd (let x = ap is_some z in cc)))
@@ -519,7 +519,7 @@ module _ (heap : Setup) (p : LaidOut) (certs : List Section) (reaches : Bool) (f
     reference_placed (value.Cell own cell) refers has =
         let w = l.walked 0 (omega arith) has in
         let q = word_placed own cell 0 w.0 to (subst (λ x. r.lie_below (length (words_of p.layouts x)) to ≡ true) (sym refers.0) lies) w.2 w.3 in
-        record { at = place.Word own cell (0 + w.0); is = ap (word_behind p own cell 0) w.1 ∙ q.0; means = q.1 }
+        record { at = place.Word own cell (0 + w.0); is = ap (word_after p own cell 0) w.1 ∙ q.0; means = q.1 }
     reference_placed (value.Address x) refers has = absurd refers
 
     -- from an address
@@ -530,7 +530,7 @@ module _ (heap : Setup) (p : LaidOut) (certs : List Section) (reaches : Bool) (f
     address_placed (value.Cell own cell) v refers means =
         let w = l.walked means.0 means.3 means.2 in
         let q = word_placed own cell means.0 w.0 to (subst (λ x. r.lie_below (length (words_of p.layouts x)) to ≡ true) (sym refers.0) lies) w.2 w.3 in
-        record { at = place.Word own cell (means.0 + w.0); is = ap (element_place p (element_offset p frame.registers source indices)) means.1 ∙ ap (word_behind p own cell means.0) w.1 ∙ q.0; means = q.1 }
+        record { at = place.Word own cell (means.0 + w.0); is = ap (element_place p (element_offset p frame.registers source indices)) means.1 ∙ ap (word_after p own cell means.0) w.1 ∙ q.0; means = q.1 }
     address_placed (value.Address x) v refers means = absurd refers
 
   -- from a global the indices lead to its word

@@ -9,6 +9,7 @@ pub mod Edges
 pub mod PlaceFacts
 pub mod Stale
 pub mod Tests
+pub mod Members
 pub mod Numbers
 pub mod KindLemmas
 pub mod RulesHold
@@ -26,9 +27,9 @@ pub mod StepCalls
 pub mod Accesses
 pub mod AnyCall
 pub mod Choices
-pub mod Members
 pub mod Elements
 pub mod Memory
+pub mod MembersKept
 pub mod Instructions
 pub mod Phis
 pub mod Ends

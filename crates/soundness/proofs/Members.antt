@@ -8,13 +8,7 @@ use Rattle.lemmas.specs.Lists.{at_map}
 use Rattle.lemmas.specs.Numbers.{test_true, test_yes}
 use Rattle.ir_ast.specs.declared.module.Module.{Module}
 use Rattle.ir_ast.specs.declared.argument.Argument.{Argument}
-use Rattle.ir_ast.specs.declared.numbers.Comparison.{Comparison}
-use Rattle.ir_ast.specs.declared.memory.MemoryOp.{MemoryOp}
-use Rattle.ir_ast.specs.declared.memory.MemoryOp.TheVariants as memory
-use Rattle.ir_ast.specs.declared.numbers.NumberOp.{NumberOp}
 use Rattle.ir_ast.specs.declared.numbers.NumberOp.TheVariants as number
-use Rattle.ir_ast.specs.declared.op.Op.{Op}
-use Rattle.ir_ast.specs.declared.op.Op.TheVariants as op
 use Rattle.ir_ast.specs.declared.operand.Constant.{Constant}
 use Rattle.ir_ast.specs.declared.operand.Constant.TheVariants as constant
 use Rattle.ir_ast.specs.declared.operand.Operand.{Operand}
@@ -47,18 +41,17 @@ use Rattle.block_rules.specs.declared.type_kind.TypeKind.{TypeKind}
 use Rattle.block_rules.specs.declared.type_kind.TypeKind.TheVariants.{NoValue, Bits, Reference, AnyReference, Address as AddressKind, Other}
 use Rattle.block_rules.specs.Operands.{slot_named, known_of, is_nonnull}
 use Rattle.block_rules.specs.Places.{first_layout, cell_words, define_held, load_kind, load_held_type, layout_of_word, load_word, load_words, load_base, load_known, load_place, after_store}
-use Rattle.block_rules.specs.Signature.{callee_of}
 use Rattle.block_rules.specs.TypeKinds.{kind_of}
 use Rattle.block_rules.specs.Barriers.{after_read, after_read_call, after_write}
 use Rattle.block_rules.specs.Bounds.{below_next}
 use Rattle.block_rules.specs.Promises.{given_by, promised_in, callee_mark}
 use Rattle.block_rules.specs.Casts.{layout_of_null, cast_number, cast_constant, cast_local, after_cast}
 use Rattle.block_rules.specs.Elements.{element_words, start_of, define_element, define_words, after_element}
-use Rattle.block_rules.specs.Integers.{below_of, larger, arithmetic_below, define_number, resized_below, after_compare, chosen_layout, choose_reference, after_select}
+use Rattle.block_rules.specs.Integers.{below_of, larger, chosen_layout, choose_reference, after_select}
 use Rattle.block_rules.specs.Calls.{after_root, after_root_call, alloc_numbered, alloc_layout, after_alloc_call, drop_arguments, receive_result, after_defined, after_call}
-use Rattle.block_rules.specs.Rules.{after_alloca, after_number, after_memory, after_op}
+use Rattle.block_rules.specs.Rules.{after_alloca}
 use Rattle.soundness.proofs.Lists.{at_set, at_other, at_old, at_end, longer, by_equal, replicated}
-use Rattle.soundness.specs.Goes.{IsNamed, HasMember, HaveClasses, HaveMembers, MembersStay}
+use Rattle.soundness.specs.Goes.{IsNamed, HasMember, HaveClasses, HaveMembers}
 
 -- where some value passes as one of a class, one is of it
 pub any_found : (c : ℕ) (values : List Known) → list_any (is_of c) values ≡ true → IsNamed values c
@@ -235,15 +228,6 @@ module _ (facts : FactSet) (members : HaveMembers facts) where
   held_members v None nonnull = define_members v Nothing facts members
   held_members v (Some l) nonnull = new_members v l (record { nonnull = nonnull; fresh = false }) facts members
 
-  -- a value is a number
-  number_members : (v : ℕ) (kind : TypeKind) (below : Option ℕ) → HaveMembers (define_number v kind below facts)
-  number_members v (Bits bits) below = define_members v (Number bits below) facts members
-  number_members v NoValue below = define_members v Nothing facts members
-  number_members v (Reference l) below = define_members v Nothing facts members
-  number_members v AnyReference below = define_members v Nothing facts members
-  number_members v AddressKind below = define_members v Nothing facts members
-  number_members v Other below = define_members v Nothing facts members
-
   -- ---- bitcasts
 
   -- a constant number under another type
@@ -267,7 +251,7 @@ module _ (facts : FactSet) (members : HaveMembers facts) where
   cast_local_members v u known (Some s) = members
 
   -- after a bitcast
-  cast_members : (m : Module) (table : SlotTable) (v from to : ℕ) (x : Operand) → HaveMembers (after_cast m table v from to x facts)
+  pub cast_members : (m : Module) (table : SlotTable) (v from to : ℕ) (x : Operand) → HaveMembers (after_cast m table v from to x facts)
   cast_members m table v from to (operand.Constant c) = cast_constant_members m v from to c
   cast_members m table v from to (operand.Local u) = cast_local_members v u (known_at facts.values u) (slot_of table u)
   cast_members m table v from to (operand.Global g) = define_members v (GlobalAddress g) facts members
@@ -326,12 +310,12 @@ module _ (facts : FactSet) (members : HaveMembers facts) where
   load_known_members p v kind (GlobalAddress g) = load_word_members v kind (global_word p.of_module g)
 
   -- after a load
-  load_place_members : (p : LaidOut) (table : SlotTable) (v loaded : ℕ) (place : Operand) (slot : Option ℕ) → HaveMembers (load_place p table v loaded place slot facts)
+  pub load_place_members : (p : LaidOut) (table : SlotTable) (v loaded : ℕ) (place : Operand) (slot : Option ℕ) → HaveMembers (load_place p table v loaded place slot facts)
   load_place_members p table v loaded place None = load_known_members p v (kind_of p.of_module loaded) (known_of facts place)
   load_place_members p table v loaded place (Some s) = load_held_members p.of_module v s (held_type table s)
 
   -- after a store
-  stored_members : (x : Operand) (slot : Option ℕ) → HaveMembers (after_store (known_of facts x) slot facts)
+  pub stored_members : (x : Operand) (slot : Option ℕ) → HaveMembers (after_store (known_of facts x) slot facts)
   stored_members x None = drop_of_members (known_of facts x) facts members
   stored_members (operand.Local u) (Some s) = store_members u s facts members
   stored_members (operand.Constant c) (Some s) = clear_members s facts members
@@ -355,23 +339,13 @@ module _ (facts : FactSet) (members : HaveMembers facts) where
   words_members v u base (Some words) = element_members v u base words
 
   -- after a getelementptr
-  after_element_members : (p : LaidOut) (v source : ℕ) (base : Operand) (indices : List Argument) → HaveMembers (after_element p v source base indices facts)
+  pub after_element_members : (p : LaidOut) (v source : ℕ) (base : Operand) (indices : List Argument) → HaveMembers (after_element p v source base indices facts)
   after_element_members p v source (operand.Local u) indices = words_members v u (known_at facts.values u) (element_words p facts source indices (start_of (known_at facts.values u)))
   after_element_members p v source (operand.Constant c) indices = define_members v Nothing facts members
   after_element_members p v source (operand.Global g) indices = define_members v (GlobalAddress g) facts members
   after_element_members p v source (operand.CastGlobal a g c) indices = define_members v (GlobalAddress g) facts members
 
-  -- ---- comparisons and choices
-
-  -- after a comparison
-  compare_members : (v : ℕ) (kind : Comparison) (first second : Operand) → HaveMembers (after_compare v kind first second facts)
-  compare_members v kind (operand.Local u) (operand.Constant c) = define_members v (Number 1 None) facts members
-  compare_members v kind (operand.Local u) (operand.Local w) = define_members v (Number 1 None) facts members
-  compare_members v kind (operand.Local u) (operand.Global g) = define_members v (Number 1 None) facts members
-  compare_members v kind (operand.Local u) (operand.CastGlobal a b c) = define_members v (Number 1 None) facts members
-  compare_members v kind (operand.Constant d) second = define_members v (Number 1 None) facts members
-  compare_members v kind (operand.Global g) second = define_members v (Number 1 None) facts members
-  compare_members v kind (operand.CastGlobal a b c) second = define_members v (Number 1 None) facts members
+-- ---- choices
 
 -- one of two references is chosen
 choose_members : (v : ℕ) (kind : TypeKind) (chosen other : Known) (facts : FactSet) → HaveMembers facts → HaveMembers (choose_reference v kind chosen other facts)
@@ -379,7 +353,7 @@ choose_members v kind chosen other facts members =
     held_members (drop_fresh_of other (drop_fresh_of chosen facts)) (drop_of_members other (drop_fresh_of chosen facts) (drop_of_members chosen facts members)) v (chosen_layout kind chosen other) (is_nonnull facts chosen && is_nonnull facts other)
 
 -- after a choice
-select_members : (v : ℕ) (kind : TypeKind) (chosen other : Operand) (facts : FactSet) → HaveMembers facts → HaveMembers (after_select v kind chosen other facts)
+pub select_members : (v : ℕ) (kind : TypeKind) (chosen other : Operand) (facts : FactSet) → HaveMembers facts → HaveMembers (after_select v kind chosen other facts)
 select_members v (Bits bits) chosen other facts members = define_members v (Number bits (larger (below_of facts chosen) (below_of facts other))) facts members
 select_members v NoValue chosen other facts members = choose_members v NoValue (known_of facts chosen) (known_of facts other) facts members
 select_members v (Reference l) chosen other facts members = choose_members v (Reference l) (known_of facts chosen) (known_of facts other) facts members
@@ -482,7 +456,7 @@ module _ (facts : FactSet) (members : HaveMembers facts) where
   write_members (value ∷ rest) = drop_of_members (known_of facts value.operand) facts members
 
   -- after any call
-  call_members : (p : LaidOut) (certs : List Section) (table : SlotTable) (result : Option ℕ) (returned : ℕ) (arguments : List Argument) (callee : Callee) → HaveMembers (after_call p certs table result returned arguments callee facts)
+  pub call_members : (p : LaidOut) (certs : List Section) (table : SlotTable) (result : Option ℕ) (returned : ℕ) (arguments : List Argument) (callee : Callee) → HaveMembers (after_call p certs table result returned arguments callee facts)
   call_members p certs table result returned arguments (NoFunction named) = members
   call_members p certs table result returned arguments (OfModule called) = defined_members p.of_module result returned arguments (slice_get certs called) facts members
   call_members p certs table result returned arguments (OfRuntime runtime.Alloc) = alloc_members result arguments
@@ -492,42 +466,9 @@ module _ (facts : FactSet) (members : HaveMembers facts) where
   call_members p certs table result returned arguments (OfRuntime runtime.GcWrite) = write_members arguments
 
   -- after an alloca
-  alloca_members : (slot : Option ℕ) → HaveMembers (after_alloca slot facts)
+  pub alloca_members : (slot : Option ℕ) → HaveMembers (after_alloca slot facts)
   alloca_members None = members
   alloca_members (Some s) = end_members s facts members
-
--- ---- any instruction
-
-module _ (p : LaidOut) (certs : List Section) (table : SlotTable) (facts : FactSet) (members : HaveMembers facts) where
-  -- an operation on integers that defines a name
-  named_number : (v : ℕ) (x : NumberOp) → HaveMembers (after_number p.of_module v x facts)
-  named_number v (number.Arithmetic kind written first second) = number_members facts members v (kind_of p.of_module written) (arithmetic_below kind first second)
-  named_number v (number.Resize kind from x to) = number_members facts members v (kind_of p.of_module to) (resized_below kind (below_of facts x))
-  named_number v (number.Compare kind written first second) = compare_members facts members v kind first second
-
-  -- an operation on memory
-  memory_members : (result : Option ℕ) (x : MemoryOp) → HaveMembers (after_memory p table result x facts)
-  memory_members result (memory.Store stored x place_type place) = stored_members facts members x (slot_named table place)
-  memory_members None (memory.Alloca held) = members
-  memory_members None (memory.Load loaded place_type place) = members
-  memory_members (Some v) (memory.Alloca held) = alloca_members facts members (slot_of table v)
-  memory_members (Some v) (memory.Load loaded place_type place) = load_place_members facts members p table v loaded place (slot_named table place)
-
-  -- by what an instruction does
-  op_members : (result : Option ℕ) (x : Op) → HaveMembers (after_op p certs table result x facts)
-  op_members result (op.Memory x) = memory_members result x
-  op_members result (op.Call x) = call_members facts members p certs table result x.returned x.arguments (callee_of p.of_module x.callee (length x.arguments))
-  op_members None (op.Number x) = members
-  op_members None (op.Element x) = members
-  op_members None (op.Cast x) = members
-  op_members None (op.Choice x) = members
-  op_members (Some v) (op.Number x) = named_number v x
-  op_members (Some v) (op.Element x) = after_element_members facts members p v x.source x.base x.indices
-  op_members (Some v) (op.Cast x) = cast_members facts members p.of_module table v x.from x.to x.operand
-  op_members (Some v) (op.Choice x) = select_members v (kind_of p.of_module x.written) x.chosen x.other facts members
-
-pub members_stay : MembersStay
-members_stay p certs table facts instr members = op_members p certs table facts members instr.result instr.op
 
 -- ---- what a block, and a function, begins with
 

@@ -21,7 +21,7 @@ use Rattle.block_rules.specs.Places as q
 use Rattle.block_rules.specs.FirstFailing.{first_failing}
 use Rattle.block_rules.specs.Barriers.{needs_no_barrier}
 use Rattle.block_rules.specs.Casts as c
-use Rattle.block_rules.specs.Rules.{memory_conditions}
+use Rattle.block_rules.specs.Rules.{memory_conditions, after_memory}
 use Rattle.machine.specs.declared.frame.Frame.{Frame}
 use Rattle.machine.specs.Log.{Log, IsFresh}
 use Rattle.soundness.specs.Meaning.{Cells, Guarded, Holds}
@@ -29,10 +29,11 @@ use Rattle.soundness.specs.Goes.{HaveMembers}
 use Rattle.soundness.proofs.Steps.{OpGoes, none_of, alloca_goes}
 use Rattle.soundness.proofs.RulesHold.{rules_hold}
 use Rattle.block_rules.specs.declared.rule.Rule.TheVariants.{K1, K2, K3, K4, K6, K10, K19}
+use Rattle.block_rules.specs.Operands.{slot_named}
 use Rattle.soundness.proofs.Moves.{slot_load_goes, slot_store_goes}
 use Rattle.soundness.proofs.WordReads.{load_goes}
 use Rattle.soundness.proofs.WordStores.{IsStored, store_goes}
-use Rattle.soundness.proofs.Members.{forget_members}
+use Rattle.soundness.proofs.Members.{forget_members, stored_members, alloca_members, load_place_members}
 
 module _ (heap : Setup) (p : LaidOut) (certs : List Section) (reaches : Bool) (f : Function) (table : SlotTable) (guarded : Guarded) (log : Log) (guards : (cell : ℕ) → guarded cell → IsFresh log cell) (fits : IsHeapFor heap p) (here : Standing) (cells : Cells) (facts : FactSet) (frame : Frame)
     (h : Holds heap p table guarded log cells facts frame.registers frame.slots) (members : HaveMembers facts) where
@@ -91,3 +92,14 @@ module _ (heap : Setup) (p : LaidOut) (certs : List Section) (reaches : Bool) (f
   memory_goes result (memory.Alloca held) e = alloca_goes heap p certs reaches f table guarded log cells facts frame h result held
   memory_goes result (memory.Load loaded place_type place) e = load_by result loaded place_type place e
   memory_goes result (memory.Store stored x place_type place) e = store_by result stored x place_type place e
+
+-- ---- what is known of slots stays
+
+module _ (p : LaidOut) (table : SlotTable) (facts : FactSet) (members : HaveMembers facts) where
+  -- an operation on memory
+  pub memory_members : (result : Option ℕ) (x : MemoryOp) → HaveMembers (after_memory p table result x facts)
+  memory_members result (memory.Store stored x place_type place) = stored_members facts members x (slot_named table place)
+  memory_members None (memory.Alloca held) = members
+  memory_members None (memory.Load loaded place_type place) = members
+  memory_members (Some v) (memory.Alloca held) = alloca_members facts members (slot_of table v)
+  memory_members (Some v) (memory.Load loaded place_type place) = load_place_members facts members p table v loaded place (slot_named table place)

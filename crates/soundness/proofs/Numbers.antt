@@ -20,6 +20,7 @@ use Rattle.ir_ast.specs.declared.operand.Constant.{Constant}
 use Rattle.ir_ast.specs.declared.operand.Constant.TheVariants as constant
 use Rattle.ir_ast.specs.declared.operand.Operand.{Operand}
 use Rattle.ir_ast.specs.declared.operand.Operand.TheVariants as operand
+use Rattle.ir_ast.specs.declared.module.Module.{Module}
 use Rattle.pools.specs.Heap.{Setup}
 use Rattle.layout.specs.Layouts.{LaidOut}
 use Rattle.types.specs.ValueTypes.{has_type}
@@ -36,8 +37,9 @@ use Rattle.block_rules.specs.FirstFailing.{first_failing}
 use Rattle.block_rules.specs.declared.rule.Rule.TheVariants.{K1, K2, K10}
 use Rattle.block_rules.specs.Integers as r
 use Rattle.block_rules.specs.Operands as o
-use Rattle.block_rules.specs.Rules.{number_conditions, after_op}
+use Rattle.block_rules.specs.Rules.{number_conditions, after_op, after_number}
 use Rattle.block_rules.specs.TypeKinds.{kind_of, is_integer, may_be_reference}
+use Rattle.block_rules.specs.Integers.{below_of, arithmetic_below, define_number, resized_below, after_compare}
 use Rattle.machine.specs.declared.value.Value.{Value}
 use Rattle.machine.specs.declared.value.Value.TheVariants as value
 use Rattle.machine.specs.declared.frame.Frame.{Frame}
@@ -57,6 +59,8 @@ use Rattle.soundness.proofs.Change.{define_plain}
 use Rattle.soundness.proofs.Edges.{wrapped_le}
 use Rattle.soundness.proofs.RulesHold.{rules_hold}
 use Rattle.soundness.proofs.Steps.{OpGoes, goes_local, none_of, no_value, no_number, below_itself, available, usable, integer_is, number_usable, kind_bits}
+use Rattle.soundness.specs.Goes.{HaveMembers}
+use Rattle.soundness.proofs.Members.{define_members}
 
 -- ---- what fits
 
@@ -407,3 +411,31 @@ module _ (heap : Setup) (p : LaidOut) (certs : List Section) (reaches : Bool) (f
   number_goes here result (number.Arithmetic kind written first second) e = arithmetic_by here result kind written first second e
   number_goes here result (number.Resize kind from x to) e = resize_by here result kind from x to e
   number_goes here result (number.Compare kind written first second) e = compare_by here result kind written first second e
+
+-- ---- what is known of slots stays
+
+module _ (facts : FactSet) (members : HaveMembers facts) where
+  -- a value is a number
+  number_members : (v : ℕ) (kind : TypeKind) (below : Option ℕ) → HaveMembers (define_number v kind below facts)
+  number_members v (Bits bits) below = define_members v (Number bits below) facts members
+  number_members v NoValue below = define_members v Nothing facts members
+  number_members v (Reference l) below = define_members v Nothing facts members
+  number_members v AnyReference below = define_members v Nothing facts members
+  number_members v AddressKind below = define_members v Nothing facts members
+  number_members v Other below = define_members v Nothing facts members
+
+  -- after a comparison
+  compare_members : (v : ℕ) (kind : Comparison) (first second : Operand) → HaveMembers (after_compare v kind first second facts)
+  compare_members v kind (operand.Local u) (operand.Constant c) = define_members v (Number 1 None) facts members
+  compare_members v kind (operand.Local u) (operand.Local w) = define_members v (Number 1 None) facts members
+  compare_members v kind (operand.Local u) (operand.Global g) = define_members v (Number 1 None) facts members
+  compare_members v kind (operand.Local u) (operand.CastGlobal a b c) = define_members v (Number 1 None) facts members
+  compare_members v kind (operand.Constant d) second = define_members v (Number 1 None) facts members
+  compare_members v kind (operand.Global g) second = define_members v (Number 1 None) facts members
+  compare_members v kind (operand.CastGlobal a b c) second = define_members v (Number 1 None) facts members
+
+-- after an operation on integers that defines a name
+pub named_number : (m : Module) (facts : FactSet) (members : HaveMembers facts) (v : ℕ) (x : NumberOp) → HaveMembers (after_number m v x facts)
+named_number m facts members v (number.Arithmetic kind written first second) = number_members facts members v (kind_of m written) (arithmetic_below kind first second)
+named_number m facts members v (number.Resize kind from x to) = number_members facts members v (kind_of m to) (resized_below kind (below_of facts x))
+named_number m facts members v (number.Compare kind written first second) = compare_members facts members v kind first second

@@ -62,7 +62,8 @@ use Rattle.soundness.specs.Meaning.{Guarded, IsOwn, AreApart, Holds}
 use Rattle.soundness.proofs.KindLemmas.{void_same}
 use Rattle.soundness.specs.Goes.{HaveMembers, HasRoots}
 use Rattle.soundness.proofs.Callees.{IsDefined, callee_is, defined_is}
-use Rattle.soundness.proofs.Members.{members_stay, line_members, parameter_members, arguments_members, mark_members, result_members}
+use Rattle.soundness.proofs.Members.{line_members, parameter_members, arguments_members, mark_members, result_members}
+use Rattle.soundness.proofs.MembersKept.{members_stay}
 use Rattle.soundness.proofs.Instructions.{instructions_go}
 use Rattle.soundness.proofs.Steps.{none_of, usable}
 use Rattle.soundness.proofs.RulesHold.{RulesHold, rules_hold, unbroken}
@@ -305,9 +306,9 @@ module _ (heap : Setup) (program : LaidOut) (heap_is : IsHeapFor heap program) (
       allowed = unbroken (first_failing (conditions program certs f table here facts instr)) follows.1.keeps
 
       -- the rest of the block, from the next place on
-      rest_behind : (behind : Frame) → SamePlace program.of_module table frame behind
+      rest_after : (behind : Frame) → SamePlace program.of_module table frame behind
           → Follows (scene behind.function f) behind.block (phi_count (scene behind.function f) behind.block + (behind.place + 1)) (after program certs table facts instr) (drop (behind.place + 1) (body_of f behind.block)) x.standing.last
-      rest_behind behind same =
+      rest_after behind same =
           let next : Follows s frame.block (suc (phi_count s frame.block + frame.place)) (after program certs table facts instr) (drop (suc frame.place) (body_of f frame.block)) x.standing.last =
           subst (λ g. Follows s frame.block (suc (phi_count s frame.block + frame.place)) g (drop (suc frame.place) (body_of f frame.block)) x.standing.last) follows.1.facts_after follows.2 in
           let further : suc (phi_count s frame.block + frame.place) ≡ phi_count s frame.block + suc frame.place = omega arith in
@@ -318,9 +319,9 @@ module _ (heap : Setup) (program : LaidOut) (heap_is : IsHeapFor heap program) (
           (subst (λ n. Follows s frame.block n (after program certs table facts instr) (drop (suc frame.place) (body_of f frame.block)) x.standing.last) further next)))
 
       -- and its end
-      ends_behind : (behind : Frame) → SamePlace program.of_module table frame behind
+      ends_after : (behind : Frame) → SamePlace program.of_module table frame behind
           → EndPasses (scene behind.function f) behind.block (end_place (scene behind.function f) behind.block) x.standing.last (end_of f behind.block)
-      ends_behind behind same =
+      ends_after behind same =
           subst (λ n. EndPasses (scene n f) behind.block (end_place s behind.block) x.standing.last (end_of f behind.block)) (sym same.function)
           (subst (λ b. EndPasses s b (end_place s b) x.standing.last (end_of f b)) (sym same.block) x.standing.ends)
 
@@ -334,8 +335,8 @@ module _ (heap : Setup) (program : LaidOut) (heap_is : IsHeapFor heap program) (
         members = members;
         rooted = same.rooted x.standing.rooted;
         last = x.standing.last;
-        rest = subst (λ g. Follows (scene behind.function f) behind.block (phi_count (scene behind.function f) behind.block + (behind.place + 1)) g (drop (behind.place + 1) (body_of f behind.block)) x.standing.last) e (rest_behind behind same);
-        ends = ends_behind behind same;
+        rest = subst (λ g. Follows (scene behind.function f) behind.block (phi_count (scene behind.function f) behind.block + (behind.place + 1)) g (drop (behind.place + 1) (body_of f behind.block)) x.standing.last) e (rest_after behind same);
+        ends = ends_after behind same;
       }
 
       -- what an instruction asks for that calls no defined function, and what it leaves

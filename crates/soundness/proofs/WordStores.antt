@@ -148,14 +148,14 @@ module _ (heap : Setup) (p : LaidOut) (certs : List Section) (reaches : Bool) (f
   none_stored later held fresh = (cells, log_keeps heap p table guarded log cells facts frame.registers frame.slots h later held fresh)
 
   -- the class of the value is fresh no more
-  stored_behind : (stored : ℕ) (x : Operand) → IsStored p f table facts stored x → (later : Log) → ((r : Ref) → Held log r → Held later r) → ((cell : ℕ) → IsFresh log cell → (RefersToCell (value_of p.of_module frame.registers stored x) cell → ⊥) → IsFresh later cell)
+  stored_after : (stored : ℕ) (x : Operand) → IsStored p f table facts stored x → (later : Log) → ((r : Ref) → Held log r → Held later r) → ((cell : ℕ) → IsFresh log cell → (RefersToCell (value_of p.of_module frame.registers stored x) cell → ⊥) → IsFresh later cell)
       → (more : Cells) × Holds heap p table guarded later more (drop_fresh_of (o.known_of facts x) facts) frame.registers frame.slots
-  stored_behind stored (operand.Constant (constant.Number n)) i later held fresh = none_stored later held (λ cell y. fresh cell y (λ z. z))
-  stored_behind stored (operand.Constant (constant.Truth b)) i later held fresh = absurd (let t = i.typed in cc)
-  stored_behind stored (operand.Constant constant.Null) i later held fresh = none_stored later held (λ cell y. fresh cell y (λ z. z))
-  stored_behind stored (operand.Global symbol) i later held fresh = absurd (no_value _ i.typed)
-  stored_behind stored (operand.CastGlobal from symbol to) i later held fresh = absurd (no_value _ i.typed)
-  stored_behind stored (operand.Local u) i later held fresh = by (known_at facts.values u) refl (h.values u) (and_parts (has_type p.of_module f stored u) (o.known_fits (kind_of p.of_module stored) (known_at facts.values u)) i.typed).1 i.current where
+  stored_after stored (operand.Constant (constant.Number n)) i later held fresh = none_stored later held (λ cell y. fresh cell y (λ z. z))
+  stored_after stored (operand.Constant (constant.Truth b)) i later held fresh = absurd (let t = i.typed in cc)
+  stored_after stored (operand.Constant constant.Null) i later held fresh = none_stored later held (λ cell y. fresh cell y (λ z. z))
+  stored_after stored (operand.Global symbol) i later held fresh = absurd (no_value _ i.typed)
+  stored_after stored (operand.CastGlobal from symbol to) i later held fresh = absurd (no_value _ i.typed)
+  stored_after stored (operand.Local u) i later held fresh = by (known_at facts.values u) refl (h.values u) (and_parts (has_type p.of_module f stored u) (o.known_fits (kind_of p.of_module stored) (known_at facts.values u)) i.typed).1 i.current where
     by : (known : Known) → known_at facts.values u ≡ known → Means heap p guarded log cells (length facts.classes) frame.registers known (register_at frame.registers u) → o.known_fits (kind_of p.of_module stored) known ≡ true → o.is_current facts known ≡ true
         → (more : Cells) × Holds heap p table guarded later more (drop_fresh_of known facts) frame.registers frame.slots
     by Nothing is means fit current = absurd (let y = available heap p certs reaches f table guarded log cells facts frame h u i.no_slot i.there in let z = rw is at y in cc)
@@ -203,7 +203,7 @@ module _ (heap : Setup) (p : LaidOut) (certs : List Section) (reaches : Bool) (f
         (record {
           keeps = (t.may, subst (λ y. MayBeStored heap log t.cell.cell y new) (sym t.holds) (may_be_stored taken fresh));
           spares = spared taken;
-          leads = λ given roots has q. stored_behind stored x i (record { asked = StorePlain t.cell t.word new; given = given; roots = roots } ∷ log) (λ r y. inr y) (λ cell y z. (z, y));
+          leads = λ given roots has q. stored_after stored x i (record { asked = StorePlain t.cell t.word new; given = given; roots = roots } ∷ log) (λ r y. inr y) (λ cell y z. (z, y));
         })
 
     -- a write with the barrier
@@ -214,7 +214,7 @@ module _ (heap : Setup) (p : LaidOut) (certs : List Section) (reaches : Bool) (f
         (record {
           keeps = (t.may, subst (λ y. MayBeWritten heap log y new) (sym t.holds) (may_be_written taken refers));
           spares = spared taken;
-          leads = λ given roots has q. stored_behind stored x i (record { asked = Write t.cell t.word new; given = given; roots = roots } ∷ log) (λ r y. inr y) (λ cell y z. (z, y));
+          leads = λ given roots has q. stored_after stored x i (record { asked = Write t.cell t.word new; given = given; roots = roots } ∷ log) (λ r y. inr y) (λ cell y z. (z, y));
         })
 
   -- ---- at a place

@@ -1,4 +1,4 @@
-use Rattle.soundness.proofs.Members.{members_stay}
+use Rattle.soundness.proofs.MembersKept.{members_stay}
 use Rattle.soundness.proofs.step_soundness.members_law.Goals as goal
 
 pub returns : goal.returns

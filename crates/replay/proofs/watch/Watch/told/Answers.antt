@@ -14,7 +14,7 @@ returns-in-None c p setup before is =
     let same_program = ap (λ (x : World). x.program) c.count.ensures.world ∙ is.program in
     let same_setup = ap (λ (x : World). x.setup) c.count.ensures.world ∙ is.setup_is in
     let behind = subst (λ (x : World). IsBehind x (actor ∷ before)) (sym c.count.ensures.world) is.behind in
-    let cause = cause_is p setup before actor c.args.made.now v.world c.in_ok-cause_behind.field-0 same_program same_setup behind is.made_is is.unbroken c.in_ok-cause_behind.ensures in
+    let cause = cause_is p setup before actor c.args.made.now v.world c.in_ok-cause_after.field-0 same_program same_setup behind is.made_is is.unbroken c.in_ok-cause_after.ensures in
     goes_on p setup before actor c.args.made.now w v is c.count.ensures.world c.count.ensures.steps c.count.ensures.claims c.count.ensures.frees
     (subst (λ o. IsCauseBehind p setup (actor ∷ before) o) c.in-None.is cause)
 
@@ -26,7 +26,7 @@ returns-in-Some c p setup before is rest =
     let same_program = ap (λ (x : World). x.program) c.count.ensures.world ∙ is.program in
     let same_setup = ap (λ (x : World). x.setup) c.count.ensures.world ∙ is.setup_is in
     let behind = subst (λ (x : World). IsBehind x (actor ∷ before)) (sym c.count.ensures.world) is.behind in
-    let cause = cause_is p setup before actor c.args.made.now v.world c.in_ok-cause_behind.field-0 same_program same_setup behind is.made_is is.unbroken c.in_ok-cause_behind.ensures in
+    let cause = cause_is p setup before actor c.args.made.now v.world c.in_ok-cause_after.field-0 same_program same_setup behind is.made_is is.unbroken c.in_ok-cause_after.ensures in
     let step : v.steps ≡ suc (length before) = omega (arith, c.count.ensures.steps, is.steps) in
     first_break p setup before rest (record { step = v.steps; actor = c.args.actor; cause = c.in-Some.cause }) is.unbroken step
     (run_is p setup (actor ∷ before) v.world same_program same_setup behind)

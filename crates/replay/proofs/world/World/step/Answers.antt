@@ -1,7 +1,7 @@
 use Rattle.std.proofs.Common.{◌≡◌, slice_get, slice_set, refl}
 use Rattle.program_runner.specs.Heaps.{heap_of}
 use Rattle.trace_text.specs.declared.trace.Actor.TheVariants.{Thread, Collector}
-use Rattle.replay.specs.Keeping.{ending_behind}
+use Rattle.replay.specs.Keeping.{ending_after}
 use Rattle.setups.specs.Setups.{starts_of}
 use Rattle.replay.specs.WorldView.{world_seen}
 use Rattle.replay.proofs.WorldSteps.{are_behind, is_thread, keeps, tells, stays_safe}
@@ -56,7 +56,7 @@ invariant_of-self-in-Thread c =
     let i = c.self.inside in
     let t = c.in-Thread.thread in
     let is = is_thread i c.args.self.now c.args.actor t c.self.view_is c.in-Thread.is c.requires in
-    let are : c.set.new.self ≡ slice_set c.self.inside.endings c.in-Thread.thread (ending_behind (slice_get c.self.inside.actors.threads.items c.in-Thread.thread) (slice_get c.self.inside.endings c.in-Thread.thread)) = cc in
+    let are : c.set.new.self ≡ slice_set c.self.inside.endings c.in-Thread.thread (ending_after (slice_get c.self.inside.actors.threads.items c.in-Thread.thread) (slice_get c.self.inside.endings c.in-Thread.thread)) = cc in
     keeps i (Thread t) c.in_ok-made-in-Thread.made c.step-in-Thread.new.self c.set.new.self c.self.invariant (record {
       is_actor = is;
       endings_are = are;
@@ -68,7 +68,7 @@ returns-in_ok-made-in-Thread-clause-ok c =
     let i = c.self.inside in
     let t = c.in-Thread.thread in
     let is = is_thread i c.args.self.now c.args.actor t c.self.view_is c.in-Thread.is c.requires in
-    let are : c.set.new.self ≡ slice_set c.self.inside.endings c.in-Thread.thread (ending_behind (slice_get c.self.inside.actors.threads.items c.in-Thread.thread) (slice_get c.self.inside.endings c.in-Thread.thread)) = cc in
+    let are : c.set.new.self ≡ slice_set c.self.inside.endings c.in-Thread.thread (ending_after (slice_get c.self.inside.actors.threads.items c.in-Thread.thread) (slice_get c.self.inside.endings c.in-Thread.thread)) = cc in
     tells i c.args.self.now c.args.actor (Thread t) c.in_ok-made-in-Thread.made c.step-in-Thread.new.self c.set.new.self c.self.view_is c.in-Thread.is c.self.invariant (record {
       is_actor = is;
       endings_are = are;
@@ -80,7 +80,7 @@ returns-in_ok-made-in-Thread-clause-safe c =
     let i = c.self.inside in
     let t = c.in-Thread.thread in
     let is = is_thread i c.args.self.now c.args.actor t c.self.view_is c.in-Thread.is c.requires in
-    let are : c.set.new.self ≡ slice_set c.self.inside.endings c.in-Thread.thread (ending_behind (slice_get c.self.inside.actors.threads.items c.in-Thread.thread) (slice_get c.self.inside.endings c.in-Thread.thread)) = cc in
+    let are : c.set.new.self ≡ slice_set c.self.inside.endings c.in-Thread.thread (ending_after (slice_get c.self.inside.actors.threads.items c.in-Thread.thread) (slice_get c.self.inside.endings c.in-Thread.thread)) = cc in
     stays_safe c.program_law.ensures.safe i c.args.self.now c.args.actor (Thread t) c.in_ok-made-in-Thread.made c.step-in-Thread.new.self c.set.new.self c.self.view_is c.in-Thread.is c.self.invariant (record {
       is_actor = is;
       endings_are = are;

@@ -6,7 +6,7 @@ use Rattle.stepping.specs.Reach.{IsFirstGone}
 use Rattle.setups.specs.Setups.{starts_of}
 use Rattle.replay.specs.Watched.{IsMadeBehind}
 use Rattle.replay.proofs.StepsTaken.{cause_told, nothing_lost, none_made, unbroken_by, gone_is_cause}
-use Rattle.replay.proofs.watch.cause_behind.Goals as goal
+use Rattle.replay.proofs.watch.cause_after.Goals as goal
 
 pub returns-in_default : goal.returns-in_default
 returns-in_default c before actor behind made unbroken =

@@ -1,6 +1,0 @@
-use Rattle.std.proofs.Common.{◌≡◌, Some, drop}
-use Rattle.machine.specs.Elements.{offset_behind}
-use Rattle.machine.proofs.elements.offset_behind.Given as goal
-
-abbrev pub invariant-loop-index : goal.invariant-loop-index
-invariant-loop-index l = offset_behind l.program l.registers (Some (l.offset, l.written)) (drop l.index-index l.indices) ≡ offset_behind l.program l.registers (Some (l.fn.offset, l.fn.written)) l.indices
