@@ -31,6 +31,7 @@ impl<'a> Model for Sweeper<'a> {
 }
 
 impl<'a> Sweeper<'a> {
+    ghost use Rattle.trace_sweep.specs.Cycles.{HasSwept};
     ghost use Rattle.heap_table.specs.Sweepers.{IsSweeperOf, IsNowAt};
 
     /// Makes the collector's next step, and returns it; None where no further cycle may begin. The three handshakes, and a trace
@@ -51,5 +52,12 @@ impl<'a> Sweeper<'a> {
             .perform::<Brand, &Collector<'a>>(&mut self.token, ask, collector);
         let turn = self.collector.took(found);
         Some(turn)
+    }
+
+    /// How many sweeps have looked at their last cell; without cells, how many traces have ended.
+    pub fn cycles(&self) -> u64
+        ensures { HasSwept self.now.setup self.now.log result }
+    {
+        self.collector.cycles()
     }
 }
