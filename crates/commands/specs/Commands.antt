@@ -20,11 +20,11 @@ use Rattle.replay.specs.Outcomes.{IsOutcome}
 use Rattle.replay.specs.Soaks.{IsSoakOutcome}
 use Rattle.replay.specs.declared.outcome.Outcome.{Outcome}
 use Rattle.replay.specs.declared.outcome.SoakOutcome.{SoakOutcome}
-use Rattle.commands.specs.Asked.{Asked, check, replay, soak}
+use Rattle.commands.specs.Asked.{Asked, check, replay, soak, run}
 use Rattle.commands.specs.Report.{Answer, IsTold, line_of, no, no_file, no_memory, of_cert_fault, of_layout_fault, of_read_fault, yes}
 use Rattle.commands.specs.Runs.{of_outcome, of_setup_fault, of_soak}
-use Rattle.commands.specs.Files.{HasProgram, HasTrace, IsUntraced, of_untraced}
-use Rattle.commands.specs.declared.files.Untraced.{Untraced}
+use Rattle.commands.specs.Files.{HasModule, HasCerts, HasProgram, HasTrace, IsNoTrace, IsUncertified, IsUntraced, of_unread}
+use Rattle.commands.specs.declared.files.Unread.{Unread}
 
 -- ---- what is said, and where
 
@@ -80,13 +80,46 @@ pub data OfSeeds (seeds steps : ℕ) (p : LaidOut) (t : Trace) : Said → Type 0
 
 -- what is said of the files of a program and its trace, which have these paths, where this is said of them once they are read
 pub data OfRun (Run : LaidOut → Trace → Said → Type 0) (module_path trace_path : List ℕ) (first second : Option (List ℕ)) : Said → Type 0 where
-  not_traced : (untraced : Untraced) → IsUntraced module_path trace_path first second untraced → OfRun Run module_path trace_path first second (OnError (of_untraced untraced))
+  not_traced : (unread : Unread) → IsUntraced module_path trace_path first second unread → OfRun Run module_path trace_path first second (OnError (of_unread unread))
   of_traced : (p : LaidOut) (t : Trace) (said : Said) → HasProgram first p → HasTrace second p t → Run p t said → OfRun Run module_path trace_path first second said
+
+-- ---- run
+
+-- what `run` says of an accepted program with its certificates and of the threads with which a trace begins: how far they and the
+-- collector came in a run within the limits, the first thread that may not begin, or that memory was refused
+pub data OfThreads (limits : Limits) (p : LaidOut) (certs : List Section) (t : Trace) : Said → Type 0 where
+  ran : (report : RunReport) → HasNoRunFault p certs t.setup → IsReport p t.setup limits report → OfThreads limits p certs t (OnOutput (of_report report))
+  not_run : (fault : SetupFault) → (fault ≢ setup.Memory → IsRunFault p certs t.setup fault) → OfThreads limits p certs t (OnError (of_setup_fault fault))
+
+-- what it says of them and the file of the trace, which has this path
+pub data OfTraceFile (limits : Limits) (p : LaidOut) (certs : List Section) (path : List ℕ) (file : Option (List ℕ)) : Said → Type 0 where
+  no_trace : (unread : Unread) → IsNoTrace path file p unread → OfTraceFile limits p certs path file (OnError (of_unread unread))
+  of_trace : (t : Trace) (said : Said) → HasTrace file p t → OfThreads limits p certs t said → OfTraceFile limits p certs path file said
+
+-- it is no yes: a fault, or an answer with another status than 0
+abbrev pub IsNoYes : Said → Type 0
+IsNoYes (OnOutput answer) = answer.status ≢ 0
+IsNoYes (OnError answer) = Unit {0}
+
+-- what it says of a module, its certificates and the file of the trace: what the check says where that is no yes, and otherwise what
+-- is said of the program
+pub data OfCertified (limits : Limits) (m : Module) (certs : List Section) (path : List ℕ) (file : Option (List ℕ)) : Said → Type 0 where
+  not_accepted : (said : Said) → OfCerts m certs said → IsNoYes said → OfCertified limits m certs path file said
+  of_program : (p : LaidOut) (said : Said) → p.of_module ≡ m → AreLayouts m p.layouts → AreSizes m p.sizes → IsModuleCertified p certs (length m.functions)
+      → OfTraceFile limits p certs path file said → OfCertified limits m certs path file said
+
+-- what it says of the files of a module, its certificates and a trace, which have these paths
+pub data OfRunFiles (limits : Limits) (module_path cert_path trace_path : List ℕ) (first second third : Option (List ℕ)) : Said → Type 0 where
+  not_certified : (unread : Unread) → IsUncertified module_path cert_path first second unread → OfRunFiles limits module_path cert_path trace_path first second third (OnError (of_unread unread))
+  of_certified : (m : Module) (certs : List Section) (said : Said) → HasModule first m → HasCerts second m certs → OfCertified limits m certs trace_path third said
+      → OfRunFiles limits module_path cert_path trace_path first second third said
 
 -- ---- the commands
 
--- what a command says of its files, in the line's order
-abbrev pub OfCommand : Asked → (first second : Option (List ℕ)) → Said → Type 0
-OfCommand (check module_path cert_path) first second = OfCheck module_path cert_path first second
-OfCommand (replay module_path trace_path) first second = OfRun OfTrace module_path trace_path first second
-OfCommand (soak module_path trace_path seeds steps) first second = OfRun (OfSeeds seeds steps) module_path trace_path first second
+-- what a command says of its files, each at its place in the line's order
+abbrev pub OfCommand : Asked → (file_at : ℕ → Option (List ℕ)) → Said → Type 0
+OfCommand (check module_path cert_path) file_at = OfCheck module_path cert_path (file_at 0) (file_at 1)
+OfCommand (replay module_path trace_path) file_at = OfRun OfTrace module_path trace_path (file_at 0) (file_at 1)
+OfCommand (soak module_path trace_path seeds steps) file_at = OfRun (OfSeeds seeds steps) module_path trace_path (file_at 0) (file_at 1)
+OfCommand (run module_path cert_path trace_path turns steps) file_at =
+    OfRunFiles (record { turns = turns; steps = steps }) module_path cert_path trace_path (file_at 0) (file_at 1) (file_at 2)

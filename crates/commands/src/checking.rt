@@ -33,7 +33,7 @@ fn report_refusal<O: Write, E: Write>(
 }
 
 /// Prints why a module is not accepted.
-fn report_verdict<O: Write, E: Write>(
+pub fn report_verdict<O: Write, E: Write>(
     alloc: Global,
     answer: &NotAccepted,
     out: &mut O,
