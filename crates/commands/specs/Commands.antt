@@ -13,9 +13,9 @@ use Rattle.certificate.specs.declared.fault.CertFault.TheVariants as cert
 use Rattle.block_rules.specs.declared.block_fault.Refusal.{Refusal}
 use Rattle.module_check.specs.Accepted.{IsAccepted, IsFirstRefusal}
 use Rattle.trace_text.specs.declared.trace.Trace.{Trace}
-use Rattle.replay.specs.Setups.{HasNoFault, IsSetupFault}
-use Rattle.replay.specs.declared.setup_fault.SetupFault.{SetupFault}
-use Rattle.replay.specs.declared.setup_fault.SetupFault.TheVariants as setup
+use Rattle.setups.specs.Setups.{HasNoFault, IsSetupFault}
+use Rattle.setups.specs.declared.setup_fault.SetupFault.{SetupFault}
+use Rattle.setups.specs.declared.setup_fault.SetupFault.TheVariants as setup
 use Rattle.replay.specs.Outcomes.{IsOutcome}
 use Rattle.replay.specs.Soaks.{IsSoakOutcome}
 use Rattle.replay.specs.declared.outcome.Outcome.{Outcome}

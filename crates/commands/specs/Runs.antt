@@ -8,8 +8,8 @@ use Rattle.trace_text.specs.declared.trace.Actor.{Actor}
 use Rattle.trace_text.specs.declared.trace.Actor.TheVariants as actor
 use Rattle.machine.specs.declared.value.Value.{Value}
 use Rattle.machine.specs.declared.value.Value.TheVariants as value
-use Rattle.replay.specs.declared.setup_fault.SetupFault.{SetupFault}
-use Rattle.replay.specs.declared.setup_fault.SetupFault.TheVariants as setup
+use Rattle.setups.specs.declared.setup_fault.SetupFault.{SetupFault}
+use Rattle.setups.specs.declared.setup_fault.SetupFault.TheVariants as setup
 use Rattle.replay.specs.declared.thread_end.ThreadEnd.{ThreadEnd}
 use Rattle.replay.specs.declared.thread_end.ThreadEnd.TheVariants as thread
 use Rattle.replay.specs.declared.outcome.Break.{Break}

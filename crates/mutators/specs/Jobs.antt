@@ -1,24 +1,22 @@
--- Threads that are served beside one another and the collector.
-use Rattle.std.specs.Prelude.{ℕ}
-use Rattle.pools.specs.Heap.{Setup}
-use Rattle.runs.specs.Machine.{Machine}
-use Rattle.runs.specs.RealThreads.{Left}
+-- The threads of a setup with their tokens, before their first steps.
+use Rattle.std.specs.Prelude.{ℕ, ◌≡◌, List, Some, slice_get}
+use Rattle.layout.specs.Layouts.{LaidOut}
 use Rattle.heap_words.specs.Tokens.{Shared}
-use Rattle.heap_table.specs.Holders.{Holder, IsNow}
-use Rattle.mutators.specs.declared.beside.Job.{Job}
-use Rattle.mutators.specs.Serving.{MayBeServed}
-use Rattle.mutators.specs.Endings.{EndsSo}
+use Rattle.heap_table.specs.Holders.{IsOf}
+use Rattle.program_runner.specs.Kinds.{FitsThread}
+use Rattle.program_runner.specs.Threads.{ProgramThread, program_machine}
+use Rattle.serving.specs.declared.beside.Job.{Job}
+use Rattle.serving.specs.Jobs.{MayBegin}
+use Rattle.setups.specs.Setups.{starts_of}
+use Rattle.trace_text.specs.declared.trace.Setup.{Setup}
 
--- a thread's token
-abbrev pub token_of : {State : Type 0} → Job State → Holder
-token_of job = job.me
+-- it is the thread with this number, at the beginning of its function, and the heap may serve it
+pub record IsJobOf (p : LaidOut) (setup : Setup) (heap : Shared) (thread : ℕ) (job : Job ProgramThread) : Type 0 where
+  pub of : IsOf heap job.me
+  pub number : job.me.thread ≡ thread
+  pub machine : job.machine ≡ starts_of p setup thread
+  pub may : MayBegin program_machine FitsThread heap job
 
--- the thread may be served
-abbrev pub MayBegin : (m : Machine) (Fits : Setup → m.State → Type 0) → Shared → Job m.State → Type 0
-MayBegin m Fits heap job = MayBeServed m Fits heap job.me job.is_late job.machine
-
--- it was served: what it left is a share that its machine asks for, and its outcome says how far
-pub record WasServed (m : Machine) (limit : ℕ) (before after : Job m.State) : Type 0 where
-  pub token : IsNow before.me after.me.log after.me
-  pub left : Left before.me.setup m before.me.thread before.machine after.me.log
-  pub end : EndsSo before.me.setup m before.me.thread before.machine limit after.outcome after.machine after.me.log
+-- each is the thread with the number of its place
+abbrev pub AreJobs : LaidOut → Setup → Shared → List (Job ProgramThread) → Type 0
+AreJobs p setup heap jobs = (t : ℕ) (job : Job ProgramThread) → slice_get jobs t ≡ Some job → IsJobOf p setup heap t job

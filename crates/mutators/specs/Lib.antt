@@ -1,4 +1,3 @@
-pub mod Serving
-pub mod Tries
-pub mod Endings
+pub mod Faults
 pub mod Jobs
+pub mod Reports

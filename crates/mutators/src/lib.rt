@@ -1,14 +1,15 @@
-//! Threads of a machine on the shared heap: what each leaves is a share that its machine asks for.
+//! Accepted modules on real threads: the threads of a setup, served by one heap beside its collector, and what is told of them.
 #![tactic(auto)]
 
-mod beside;
-mod calls;
-mod closing;
-mod collecting;
-mod serving;
+mod jobs;
+mod promises;
+mod report;
+mod running;
+mod thread_end;
 
-pub use beside::{Job, Limits, serve_beside};
-pub use calls::{alloc_for, read_for, safepoint_for, store_plain_for, write_for};
-pub use closing::close_after;
-pub use collecting::collect;
-pub use serving::{Outcome, serve};
+pub use gate::{Gate, OpenGate};
+pub use report::RunReport;
+pub use running::run;
+pub use serving::Limits;
+pub use setups::SetupFault as RunFault;
+pub use thread_end::ThreadEnd;

@@ -20,7 +20,7 @@ use Rattle.stepping.specs.Ends as stepping
 use Rattle.program_runner.specs.Threads.{program_machine}
 use Rattle.program_runner.specs.Heaps as heaps
 use Rattle.program_runner.specs.Kinds.{FitsThread}
-use Rattle.replay.specs.Setups.{starts_of}
+use Rattle.setups.specs.Setups.{starts_of}
 use Rattle.replay.specs.Worlds.{World, AreEndings, IsBehind, run_of}
 
 -- ---- the words

@@ -1,8 +1,6 @@
 mod DrawLemmas
-pub mod Setups
 pub mod Ends
 pub mod Endings
-pub mod Safe
 pub mod WorldSteps
 pub mod Told
 pub mod Lists

@@ -25,7 +25,7 @@ use Rattle.replay.specs.Runs.{program_machine, reference_in, names, value_at_sta
 use Rattle.trace_text.specs.declared.trace.Setup.{Setup}
 use Rattle.trace_text.specs.declared.trace.Start.{Start}
 use Rattle.moves.specs.Runs.{run_by}
-use Rattle.replay.specs.Setups.{begun_at, starts_of}
+use Rattle.setups.specs.Setups.{begun_at, starts_of}
 use Rattle.replay.specs.Worlds.{run_of}
 
 -- ---- the globals

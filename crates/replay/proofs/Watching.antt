@@ -14,7 +14,7 @@ use Rattle.moves.specs.declared.actor.Actor.{Actor}
 use Rattle.stepping.specs.declared.happening.Step.{Step}
 use Rattle.stepping.specs.Ends.{IsStepOrNone}
 use Rattle.replay.specs.declared.thread_end.ThreadEnd.{ThreadEnd}
-use Rattle.replay.specs.Setups.{starts_of}
+use Rattle.setups.specs.Setups.{starts_of}
 use Rattle.replay.specs.ThreadEnds.{AreEndsOf, AreEndsBehind}
 use Rattle.replay.specs.Worlds.{World, run_of, IsBehind, IsStepBehind, IsBrokenWorld, actor_in}
 use Rattle.replay.specs.declared.outcome.Cause.{Cause}

@@ -22,13 +22,13 @@ use Rattle.trace_text.specs.declared.trace.Setup.{Setup}
 use Rattle.trace_text.specs.declared.trace.Start.{Start}
 use Rattle.replay.specs.declared.world.World.TheInside.{Inside}
 use Rattle.replay.specs.Keeping.{endings_behind}
-use Rattle.replay.specs.Setups.{HasNoFault, IsCertifiedSetup, AreBegun, begun_at, new_thread, starts_of}
+use Rattle.setups.specs.Setups.{HasNoFault, IsCertifiedSetup, AreBegun, begun_at, new_thread, starts_of}
 use Rattle.replay.specs.Worlds.{World, AreEndings, IsBehind, IsStepBehind, IsBrokenWorld, actor_in, run_of}
 use Rattle.replay.specs.WorldView.{world_seen, IsKept}
 use Rattle.replay.proofs.Endings.{kept, kept_by_collector, none_ended}
 use Rattle.replay.proofs.Ends.{behind, from_map, length_of_map}
-use Rattle.replay.proofs.Safe.{certified_setup, each_may_begin}
-use Rattle.replay.proofs.Setups.{is_setup}
+use Rattle.setups.specs.SafeSetups.{certified_setup, each_may_begin}
+use Rattle.setups.specs.SetupHeaps.{is_setup}
 
 -- the actors of a world are those after the steps that led to it
 pub are_behind : (i : Inside) (w : World) (before : List run.Actor) → world_seen i ≡ w → IsKept i → IsBehind w before

@@ -1,6 +1,5 @@
 pub mod Draws
 pub mod Runs
-pub mod Setups
 pub mod Worlds
 pub mod ThreadEnds
 pub mod Keeping

@@ -1,13 +1,13 @@
 ghost use Rattle.std.specs.Prelude.{◌≢◌, List, IfOk, IfErr};
 ghost use Rattle.certs.specs.declared.section.Section.{Section};
 ghost use Rattle.trace_text.specs.Traces.{IsTraceOf};
-ghost use Rattle.replay.specs.Setups.{IsSetupFault, HasNoFault, IsCertifiedSetup};
-ghost use Rattle.replay.specs.declared.setup_fault.SetupFault.TheVariants as fault;
+ghost use Rattle.setups.specs.Setups.{IsSetupFault, HasNoFault, IsCertifiedSetup};
+ghost use Rattle.setups.specs.declared.setup_fault.SetupFault.TheVariants as fault;
 ghost use Rattle.replay.specs.Outcomes.{IsOutcome, IsSound};
 
 use crate::laws::setup_law;
 use crate::outcome::Outcome;
-use crate::setup_fault::SetupFault;
+use setups::SetupFault;
 use crate::watch::Watch;
 use layout::Program;
 use std::alloc::Global;

@@ -1,14 +1,14 @@
 ghost use Rattle.std.specs.Prelude.{◌≡◌, ◌≢◌, ◌≤◌, List, not, IfOk, IfErr};
 ghost use Rattle.certs.specs.declared.section.Section.{Section};
-ghost use Rattle.replay.specs.Setups.{IsSetupOf, IsSetupFault, HasNoFault, IsCertifiedSetup};
-ghost use Rattle.replay.specs.declared.setup_fault.SetupFault.TheVariants as fault;
+ghost use Rattle.setups.specs.Setups.{IsSetupOf, IsSetupFault, HasNoFault, IsCertifiedSetup};
+ghost use Rattle.setups.specs.declared.setup_fault.SetupFault.TheVariants as fault;
 ghost use Rattle.replay.specs.Soaks.{IsSoakOutcome, IsSoundSoak, IsEndOfSeed, IsTold, IsLeastFrom, is_sound, answer_in};
 
 use crate::drawing::actor_drawn;
 use crate::laws::setup_law;
 use crate::outcome::{Break, SeedBreak, SoakOutcome};
 use crate::seeds::{draw, seeded};
-use crate::setup_fault::SetupFault;
+use setups::SetupFault;
 use crate::watch::Watch;
 use layout::Program;
 use rayon::prelude::*;

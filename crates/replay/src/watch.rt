@@ -3,14 +3,14 @@ ghost use Rattle.layout.specs.Layouts.{LaidOut};
 ghost use Rattle.trace_text.specs.Traces.{IsActorOf};
 ghost use Rattle.trace_text.specs.declared.trace.Setup.{Setup as ASetup};
 ghost use Rattle.moves.specs.declared.actor.Actor.{Actor as AnActor};
-ghost use Rattle.replay.specs.Setups.{IsSetupOf, IsSetupFault, HasNoFault};
+ghost use Rattle.setups.specs.Setups.{IsSetupOf, IsSetupFault, HasNoFault};
 ghost use Rattle.replay.specs.Worlds.{IsBehind, IsBrokenWorld, actor_in};
-ghost use Rattle.replay.specs.declared.setup_fault.SetupFault.TheVariants as fault;
+ghost use Rattle.setups.specs.declared.setup_fault.SetupFault.TheVariants as fault;
 ghost use Rattle.replay.specs.Outcomes.{Reports};
 ghost use Rattle.replay.specs.Watched.{IsWatched, IsWatchedOn, HasRoomFor, IsMadeBehind, IsStepped, IsCauseBehind, claims_cell, frees_cell};
 
 use crate::outcome::{Break, Cause, Report};
-use crate::setup_fault::SetupFault;
+use setups::SetupFault;
 use crate::world::World;
 use colours::Turn;
 use layout::Program;

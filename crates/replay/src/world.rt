@@ -2,16 +2,16 @@ ghost use Rattle.std.specs.Prelude.{◌≡◌, ◌≢◌, ◌<◌, List, [], ◌
 ghost use Rattle.certs.specs.declared.section.Section.{Section};
 ghost use Rattle.moves.specs.declared.actor.Actor.{Actor as AnActor};
 ghost use Rattle.trace_text.specs.Traces.{IsActorOf};
-ghost use Rattle.replay.specs.Setups.{IsSetupOf, IsSetupFault, HasNoFault, IsCertifiedSetup};
+ghost use Rattle.setups.specs.Setups.{IsSetupOf, IsSetupFault, HasNoFault, IsCertifiedSetup};
 ghost use Rattle.replay.specs.Worlds.{IsBehind, actor_in, ended_by, IsStepBehind, IsBrokenWorld, IsFirstGoneOf};
 ghost use Rattle.replay.specs.Keeping.{ending_behind, end_told};
 ghost use Rattle.replay.specs.ThreadEnds.{AreEndsOf};
-ghost use Rattle.replay.specs.declared.setup_fault.SetupFault.TheVariants as fault;
+ghost use Rattle.setups.specs.declared.setup_fault.SetupFault.TheVariants as fault;
 ghost use Rattle.replay.specs.declared.thread_end.ThreadEnd.TheVariants as end;
 
-use crate::globals::values_at_start;
-use crate::setup_fault::SetupFault;
-use crate::starts::begun_threads;
+use setups::values_at_start;
+use setups::SetupFault;
+use setups::begun_threads;
 use crate::thread_end::ThreadEnd;
 use items::Items;
 use layout::Program;

@@ -1,5 +1,5 @@
 use Rattle.program_runner.specs.Heaps.{heap_of}
-use Rattle.replay.specs.Setups.{starts_of}
+use Rattle.setups.specs.Setups.{starts_of}
 use Rattle.replay.proofs.WorldSteps.{are_behind}
 use Rattle.replay.proofs.world.World.first_gone.Goals as goal
 

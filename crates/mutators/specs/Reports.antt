@@ -1,0 +1,56 @@
+-- What is told of a run on real threads.
+use Rattle.std.specs.Prelude.{ℕ, ◌≡◌, ◌≤◌, ◌++◌, List, length, Some, slice_get}
+use Rattle.colours.specs.Runs.{Event, log_of, turns_of, IsHeapRun}
+use Rattle.colours.specs.Safety.{KeptIsAlive}
+use Rattle.colours.specs.Steps.{Step}
+use Rattle.layout.specs.Layouts.{LaidOut}
+use Rattle.machine.specs.declared.ending.Ending.{Ending}
+use Rattle.machine.specs.declared.ending.Ending.TheVariants as ending
+use Rattle.machine.specs.Endings.{ending}
+use Rattle.trace_sweep.specs.Cycles.{HasSwept}
+use Rattle.runs.specs.RealThreads.{Left}
+use Rattle.program_runner.specs.Heaps.{heap_of}
+use Rattle.program_runner.specs.Threads.{ProgramThread, program_machine}
+use Rattle.serving.specs.declared.beside.Job.{Job}
+use Rattle.serving.specs.declared.beside.Limits.{Limits}
+use Rattle.serving.specs.declared.serving.Outcome.{Outcome}
+use Rattle.serving.specs.declared.serving.Outcome.TheVariants as outcome
+use Rattle.serving.specs.Endings.{EndsSo}
+use Rattle.setups.specs.Setups.{starts_of}
+use Rattle.trace_text.specs.declared.trace.Setup.{Setup}
+use Rattle.mutators.specs.declared.report.RunReport.{RunReport}
+use Rattle.mutators.specs.declared.thread_end.ThreadEnd.{ThreadEnd}
+use Rattle.mutators.specs.declared.thread_end.ThreadEnd.TheVariants.{Returned, Ended, Stopped, Memory, Absent}
+
+-- what is told of a thread that was served so far, and that ends so if it asks for its end
+abbrev pub told : Outcome → Ending → ThreadEnd
+told outcome.Ended (ending.Returned result) = Returned result
+told outcome.Ended ending.Over = Ended
+told outcome.Stopped e = Stopped
+told outcome.Memory e = Memory
+told outcome.Absent e = Absent
+
+-- how a thread ended that was served
+abbrev pub end_of : Job ProgramThread → ThreadEnd
+end_of job = told job.outcome (ending job.machine.program job.machine.state)
+
+-- What a thread left is what its function asks for from its beginning, as far as it came, and this is told of it. One that returned
+-- or ended went to its end; one that stopped, or never began, made as many moves as the limit says.
+pub record IsThreadEnd (p : LaidOut) (setup : Setup) (limit thread : ℕ) (log : List Step) (end : ThreadEnd) : Type 0 where
+  pub left : Left (heap_of p setup) program_machine thread (starts_of p setup thread) log
+  pub outcome : Outcome
+  pub state : ProgramThread
+  pub ends : EndsSo (heap_of p setup) program_machine thread (starts_of p setup thread) limit outcome state log
+  pub told : end ≡ told outcome (ending state.program state.state)
+
+-- There is one run of the heap, of which the steps of the threads and of the collector are the shares. At no moment of it is a cell
+-- free, or claimed again, that a thread holds or that can be reached.
+pub record IsReport (p : LaidOut) (setup : Setup) (limits : Limits) (report : RunReport) : Type 0 where
+  pub run : List Event
+  pub is_run : IsHeapRun (heap_of p setup) run
+  pub alive : (after before : List Event) → run ≡ after ++ before → KeptIsAlive (heap_of p setup) before
+  pub one_each : length report.threads ≡ length setup.starts
+  pub threads : (t : ℕ) (end : ThreadEnd) → slice_get report.threads t ≡ Some end → IsThreadEnd p setup limits.steps t (log_of t run) end
+  pub turns : length (turns_of run) ≡ report.turns
+  pub within : report.turns ≤ limits.turns
+  pub cycles : HasSwept (heap_of p setup) (turns_of run) report.cycles

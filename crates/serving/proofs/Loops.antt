@@ -1,0 +1,59 @@
+-- What a served thread keeps from call to call.
+use Rattle.std.proofs.Common.{◌≡◌, ℕ, suc, ◌+◌, ◌≤◌, Some, List, [], ◌∷◌, sym, ap, subst, ◌∙◌, arith}
+use Rattle.pools.specs.Heap.{Setup}
+use Rattle.colours.specs.Colours.{done}
+use Rattle.colours.specs.Steps.{Step, StoreStage}
+use Rattle.runs.specs.Machine.{Machine, Answered, End}
+use Rattle.runs.specs.RealThreads.{IsWholeShare, Left, whole}
+use Rattle.heap_words.specs.Tokens.{Shared}
+use Rattle.heap_table.specs.Holders.{Holder, MayCall, IsNow}
+use Rattle.serving.specs.Serving.{Serves, WentOn, IsLeft}
+use Rattle.serving.specs.declared.serving.Outcome.TheVariants.{Ended}
+use Rattle.serving.specs.Endings.{IsFinishedAfter, EndsSo}
+use Rattle.serving.proofs.Endings.{ended, cut_off}
+
+-- the token is the thread's, the state fits, and the share has as many moves as calls were made
+pub record Stands (m : Machine) (Fits : Setup → m.State → Type 0) (heap : Shared) (first : Holder) (start : m.State) (moves : ℕ) (token : Holder) (state : m.State) : Type 0 where
+  pub token_is : IsNow first token.log token
+  pub ready : MayCall heap token
+  pub fits : Fits token.setup state
+  pub serves : Serves m start moves token state
+
+module _ (m : Machine) (Fits : Setup → m.State → Type 0) (heap : Shared) (first : Holder) (start : m.State) (moves : ℕ) (token : Holder) (state : m.State) (k : Stands m Fits heap first start moves token state) where
+  -- one call more
+  pub stands_on : (after : Holder) (next : m.State) → WentOn m Fits heap token state after next → Stands m Fits heap first start (moves + 1) after next
+  stands_on after next w = record {
+    token_is = w.token ∙ ap (λ (x : Holder). record { table = x.table; setup = x.setup; thread = x.thread; log = after.log }) k.token_is;
+    ready = w.ready;
+    fits = w.fits;
+    serves = let one : suc moves ≡ moves + 1 = omega arith in subst (λ (n : ℕ). Serves m start n after next) one (w.goes start moves k.serves);
+  }
+
+  module _ (after : Holder) (finished : IsNow token (StoreStage done [] ∷ token.log) after) where
+    log_is : after.log ≡ StoreStage done [] ∷ token.log
+    log_is = ap (λ (x : Holder). x.log) finished
+
+    pub stops : (limit : ℕ) → limit ≤ moves → IsFinishedAfter first.setup m first.thread start limit state after.log
+    stops limit enough = subst (λ (x : Holder). IsFinishedAfter x.setup m x.thread start limit state after.log) k.token_is
+        record { before = token.log; real = k.serves.real; long = let l = k.serves.long in omega arith; finished = log_is }
+
+    -- a thread that asked for its end
+    pub ends_whole : m.action state ≡ End → EndsSo first.setup m first.thread start 0 Ended state after.log
+    ends_whole e = (
+      e,
+      stops 0 (omega arith),
+      subst (λ (l : List Step). IsWholeShare first.setup m first.thread start l (m.after_answer state (Answered (Some done)))) (sym log_is)
+          (subst (λ (x : Holder). IsWholeShare x.setup m x.thread start (StoreStage done [] ∷ token.log) (m.after_answer state (Answered (Some done)))) k.token_is (ended m start moves token state k.serves k.ready.ready e)),
+    )
+
+    pub left_whole : m.action state ≡ End → Left first.setup m first.thread start after.log
+    left_whole e = whole after.log (m.after_answer state (Answered (Some done))) (ends_whole e).2
+
+    -- and one that was cut off
+    pub left_cut : Left first.setup m first.thread start after.log
+    left_cut = subst (λ (l : List Step). Left first.setup m first.thread start l) (sym log_is)
+        (subst (λ (x : Holder). Left x.setup m x.thread start (StoreStage done [] ∷ token.log)) k.token_is (cut_off m start moves token state k.serves k.ready.ready))
+
+  -- where there was no memory
+  pub left_without : (after : Holder) → IsLeft m token state after → Left first.setup m first.thread start after.log
+  left_without after l = subst (λ (x : Holder). Left x.setup m x.thread start after.log) k.token_is (l.left start moves k.serves)

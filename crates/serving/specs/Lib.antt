@@ -1,0 +1,4 @@
+pub mod Serving
+pub mod Tries
+pub mod Endings
+pub mod Jobs

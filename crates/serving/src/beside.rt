@@ -1,0 +1,127 @@
+ghost use Rattle.std.specs.Prelude.{ℕ, ◌≡◌, ◌<◌, ◌≤◌, ◌++◌, List, length, slice_index_or};
+ghost use Rattle.std.specs.List.{AllByRecursion};
+ghost use Rattle.std.specs.Thread.{IsSync, IsSend};
+ghost use Rattle.colours.specs.declared.turn.Turn.{Turn};
+ghost use Rattle.runs.specs.Machine.{machine_of};
+ghost use Rattle.heap_table.specs.Sweepers.{IsSweeperOf, IsNowAt};
+ghost use Rattle.serving.specs.Jobs.{MayBegin, WasServed};
+
+use crate::collecting::collect;
+use crate::serving::{Outcome, serve};
+use gate::Gate;
+use heap_table::{Heap, Mutator, Sweeper};
+use moves::Runner;
+use std::alloc::Global;
+use std::sync::atomic::{AtomicUsize, Ordering};
+use std::thread::{Threads, for_each_mut, join_mut};
+
+/// A thread that is to be served, and how far it was.
+#[derive(Drop)]
+pub struct Job<R> {
+    pub me: Mutator,
+    pub machine: R,
+    pub is_late: bool,
+    /// Before it is served, that it has not begun.
+    pub outcome: Outcome,
+}
+
+/// How many turns the collector makes at most, and how many steps each thread.
+#[derive(Clone, Copy, Debug, PartialEq, Eq)]
+pub struct Limits {
+    pub turns: u32,
+    pub steps: u32,
+}
+
+/// Serves each thread on a real thread of its own, beside the collector. The collector makes turns until its limit, or until it
+/// finds after a turn that all threads have ended. Returns how many it made. A thread calls the gate by its number, and the
+/// collector by the number after those.
+pub fn serve_beside<'a, T: Threads + Sync, R: Runner + Send, G: Gate + Sync>(
+    rt: &T,
+    alloc: Global,
+    heap: &Heap<'_>,
+    jobs: &mut [Job<R>],
+    sweeper: &mut Sweeper<'a>,
+    limits: Limits,
+    gate: &G,
+) -> u32
+    requires jobs { AllByRecursion (MayBegin (machine_of R.action R.after_answer R.roots) R.fits heap.now) jobs.old }
+    requires sweeper { IsSweeperOf heap.now sweeper.old }
+    ensures jobs { (i : ℕ) (d : _) → i < length jobs.old → WasServed (machine_of R.action R.after_answer R.roots) limits.steps (slice_index_or jobs.old i d) (slice_index_or jobs.new i d) }
+    ensures token { IsNowAt sweeper.old sweeper.new.log sweeper.new }
+    ensures turns { (turns : List Turn) × (sweeper.new.log ≡ turns ++ sweeper.old.log) × (length turns ≡ result) }
+    ensures limit { result ≤ limits.turns }
+{
+    let ended = AtomicUsize::new(0);
+    let threads = jobs.len();
+    let ((), turns) = join_mut(
+        rt,
+        &mut ||
+            requires bounds { IsSync T.row × IsSend R.row × IsSync G.row }
+            requires jobs { AllByRecursion (MayBegin (machine_of R.action R.after_answer R.roots) R.fits heap.now) jobs.now }
+        { serve_all(rt, alloc, heap, limits.steps, &ended, gate, jobs) },
+        &mut || collect_gated(heap, sweeper, limits.turns, &ended, threads, gate),
+    );
+    turns
+}
+
+/// Serves each thread on a real thread of its own.
+fn serve_all<T: Threads + Sync, R: Runner + Send, G: Gate + Sync>(
+    rt: &T,
+    alloc: Global,
+    heap: &Heap<'_>,
+    limit: u32,
+    ended: &AtomicUsize,
+    gate: &G,
+    jobs: &mut [Job<R>],
+)
+    requires { AllByRecursion (MayBegin (machine_of R.action R.after_answer R.roots) R.fits heap.now) jobs.old }
+    ensures { (i : ℕ) (d : _) → i < length jobs.old → WasServed (machine_of R.action R.after_answer R.roots) limit (slice_index_or jobs.old i d) (slice_index_or jobs.new i d) }
+{
+    let threads = jobs.len().max(1);
+    for_each_mut(
+        rt,
+        jobs,
+        threads,
+        &|number, job| { serve_gated(alloc, heap, number, limit, ended, gate, job) },
+    );
+}
+
+/// Serves a thread between the gate's two calls, and counts it as ended.
+fn serve_gated<R: Runner, G: Gate>(
+    alloc: Global,
+    heap: &Heap<'_>,
+    number: usize,
+    limit: u32,
+    ended: &AtomicUsize,
+    gate: &G,
+    job: &mut Job<R>,
+)
+    requires { MayBegin (machine_of R.action R.after_answer R.roots) R.fits heap.now job.old }
+    ensures { WasServed (machine_of R.action R.after_answer R.roots) limit job.old job.new }
+{
+    gate.before(number);
+    let is_late = job.is_late;
+    job.outcome = serve(alloc, heap, &mut job.me, &mut job.machine, is_late, limit);
+    gate.after(number);
+    ended.fetch_add(1, Ordering::SeqCst);
+}
+
+/// Makes turns of the collector between the gate's two calls.
+fn collect_gated<'a, G: Gate>(
+    heap: &Heap<'_>,
+    sweeper: &mut Sweeper<'a>,
+    limit: u32,
+    ended: &AtomicUsize,
+    threads: usize,
+    gate: &G,
+) -> u32
+    requires { IsSweeperOf heap.now sweeper.old }
+    ensures token { IsNowAt sweeper.old sweeper.new.log sweeper.new }
+    ensures turns { (turns : List Turn) × (sweeper.new.log ≡ turns ++ sweeper.old.log) × (length turns ≡ result) }
+    ensures limit { result ≤ limit }
+{
+    gate.before(threads);
+    let turns = collect(heap, sweeper, limit, ended, threads);
+    gate.after(threads);
+    turns
+}

@@ -1,0 +1,41 @@
+ghost use Rattle.std.specs.Prelude.{◌≡◌, IfOk, map};
+ghost use Rattle.heap_table.specs.Sweepers.{IsSweeperOf};
+ghost use Rattle.heap_table.specs.Closing.{AreOf, EndsSo};
+ghost use Rattle.serving.specs.Jobs.{token_of};
+
+use crate::beside::Job;
+use heap_table::{Closed, Heap, Mutator, Sweeper};
+use std::alloc::{AllocError, Global};
+
+/// Closes the heap once its threads were served. There is one run of the heap, of which the logs of all threads and of the
+/// collector are the shares.
+pub fn close_after<'a, R: Drop>(
+    alloc: Global,
+    heap: Heap<'a>,
+    mut jobs: Vec<Job<R>>,
+    sweeper: Sweeper<'_>,
+) -> Result<Closed<'a>, AllocError>
+    requires jobs { AreOf heap (map token_of jobs.items) }
+    requires sweeper { IsSweeperOf heap sweeper }
+    ensures setup { IfOk result (λ closed. closed.setup ≡ heap.entry.setup) }
+    ensures run { IfOk result (λ closed. EndsSo heap.entry.setup (map token_of jobs.items) sweeper.entry closed) }
+{
+    let mut mutators = Vec::with_capacity(alloc, jobs.len())?;
+    while let Some(job) = jobs.pop() {
+        mutators.insert(0, into_token(job))?;
+    }
+    Ok(heap.close(mutators, sweeper))
+}
+
+/// The token of a thread that was served.
+fn into_token<R: Drop>(job: Job<R>) -> Mutator
+    ensures { result ≡ token_of job }
+{
+    let Job {
+        me,
+        machine: _,
+        is_late: _,
+        outcome: _,
+    } = job;
+    me
+}

@@ -1,0 +1,3 @@
+pub mod Setups
+pub mod SetupHeaps
+pub mod SafeSetups
