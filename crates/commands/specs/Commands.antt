@@ -11,7 +11,7 @@ use Rattle.certificate.specs.Text as certificate
 use Rattle.certificate.specs.declared.fault.CertFault.{CertFault}
 use Rattle.certificate.specs.declared.fault.CertFault.TheVariants as cert
 use Rattle.block_rules.specs.declared.block_fault.Refusal.{Refusal}
-use Rattle.module_check.specs.Accepted.{IsAccepted, IsFirstRefusal}
+use Rattle.module_check.specs.Accepted.{IsAccepted, IsFirstRefusal, IsProgramCertified}
 use Rattle.trace_text.specs.declared.trace.Trace.{Trace}
 use Rattle.setups.specs.Setups.{HasNoFault, IsSetupFault}
 use Rattle.setups.specs.declared.setup_fault.SetupFault.{SetupFault}
@@ -20,9 +20,14 @@ use Rattle.replay.specs.Outcomes.{IsOutcome}
 use Rattle.replay.specs.Soaks.{IsSoakOutcome}
 use Rattle.replay.specs.declared.outcome.Outcome.{Outcome}
 use Rattle.replay.specs.declared.outcome.SoakOutcome.{SoakOutcome}
+use Rattle.serving.specs.declared.beside.Limits.{Limits}
+use Rattle.mutators.specs.Faults.{HasNoRunFault, IsRunFault}
+use Rattle.mutators.specs.Reports.{IsReport}
+use Rattle.mutators.specs.declared.report.RunReport.{RunReport}
 use Rattle.commands.specs.Asked.{Asked, check, replay, soak, run}
 use Rattle.commands.specs.Report.{Answer, IsTold, line_of, no, no_file, no_memory, of_cert_fault, of_layout_fault, of_read_fault, yes}
 use Rattle.commands.specs.Runs.{of_outcome, of_setup_fault, of_soak}
+use Rattle.commands.specs.RunReport.{of_report}
 use Rattle.commands.specs.Files.{HasModule, HasCerts, HasProgram, HasTrace, IsNoTrace, IsUncertified, IsUntraced, of_unread}
 use Rattle.commands.specs.declared.files.Unread.{Unread}
 
@@ -44,13 +49,17 @@ Says Meant old_output output old_error error status = (said : Said) × Meant sai
 
 -- ---- check
 
--- what is said of a module and its certificates: that it is accepted, its first refusal, the fault of its layouts, or that memory
+-- what is said of a module and its certificates that are not accepted: the first refusal, the fault of the layouts, or that memory
 -- was refused
+pub data OfVerdict (m : Module) (certs : List Section) : Said → Type 0 where
+  refused : (refusal : Refusal) → IsFirstRefusal m certs refusal → OfVerdict m certs (OnOutput (no m (line_of certs m refusal.func refusal.detail) refusal))
+  not_laid_out : (fault : LayoutFault) → IsLayoutFault m fault → OfVerdict m certs (OnError (of_layout_fault m fault))
+  not_checked : OfVerdict m certs (OnError no_memory)
+
+-- what is said of a module and its certificates: that they are accepted, or why not
 pub data OfCerts (m : Module) (certs : List Section) : Said → Type 0 where
   accepted : IsAccepted m certs → OfCerts m certs (OnOutput (yes (length m.functions)))
-  refused : (refusal : Refusal) → IsFirstRefusal m certs refusal → OfCerts m certs (OnOutput (no m (line_of certs m refusal.func refusal.detail) refusal))
-  not_laid_out : (fault : LayoutFault) → IsLayoutFault m fault → OfCerts m certs (OnError (of_layout_fault m fault))
-  not_checked : OfCerts m certs (OnError no_memory)
+  not_accepted : (said : Said) → OfVerdict m certs said → OfCerts m certs said
 
 -- what is said of a module and the file of its certificates, which has this path
 pub data OfCertFile (m : Module) (path : List ℕ) (file : Option (List ℕ)) : Said → Type 0 where
@@ -96,17 +105,11 @@ pub data OfTraceFile (limits : Limits) (p : LaidOut) (certs : List Section) (pat
   no_trace : (unread : Unread) → IsNoTrace path file p unread → OfTraceFile limits p certs path file (OnError (of_unread unread))
   of_trace : (t : Trace) (said : Said) → HasTrace file p t → OfThreads limits p certs t said → OfTraceFile limits p certs path file said
 
--- it is no yes: a fault, or an answer with another status than 0
-abbrev pub IsNoYes : Said → Type 0
-IsNoYes (OnOutput answer) = answer.status ≢ 0
-IsNoYes (OnError answer) = Unit {0}
-
--- what it says of a module, its certificates and the file of the trace: what the check says where that is no yes, and otherwise what
--- is said of the program
+-- what it says of a module, its certificates and the file of the trace: why they are not accepted, or what is said of the program
 pub data OfCertified (limits : Limits) (m : Module) (certs : List Section) (path : List ℕ) (file : Option (List ℕ)) : Said → Type 0 where
-  not_accepted : (said : Said) → OfCerts m certs said → IsNoYes said → OfCertified limits m certs path file said
-  of_program : (p : LaidOut) (said : Said) → p.of_module ≡ m → AreLayouts m p.layouts → AreSizes m p.sizes → IsModuleCertified p certs (length m.functions)
-      → OfTraceFile limits p certs path file said → OfCertified limits m certs path file said
+  no_program : (said : Said) → OfVerdict m certs said → OfCertified limits m certs path file said
+  of_program : (p : LaidOut) (said : Said) → p.of_module ≡ m → IsProgramCertified p certs → OfTraceFile limits p certs path file said
+      → OfCertified limits m certs path file said
 
 -- what it says of the files of a module, its certificates and a trace, which have these paths
 pub data OfRunFiles (limits : Limits) (module_path cert_path trace_path : List ℕ) (first second third : Option (List ℕ)) : Said → Type 0 where

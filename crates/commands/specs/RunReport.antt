@@ -2,9 +2,9 @@
 use Rattle.std.specs.Prelude.{◌++◌, ℕ, List, [], ◌∷◌, Some, None, codes}
 use Rattle.std.specs.Fmt.{decimal}
 use Rattle.std.specs.List.{enumerate_from, flat_map}
-use Rattle.mutators.specs.declared.report.ThreadEnd.{ThreadEnd}
-use Rattle.mutators.specs.declared.report.ThreadEnd.TheVariants.{Returned, Ended, Stopped, Memory, Absent}
 use Rattle.mutators.specs.declared.report.RunReport.{RunReport}
+use Rattle.mutators.specs.declared.thread_end.ThreadEnd.{ThreadEnd}
+use Rattle.mutators.specs.declared.thread_end.ThreadEnd.TheVariants.{Returned, Ended, Stopped, Memory, Absent}
 use Rattle.commands.specs.Report.{Answer}
 use Rattle.commands.specs.Runs.{returned_text}
 

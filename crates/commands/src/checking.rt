@@ -1,7 +1,7 @@
 //! The command `check`.
 ghost use Rattle.std.specs.Prelude.{IfOk};
 ghost use Rattle.std.specs.Option.{option_copied};
-ghost use Rattle.commands.specs.Commands.{OfCertFile, OfCerts, OfCheck, Says};
+ghost use Rattle.commands.specs.Commands.{OfCertFile, OfCerts, OfCheck, OfVerdict, Says};
 ghost use Rattle.commands.specs.Files as spec;
 ghost use Rattle.module_check.specs.Accepted.{IsFirstRefusal, IsVerdictOf};
 
@@ -24,7 +24,7 @@ fn report_refusal<O: Write, E: Write>(
     err: &mut E,
 ) -> io::Result<u8>
     requires { IsFirstRefusal answer.now.of_module answer.now.certs refusal.now }
-    ensures { IfOk result (Says (OfCerts answer.now.of_module answer.now.certs) (O.contents out.old) (O.contents out.new) (E.contents err.old) (E.contents err.new)) }
+    ensures { IfOk result (Says (OfVerdict answer.now.of_module answer.now.certs) (O.contents out.old) (O.contents out.new) (E.contents err.old) (E.contents err.new)) }
 {
     match crate::verdicts::line_of_refusal(alloc, &answer.of_module, &answer.certs, refusal) {
         Ok(line) => crate::verdicts::refused(out, &answer.of_module, refusal, line.as_slice()),
@@ -40,7 +40,7 @@ pub fn report_verdict<O: Write, E: Write>(
     err: &mut E,
 ) -> io::Result<u8>
     requires { IsVerdictOf answer.now.of_module answer.now.certs answer.now.verdict }
-    ensures { IfOk result (Says (OfCerts answer.now.of_module answer.now.certs) (O.contents out.old) (O.contents out.new) (E.contents err.old) (E.contents err.new)) }
+    ensures { IfOk result (Says (OfVerdict answer.now.of_module answer.now.certs) (O.contents out.old) (O.contents out.new) (E.contents err.old) (E.contents err.new)) }
 {
     match answer.verdict {
         Verdict::Refused(refusal) => report_refusal(alloc, answer, &refusal, out, err),

@@ -24,6 +24,8 @@ mod reading_tests;
 mod replaying_tests;
 mod row;
 #[cfg(test)]
+mod running_tests;
+#[cfg(test)]
 mod texts;
 
 use failure::Failure;
