@@ -1,6 +1,7 @@
 -- What is told of a run on real threads.
-use Rattle.std.specs.Prelude.{ℕ, ◌≡◌, ◌≤◌, ◌++◌, List, length, Some, slice_get}
-use Rattle.colours.specs.Runs.{Event, log_of, turns_of, IsHeapRun}
+use Rattle.std.specs.Prelude.{ℕ, ◌≡◌, ◌≤◌, ◌++◌, List, ◌∷◌, length, Some, slice_get}
+use Rattle.pools.specs.Heap.{Setup as HeapSetup}
+use Rattle.colours.specs.Runs.{Event, ByThread, log_of, turns_of, IsHeapRun, TouchesAlive}
 use Rattle.colours.specs.Safety.{KeptIsAlive}
 use Rattle.colours.specs.Steps.{Step}
 use Rattle.layout.specs.Layouts.{LaidOut}
@@ -43,12 +44,16 @@ pub record IsThreadEnd (p : LaidOut) (setup : Setup) (limit thread : ℕ) (log :
   pub ends : EndsSo (heap_of p setup) program_machine thread (starts_of p setup thread) limit outcome state log
   pub told : end ≡ told outcome (ending state.program state.state)
 
--- There is one run of the heap, of which the steps of the threads and of the collector are the shares. At no moment of it is a cell
--- free, or claimed again, that a thread holds or that can be reached.
+-- At no moment of the run is a cell free, or claimed again, that a thread holds or that can be reached; and no step touches such a cell.
+pub record IsSafeRun (s : HeapSetup) (run : List Event) : Type 0 where
+  pub kept : (after before : List Event) → run ≡ after ++ before → KeptIsAlive s before
+  pub touched : (after before : List Event) (thread : ℕ) (step : Step) → run ≡ after ++ ByThread thread step ∷ before → TouchesAlive s before thread step
+
+-- There is one safe run of the heap, of which the steps of the threads and of the collector are the shares.
 pub record IsReport (p : LaidOut) (setup : Setup) (limits : Limits) (report : RunReport) : Type 0 where
   pub run : List Event
   pub is_run : IsHeapRun (heap_of p setup) run
-  pub alive : (after before : List Event) → run ≡ after ++ before → KeptIsAlive (heap_of p setup) before
+  pub safe : IsSafeRun (heap_of p setup) run
   pub one_each : length report.threads ≡ length setup.starts
   pub threads : (t : ℕ) (end : ThreadEnd) → slice_get report.threads t ≡ Some end → IsThreadEnd p setup limits.steps t (log_of t run) end
   pub turns : length (turns_of run) ≡ report.turns

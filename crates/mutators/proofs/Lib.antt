@@ -1,0 +1,5 @@
+pub mod Lists
+pub mod Promises
+pub mod Beginnings
+pub mod Runs
+pub mod Ends

@@ -1,0 +1,34 @@
+-- Arguments are below what is promised of their parameters exactly where the code says so.
+use Rattle.std.proofs.Common.{◌≡◌, ◌<◌, ℕ, Bool, true, false, Option, Some, None, List, [], ◌∷◌, refl, sym, ◌∙◌, true≢false, arith, lt_true}
+use Rattle.lemmas.specs.Bools.{and_parts, and_true}
+use Rattle.certs.specs.declared.section.Promise.{Promise}
+use Rattle.facts.specs.Lines.{promised_below}
+use Rattle.soundness.specs.Meaning.{IsBelow}
+use Rattle.program_runner.specs.Threads.{MeetPromises}
+use Rattle.mutators.specs.Faults.{is_below, is_under, are_under}
+
+below : (bound : Option ℕ) (argument : ℕ) → is_below bound argument ≡ true → IsBelow argument bound
+below None argument e = tt
+below (Some bound) argument e = omega (arith, e)
+
+is_so : (bound : Option ℕ) (argument : ℕ) → IsBelow argument bound → is_below bound argument ≡ true
+is_so None argument below = refl
+is_so (Some bound) argument below = lt_true argument bound below
+
+-- arguments of which the code says so meet what is promised
+pub met : (promises : List (Option Promise)) (arguments : List ℕ) → are_under promises arguments ≡ true → MeetPromises promises arguments
+met [] arguments e = tt
+met (promise ∷ promises) [] e = tt
+met (promise ∷ promises) (argument ∷ arguments) e =
+    let parts = and_parts (is_under promise argument) (are_under promises arguments) e in
+    (below (promised_below promise) argument parts.0, met promises arguments parts.1)
+
+-- and the code says so of those that do
+all_under : (promises : List (Option Promise)) (arguments : List ℕ) → MeetPromises promises arguments → are_under promises arguments ≡ true
+all_under [] arguments meets = refl
+all_under (promise ∷ promises) [] meets = refl
+all_under (promise ∷ promises) (argument ∷ arguments) meets =
+    and_true (is_under promise argument) (are_under promises arguments) (is_so (promised_below promise) argument meets.0) (all_under promises arguments meets.1)
+
+pub not_met : (promises : List (Option Promise)) (arguments : List ℕ) → are_under promises arguments ≡ false → ¬ MeetPromises promises arguments
+not_met promises arguments e meets = true≢false (sym (all_under promises arguments meets) ∙ e)
