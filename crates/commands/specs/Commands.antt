@@ -1,17 +1,11 @@
 -- What each command says of the files of its line.
-use Rattle.std.specs.Prelude.{◌≡◌, ◌≢◌, ℕ, List, Option, Some, None, length}
+use Rattle.std.specs.Prelude.{◌≡◌, ◌≢◌, ℕ, List, Option, length}
 use Rattle.ir_ast.specs.declared.module.Module.{Module}
-use Rattle.ir_text.specs.Read as text
-use Rattle.ir_text.specs.declared.read_fault.ReadFault.{ReadFault}
-use Rattle.ir_text.specs.declared.read_fault.ReadFault.TheVariants as read
 use Rattle.layout.specs.Layouts.{IsLayoutFault, LaidOut}
 use Rattle.layout.specs.declared.fault.LayoutFault.{LayoutFault}
 use Rattle.certs.specs.declared.section.Section.{Section}
-use Rattle.certificate.specs.Text as certificate
-use Rattle.certificate.specs.declared.fault.CertFault.{CertFault}
-use Rattle.certificate.specs.declared.fault.CertFault.TheVariants as cert
 use Rattle.block_rules.specs.declared.block_fault.Refusal.{Refusal}
-use Rattle.module_check.specs.Accepted.{IsAccepted, IsFirstRefusal}
+use Rattle.module_check.specs.Accepted.{IsAccepted, IsFirstRefusal, IsProgramCertified}
 use Rattle.trace_text.specs.declared.trace.Trace.{Trace}
 use Rattle.setups.specs.Setups.{HasNoFault, IsSetupFault}
 use Rattle.setups.specs.declared.setup_fault.SetupFault.{SetupFault}
@@ -20,11 +14,16 @@ use Rattle.replay.specs.Outcomes.{IsOutcome}
 use Rattle.replay.specs.Soaks.{IsSoakOutcome}
 use Rattle.replay.specs.declared.outcome.Outcome.{Outcome}
 use Rattle.replay.specs.declared.outcome.SoakOutcome.{SoakOutcome}
-use Rattle.commands.specs.Asked.{Asked, check, replay, soak}
-use Rattle.commands.specs.Report.{Answer, IsTold, line_of, no, no_file, no_memory, of_cert_fault, of_layout_fault, of_read_fault, yes}
+use Rattle.serving.specs.declared.beside.Limits.{Limits}
+use Rattle.mutators.specs.Faults.{HasNoRunFault, IsRunFault}
+use Rattle.mutators.specs.Reports.{IsReport}
+use Rattle.mutators.specs.declared.report.RunReport.{RunReport}
+use Rattle.commands.specs.Asked.{Asked, check, replay, soak, run}
+use Rattle.commands.specs.Report.{Answer, IsTold, line_of, no, no_memory, of_layout_fault, yes}
 use Rattle.commands.specs.Runs.{of_outcome, of_setup_fault, of_soak}
-use Rattle.commands.specs.Files.{HasProgram, HasTrace, IsUntraced, of_untraced}
-use Rattle.commands.specs.declared.files.Untraced.{Untraced}
+use Rattle.commands.specs.RunReport.{of_report}
+use Rattle.commands.specs.Files.{HasModule, HasCerts, HasProgram, HasTrace, IsNoTrace, IsUncertified, IsUntraced, of_unread}
+use Rattle.commands.specs.declared.files.Unread.{Unread}
 
 -- ---- what is said, and where
 
@@ -44,27 +43,23 @@ Says Meant old_output output old_error error status = (said : Said) × Meant sai
 
 -- ---- check
 
--- what is said of a module and its certificates: that it is accepted, its first refusal, the fault of its layouts, or that memory
+-- what is said of a module and its certificates that are not accepted: the first refusal, the fault of the layouts, or that memory
 -- was refused
+pub data OfVerdict (m : Module) (certs : List Section) : Said → Type 0 where
+  refused : (refusal : Refusal) → IsFirstRefusal m certs refusal → OfVerdict m certs (OnOutput (no m (line_of certs m refusal.func refusal.detail) refusal))
+  not_laid_out : (fault : LayoutFault) → IsLayoutFault m fault → OfVerdict m certs (OnError (of_layout_fault m fault))
+  not_checked : OfVerdict m certs (OnError no_memory)
+
+-- what is said of a module and its certificates: that they are accepted, or why not
 pub data OfCerts (m : Module) (certs : List Section) : Said → Type 0 where
   accepted : IsAccepted m certs → OfCerts m certs (OnOutput (yes (length m.functions)))
-  refused : (refusal : Refusal) → IsFirstRefusal m certs refusal → OfCerts m certs (OnOutput (no m (line_of certs m refusal.func refusal.detail) refusal))
-  not_laid_out : (fault : LayoutFault) → IsLayoutFault m fault → OfCerts m certs (OnError (of_layout_fault m fault))
-  not_checked : OfCerts m certs (OnError no_memory)
+  not_accepted : (said : Said) → OfVerdict m certs said → OfCerts m certs said
 
--- what is said of a module and the file of its certificates, which has this path
-pub data OfCertFile (m : Module) (path : List ℕ) (file : Option (List ℕ)) : Said → Type 0 where
-  no_cert_file : file ≡ None → OfCertFile m path file (OnError (no_file path))
-  no_certs : (bytes : List ℕ) (fault : CertFault) → file ≡ Some bytes → (fault ≢ cert.Memory → certificate.IsFault bytes m fault) → OfCertFile m path file (OnError (of_cert_fault m fault))
-  of_certs : (bytes : List ℕ) (certs : List Section) (said : Said) → file ≡ Some bytes → certificate.IsCert bytes m certs → OfCerts m certs said
-      → OfCertFile m path file said
-
--- what `check` says of the files of a module and its certificates, which have these paths
-pub data OfCheck (module_path cert_path : List ℕ) (first second : Option (List ℕ)) : Said → Type 0 where
-  no_module_file : first ≡ None → OfCheck module_path cert_path first second (OnError (no_file module_path))
-  no_module : (bytes : List ℕ) (fault : ReadFault) → first ≡ Some bytes → (fault ≢ read.Memory → text.IsFault bytes fault) → OfCheck module_path cert_path first second (OnError (of_read_fault fault))
-  of_module : (bytes : List ℕ) (m : Module) (said : Said) → first ≡ Some bytes → text.IsText bytes m → OfCertFile m cert_path second said
-      → OfCheck module_path cert_path first second said
+-- what is said of the files of a module and its certificates, which have these paths, where this is said of them once they are read
+pub data OfCertified (Certs : Module → List Section → Said → Type 0) (module_path cert_path : List ℕ) (first second : Option (List ℕ)) : Said → Type 0 where
+  not_certified : (unread : Unread) → IsUncertified module_path cert_path first second unread → OfCertified Certs module_path cert_path first second (OnError (of_unread unread))
+  of_certified : (m : Module) (certs : List Section) (said : Said) → HasModule first m → HasCerts second m certs → Certs m certs said
+      → OfCertified Certs module_path cert_path first second said
 
 -- ---- replay and soak
 
@@ -80,13 +75,34 @@ pub data OfSeeds (seeds steps : ℕ) (p : LaidOut) (t : Trace) : Said → Type 0
 
 -- what is said of the files of a program and its trace, which have these paths, where this is said of them once they are read
 pub data OfRun (Run : LaidOut → Trace → Said → Type 0) (module_path trace_path : List ℕ) (first second : Option (List ℕ)) : Said → Type 0 where
-  not_traced : (untraced : Untraced) → IsUntraced module_path trace_path first second untraced → OfRun Run module_path trace_path first second (OnError (of_untraced untraced))
+  not_traced : (unread : Unread) → IsUntraced module_path trace_path first second unread → OfRun Run module_path trace_path first second (OnError (of_unread unread))
   of_traced : (p : LaidOut) (t : Trace) (said : Said) → HasProgram first p → HasTrace second p t → Run p t said → OfRun Run module_path trace_path first second said
+
+-- ---- run
+
+-- what `run` says of an accepted program with its certificates and of the threads with which a trace begins: how far they and the
+-- collector came in a run within the limits, the first thread that may not begin, or that memory was refused
+pub data OfThreads (limits : Limits) (p : LaidOut) (certs : List Section) (t : Trace) : Said → Type 0 where
+  ran : (report : RunReport) → HasNoRunFault p certs t.setup → IsReport p t.setup limits report → OfThreads limits p certs t (OnOutput (of_report report))
+  not_run : (fault : SetupFault) → (fault ≢ setup.Memory → IsRunFault p certs t.setup fault) → OfThreads limits p certs t (OnError (of_setup_fault fault))
+
+-- what it says of them and the file of the trace, which has this path
+pub data OfTraceFile (limits : Limits) (p : LaidOut) (certs : List Section) (path : List ℕ) (file : Option (List ℕ)) : Said → Type 0 where
+  no_trace : (unread : Unread) → IsNoTrace path file p unread → OfTraceFile limits p certs path file (OnError (of_unread unread))
+  of_trace : (t : Trace) (said : Said) → HasTrace file p t → OfThreads limits p certs t said → OfTraceFile limits p certs path file said
+
+-- what it says of a module, its certificates and the file of the trace: why they are not accepted, or what is said of the program
+pub data OfRunCerts (limits : Limits) (path : List ℕ) (file : Option (List ℕ)) (m : Module) (certs : List Section) : Said → Type 0 where
+  no_program : (said : Said) → OfVerdict m certs said → OfRunCerts limits path file m certs said
+  of_program : (p : LaidOut) (said : Said) → p.of_module ≡ m → IsProgramCertified p certs → OfTraceFile limits p certs path file said
+      → OfRunCerts limits path file m certs said
 
 -- ---- the commands
 
--- what a command says of its files, in the line's order
-abbrev pub OfCommand : Asked → (first second : Option (List ℕ)) → Said → Type 0
-OfCommand (check module_path cert_path workers) first second = OfCheck module_path cert_path first second
-OfCommand (replay module_path trace_path) first second = OfRun OfTrace module_path trace_path first second
-OfCommand (soak module_path trace_path seeds steps) first second = OfRun (OfSeeds seeds steps) module_path trace_path first second
+-- what a command says of its files, each at its place in the line's order
+abbrev pub OfCommand : Asked → (file_at : ℕ → Option (List ℕ)) → Said → Type 0
+OfCommand (check module_path cert_path workers) file_at = OfCertified OfCerts module_path cert_path (file_at 0) (file_at 1)
+OfCommand (replay module_path trace_path) file_at = OfRun OfTrace module_path trace_path (file_at 0) (file_at 1)
+OfCommand (soak module_path trace_path seeds steps) file_at = OfRun (OfSeeds seeds steps) module_path trace_path (file_at 0) (file_at 1)
+OfCommand (run module_path cert_path trace_path turns steps) file_at =
+    OfCertified (OfRunCerts (record { turns = turns; steps = steps }) trace_path (file_at 2)) module_path cert_path (file_at 0) (file_at 1)

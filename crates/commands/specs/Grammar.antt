@@ -4,7 +4,7 @@ use Rattle.std.specs.Str.{all_ascii_digits, bytes_eq}
 use Rattle.std.specs.Str.Parse.{digits_value, without_leading_plus}
 use Rattle.clap.specs.Words.{App, IsAmong, Row, Rule, Text, fault_of, first_of, kind_of, new_app, new_rule, one_of, subcommand_of, with_rule, with_subcommand}
 use Rattle.clap.specs.declared.builder.value_parser.ValueParser.TheVariants.{Signed}
-use Rattle.commands.specs.Asked.{Asked, check, replay, soak}
+use Rattle.commands.specs.Asked.{Asked, check, replay, soak, run}
 use Rattle.commands.specs.declared.asked.LineFault.{LineFault}
 use Rattle.commands.specs.declared.asked.LineFault.TheVariants.{Memory, NoCommand, Words}
 
@@ -30,6 +30,15 @@ workers_rule = record (new_rule (codes "workers")) {
   parser = Some (Signed (pos 1) (pos 64));
 }
 
+-- an option that may be left out, and whose value is a number of 32 bits; then it is a million
+abbrev pub limit_rule : Text → Rule
+limit_rule name = record (new_rule name) {
+  long = Some name;
+  value_names = 1;
+  defaults = codes "1000000" ∷ [];
+  parser = Some (Signed (pos 0) (pos 4294967295));
+}
+
 -- NAME MODULE SECOND: a command on two files
 abbrev pub files_app : (name second : Text) → App
 files_app name second = with_rule (with_rule (new_app name) (file_rule (codes "MODULE"))) (file_rule second)
@@ -46,6 +55,10 @@ replay_app = files_app (codes "replay") (codes "TRACE")
 abbrev pub soak_app : App
 soak_app = with_rule (with_rule (files_app (codes "soak") (codes "TRACE")) (number_rule (codes "seeds"))) (number_rule (codes "steps"))
 
+-- run MODULE CERT TRACE [--turns N] [--steps S]
+abbrev pub run_app : App
+run_app = with_rule (with_rule (with_rule (files_app (codes "run") (codes "CERT")) (file_rule (codes "TRACE"))) (limit_rule (codes "turns"))) (limit_rule (codes "steps"))
+
 -- a command that has a version, and needs a subcommand
 abbrev pub with_version_and_commands : App → App
 with_version_and_commands app = record app { top = record app.top { has_version = true; subcommand_required = true } }
@@ -53,8 +66,8 @@ with_version_and_commands app = record app { top = record app.top { has_version 
 -- the whole grammar
 abbrev pub dgc_app : App
 dgc_app =
-    with_subcommand (with_subcommand (with_subcommand (with_version_and_commands (new_app (codes "dgc"))) check_app.top)
-    replay_app.top) soak_app.top
+    with_subcommand (with_subcommand (with_subcommand (with_subcommand (with_version_and_commands (new_app (codes "dgc"))) check_app.top)
+    replay_app.top) soak_app.top) run_app.top
 
 -- the number that a text of decimal digits writes, where it is below 2 to the 32; a plus may come first
 abbrev pub number_in : Text → Option ℕ
@@ -91,6 +104,12 @@ soak_of given =
     option_and_then (λ paths. option_and_then (λ seeds. option_map (λ steps. soak paths.0 paths.1 seeds steps)
     (number_of (codes "steps") given)) (number_of (codes "seeds") given)) (paths_in (codes "TRACE") given)
 
+-- `run` with what was given to it, if that is a module, a certificate, a trace and both limits
+abbrev pub run_of : List Row → Option Asked
+run_of given =
+    option_and_then (λ paths. option_and_then (λ trace_path. option_and_then (λ turns. option_map (λ steps. run paths.0 paths.1 trace_path turns steps)
+    (number_of (codes "steps") given)) (number_of (codes "turns") given)) (first_of (codes "TRACE") given)) (paths_in (codes "CERT") given)
+
 -- what a command's name with what was given to it asks for
 abbrev pub asked_of : Option (Text × List Row) → Option Asked
 asked_of None = None
@@ -98,6 +117,7 @@ asked_of (Some found) =
     if bytes_eq found.0 (codes "check") then check_of found.1
     else if bytes_eq found.0 (codes "replay") then replay_of found.1
     else if bytes_eq found.0 (codes "soak") then soak_of found.1
+    else if bytes_eq found.0 (codes "run") then run_of found.1
     else None
 
 -- what the words of a command line ask for, the program's own name first

@@ -2,5 +2,6 @@ pub mod Report
 pub mod Asked
 pub mod Grammar
 pub mod Runs
+pub mod RunReport
 pub mod Files
 pub mod Commands

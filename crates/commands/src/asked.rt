@@ -28,6 +28,15 @@ pub enum Line<'a> {
         seeds: u32,
         steps: u32,
     },
+    /// Check a module against a certificate. Then run the threads of a trace on real threads, beside the collector: at most
+    /// `turns` steps of the collector, and at most `steps` steps of each thread.
+    Run {
+        module_path: &'a str,
+        certificate_path: &'a str,
+        trace_path: &'a str,
+        turns: u32,
+        steps: u32,
+    },
 }
 
 /// Why a command line asks for nothing.
@@ -81,6 +90,12 @@ impl<'a> Line<'a> {
                 trace_path,
                 ..
             } => vec![in alloc; module_path, trace_path]?,
+            Line::Run {
+                module_path,
+                certificate_path,
+                trace_path,
+                ..
+            } => vec![in alloc; module_path, certificate_path, trace_path]?,
         };
         Ok(paths)
     }

@@ -1,15 +1,11 @@
 //! The command `check`.
 ghost use Rattle.std.specs.Prelude.{◌≤◌, IfOk};
-ghost use Rattle.std.specs.Option.{option_copied};
-ghost use Rattle.commands.specs.Commands.{OfCertFile, OfCerts, OfCheck, Says};
+ghost use Rattle.commands.specs.Commands.{OfCertified, OfCerts, OfVerdict, Says};
 ghost use Rattle.commands.specs.Files as spec;
 ghost use Rattle.module_check.specs.Accepted.{IsFirstRefusal, IsVerdictOf};
 
-use crate::files::file_at;
-use certificate::read_cert;
-use certs::Certs;
-use ir_ast::Module;
-use ir_text::read;
+use crate::files::{Certified, read_certified};
+use crate::outcomes::unread;
 use module_check::{NotAccepted, Refusal, Verdict};
 use parallel_check::{OpenGate, check_with};
 use std::alloc::Global;
@@ -26,7 +22,7 @@ fn report_refusal<O: Write, E: Write>(
     err: &mut E,
 ) -> io::Result<u8>
     requires { IsFirstRefusal answer.now.of_module answer.now.certs refusal.now }
-    ensures { IfOk result (Says (OfCerts answer.now.of_module answer.now.certs) (O.contents out.old) (O.contents out.new) (E.contents err.old) (E.contents err.new)) }
+    ensures { IfOk result (Says (OfVerdict answer.now.of_module answer.now.certs) (O.contents out.old) (O.contents out.new) (E.contents err.old) (E.contents err.new)) }
 {
     match crate::verdicts::line_of_refusal(alloc, &answer.of_module, &answer.certs, refusal) {
         Ok(line) => crate::verdicts::refused(out, &answer.of_module, refusal, line.as_slice()),
@@ -35,14 +31,14 @@ fn report_refusal<O: Write, E: Write>(
 }
 
 /// Prints why a module is not accepted.
-fn report_verdict<O: Write, E: Write>(
+pub fn report_verdict<O: Write, E: Write>(
     alloc: Global,
     answer: &NotAccepted,
     out: &mut O,
     err: &mut E,
 ) -> io::Result<u8>
     requires { IsVerdictOf answer.now.of_module answer.now.certs answer.now.verdict }
-    ensures { IfOk result (Says (OfCerts answer.now.of_module answer.now.certs) (O.contents out.old) (O.contents out.new) (E.contents err.old) (E.contents err.new)) }
+    ensures { IfOk result (Says (OfVerdict answer.now.of_module answer.now.certs) (O.contents out.old) (O.contents out.new) (E.contents err.old) (E.contents err.new)) }
 {
     match answer.verdict {
         Verdict::Refused(refusal) => report_refusal(alloc, answer, &refusal, out, err),
@@ -52,20 +48,26 @@ fn report_verdict<O: Write, E: Write>(
 }
 
 /// Checks a module and its certificates.
-fn check_certs<O: Write, E: Write>(
+fn check_certified<O: Write, E: Write>(
     rt: &(impl Threads + Sync),
     alloc: Global,
-    of_module: Module,
-    certs: Certs,
+    certified: Certified,
     workers: u32,
     out: &mut O,
     err: &mut E,
 ) -> io::Result<u8>
     requires some { 1 ≤ workers }
     requires few { workers ≤ 64 }
-    ensures { IfOk result (Says (OfCerts of_module certs) (O.contents out.old) (O.contents out.new) (E.contents err.old) (E.contents err.new)) }
+    ensures { IfOk result (Says (OfCerts certified.of_module certified.certs) (O.contents out.old) (O.contents out.new) (E.contents err.old) (E.contents err.new)) }
 {
-    match check_with(rt, alloc, workers, &OpenGate, of_module, certs) {
+    match check_with(
+        rt,
+        alloc,
+        workers,
+        &OpenGate,
+        certified.of_module,
+        certified.certs,
+    ) {
         Ok(accepted) => {
             let count = accepted.program().module().functions.len();
             drop(accepted);
@@ -74,35 +76,6 @@ fn check_certs<O: Write, E: Write>(
         Err(answer) => {
             let status = report_verdict(alloc, &answer, out, err);
             drop(answer);
-            status
-        }
-    }
-}
-
-/// Checks a module and the file of its certificates, which has this path.
-fn check_module<O: Write, E: Write>(
-    rt: &(impl Threads + Sync),
-    alloc: Global,
-    of_module: Module,
-    path: &str,
-    workers: u32,
-    file: Option<&[u8]>,
-    out: &mut O,
-    err: &mut E,
-) -> io::Result<u8>
-    requires some { 1 ≤ workers }
-    requires few { workers ≤ 64 }
-    ensures { IfOk result (Says (OfCertFile of_module path.now (option_copied file.entry)) (O.contents out.old) (O.contents out.new) (E.contents err.old) (E.contents err.new)) }
-{
-    let Some(certificate) = file else {
-        drop(of_module);
-        return crate::faults::no_file(err, path);
-    };
-    match read_cert(alloc, certificate, &of_module) {
-        Ok(certs) => check_certs(rt, alloc, of_module, certs, workers, out, err),
-        Err(fault) => {
-            let status = crate::faults::no_certificate(err, &of_module, fault);
-            drop(of_module);
             status
         }
     }
@@ -121,22 +94,14 @@ pub fn check_files<O: Write, E: Write>(
 ) -> io::Result<u8>
     requires some { 1 ≤ workers }
     requires few { workers ≤ 64 }
-    ensures { IfOk result (Says (OfCheck paths.entry.0.now paths.entry.1.now (spec.file_at files.now 0) (spec.file_at files.now 1)) (O.contents out.old) (O.contents out.new) (E.contents err.old) (E.contents err.new)) }
+    ensures { IfOk result (Says (OfCertified OfCerts paths.entry.0.now paths.entry.1.now (spec.file_at files.now 0) (spec.file_at files.now 1)) (O.contents out.old) (O.contents out.new) (E.contents err.old) (E.contents err.new)) }
 {
-    let Some(text) = file_at(files, 0) else {
-        return crate::faults::no_file(err, paths.0);
-    };
-    match read(alloc, text) {
-        Ok(of_module) => check_module(
-            rt,
-            alloc,
-            of_module,
-            paths.1,
-            workers,
-            file_at(files, 1),
-            out,
-            err,
-        ),
-        Err(fault) => crate::faults::no_module(err, &fault),
+    match read_certified(alloc, paths, files) {
+        Ok(certified) => check_certified(rt, alloc, certified, workers, out, err),
+        Err(fault) => {
+            let status = unread(err, &fault);
+            drop(fault);
+            status
+        }
     }
 }

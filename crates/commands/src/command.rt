@@ -7,7 +7,9 @@ ghost use Rattle.commands.specs.Files as spec;
 use crate::asked::Line;
 use crate::checking::check_files;
 use crate::replaying::replay_files;
+use crate::running::run_files;
 use crate::soaking::soak_files;
+use mutators::Limits;
 use std::alloc::Global;
 use std::io;
 use std::io::Write;
@@ -24,7 +26,7 @@ pub fn work<O: Write, E: Write>(
     err: &mut E,
 ) -> io::Result<u8>
     requires { HasWorkers (asked_by line.now) }
-    ensures { IfOk result (Says (OfCommand (asked_by line.now) (spec.file_at files.now 0) (spec.file_at files.now 1)) (O.contents out.old) (O.contents out.new) (E.contents err.old) (E.contents err.new)) }
+    ensures { IfOk result (Says (OfCommand (asked_by line.now) (spec.file_at files.now)) (O.contents out.old) (O.contents out.new) (E.contents err.old) (E.contents err.new)) }
 {
     match *line {
         Line::Check {
@@ -55,6 +57,21 @@ pub fn work<O: Write, E: Write>(
             (module_path, trace_path),
             seeds,
             steps,
+            files,
+            out,
+            err,
+        ),
+        Line::Run {
+            module_path,
+            certificate_path,
+            trace_path,
+            turns,
+            steps,
+        } => run_files(
+            rt,
+            alloc,
+            (module_path, certificate_path, trace_path),
+            Limits { turns, steps },
             files,
             out,
             err,

@@ -21,6 +21,13 @@ pub(crate) const SEEDS: &str = "How many seeds; the seeds are 0 to N-1";
 
 pub(crate) const STEPS: &str = "How many steps each seed makes";
 
+pub(crate) const RUN_TRACE: &str =
+    "A trace: how the run begins; its steps are ignored (docs/TRACES.md)";
+
+pub(crate) const TURNS: &str = "How many steps the collector makes at most";
+
+pub(crate) const RUN_STEPS: &str = "After how many of its steps a thread is stopped";
+
 pub(crate) const CHECK: CommandHelp = CommandHelp {
     about: "Checks a module against a certificate",
     second: "A certificate: what its author claims to hold at each block (docs/CERTIFICATES.md)",
@@ -80,13 +87,34 @@ Exit status:
   4  the command line is refused, a file cannot be read, or a write failed",
 };
 
+pub(crate) const RUN: CommandHelp = CommandHelp {
+    about: "Runs a checked module on real threads, beside the collector",
+    second: "A certificate: what its author claims to hold at each block (docs/CERTIFICATES.md)",
+    after: "\
+Checks the module against the certificate. Where that says no, prints what `dgc check` does.
+Otherwise each thread of the trace runs on a thread of the machine, and the collector on one
+more. They share one heap. Prints a line for each thread, as `t 0 returned`, and then
+`collector turns T cycles C`: how many steps the collector made, and how many of its cycles
+are over. docs/TRACES.md has each line. N and S are decimal numbers from 0 to 4294967295.
+
+Of a text that is not read, one line goes to standard error, as `error L4 23:13` (a line
+and a column) or `error C5 @f`.
+
+Exit status:
+  0  the threads were run
+  1  no
+  2  a text is not read, the module has no layouts, or a thread may not begin
+  3  memory was refused
+  4  the command line is refused, a file cannot be read, or a write failed",
+};
+
 pub(crate) const DGC_ABOUT: &str = "\
 Checks code that compilers emit against a concurrent mark-and-sweep garbage collector.
-Also runs that code beside a model of the collector, one atomic step at a time.";
+Also runs that code beside the collector, one atomic step at a time or on real threads.";
 
 pub(crate) const DGC_AFTER: &str = "\
 Exit status:
-  0  yes or sound, or help or the version was asked for
+  0  yes or sound, the threads were run, or help or the version was asked for
   1  no or broken
   2  a text is not read, the module has no layouts, or a thread may not begin
   3  memory was refused

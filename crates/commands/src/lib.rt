@@ -12,6 +12,8 @@ mod name;
 mod outcomes;
 mod reader;
 mod replaying;
+mod run_report;
+mod running;
 mod soaking;
 mod status;
 mod verdicts;

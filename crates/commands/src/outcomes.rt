@@ -3,11 +3,11 @@ ghost use Rattle.std.specs.Prelude.{◌≡◌, IfOk, OnOk};
 ghost use Rattle.std.specs.Io.KnownBytes.{Appends};
 ghost use Rattle.std.specs.List.{enumerate_from, flat_map};
 ghost use Rattle.commands.specs.Report.{IsTold};
-ghost use Rattle.commands.specs.Files.{of_untraced};
+ghost use Rattle.commands.specs.Files.{of_unread};
 ghost use Rattle.commands.specs.Runs as spec;
 
-use crate::faults::{at_place, memory, no_file, no_layouts, no_module};
-use crate::files::Untraced;
+use crate::faults::{at_place, memory, no_certificate, no_file, no_layouts, no_module};
+use crate::files::Unread;
 use crate::status::{STATUS_NO, STATUS_UNREADABLE, STATUS_YES};
 use machine::Value;
 use replay::{Break, Outcome, ReplayFault, Report, SeedBreak, SoakOutcome, ThreadEnd};
@@ -31,15 +31,16 @@ fn no_trace<W: Write>(err: &mut W, fault: TraceFault) -> io::Result<u8>
     }
 }
 
-/// A module and a trace that are not read.
-pub fn untraced<W: Write>(err: &mut W, untraced: &Untraced<'_>) -> io::Result<u8>
-    ensures { IfOk result (λ status. IsTold (W.contents err.old) (W.contents err.new) status (of_untraced untraced.now)) }
+/// Files that are not read.
+pub fn unread<W: Write>(err: &mut W, unread: &Unread<'_>) -> io::Result<u8>
+    ensures { IfOk result (λ status. IsTold (W.contents err.old) (W.contents err.new) status (of_unread unread.now)) }
 {
-    match untraced {
-        Untraced::NoFile(path) => no_file(err, path),
-        Untraced::NoModule(fault) => no_module(err, fault),
-        Untraced::NoLayouts(refused) => no_layouts(err, &refused.of_module, refused.fault),
-        Untraced::NoTrace(fault) => no_trace(err, *fault),
+    match unread {
+        Unread::NoFile(path) => no_file(err, path),
+        Unread::NoModule(fault) => no_module(err, fault),
+        Unread::NoLayouts(refused) => no_layouts(err, &refused.of_module, refused.fault),
+        Unread::NoCertificate(of_module, fault) => no_certificate(err, of_module, *fault),
+        Unread::NoTrace(fault) => no_trace(err, *fault),
     }
 }
 
@@ -69,7 +70,7 @@ fn write_break<W: Write>(out: &mut W, broken: &Break) -> io::Result<()>
 }
 
 /// What a thread returned: ` 7`, ` null` or ` ref 1`.
-fn write_returned<W: Write>(out: &mut W, value: Value) -> io::Result<()>
+pub fn write_returned<W: Write>(out: &mut W, value: Value) -> io::Result<()>
     ensures { OnOk result (Appends (W.contents out.old) (W.contents out.new) (spec.returned_text value)) }
 {
     match value {

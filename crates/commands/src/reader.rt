@@ -1,13 +1,14 @@
 //! The grammar of the command line, and how a line is read.
 ghost use Rattle.std.specs.Prelude.{◌≡◌, IfOk, IfErr, IsOk, [], map, option_map, false};
-ghost use Rattle.clap.specs.Words.{app_of, fault_of, found_of, new_app, rows_of, rule_of};
+ghost use Rattle.clap.specs.Words.{app_of, fault_of, first_of, found_of, new_app, rows_of, rule_of};
 ghost use Rattle.clap.specs.declared.builder.command.Command.TheViews.{out-Command};
 ghost use Rattle.commands.specs.Asked.{asked_by, HasWorkers};
-ghost use Rattle.commands.specs.Grammar.{asked_in, asked_of, check_app, check_of, dgc_app, file_rule, files_app, IsRefusalOf, number_of, number_rule, paths_in, replay_of, soak_app, soak_of, workers_of, workers_rule};
+ghost use Rattle.commands.specs.Grammar.{asked_in, asked_of, check_app, check_of, dgc_app, file_rule, files_app, IsRefusalOf, limit_rule, number_of, number_rule, paths_in, replay_of, run_app, run_of, soak_app, soak_of, workers_of, workers_rule};
 
 use crate::asked::{Line, LineFault};
 use crate::help::{
-    CHECK, CommandHelp, DGC_ABOUT, DGC_AFTER, MODULE, REPLAY, SEEDS, SOAK, STEPS, WORKERS,
+    CHECK, CommandHelp, DGC_ABOUT, DGC_AFTER, MODULE, REPLAY, RUN, RUN_STEPS, RUN_TRACE, SEEDS,
+    SOAK, STEPS, TURNS, WORKERS,
 };
 use clap::{Arg, ArgMatches, Command, value_parser};
 use std::alloc::{AllocError, Global};
@@ -44,6 +45,19 @@ fn workers<'a>(alloc: Global) -> Arg<'a>
         .value_parser(value_parser!(u32).range(1..65))
         .default_value("1")
         .help(WORKERS)
+}
+
+/// A number that may be given as the option of this name; otherwise it is a million.
+fn limit<'a>(alloc: Global, name: &'a str, shown: &'a str, help: &'a str) -> Arg<'a>
+    ensures rule { rule_of result ≡ limit_rule name.entry.now }
+    ensures own { result.global ≡ false }
+{
+    Arg::new(alloc, name)
+        .long(name)
+        .value_name(shown)
+        .value_parser(value_parser!(u32))
+        .default_value("1000000")
+        .help(help)
 }
 
 /// A command of this name, with the texts that its help begins and ends with.
@@ -85,6 +99,16 @@ fn soak_command<'a>(alloc: Global) -> Result<Command<'a>, AllocError>
         .arg(number(alloc, "steps", "S", STEPS))
 }
 
+fn run_command<'a>(alloc: Global) -> Result<Command<'a>, AllocError>
+    ensures app { IfOk result (λ command. app_of command ≡ run_app) }
+    ensures own { IfOk result (λ command. (out-Command command).has_globals ≡ false) }
+{
+    files_command(alloc, "run", "CERT", RUN)?
+        .arg(file(alloc, "TRACE", RUN_TRACE))?
+        .arg(limit(alloc, "turns", "N", TURNS))?
+        .arg(limit(alloc, "steps", "S", RUN_STEPS))
+}
+
 fn dgc_command<'a>(alloc: Global) -> Result<Command<'a>, AllocError>
     ensures app { IfOk result (λ command. app_of command ≡ dgc_app) }
     ensures own { IfOk result (λ command. (out-Command command).has_globals ≡ false) }
@@ -103,7 +127,19 @@ fn dgc_command<'a>(alloc: Global) -> Result<Command<'a>, AllocError>
         drop(command);
         return Err(AllocError);
     };
-    command.subcommand(soak)
+    let command = command.subcommand(soak)?;
+    let Ok(run) = run_command(alloc) else {
+        drop(command);
+        return Err(AllocError);
+    };
+    command.subcommand(run)
+}
+
+/// The path that was given under this name.
+fn path_given<'a>(given: &ArgMatches<'a>, name: &str) -> Option<&'a str>
+    ensures { option_map (λ path. path.now) result ≡ first_of name.now (rows_of (found_of given.now)) }
+{
+    given.get_str(name)
 }
 
 /// The paths of the module and of the other file, if both were given.
@@ -189,6 +225,31 @@ fn soak_line<'a>(given: &ArgMatches<'a>) -> Option<Line<'a>>
     })
 }
 
+/// The line of `run`, from what was given to it.
+fn run_line<'a>(given: &ArgMatches<'a>) -> Option<Line<'a>>
+    ensures { option_map asked_by result ≡ run_of (rows_of (found_of given.now)) }
+{
+    let Some((module_path, certificate_path)) = paths_given(given, "CERT") else {
+        return None;
+    };
+    let Some(trace_path) = path_given(given, "TRACE") else {
+        return None;
+    };
+    let Some(turns) = number_given(given, "turns") else {
+        return None;
+    };
+    let Some(steps) = number_given(given, "steps") else {
+        return None;
+    };
+    Some(Line::Run {
+        module_path,
+        certificate_path,
+        trace_path,
+        turns,
+        steps,
+    })
+}
+
 /// The line of a command with what was given to it.
 fn command_line<'a>(name: &str, given: &ArgMatches<'a>) -> Option<Line<'a>>
     ensures { option_map asked_by result ≡ asked_of (Some (name.now, rows_of (found_of given.now))) }
@@ -197,6 +258,7 @@ fn command_line<'a>(name: &str, given: &ArgMatches<'a>) -> Option<Line<'a>>
         "check" => check_line(given),
         "replay" => replay_line(given),
         "soak" => soak_line(given),
+        "run" => run_line(given),
         _ => None,
     }
 }

@@ -5,7 +5,7 @@ ghost use Rattle.commands.specs.Files as spec;
 ghost use Rattle.trace_text.specs.Traces.{IsTraceOf};
 
 use crate::files::{Traced, read_traced};
-use crate::outcomes::{no_threads, soaked, untraced};
+use crate::outcomes::{no_threads, soaked, unread};
 use replay::soak;
 use std::alloc::Global;
 use std::io;
@@ -58,9 +58,9 @@ pub fn soak_files<O: Write, E: Write>(
             drop(traced);
             status
         }
-        Err(unread) => {
-            let status = untraced(err, &unread);
-            drop(unread);
+        Err(fault) => {
+            let status = unread(err, &fault);
+            drop(fault);
             status
         }
     }

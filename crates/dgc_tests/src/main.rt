@@ -25,6 +25,8 @@ mod reading_tests;
 mod replaying_tests;
 mod row;
 #[cfg(test)]
+mod running_tests;
+#[cfg(test)]
 mod texts;
 #[cfg(test)]
 mod worker_tests;

@@ -1,5 +1,5 @@
 //! Replays of traces that are made here: one that a seed draws, and those in which an actor stops for good.
-use crate::texts::{HEAD, joined};
+use crate::texts::{FOUR, HEAD, PUBLISHER_AND_CLEARER, joined, text_of};
 use commands::{Line, status_of, work};
 use ir_text::read;
 use layout::Program;
@@ -17,20 +17,12 @@ const REPLAY: Line<'static> = Line::Replay {
 /// The functions of a module and a trace of them.
 type Case<'a> = (&'a str, &'a str);
 
-/// Loads its root again after the safepoints.
-const FOUR: &str =
-    "define void @four() gc \"shadow-stack\" {\nentry:\n  %s = alloca %Node*\n  %r = bitcast %Node** %s to i8**\n  call void @llvm.gcroot(i8** %r, i8* null)\n  %a = call i8* @dg_alloc(i32 0)\n  %x = bitcast i8* %a to %Node*\n  %c = icmp eq %Node* %x, null\n  br i1 %c, label %no, label %ok\nno:\n  ret void\nok:\n  store %Node* %x, %Node** %s\n  call void @dg_safepoint()\n  call void @dg_safepoint()\n  call void @dg_safepoint()\n  %y = load %Node*, %Node** %s\n  %p = getelementptr %Node, %Node* %y, i32 0, i32 0\n  %v = load i64, i64* %p\n  ret void\n}\n";
-
 const FULL_CYCLE: &str =
     "trace 1\npool Node 1\nstart @four\nsteps\nt 0 8\nc 1\nt 0 2\nc 2\nt 0 2\nc 3\nt 0 3\nc 10\nt 0 4\nend\n";
 
 /// The thread begins late: it leaves once, and tries again.
 const LATE_FULL_CYCLE: &str =
     "trace 2\npool Node 1\nlate @four\nsteps\nt 0 1\nc 1\nt 0 2\nc 1\nt 0 1\nc 2\nt 0 3\nt 0 8\nc 3\nt 0 3\nc 10\nt 0 6\nend\n";
-
-/// A thread publishes a cell, loads it again after safepoints and keeps it in its slot. Another clears the global.
-const PUBLISHER_AND_CLEARER: &str =
-    "define void @zero() gc \"shadow-stack\" {\nentry:\n  %s = alloca %Node*\n  %r = bitcast %Node** %s to i8**\n  call void @llvm.gcroot(i8** %r, i8* null)\n  %a = call i8* @dg_alloc(i32 0)\n  call void @llvm.gcwrite(i8* %a, i8* null, i8** bitcast (%Node** @g to i8**))\n  call void @dg_safepoint()\n  call void @dg_safepoint()\n  call void @dg_safepoint()\n  %x = load %Node*, %Node** @g\n  store %Node* %x, %Node** %s\n  call void @dg_safepoint()\n  %y = load %Node*, %Node** %s\n  ret void\n}\ndefine void @one() gc \"shadow-stack\" {\nentry:\n  call void @dg_safepoint()\n  call void @llvm.gcwrite(i8* null, i8* null, i8** bitcast (%Node** @g to i8**))\n  call void @dg_safepoint()\n  call void @dg_safepoint()\n  ret void\n}\n";
 
 const IN_THE_MIDDLE: &str =
     "trace 1\npool Node 1\nstart @zero\nstart @one\nsteps\nc 1\nt 1 3\nt 0 6\nt 0 2\nc 3\nt 0 2\nc 2\nt 0 3\nt 1 1\nt 1 2\nc 3\nt 1 2\nt 0 3\nc 11\nt 0 2\nt 1 1\nend\n";
@@ -54,13 +46,6 @@ fn program_of(alloc: Global, functions: &str) -> Result<Option<Program>, AllocEr
     match read(alloc, text.as_slice()) {
         Ok(of_module) => Ok(Program::new(alloc, of_module).ok()),
         Err(_) => Ok(None),
-    }
-}
-
-fn text_of(alloc: Global, bytes: &[u8]) -> Result<String, AllocError> {
-    match str::from_utf8(bytes) {
-        Ok(text) => text.to_owned(alloc),
-        Err(_) => Ok(String::new(alloc)),
     }
 }
 

@@ -23,6 +23,12 @@ pub record CertifiedProgram : Type 0 where
 abbrev pub IsModuleCertified : LaidOut → List Section → (count : ℕ) → Type 0
 IsModuleCertified program certs count = (func : ℕ) → func < count → IsFunctionCertified program certs func
 
+-- the program is laid out, and each of its functions is certified
+pub record IsProgramCertified (program : LaidOut) (certs : List Section) : Type 0 where
+  pub laid_out : AreLayouts program.of_module program.layouts
+  pub sized : AreSizes program.of_module program.sizes
+  pub certified : IsModuleCertified program certs (length program.of_module.functions)
+
 -- an instruction of one of the first `count` functions of a module is refused, the blocks before it in its function and
 -- the functions before that are certified
 pub record IsFirstInModule (program : LaidOut) (certs : List Section) (count : ℕ) (refusal : Refusal) : Type 0 where

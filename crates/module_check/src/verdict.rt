@@ -1,5 +1,5 @@
 ghost use Rattle.std.specs.Prelude.{◌≡◌, ◌<◌, ◌≤◌, length, IfOk, IfErr, MatchOption, OnOk};
-ghost use Rattle.module_check.specs.Accepted.{IsAccepted, IsModuleCertified, IsModuleFault, IsVerdictOf};
+ghost use Rattle.module_check.specs.Accepted.{IsAccepted, IsModuleCertified, IsModuleFault, IsProgramCertified, IsVerdictOf};
 ghost use Rattle.module_check.specs.Discipline.{AreDisciplined};
 ghost use Rattle.program_safety.specs.Safety.{IsCarefulProgram, IsSafeProgram};
 
@@ -94,6 +94,7 @@ fn fault_in_module(alloc: Global, program: &Program, certs: &Certs) -> Option<Bl
 pub fn check(alloc: Global, of_module: Module, certs: Certs) -> Result<Accepted, NotAccepted>
     ensures kept { IfOk result (λ accepted. (accepted.program.of_module ≡ of_module) × (accepted.certs ≡ certs)) }
     ensures accepted { OnOk result (IsAccepted of_module certs) }
+    ensures certified { IfOk result (λ accepted. IsProgramCertified accepted.program accepted.certs) }
     ensures disciplined { IfOk result (λ accepted. AreDisciplined accepted.program accepted.certs) }
     ensures careful { IfOk result (λ accepted. IsCarefulProgram accepted.program accepted.certs) }
     ensures safe { IfOk result (λ accepted. IsSafeProgram accepted.program accepted.certs) }

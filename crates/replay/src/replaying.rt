@@ -5,11 +5,10 @@ ghost use Rattle.setups.specs.Setups.{IsSetupFault, HasNoFault, IsCertifiedSetup
 ghost use Rattle.setups.specs.declared.setup_fault.SetupFault.TheVariants as fault;
 ghost use Rattle.replay.specs.Outcomes.{IsOutcome, IsSound};
 
-use crate::laws::setup_law;
 use crate::outcome::Outcome;
-use setups::SetupFault;
 use crate::watch::Watch;
 use layout::Program;
+use setups::{SetupFault, setup_law};
 use std::alloc::Global;
 use trace_text::Trace;
 

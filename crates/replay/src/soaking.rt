@@ -5,13 +5,12 @@ ghost use Rattle.setups.specs.declared.setup_fault.SetupFault.TheVariants as fau
 ghost use Rattle.replay.specs.Soaks.{IsSoakOutcome, IsSoundSoak, IsEndOfSeed, IsTold, IsLeastFrom, is_sound, answer_in};
 
 use crate::drawing::actor_drawn;
-use crate::laws::setup_law;
 use crate::outcome::{Break, SeedBreak, SoakOutcome};
 use crate::seeds::{draw, seeded};
-use setups::SetupFault;
 use crate::watch::Watch;
 use layout::Program;
 use rayon::prelude::*;
+use setups::{SetupFault, setup_law};
 use std::alloc::Global;
 use std::thread::Threads;
 use trace_text::Setup;

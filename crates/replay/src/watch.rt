@@ -10,11 +10,11 @@ ghost use Rattle.replay.specs.Outcomes.{Reports};
 ghost use Rattle.replay.specs.Watched.{IsWatched, IsWatchedOn, HasRoomFor, IsMadeBehind, IsStepped, IsCauseBehind, claims_cell, frees_cell};
 
 use crate::outcome::{Break, Cause, Report};
-use setups::SetupFault;
 use crate::world::World;
 use colours::Turn;
 use layout::Program;
 use moves::Move;
+use setups::SetupFault;
 use std::alloc::{AllocError, Global};
 use stepping::{Happening, Step};
 use trace_text::{Actor, Setup};

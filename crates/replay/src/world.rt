@@ -9,15 +9,13 @@ ghost use Rattle.replay.specs.ThreadEnds.{AreEndsOf};
 ghost use Rattle.setups.specs.declared.setup_fault.SetupFault.TheVariants as fault;
 ghost use Rattle.replay.specs.declared.thread_end.ThreadEnd.TheVariants as end;
 
-use setups::values_at_start;
-use setups::SetupFault;
-use setups::begun_threads;
 use crate::thread_end::ThreadEnd;
 use items::Items;
 use layout::Program;
 use machine::Ending;
 use moves::{Stance, Stand};
 use program_runner::{ProgramThread, begun_law, program_law};
+use setups::{SetupFault, begun_threads, values_at_start};
 use std::alloc::{AllocError, Global};
 use std::marker::Model;
 use stepping::{Actors, Gone, Plan, Step};

@@ -8,3 +8,6 @@ returns-in-Replay g c = rw c.in-Replay.is c.replay_files.ensures
 
 pub returns-in-Soak : goal.returns-in-Soak
 returns-in-Soak g c = rw c.in-Soak.is c.soak_files.ensures
+
+pub returns-in-Run : goal.returns-in-Run
+returns-in-Run g c = rw c.in-Run.is c.run_files.ensures
