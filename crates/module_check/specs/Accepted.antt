@@ -1,4 +1,5 @@
 -- When a module is accepted with its certificates, and which instruction is the first that is refused.
+use Rattle.std.proofs.Common.{◌≡◌, sym, subst}
 use Rattle.std.specs.Prelude.{◌<◌, ℕ, List, Option, length}
 use Rattle.ir_ast.specs.declared.module.Module.{Module}
 use Rattle.pools.specs.declared.word_kind.WordKind.{WordKind}
@@ -28,6 +29,15 @@ pub record IsProgramCertified (program : LaidOut) (certs : List Section) : Type 
   pub laid_out : AreLayouts program.of_module program.layouts
   pub sized : AreSizes program.of_module program.sizes
   pub certified : IsModuleCertified program certs (length program.of_module.functions)
+
+-- so is a program whose layouts are those of its module
+pub certified_program : (program : LaidOut) (m : Module) (certs : List Section) → program.of_module ≡ m → AreLayouts m program.layouts → AreSizes m program.sizes
+    → IsModuleCertified program certs (length program.of_module.functions) → IsProgramCertified program certs
+certified_program program m certs same laid_out sized certified = record {
+  laid_out = subst (λ q. AreLayouts q program.layouts) (sym same) laid_out;
+  sized = subst (λ q. AreSizes q program.sizes) (sym same) sized;
+  certified = certified;
+}
 
 -- an instruction of one of the first `count` functions of a module is refused, the blocks before it in its function and
 -- the functions before that are certified

@@ -1,6 +1,6 @@
 //! The check by workers.
 ghost use Rattle.std.specs.Prelude.{◌≡◌, ◌<◌, ◌≤◌, length, IfErr, IfOk, MatchOption, OnOk};
-ghost use Rattle.module_check.specs.Accepted.{IsAccepted, IsModuleCertified, IsModuleFault, IsVerdictOf};
+ghost use Rattle.module_check.specs.Accepted.{IsAccepted, IsModuleCertified, IsModuleFault, IsProgramCertified, IsVerdictOf};
 ghost use Rattle.module_check.specs.Discipline.{AreDisciplined};
 ghost use Rattle.program_safety.specs.Safety.{IsCarefulProgram, IsSafeProgram};
 ghost use Rattle.parallel_check.specs.Shares.{IsFirstFault, IsOf};
@@ -82,6 +82,7 @@ pub fn check_with<R: Threads + Sync, G: Gate + Sync>(
     requires few { workers ≤ 64 }
     ensures kept { IfOk result (λ accepted. (accepted.program.of_module ≡ of_module) × (accepted.certs ≡ certs)) }
     ensures accepted { OnOk result (IsAccepted of_module certs) }
+    ensures certified { IfOk result (λ accepted. IsProgramCertified accepted.program accepted.certs) }
     ensures disciplined { IfOk result (λ accepted. AreDisciplined accepted.program accepted.certs) }
     ensures careful { IfOk result (λ accepted. IsCarefulProgram accepted.program accepted.certs) }
     ensures safe { IfOk result (λ accepted. IsSafeProgram accepted.program accepted.certs) }

@@ -1,19 +1,13 @@
 use Rattle.std.proofs.Common.{◌∙◌, sym, subst}
-use Rattle.layout.specs.Layouts.{AreLayouts, AreSizes}
-use Rattle.module_check.specs.Accepted.{IsProgramCertified}
+use Rattle.module_check.specs.Accepted.{IsProgramCertified, certified_program}
 use Rattle.module_check.proofs.Exclusive.{only_memory}
 use Rattle.module_check.proofs.verdict.check.Goals as goal
 
 pub returns-in-None-clause-certified : goal.returns-in-None-clause-certified
 returns-in-None-clause-certified c =
-    let program = c.in-Ok.program in
     let found = c.in-Ok.ensures.found in
-    subst (λ accepted. IsProgramCertified accepted.program accepted.certs) (sym c.of.ensures)
-    (record {
-      laid_out = subst (λ m. AreLayouts m program.layouts) (sym found.0) found.1;
-      sized = subst (λ m. AreSizes m program.sizes) (sym found.0) found.2;
-      certified = c.in-None.ensures;
-    })
+    subst (λ accepted. IsProgramCertified accepted.program accepted.certs) (sym c.of.ensures.holds)
+    (certified_program c.in-Ok.program c.args.of_module c.args.certs found.0 found.1 found.2 c.in-None.ensures)
 
 pub returns-in-Some-clause-only : goal.returns-in-Some-clause-only
 returns-in-Some-clause-only c accepted =
