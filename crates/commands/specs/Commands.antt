@@ -1,15 +1,9 @@
 -- What each command says of the files of its line.
-use Rattle.std.specs.Prelude.{◌≡◌, ◌≢◌, ℕ, List, Option, Some, None, length}
+use Rattle.std.specs.Prelude.{◌≡◌, ◌≢◌, ℕ, List, Option, length}
 use Rattle.ir_ast.specs.declared.module.Module.{Module}
-use Rattle.ir_text.specs.Read as text
-use Rattle.ir_text.specs.declared.read_fault.ReadFault.{ReadFault}
-use Rattle.ir_text.specs.declared.read_fault.ReadFault.TheVariants as read
 use Rattle.layout.specs.Layouts.{IsLayoutFault, LaidOut}
 use Rattle.layout.specs.declared.fault.LayoutFault.{LayoutFault}
 use Rattle.certs.specs.declared.section.Section.{Section}
-use Rattle.certificate.specs.Text as certificate
-use Rattle.certificate.specs.declared.fault.CertFault.{CertFault}
-use Rattle.certificate.specs.declared.fault.CertFault.TheVariants as cert
 use Rattle.block_rules.specs.declared.block_fault.Refusal.{Refusal}
 use Rattle.module_check.specs.Accepted.{IsAccepted, IsFirstRefusal, IsProgramCertified}
 use Rattle.trace_text.specs.declared.trace.Trace.{Trace}
@@ -25,7 +19,7 @@ use Rattle.mutators.specs.Faults.{HasNoRunFault, IsRunFault}
 use Rattle.mutators.specs.Reports.{IsReport}
 use Rattle.mutators.specs.declared.report.RunReport.{RunReport}
 use Rattle.commands.specs.Asked.{Asked, check, replay, soak, run}
-use Rattle.commands.specs.Report.{Answer, IsTold, line_of, no, no_file, no_memory, of_cert_fault, of_layout_fault, of_read_fault, yes}
+use Rattle.commands.specs.Report.{Answer, IsTold, line_of, no, no_memory, of_layout_fault, yes}
 use Rattle.commands.specs.Runs.{of_outcome, of_setup_fault, of_soak}
 use Rattle.commands.specs.RunReport.{of_report}
 use Rattle.commands.specs.Files.{HasModule, HasCerts, HasProgram, HasTrace, IsNoTrace, IsUncertified, IsUntraced, of_unread}
@@ -61,19 +55,11 @@ pub data OfCerts (m : Module) (certs : List Section) : Said → Type 0 where
   accepted : IsAccepted m certs → OfCerts m certs (OnOutput (yes (length m.functions)))
   not_accepted : (said : Said) → OfVerdict m certs said → OfCerts m certs said
 
--- what is said of a module and the file of its certificates, which has this path
-pub data OfCertFile (m : Module) (path : List ℕ) (file : Option (List ℕ)) : Said → Type 0 where
-  no_cert_file : file ≡ None → OfCertFile m path file (OnError (no_file path))
-  no_certs : (bytes : List ℕ) (fault : CertFault) → file ≡ Some bytes → (fault ≢ cert.Memory → certificate.IsFault bytes m fault) → OfCertFile m path file (OnError (of_cert_fault m fault))
-  of_certs : (bytes : List ℕ) (certs : List Section) (said : Said) → file ≡ Some bytes → certificate.IsCert bytes m certs → OfCerts m certs said
-      → OfCertFile m path file said
-
--- what `check` says of the files of a module and its certificates, which have these paths
-pub data OfCheck (module_path cert_path : List ℕ) (first second : Option (List ℕ)) : Said → Type 0 where
-  no_module_file : first ≡ None → OfCheck module_path cert_path first second (OnError (no_file module_path))
-  no_module : (bytes : List ℕ) (fault : ReadFault) → first ≡ Some bytes → (fault ≢ read.Memory → text.IsFault bytes fault) → OfCheck module_path cert_path first second (OnError (of_read_fault fault))
-  of_module : (bytes : List ℕ) (m : Module) (said : Said) → first ≡ Some bytes → text.IsText bytes m → OfCertFile m cert_path second said
-      → OfCheck module_path cert_path first second said
+-- what is said of the files of a module and its certificates, which have these paths, where this is said of them once they are read
+pub data OfCertified (Certs : Module → List Section → Said → Type 0) (module_path cert_path : List ℕ) (first second : Option (List ℕ)) : Said → Type 0 where
+  not_certified : (unread : Unread) → IsUncertified module_path cert_path first second unread → OfCertified Certs module_path cert_path first second (OnError (of_unread unread))
+  of_certified : (m : Module) (certs : List Section) (said : Said) → HasModule first m → HasCerts second m certs → Certs m certs said
+      → OfCertified Certs module_path cert_path first second said
 
 -- ---- replay and soak
 
@@ -106,23 +92,17 @@ pub data OfTraceFile (limits : Limits) (p : LaidOut) (certs : List Section) (pat
   of_trace : (t : Trace) (said : Said) → HasTrace file p t → OfThreads limits p certs t said → OfTraceFile limits p certs path file said
 
 -- what it says of a module, its certificates and the file of the trace: why they are not accepted, or what is said of the program
-pub data OfCertified (limits : Limits) (m : Module) (certs : List Section) (path : List ℕ) (file : Option (List ℕ)) : Said → Type 0 where
-  no_program : (said : Said) → OfVerdict m certs said → OfCertified limits m certs path file said
+pub data OfRunCerts (limits : Limits) (path : List ℕ) (file : Option (List ℕ)) (m : Module) (certs : List Section) : Said → Type 0 where
+  no_program : (said : Said) → OfVerdict m certs said → OfRunCerts limits path file m certs said
   of_program : (p : LaidOut) (said : Said) → p.of_module ≡ m → IsProgramCertified p certs → OfTraceFile limits p certs path file said
-      → OfCertified limits m certs path file said
-
--- what it says of the files of a module, its certificates and a trace, which have these paths
-pub data OfRunFiles (limits : Limits) (module_path cert_path trace_path : List ℕ) (first second third : Option (List ℕ)) : Said → Type 0 where
-  not_certified : (unread : Unread) → IsUncertified module_path cert_path first second unread → OfRunFiles limits module_path cert_path trace_path first second third (OnError (of_unread unread))
-  of_certified : (m : Module) (certs : List Section) (said : Said) → HasModule first m → HasCerts second m certs → OfCertified limits m certs trace_path third said
-      → OfRunFiles limits module_path cert_path trace_path first second third said
+      → OfRunCerts limits path file m certs said
 
 -- ---- the commands
 
 -- what a command says of its files, each at its place in the line's order
 abbrev pub OfCommand : Asked → (file_at : ℕ → Option (List ℕ)) → Said → Type 0
-OfCommand (check module_path cert_path) file_at = OfCheck module_path cert_path (file_at 0) (file_at 1)
+OfCommand (check module_path cert_path) file_at = OfCertified OfCerts module_path cert_path (file_at 0) (file_at 1)
 OfCommand (replay module_path trace_path) file_at = OfRun OfTrace module_path trace_path (file_at 0) (file_at 1)
 OfCommand (soak module_path trace_path seeds steps) file_at = OfRun (OfSeeds seeds steps) module_path trace_path (file_at 0) (file_at 1)
 OfCommand (run module_path cert_path trace_path turns steps) file_at =
-    OfRunFiles (record { turns = turns; steps = steps }) module_path cert_path trace_path (file_at 0) (file_at 1) (file_at 2)
+    OfCertified (OfRunCerts (record { turns = turns; steps = steps }) trace_path (file_at 2)) module_path cert_path (file_at 0) (file_at 1)

@@ -61,10 +61,14 @@ IsNoCertificate path file m (unread.NoCertificate of_module fault) =
     (of_module ≡ m) × ((bytes : List ℕ) × (file ≡ Some bytes) × (fault ≢ cert.Memory → certificate.IsFault bytes m fault))
 IsNoCertificate path file m _ = ⊥
 
+-- the first fault in the layouts of the module in a file
+abbrev pub HasNoLayouts : (file : Option (List ℕ)) → Unread → Type 0
+HasNoLayouts file (unread.NoLayouts refused) = HasModule file refused.of_module × (refused.fault ≢ layout.Memory → IsLayoutFault refused.of_module refused.fault)
+HasNoLayouts file _ = ⊥
+
 -- the first fault in the file of a program, which has this path
 abbrev pub IsNoProgram : (path : List ℕ) → (file : Option (List ℕ)) → Unread → Type 0
-IsNoProgram path file (unread.NoLayouts refused) = HasModule file refused.of_module × (refused.fault ≢ layout.Memory → IsLayoutFault refused.of_module refused.fault)
-IsNoProgram path file fault = IsNoModule path file fault
+IsNoProgram path file u = IsNoModule path file u ⊎ HasNoLayouts file u
 
 -- the first fault in the file of a trace of this program, which has this path
 abbrev pub IsNoTrace : (path : List ℕ) → (file : Option (List ℕ)) → LaidOut → Unread → Type 0

@@ -1,15 +1,11 @@
 //! The command `check`.
 ghost use Rattle.std.specs.Prelude.{IfOk};
-ghost use Rattle.std.specs.Option.{option_copied};
-ghost use Rattle.commands.specs.Commands.{OfCertFile, OfCerts, OfCheck, OfVerdict, Says};
+ghost use Rattle.commands.specs.Commands.{OfCertified, OfCerts, OfVerdict, Says};
 ghost use Rattle.commands.specs.Files as spec;
 ghost use Rattle.module_check.specs.Accepted.{IsFirstRefusal, IsVerdictOf};
 
-use crate::files::file_at;
-use certificate::read_cert;
-use certs::Certs;
-use ir_ast::Module;
-use ir_text::read;
+use crate::files::{Certified, read_certified};
+use crate::outcomes::unread;
 use module_check::{NotAccepted, Refusal, Verdict, check};
 use std::alloc::Global;
 use std::io;
@@ -50,16 +46,15 @@ pub fn report_verdict<O: Write, E: Write>(
 }
 
 /// Checks a module and its certificates.
-fn check_certs<O: Write, E: Write>(
+fn check_certified<O: Write, E: Write>(
     alloc: Global,
-    of_module: Module,
-    certs: Certs,
+    certified: Certified,
     out: &mut O,
     err: &mut E,
 ) -> io::Result<u8>
-    ensures { IfOk result (Says (OfCerts of_module certs) (O.contents out.old) (O.contents out.new) (E.contents err.old) (E.contents err.new)) }
+    ensures { IfOk result (Says (OfCerts certified.of_module certified.certs) (O.contents out.old) (O.contents out.new) (E.contents err.old) (E.contents err.new)) }
 {
-    match check(alloc, of_module, certs) {
+    match check(alloc, certified.of_module, certified.certs) {
         Ok(accepted) => {
             let count = accepted.program().module().functions.len();
             drop(accepted);
@@ -68,31 +63,6 @@ fn check_certs<O: Write, E: Write>(
         Err(answer) => {
             let status = report_verdict(alloc, &answer, out, err);
             drop(answer);
-            status
-        }
-    }
-}
-
-/// Checks a module and the file of its certificates, which has this path.
-fn check_module<O: Write, E: Write>(
-    alloc: Global,
-    of_module: Module,
-    path: &str,
-    file: Option<&[u8]>,
-    out: &mut O,
-    err: &mut E,
-) -> io::Result<u8>
-    ensures { IfOk result (Says (OfCertFile of_module path.now (option_copied file.entry)) (O.contents out.old) (O.contents out.new) (E.contents err.old) (E.contents err.new)) }
-{
-    let Some(certificate) = file else {
-        drop(of_module);
-        return crate::faults::no_file(err, path);
-    };
-    match read_cert(alloc, certificate, &of_module) {
-        Ok(certs) => check_certs(alloc, of_module, certs, out, err),
-        Err(fault) => {
-            let status = crate::faults::no_certificate(err, &of_module, fault);
-            drop(of_module);
             status
         }
     }
@@ -107,13 +77,14 @@ pub fn check_files<O: Write, E: Write>(
     out: &mut O,
     err: &mut E,
 ) -> io::Result<u8>
-    ensures { IfOk result (Says (OfCheck paths.entry.0.now paths.entry.1.now (spec.file_at files.now 0) (spec.file_at files.now 1)) (O.contents out.old) (O.contents out.new) (E.contents err.old) (E.contents err.new)) }
+    ensures { IfOk result (Says (OfCertified OfCerts paths.entry.0.now paths.entry.1.now (spec.file_at files.now 0) (spec.file_at files.now 1)) (O.contents out.old) (O.contents out.new) (E.contents err.old) (E.contents err.new)) }
 {
-    let Some(text) = file_at(files, 0) else {
-        return crate::faults::no_file(err, paths.0);
-    };
-    match read(alloc, text) {
-        Ok(of_module) => check_module(alloc, of_module, paths.1, file_at(files, 1), out, err),
-        Err(fault) => crate::faults::no_module(err, &fault),
+    match read_certified(alloc, paths, files) {
+        Ok(certified) => check_certified(alloc, certified, out, err),
+        Err(fault) => {
+            let status = unread(err, &fault);
+            drop(fault);
+            status
+        }
     }
 }

@@ -73,7 +73,7 @@ fn certified_in<'a>(
     of_module: Module,
 ) -> Result<Certified, Unread<'a>>
     ensures of_module { IfOk result (λ certified. certified.of_module ≡ of_module) }
-    ensures ok { IfOk result (λ certified. HasCerts (file_at files.now 1) of_module certified.certs) }
+    ensures ok { IfOk result (λ certified. HasCerts (file_at files.now 1) certified.of_module certified.certs) }
     ensures err { IfErr result (IsNoCertificate path.now (file_at files.now 1) of_module) }
 {
     let Some(text) = file_at(files, 1) else {

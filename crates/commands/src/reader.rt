@@ -7,8 +7,8 @@ ghost use Rattle.commands.specs.Grammar.{asked_in, asked_of, check_of, dgc_app, 
 
 use crate::asked::{Line, LineFault};
 use crate::help::{
-    CHECK, CommandHelp, DGC_ABOUT, DGC_AFTER, MODULE, REPLAY, RUN, RUN_STEPS, RUN_TRACE, SEEDS, SOAK,
-    STEPS, TURNS,
+    CHECK, CommandHelp, DGC_ABOUT, DGC_AFTER, MODULE, REPLAY, RUN, RUN_STEPS, RUN_TRACE, SEEDS,
+    SOAK, STEPS, TURNS,
 };
 use clap::{Arg, ArgMatches, Command, value_parser};
 use std::alloc::{AllocError, Global};

@@ -1,6 +1,6 @@
 //! The command `run`.
 ghost use Rattle.std.specs.Prelude.{IfOk};
-ghost use Rattle.commands.specs.Commands.{OfCertified, OfRunFiles, OfThreads, OfTraceFile, Says};
+ghost use Rattle.commands.specs.Commands.{OfCertified, OfRunCerts, OfThreads, OfTraceFile, Says};
 ghost use Rattle.commands.specs.Files as spec;
 ghost use Rattle.trace_text.specs.Traces.{IsTraceOf};
 
@@ -74,7 +74,7 @@ fn run_certified<O: Write, E: Write>(
     out: &mut O,
     err: &mut E,
 ) -> io::Result<u8>
-    ensures { IfOk result (Says (OfCertified limits certified.of_module certified.certs path.now (spec.file_at files.now 2)) (O.contents out.old) (O.contents out.new) (E.contents err.old) (E.contents err.new)) }
+    ensures { IfOk result (Says (OfRunCerts limits path.now (spec.file_at files.now 2) certified.of_module certified.certs) (O.contents out.old) (O.contents out.new) (E.contents err.old) (E.contents err.new)) }
 {
     match check(alloc, certified.of_module, certified.certs) {
         Ok(accepted) => {
@@ -102,7 +102,7 @@ pub fn run_files<O: Write, E: Write>(
     out: &mut O,
     err: &mut E,
 ) -> io::Result<u8>
-    ensures { IfOk result (Says (OfRunFiles limits paths.entry.0.now paths.entry.1.now paths.entry.2.now (spec.file_at files.now 0) (spec.file_at files.now 1) (spec.file_at files.now 2)) (O.contents out.old) (O.contents out.new) (E.contents err.old) (E.contents err.new)) }
+    ensures { IfOk result (Says (OfCertified (OfRunCerts limits paths.entry.2.now (spec.file_at files.now 2)) paths.entry.0.now paths.entry.1.now (spec.file_at files.now 0) (spec.file_at files.now 1)) (O.contents out.old) (O.contents out.new) (E.contents err.old) (E.contents err.new)) }
 {
     match read_certified(alloc, (paths.0, paths.1), files) {
         Ok(certified) => run_certified(rt, alloc, certified, paths.2, limits, files, out, err),

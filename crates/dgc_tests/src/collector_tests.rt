@@ -73,5 +73,6 @@ fn first_turns_over_one_blue_cell(rt: HostRuntime) -> Result<(), Fail> {
             colours[cell as usize % 2] = u32::try_from(colour).unwrap_or(u32::MAX);
         }
     }
+    assert_eq!(rt; collector.cycles(), 1);
     Ok(())
 }

@@ -1,4 +1,4 @@
-use Rattle.std.proofs.Common.{sym, subst}
+use Rattle.std.proofs.Common.{inr, sym, subst}
 use Rattle.layout.specs.Layouts.{AreLayouts, AreSizes, IsLayoutFault}
 use Rattle.commands.specs.Files.{HasModule}
 use Rattle.commands.proofs.files.program_in.Goals as goal
@@ -13,4 +13,4 @@ pub returns-in-Err-clause-err : goal.returns-in-Err-clause-err
 returns-in-Err-clause-err c =
     let refused = c.in-Err.refused in
     let same = sym c.in-Err.ensures.given_back in
-    (subst (HasModule _) same c.in_ok-of_module.ensures.ok, λ other. subst (λ m. IsLayoutFault m refused.fault) same (c.in-Err.ensures.fault other))
+    inr (subst (HasModule _) same c.in_ok-of_module.ensures.ok, λ other. subst (λ m. IsLayoutFault m refused.fault) same (c.in-Err.ensures.fault other))

@@ -16,8 +16,8 @@ returns-in-Ok g c =
     (λ status told. (
       told.0,
       of_program accepted.program told.0 kept.0
-      (subst (λ (certs : List Section). IsProgramCertified accepted.program certs) kept.1 c.in-Ok.ensures.certified)
-      (subst (λ (certs : List Section). OfTraceFile c.args.limits accepted.program certs c.args.path.now file told.0) kept.1 told.1),
+          (subst (λ (certs : List Section). IsProgramCertified accepted.program certs) kept.1 c.in-Ok.ensures.certified)
+          (subst (λ (certs : List Section). OfTraceFile c.args.limits accepted.program certs c.args.path.now file told.0) kept.1 told.1),
       told.2,
     ))
     c.run_accepted-status.ensures

@@ -4,11 +4,11 @@ use Rattle.ir_ast.specs.declared.module.Module.{Module}
 use Rattle.certs.specs.declared.section.Section.{Section}
 use Rattle.commands.specs.Report.{IsTold, yes}
 use Rattle.commands.specs.Commands.{OfVerdict, OnOutput, accepted, not_accepted}
-use Rattle.commands.proofs.checking.check_certs.Goals as goal
+use Rattle.commands.proofs.checking.check_certified.Goals as goal
 
 pub returns-in-Ok : goal.returns-in-Ok
 returns-in-Ok g c =
-    let count : c.len-count.result ≡ length c.args.of_module.functions = search rules in
+    let count : c.len-count.result ≡ length c.args.certified.of_module.functions = search rules in
     IfOk-weaker c.accepted.result _ _
     (λ status told. (OnOutput _, accepted c.in-Ok.ensures.accepted, (subst (λ n. IsTold (g.O.Write.contents c.args.out.now) (g.O.Write.contents c.accepted.new.out) status (yes n)) count told, refl)))
     c.accepted.ensures
@@ -18,5 +18,5 @@ returns-in-Err g c =
     let answer = c.in-Err.answer in
     let back = c.in-Err.ensures.given_back in
     IfOk-weaker c.report_verdict-status.result _ _
-    (λ status told. (told.0, not_accepted told.0 (subst (λ (m : Module). OfVerdict m c.args.certs told.0) back.0 (subst (λ (certs : List Section). OfVerdict answer.of_module certs told.0) back.1 told.1)), told.2))
+    (λ status told. (told.0, not_accepted told.0 (subst (λ (m : Module). OfVerdict m c.args.certified.certs told.0) back.0 (subst (λ (certs : List Section). OfVerdict answer.of_module certs told.0) back.1 told.1)), told.2))
     c.report_verdict-status.ensures
