@@ -1,5 +1,5 @@
 use Rattle.std.proofs.Common.{◌∙◌}
-use Rattle.module_check.proofs.Exclusive.{only_memory}
+use Rattle.module_check.specs.Exclusive.{only_memory}
 use Rattle.parallel_check.proofs.checking.check_with.Goals as goal
 
 pub returns-in-Some-clause-only : goal.returns-in-Some-clause-only
