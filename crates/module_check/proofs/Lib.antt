@@ -1,3 +1,1 @@
-pub mod OneLayout
-pub mod Exclusive
-pub mod Threads
+mod Threads

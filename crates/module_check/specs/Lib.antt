@@ -1,2 +1,4 @@
 pub mod Accepted
+pub mod OneLayout
+pub mod Exclusive
 pub mod Discipline

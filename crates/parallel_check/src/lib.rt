@@ -1,4 +1,4 @@
-//! The check of a whole module by several workers, each with every so many of its functions. What they find together is what one finds.
+//! The check of a whole module by several workers. Each checks its share of the functions, and together they find what one finds.
 #![tactic(auto)]
 
 mod checking;

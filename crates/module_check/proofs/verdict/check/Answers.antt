@@ -1,6 +1,6 @@
 use Rattle.std.proofs.Common.{◌∙◌, sym, subst}
 use Rattle.module_check.specs.Accepted.{IsProgramCertified, certified_program}
-use Rattle.module_check.proofs.Exclusive.{only_memory}
+use Rattle.module_check.specs.Exclusive.{only_memory}
 use Rattle.module_check.proofs.verdict.check.Goals as goal
 
 pub returns-in-None-clause-certified : goal.returns-in-None-clause-certified

@@ -8,7 +8,7 @@ use Rattle.block_rules.specs.declared.block_fault.BlockFault.TheVariants as bloc
 use Rattle.block_check.specs.Exact.{certified_only}
 use Rattle.module_check.specs.declared.verdict.Verdict.TheVariants.{Memory}
 use Rattle.module_check.specs.Accepted.{IsAccepted, IsModuleCertified, IsModuleFault, verdict_of_block}
-use Rattle.module_check.proofs.OneLayout.{one_layouts, one_sizes}
+use Rattle.module_check.specs.OneLayout.{one_layouts, one_sizes}
 
 -- the program of an accepted module is the one with which it is certified
 certified_with : (program : LaidOut) (certs : List Section) → AreLayouts program.of_module program.layouts → AreSizes program.of_module program.sizes → IsAccepted program.of_module certs
