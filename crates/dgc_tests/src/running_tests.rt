@@ -48,7 +48,14 @@ fn printed_of(
         Some(joined(alloc, [trace].as_slice())?),
     ]?;
     let mut out = Vec::new(alloc);
-    let printed = work(rt, alloc, &line, files.as_slice(), &mut out, &mut Vec::new(alloc));
+    let printed = work(
+        rt,
+        alloc,
+        &line,
+        files.as_slice(),
+        &mut out,
+        &mut Vec::new(alloc),
+    );
     Ok((status_of(printed), text_of(alloc, out.as_slice())?))
 }
 
@@ -61,7 +68,10 @@ fn runs_threads_to_their_ends(rt: HostRuntime) -> Result<(), Fail> {
         let (status, text) = printed_of(&rt, rt.alloc(), case, 1_000_000)?;
         assert_eq!(rt; status, STATUS_YES);
         let rest = text.as_str().strip_prefix(threads);
-        assert!(rt; rest.is_some_and(|rest| rest.starts_with("collector turns ")), "{text}");
+        assert!(rt;
+            rest.is_some_and(|rest| rest.starts_with("collector turns ")),
+            "{text}"
+        );
     }
     Ok(())
 }
@@ -70,6 +80,9 @@ fn runs_threads_to_their_ends(rt: HostRuntime) -> Result<(), Fail> {
 fn runs_threads_to_their_limit(rt: HostRuntime) -> Result<(), Fail> {
     let (status, text) = printed_of(&rt, rt.alloc(), CLAIMED_FOR_EVER, 20_000)?;
     assert_eq!(rt; status, STATUS_YES);
-    assert!(rt; text.as_str().starts_with("t 0 stopped\nt 1 stopped\nt 2 "), "{text}");
+    assert!(rt;
+        text.as_str().starts_with("t 0 stopped\nt 1 stopped\nt 2 "),
+        "{text}"
+    );
     Ok(())
 }
