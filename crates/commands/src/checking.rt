@@ -81,8 +81,8 @@ fn check_certified<O: Write, E: Write>(
     }
 }
 
-/// Checks the module and the certificate of these paths, by this number of workers. The first fault counts: of each file in the line's order, its
-/// path and then its text, then of the layouts, then of the check.
+/// Checks the module and the certificate of these paths, by this number of workers. The first fault counts: of each file in the
+/// line's order, its path and then its text, then of the layouts, then of the check.
 pub fn check_files<O: Write, E: Write>(
     rt: &(impl Threads + Sync),
     alloc: Global,
