@@ -1,21 +1,24 @@
 -- From what `clap` gives to what a line asks for.
-use Rattle.std.proofs.Common.{◌≡◌, ◌∙◌, ◌&&◌, ◌^◌, ℕ, nat_lt, List, length, Option, Some, None, codes, refl, ap, ap₂, sym, option_map, lt-ltb, ltb-true}
+use Rattle.std.proofs.Common.{◌≡◌, ◌∙◌, ◌&&◌, ◌^◌, ℕ, nat_lt, List, length, Option, Some, None, codes, refl, ap, ap₂, sym, option_map, unwrap_or, lt-ltb, ltb-true}
 use Rattle.std.specs.Prelude.{IfErr, IsErrAnd, Result, Ok, Err, option_and_then, if◌then◌else◌, true, false, Bool}
 use Rattle.std.specs.Result.{result_ok}
 use Rattle.std.specs.Str.{all_ascii_digits}
 use Rattle.std.specs.Str.Parse.{ParsesUnsigned, digits_value, without_leading_plus}
 use Rattle.std.proofs.Common.{inl, inr, subst, true≢false}
 use Rattle.std.proofs.lemmas.Str.Parse.{IsNumeralModel, numerals_by_value, tells_all_ascii_digits}
-use Rattle.clap.specs.Words.{HasKind, ReadsOne, Text, fault_of, first_value, is_simple, is_simple_and_free, kind_of, one_text, rows_of}
+use Rattle.std.specs.Box.{box_value}
+use Rattle.clap.specs.Words.{HasKind, ReadsOne, Row, Text, fault_of, first_value, found_of, is_simple, is_simple_and_free, kind_of, one_text, rows_of, subcommand_name_of, subcommand_of, subcommand_rows_of}
+use Rattle.clap.specs.declared.parser.matches.ArgMatches.{ArgMatches}
+use Rattle.clap.specs.declared.parser.matches.ArgMatches.TheViews.{out-ArgMatches, out-SubCommand}
 use Rattle.clap.specs.declared.parser.matches.Found.{Found}
 use Rattle.clap.specs.declared.error.Error.{Error}
 use Rattle.clap.proofs.OnLiterals.{clap_on_literals}
 use Rattle.clap.proofs.WalkLemmas.{first_value-rows, one_text-rows}
-use Rattle.commands.specs.Asked.{fault_of_error, is_memory_kind}
+use Rattle.commands.specs.Asked.{Asked, fault_of_error, is_memory_kind}
 use Rattle.commands.specs.declared.asked.Line.{Line}
 use Rattle.commands.specs.declared.asked.LineFault.{LineFault}
 use Rattle.commands.specs.declared.asked.LineFault.TheVariants.{Memory, Words}
-use Rattle.commands.specs.Grammar.{dgc_app, number_in, number_of, paths_in, IsRefusalOf}
+use Rattle.commands.specs.Grammar.{IsRefusalOf, asked_in, asked_of, dgc_app, number_in, number_of, paths_in}
 
 -- both paths from the texts that were given
 pub paths_from : (held : Found) (second : Text) (m p : Option Text) → m ≡ first_value held (codes "MODULE") → p ≡ first_value held second
@@ -89,3 +92,24 @@ pub refuses : (words : List Text) (error : Error) (result : Result Line LineFaul
     → IsErrAnd result (λ fault. fault ≡ fault_of_error error) → IfErr result (IsRefusalOf words)
 refuses words error (Ok line) kind is = tt
 refuses words error (Err fault) kind is = subst (IsRefusalOf words) (sym is) (is_refusal words error kind)
+
+-- ---- what the words ask for
+
+-- the name and the rows of what was entered, from each of them
+name_and_rows : {X : Type 0} (name_in : X → Text) (rows_in : X → List Row) (entered : Option X) (name : Text) (rows : List Row)
+    → Some name ≡ option_map name_in entered → Some rows ≡ option_map (λ p. p.1) (option_map (λ x. (name_in x, rows_in x)) entered)
+    → option_map (λ x. (name_in x, rows_in x)) entered ≡ Some (name, rows)
+name_and_rows name_in rows_in None name rows named given = absurd cc
+name_and_rows name_in rows_in (Some x) name rows named given =
+    let name_is : name ≡ name_in x = ap (λ o. unwrap_or o name) named in
+    let rows_are : rows ≡ rows_in x = ap (λ o. unwrap_or o rows) given in
+    ap₂ (λ n r. Some (n, r)) (sym name_is) (sym rows_are)
+
+-- the words ask for what the subcommand with its rows asks for
+pub asked_from : (words : List Text) (m : ArgMatches) (name : Text) (rows : List Row) (asked : Option Asked)
+    → subcommand_rows_of m ≡ subcommand_of dgc_app words → Some name ≡ subcommand_name_of m → Some rows ≡ option_map (λ p. p.1) (subcommand_rows_of m)
+    → asked ≡ asked_of (Some (name, rows)) → asked_in words ≡ asked
+asked_from words m name rows asked of_words named given gives =
+    let entered : subcommand_rows_of m ≡ Some (name, rows) =
+    name_and_rows (λ b. (out-SubCommand (box_value b)).name.now) (λ b. rows_of (found_of (out-SubCommand (box_value b)).matches)) (out-ArgMatches m).subcommand name rows named given in
+    sym (ap asked_of of_words) ∙ ap asked_of entered ∙ sym gives
