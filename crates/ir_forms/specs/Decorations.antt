@@ -8,7 +8,7 @@ use Rattle.ir_tokens.specs.declared.token.Kind.TheVariants as k
 use Rattle.ir_ast.specs.declared.memory.MemoryOp.TheVariants as memory
 use Rattle.ir_ast.specs.declared.op.Op.{Op}
 use Rattle.ir_ast.specs.declared.op.Op.TheVariants as op
-use Rattle.ir_forms.specs.Cursor.{kind, kind_after, same_kind, sees, begins_line}
+use Rattle.ir_forms.specs.Cursor.{kind, kind_behind, same_kind, sees, begins_line}
 use Rattle.ir_forms.specs.declared.input.Input.{Input}
 use Rattle.ir_forms.specs.Input.{Form, limit, unexpected, unread, skip, expect, expect_takes, IsKind, skip_takes}
 use Rattle.ir_forms.specs.declared.decorating.Brackets.{Brackets}
@@ -86,7 +86,7 @@ ends_operand _ = false
 
 -- in an argument a number that ends the argument is its operand
 abbrev pub is_operand : Spot → Input → Bool
-is_operand s i = is_argument s && ends_operand (kind_after i.cursor)
+is_operand s i = is_argument s && ends_operand (kind_behind i.cursor)
 
 -- what belongs to a decorating word: a part in brackets, a quoted text or a number after it
 abbrev pub word_end_by : Spot → Kind → Form (Unit {0})
@@ -271,16 +271,16 @@ trail_by t k.LowercaseWord = placed (is_global t)
 trail_by t _ = refuse (unread (begins_count t))
 
 -- what follows a comma at an instruction's end
-abbrev pub trail_after : Trail → Form (Unit {0})
-trail_after t = look (λ i. kind i.cursor) (trail_by t)
+abbrev pub trail_behind : Trail → Form (Unit {0})
+trail_behind t = look (λ i. kind i.cursor) (trail_by t)
 
 -- `, align n`, `, !name !n`, or `, comdat` and the like after a global
 unfoldable pub comma_trail : Trail → Form (Unit {0})
-comma_trail t = expect k.Comma >> trail_after t
+comma_trail t = expect k.Comma >> trail_behind t
 
 pub comma_trail_takes : (t : Trail) → Takes (comma_trail t)
 unfolding comma_trail
-comma_trail_takes t = first_takes (expect k.Comma) (λ _. trail_after t) (expect_takes k.Comma (λ x. cc))
+comma_trail_takes t = first_takes (expect k.Comma) (λ _. trail_behind t) (expect_takes k.Comma (λ x. cc))
 
 -- no comma follows an instruction
 abbrev pub at_no_trail : Trail → Input → Bool

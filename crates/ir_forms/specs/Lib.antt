@@ -1,7 +1,7 @@
 pub mod Place
 pub mod View
 pub mod Cursor
-pub mod Literals
+pub mod Number
 pub mod Table
 pub mod Intrinsics
 pub mod Input

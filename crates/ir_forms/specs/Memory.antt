@@ -41,8 +41,8 @@ load value = do
   pure (memory.Load loaded.id place.written place.operand)
 
 -- what follows `store`
-abbrev pub stored_after : Form MemoryOp
-stored_after = do
+abbrev pub stored_behind : Form MemoryOp
+stored_behind = do
   stored ← scalar
   value ← operand (bits_of stored)
   expect k.Comma
@@ -51,7 +51,7 @@ stored_after = do
 
 -- a store, which may be `volatile`
 abbrev pub stored_here : Form MemoryOp
-stored_here = optional k.Volatile >> stored_after
+stored_here = optional k.Volatile >> stored_behind
 
 -- `store T V, T* W`
 unfoldable pub store : Form MemoryOp

@@ -11,7 +11,7 @@ use Rattle.ir_ast.specs.declared.items_of_module.SymbolSort.TheVariants as symbo
 use Rattle.ir_ast.specs.declared.function.LocalSort.{LocalSort}
 use Rattle.ir_ast.specs.declared.function.LocalSort.TheVariants as local
 use Rattle.ir_forms.specs.declared.fault.Fault.TheVariants.{DefinedTwice, WrongNumber}
-use Rattle.ir_forms.specs.Literals.{decimal, small}
+use Rattle.ir_forms.specs.Number.{decimal, small}
 use Rattle.std.specs.Fmt as text
 use Rattle.ir_forms.specs.declared.input.Input.{Input}
 use Rattle.ir_forms.specs.declared.uses.LocalUse.{LocalUse}

@@ -10,7 +10,7 @@ use Rattle.ir_ast.specs.declared.operand.Operand.TheVariants as o
 use Rattle.ir_forms.specs.declared.fault.Fault.TheVariants.{OutOfRange}
 use Rattle.ir_forms.specs.declared.input.Input.{Input}
 use Rattle.ir_forms.specs.Cursor.{kind, start, spelling}
-use Rattle.ir_forms.specs.Literals as literals
+use Rattle.ir_forms.specs.Number as numbers
 use Rattle.ir_forms.specs.Input.{Form, unread, advanced, advanced_falls, skip, expect}
 use Rattle.ir_forms.specs.Names.{used_value, used_global}
 use Rattle.ir_forms.specs.declared.written.WrittenType.{WrittenType}
@@ -46,7 +46,7 @@ truth_of (Some bits) truth = if bits == 1 then c.Number (if truth then 1 else 0)
 
 -- the number that the next token spells, if it is in the range of n bits; a pointer type has 64
 unfoldable pub number_at : Option ℕ → Input → Option ℕ
-number_at bits i = literals.constant (spelling i.cursor) (unwrap_or bits 64)
+number_at bits i = numbers.constant (spelling i.cursor) (unwrap_or bits 64)
 
 -- the number that is here as a constant of n bits, or 0
 abbrev pub number_or_zero : Option ℕ → Input → Constant
@@ -100,8 +100,8 @@ cast_to from global = do
   pure (o.CastGlobal from.id global to.id)
 
 -- what follows the word of a constant bitcast
-abbrev pub cast_after : Form Operand
-cast_after = do
+abbrev pub cast_behind : Form Operand
+cast_behind = do
   expect k.OpenRound
   from ← pointer_type
   global ← cast_operand
@@ -109,7 +109,7 @@ cast_after = do
 
 -- `bitcast (T* @g to U*)`
 unfoldable pub cast : Form Operand
-cast = skip >> cast_after
+cast = skip >> cast_behind
 
 -- an operand, by the token with which it begins
 abbrev pub operand_by : Option ℕ → Kind → Form Operand

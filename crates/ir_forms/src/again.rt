@@ -5,8 +5,8 @@ ghost use Rattle.ir_forms.specs.Written as form;
 
 use crate::fault::Fault;
 use crate::input::Input;
-use crate::literals::natural;
 use crate::names::is_at;
+use crate::number::natural;
 use crate::written::{ROOM, WrittenType, begins_unread_type};
 use ir_ast::{IrType, StructNameId, TypeId};
 use ir_tokens::Kind;

@@ -39,7 +39,7 @@ fn named_op(alloc: Global, input: &mut Input<'_>, site: Site, value: ValueId) ->
 
 /// What follows the name of a value.
 fn named(alloc: Global, input: &mut Input<'_>, site: Site, value: ValueId) -> Result<Instr, Fault>
-    ensures { Reads ((form.named_after site value).read input.old) result input.new }
+    ensures { Reads ((form.named_behind site value).read input.old) result input.new }
 {
     input.expect(Kind::Equals)?;
     let op = named_op(alloc, input, site, value)?;

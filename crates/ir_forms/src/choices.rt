@@ -144,7 +144,7 @@ fn begins_phi(input: &Input<'_>) -> bool
     ensures { result ≡ form.begins_phi input.now }
 {
     is_local(input.kind())
-        && (same_kind(input.cursor.kind_after(), Kind::Equals)
+        && (same_kind(input.cursor.kind_behind(), Kind::Equals)
             && same_kind(input.cursor.kind_third(), Kind::Phi))
 }
 

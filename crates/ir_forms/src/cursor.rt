@@ -94,9 +94,9 @@ impl<'a> Cursor<'a> {
     }
 
     /// What the token after the next one is.
-    #[tactic(auto, unfolding(crate::specs::Cursor::kind_after))]
-    pub fn kind_after(&self) -> Kind
-        ensures { result ≡ spec.kind_after self.now }
+    #[tactic(auto, unfolding(crate::specs::Cursor::kind_behind))]
+    pub fn kind_behind(&self) -> Kind
+        ensures { result ≡ spec.kind_behind self.now }
     {
         match self.rest {
             [_, token, ..] => token.kind,

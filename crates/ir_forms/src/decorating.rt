@@ -104,7 +104,7 @@ fn ends_operand(kind: Kind) -> bool
 fn is_operand(input: &Input<'_>, spot: Spot) -> bool
     ensures { result ≡ form.is_operand spot input.now }
 {
-    matches!(spot, Spot::Argument) && ends_operand(input.cursor.kind_after())
+    matches!(spot, Spot::Argument) && ends_operand(input.cursor.kind_behind())
 }
 
 /// Round brackets, a quoted text or a number after a word, or nothing.

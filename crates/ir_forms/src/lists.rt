@@ -69,7 +69,7 @@ impl Listed for Arguments {
 pub fn at_no_comma(input: &Input<'_>) -> bool
     ensures { result ≡ form.at_no_comma input.now }
 {
-    !input.sees(Kind::Comma) || matches!(input.cursor.kind_after(), Kind::MetadataName)
+    !input.sees(Kind::Comma) || matches!(input.cursor.kind_behind(), Kind::MetadataName)
 }
 
 /// A value with its type.

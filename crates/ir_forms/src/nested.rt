@@ -6,7 +6,7 @@ ghost use Rattle.ir_forms.specs.Written as form;
 
 use crate::fault::Fault;
 use crate::input::Input;
-use crate::literals::natural;
+use crate::number::natural;
 use crate::starts::makes_level;
 use crate::written::{Base, ROOM, WrittenType, begins_unread_type};
 use ir_ast::{IrType, TypeId};
@@ -115,7 +115,7 @@ impl<'a> Input<'a> {
     fn no_void(&self) -> Fault
         ensures { form.no_void.read self.now ≡ Err result }
     {
-        self.refuse(matches!(self.cursor.kind_after(), Kind::OpenRound))
+        self.refuse(matches!(self.cursor.kind_behind(), Kind::OpenRound))
     }
 
     /// The struct that has this field before those of another struct.

@@ -5,7 +5,7 @@ ghost use Rattle.ir_forms.specs.Operand as form;
 
 use crate::fault::Fault;
 use crate::input::Input;
-use crate::literals::constant;
+use crate::number::constant;
 use ir_ast::{Constant, Operand, SymbolId};
 use ir_tokens::Kind;
 use std::alloc::Global;

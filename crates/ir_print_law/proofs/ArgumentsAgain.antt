@@ -205,15 +205,15 @@ module _ {m : Module} {f : Function} (v : Invariant m f) where
       operand_form p = form.operand (w.bits_of p) >>= separator_form p
 
   -- the arguments after a comma, up to the end of the list
-  arguments_after : (xs : List Argument) (i : Input) (rest : Text) (s : ℕ) → AllByRecursion (IsArgument m f) xs → Ready v s i (behind_comma xs rest)
+  arguments_behind : (xs : List Argument) (i : Input) (rest : Text) (s : ℕ) → AllByRecursion (IsArgument m f) xs → Ready v s i (behind_comma xs rest)
       → Reads v s lists.arguments i (41 ∷ rest) (AllArgumentsAgain m f.locals xs)
   unfolding lists.arguments class_of
-  arguments_after [] i rest s own ready =
+  arguments_behind [] i rest s own ready =
       ([], i, (seen k.CloseRound i (sign_kind v 41 k.CloseRound i [] rest s refl refl refl ready), refl), ready, grows_itself i, λ n others later. tt)
-  arguments_after (x ∷ xs) i rest s own ready =
+  arguments_behind (x ∷ xs) i rest s own ready =
       let opens = unlike k.CloseRound w.begins_type i refl (argument_begins x i (32 ∷ []) (further xs ++ 41 ∷ rest) s own.0 refl (seam_further xs rest) ready) in
       let a = argument_reads x xs i (32 ∷ []) rest s own.0 own.1 refl ready in
-      let b = arguments_after xs a.1 rest s own.1 a.3 in (
+      let b = arguments_behind xs a.1 rest s own.1 a.3 in (
         a.0 ∷ b.0,
         b.1,
         (opens, a.1, a.2, b.2),
@@ -232,7 +232,7 @@ module _ {m : Module} {f : Function} (v : Invariant m f) where
       let ready = subst (λ (y : Text). Ready v s i y) (append_assoc (argument_text m f.locals x) (further xs) (41 ∷ rest)) ready in
       let opens = unlike k.CloseRound w.begins_type i refl (argument_begins x i [] (further xs ++ 41 ∷ rest) s own.0 refl (seam_further xs rest) ready) in
       let a = argument_reads x xs i [] rest s own.0 own.1 refl ready in
-      let b = arguments_after xs a.1 rest s own.1 a.3 in (
+      let b = arguments_behind xs a.1 rest s own.1 a.3 in (
         a.0 ∷ b.0,
         b.1,
         (opens, a.1, a.2, b.2),

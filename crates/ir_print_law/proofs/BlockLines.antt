@@ -30,11 +30,10 @@ use Rattle.ir_print_law.proofs.WholeForms.{widens_further, grows_widens, Leads, 
 use Rattle.ir_print_law.proofs.Known.{Far, AreNamed, known}
 use Rattle.ir_print_law.proofs.LabelLines.{far_label, label_goes}
 use Rattle.ir_print_law.proofs.NewValues.{unnamed_then}
-use Rattle.ir_print_law.proofs.OpNeeds.{OpsRead}
+use Rattle.ir_print_law.proofs.OpNeeds.{EndsOp, OpsRead}
 use Rattle.ir_print_law.proofs.Parts.{IsLaterAgain}
 use Rattle.ir_print_law.proofs.PhiLines.{phi_lines, phis_go}
 use Rattle.ir_print_law.proofs.Steady.{Steady, Onward, onward_further, next_key, steady_label}
-use Rattle.ir_print_law.proofs.ArgumentsAgain.{EndsLine}
 
 -- the lines after the label of a block, and what follows them
 abbrev pub block_lines : Module → (locals : List Text) → Block → (rest : Text) → Text
@@ -65,7 +64,7 @@ module _ (m : Module) (f : Function) (named : AreNamed m f) (ops : OpsRead m f n
   HasKeys b = IsKey (name_at f.locals b.label) × AllByRecursion IsKey (value_keys_of f.locals b)
 
   pub block_goes : (b : Block) (more : List Text) (far : Far) (i : Input) (rest : Text) → IsBlock m f b → AllByRecursion IsKey (value_keys_of f.locals b) → Steady far (block_keys f.locals b ++ more)
-      → length far.values + length (value_keys_of f.locals b) ≤ 1000000 → length far.labels < 65535 → EndsLine (10 ∷ rest)
+      → length far.values + length (value_keys_of f.locals b) ≤ 1000000 → length far.labels < 65535 → EndsOp (10 ∷ rest)
       → Ready (known m f named far) 0 i (10 ∷ (block_text m f.locals b ++ rest))
       → Leads m f named 0 (block (length far.labels)) i (10 ∷ rest) (IsBlockRead far more b)
   unfolding block phis body

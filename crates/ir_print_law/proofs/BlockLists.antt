@@ -26,9 +26,8 @@ use Rattle.ir_print_law.proofs.BlockLines.{HasKeys, block_lines, block_is, block
 use Rattle.ir_print_law.proofs.WholeForms.{Widens, widens_itself, widens_further, later_widened}
 use Rattle.ir_print_law.proofs.Known.{Far, AreNamed, known}
 use Rattle.ir_print_law.proofs.LabelLines.{label_kind}
-use Rattle.ir_print_law.proofs.OpNeeds.{OpsRead}
+use Rattle.ir_print_law.proofs.OpNeeds.{begins_body_line, EndsOp, OpsRead}
 use Rattle.ir_print_law.proofs.Steady.{Steady, Onward, onward_itself, onward_further}
-use Rattle.ir_print_law.proofs.ArgumentsAgain.{EndsLine, ends_line}
 
 abbrev is_label : Kind → Bool
 is_label k.LabelName = true
@@ -39,7 +38,7 @@ label_is : (x : Kind) → (x ≡ k.LabelName) ⊎ (x ≡ k.LabelNumber) → is_l
 label_is x (inl e) = ap is_label e
 label_is x (inr e) = ap is_label e
 
-label_begins : (x : Kind) → is_label x ≡ true → ends_line x ≡ true
+label_begins : (x : Kind) → is_label x ≡ true → begins_body_line x ≡ true
 label_begins k.LabelName e = refl
 label_begins k.LabelNumber e = refl
 label_begins _ e = absurd cc
@@ -67,9 +66,9 @@ module _ (m : Module) (f : Function) (named : AreNamed m f) (ops : OpsRead m f n
       label_is (kind i.cursor) (label_kind i.cursor (name_at f.locals b.label) (10 ∷ block_lines m f.locals b rest) keys.0
       (subst (λ (t : Text). Stands i.cursor (10 ∷ t)) (block_is m f.locals b rest) at))
 
-  blocks_end : (bs : List Block) (rest : Text) → AllByRecursion (HasKeys m f named ops) bs → EndsLine (10 ∷ (text_of_blocks bs ++ 125 ∷ 10 ∷ rest))
+  blocks_end : (bs : List Block) (rest : Text) → AllByRecursion (HasKeys m f named ops) bs → EndsOp (10 ∷ (text_of_blocks bs ++ 125 ∷ 10 ∷ rest))
   unfolding class_of
-  blocks_end [] rest keys = (refl, λ i at. ap ends_line (closes i rest at))
+  blocks_end [] rest keys = (refl, λ i at. ap begins_body_line (closes i rest at))
   blocks_end (b ∷ bs) rest keys = (
     refl,
     λ i at. label_begins (kind i.cursor)

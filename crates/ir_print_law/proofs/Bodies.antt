@@ -11,7 +11,7 @@ use Rattle.ir_ast.specs.declared.op.Op.{Op}
 use Rattle.ir_tokens.specs.declared.token.Kind.{Kind}
 use Rattle.ir_tokens.specs.declared.token.Kind.TheVariants as k
 use Rattle.ir_tokens.specs.Bytes.{Text, class_of}
-use Rattle.ir_forms.specs.Cursor.{kind, kind_after, kind_third, next}
+use Rattle.ir_forms.specs.Cursor.{kind, kind_behind, kind_third, next}
 use Rattle.ir_forms.specs.declared.input.Input.{Input}
 use Rattle.ir_forms.specs.declared.site.Site.{Site}
 use Rattle.ir_forms.specs.Choices.{is_local, begins_phi}
@@ -36,9 +36,8 @@ use Rattle.ir_print_law.proofs.Words.{sign_comes}
 use Rattle.ir_print_law.proofs.WholeForms.{Widens, widens_itself, widens_further, Leads, later_widened}
 use Rattle.ir_print_law.proofs.InnerLines.{plain_goes, value_goes_on, valued_line}
 use Rattle.ir_print_law.proofs.Known.{Far, AreNamed, known}
-use Rattle.ir_print_law.proofs.OpNeeds.{OpsRead}
+use Rattle.ir_print_law.proofs.OpNeeds.{begins_body_line, EndsOp, OpsRead}
 use Rattle.ir_print_law.proofs.Steady.{Steady, Onward, onward_itself, onward_further, next_key, steady_value}
-use Rattle.ir_print_law.proofs.ArgumentsAgain.{EndsLine, ends_line}
 
 -- a line without the name of a value
 pub plain_line : (m : Module) (locals : List Text) (x : Op) (rest : Text) → instruction_line m locals (plain x) ++ rest ≡ 32 ∷ 32 ∷ (op_text m locals x ++ 10 ∷ rest)
@@ -57,15 +56,15 @@ back_keys [] ys h = h
 back_keys (x ∷ xs) ys h = back_keys xs ys h.1
 
 abbrev IsInnerKind : Kind → Type 0
-IsInnerKind x = (ends_line x ≡ true) × (ends.ends_block x ≡ false)
+IsInnerKind x = (begins_body_line x ≡ true) × (ends.ends_block x ≡ false)
 
 inner_kind : (x : Kind) → (x ≡ k.LocalName) ⊎ (x ≡ k.LocalNumber) → IsInnerKind x
-inner_kind x (inl e) = (ap ends_line e, ap ends.ends_block e)
-inner_kind x (inr e) = (ap ends_line e, ap ends.ends_block e)
+inner_kind x (inl e) = (ap begins_body_line e, ap ends.ends_block e)
+inner_kind x (inr e) = (ap begins_body_line e, ap ends.ends_block e)
 
 plain_inner_kind : (x : Kind) → (x ≡ k.Store) ⊎ (x ≡ k.Call) → IsInnerKind x × (is_local x ≡ false)
-plain_inner_kind x (inl e) = ((ap ends_line e, ap ends.ends_block e), ap is_local e)
-plain_inner_kind x (inr e) = ((ap ends_line e, ap ends.ends_block e), ap is_local e)
+plain_inner_kind x (inl e) = ((ap begins_body_line e, ap ends.ends_block e), ap is_local e)
+plain_inner_kind x (inr e) = ((ap begins_body_line e, ap ends.ends_block e), ap is_local e)
 
 -- no end of a block begins with a local name
 end_not_local : (x : Kind) → ends.ends_block x ≡ true → is_local x ≡ false
@@ -77,7 +76,7 @@ module _ (m : Module) (f : Function) (named : AreNamed m f) (ops : OpsRead m f n
   -- which token an instruction's line begins with, and that no phi begins there
   line_kind_by : (result : Option ℕ) (x : Op) (i : Input) (rest : Text) → IsInstr m f (record { result = result; op = x }) → AllByRecursion IsKey (result_keys f.locals (record { result = result; op = x }))
       → Stands i.cursor (10 ∷ (instruction_line m f.locals (record { result = result; op = x }) ++ rest)) → IsInnerKind (kind i.cursor) × (begins_phi i ≡ false)
-  unfolding class_of kind kind_after kind_third next
+  unfolding class_of kind kind_behind kind_third next
   line_kind_by None x i rest own keys at =
       let e = plain_inner_kind (kind i.cursor) (plain_kind m f.locals x i.cursor (10 ∷ rest) (sym own.1) (subst (λ (t : Text). Stands i.cursor (10 ∷ t)) (plain_line m f.locals x rest) at)) in
       (e.0, no_local i e.1)
@@ -86,7 +85,7 @@ module _ (m : Module) (f : Function) (named : AreNamed m f) (ops : OpsRead m f n
       let a = local_passed i.cursor (10 ∷ 32 ∷ 32 ∷ []) (name_at f.locals value) (codes " = " ++ (op_text m f.locals x ++ 10 ∷ rest)) keys.0 refl refl at in
       let b = sign_comes (next i.cursor) (32 ∷ []) 61 (32 ∷ (op_text m f.locals x ++ 10 ∷ rest)) k.Equals refl refl refl a.1 in
       let c = value_word m f.locals x (next (next i.cursor)) rest (sym own.1) b.3 in
-      (inner_kind (kind i.cursor) a.0, other_word (kind i.cursor) (kind_after i.cursor) (kind_third i.cursor) c)
+      (inner_kind (kind i.cursor) a.0, other_word (kind i.cursor) (kind_behind i.cursor) (kind_third i.cursor) c)
 
   pub line_kind : (x : Instr) (i : Input) (rest : Text) → IsInstr m f x → AllByRecursion IsKey (result_keys f.locals x)
       → Stands i.cursor (10 ∷ (instruction_line m f.locals x ++ rest)) → IsInnerKind (kind i.cursor) × (begins_phi i ≡ false)
@@ -104,7 +103,7 @@ module _ (m : Module) (f : Function) (named : AreNamed m f) (ops : OpsRead m f n
 
   one_by : (result : Option ℕ) (x : Op) (more : List Text) (far : Far) (site : Site) (i : Input) (rest : Text) → IsInstr m f (record { result = result; op = x })
       → Steady far (result_keys f.locals (record { result = result; op = x }) ++ more)
-      → length far.values + length (result_keys f.locals (record { result = result; op = x })) ≤ 1000000 → length far.labels ≤ 65535 → site.place < 4294967295 → EndsLine (10 ∷ rest)
+      → length far.values + length (result_keys f.locals (record { result = result; op = x })) ≤ 1000000 → length far.labels ≤ 65535 → site.place < 4294967295 → EndsOp (10 ∷ rest)
       → Ready (known m f named far) 0 i (10 ∷ (instruction_line m f.locals (record { result = result; op = x }) ++ rest))
       → Leads m f named 0 (placed site) i (10 ∷ rest) (IsOneRead far more (record { result = result; op = x }))
   one_by None x more far site i rest own steady room blocks less ends ready =
@@ -134,7 +133,7 @@ module _ (m : Module) (f : Function) (named : AreNamed m f) (ops : OpsRead m f n
       )
 
   one_goes : (x : Instr) (more : List Text) (far : Far) (site : Site) (i : Input) (rest : Text) → IsInstr m f x → Steady far (result_keys f.locals x ++ more)
-      → length far.values + length (result_keys f.locals x) ≤ 1000000 → length far.labels ≤ 65535 → site.place < 4294967295 → EndsLine (10 ∷ rest)
+      → length far.values + length (result_keys f.locals x) ≤ 1000000 → length far.labels ≤ 65535 → site.place < 4294967295 → EndsOp (10 ∷ rest)
       → Ready (known m f named far) 0 i (10 ∷ (instruction_line m f.locals x ++ rest))
       → Leads m f named 0 (placed site) i (10 ∷ rest) (IsOneRead far more x)
   one_goes x = one_by x.result x.op
@@ -153,7 +152,7 @@ module _ (m : Module) (f : Function) (named : AreNamed m f) (ops : OpsRead m f n
 
   -- the next line is another one of these, or the one that ends the block, and no phi begins there
   next_line : (xs : List Instr) (last : End) (i : Input) (rest : Text) → AllByRecursion (IsInstr m f) xs → AllByRecursion IsKey (keys_of xs) → Stands i.cursor (10 ∷ body_text xs last rest)
-      → (ends_line (kind i.cursor) ≡ true) × (begins_phi i ≡ false)
+      → (begins_body_line (kind i.cursor) ≡ true) × (begins_phi i ≡ false)
   next_line [] last i rest own keys at =
       let e = end_comes last i rest at in
       (ends_begins (kind i.cursor) e, no_local i (end_not_local (kind i.cursor) e))
@@ -162,7 +161,7 @@ module _ (m : Module) (f : Function) (named : AreNamed m f) (ops : OpsRead m f n
       (subst (λ (t : Text). Stands i.cursor (10 ∷ t)) (append_assoc (instruction_line m f.locals x) (lines_of xs) (end_line m f.locals last ++ rest)) at) in
       (h.0.0, h.1)
 
-  pub next_ends : (xs : List Instr) (last : End) (rest : Text) → AllByRecursion (IsInstr m f) xs → AllByRecursion IsKey (keys_of xs) → EndsLine (10 ∷ body_text xs last rest)
+  pub next_ends : (xs : List Instr) (last : End) (rest : Text) → AllByRecursion (IsInstr m f) xs → AllByRecursion IsKey (keys_of xs) → EndsOp (10 ∷ body_text xs last rest)
   next_ends xs last rest own keys = (seam_line (body_text xs last rest), λ i at. (next_line xs last i rest own keys at).0)
 
   pub next_no_phi : (xs : List Instr) (last : End) (rest : Text) → AllByRecursion (IsInstr m f) xs → AllByRecursion IsKey (keys_of xs) → BeginsNoPhi (10 ∷ body_text xs last rest)

@@ -10,7 +10,7 @@ use Rattle.ir_ast.specs.declared.op.Op.TheVariants as op
 use Rattle.ir_tokens.specs.Bytes.{Text}
 use Rattle.ir_tokens.specs.declared.token.Kind.{Kind}
 use Rattle.ir_tokens.specs.declared.token.Kind.TheVariants as k
-use Rattle.ir_forms.specs.Calls.{called_by, called, call_after, typed_call, call, void_call, tail_call}
+use Rattle.ir_forms.specs.Calls.{called_by, called, call_behind, typed_call, call, void_call, tail_call}
 use Rattle.ir_forms.specs.Cursor.{kind}
 use Rattle.ir_forms.specs.declared.decorating.Spot.TheVariants as spot
 use Rattle.ir_forms.specs.declared.input.Input.{Input}
@@ -53,8 +53,8 @@ module _ {m : Module} {f : Function} (v : Within m f) where
   abbrev IsReturning : ℕ → Call → Type 0
   IsReturning returned x = (IsReturned m returned → IsCall m f x) × (x.returned ≡ returned)
 
-  pub call_behind_keeps : (returned : ℕ) (i : Input) → Keeps v.reading.Fore (Same v.reading.Fore) v.reading.Back (call_after returned) (IsReturning returned) i
-  unfolding call_after
+  pub call_behind_keeps : (returned : ℕ) (i : Input) → Keeps v.reading.Fore (Same v.reading.Fore) v.reading.Back (call_behind returned) (IsReturning returned) i
+  unfolding call_behind
   call_behind_keeps returned i x o h fore =
       let r = v.reading in
       let t = h.3 in

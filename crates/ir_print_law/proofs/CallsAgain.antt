@@ -23,8 +23,8 @@ use Rattle.ir_forms.specs.Lists as lists
 use Rattle.ir_print.specs.Operands.{argument_text}
 use Rattle.ir_print.specs.Calls.{call_text}
 use Rattle.ir_print.specs.Standing.{AreBlanks}
-use Rattle.ir_print.specs.Types.{type_text}
-use Rattle.ir_print_law.specs.Again.{IsResultAgain, IsCallAgain, IsInstrAgain, IsArgumentAgain}
+use Rattle.ir_print.specs.Types.{type_text, type_within, type_by}
+use Rattle.ir_print_law.specs.Again.{IsResultAgain, IsCallAgain, IsInstrAgain}
 use Rattle.ir_print_law.specs.Printable.{IsScalar, IsArgument}
 use Rattle.ir_print_law.specs.Shapes.{IsIn, Shape}
 use Rattle.ir_print_law.proofs.Tables.{stays}
@@ -32,7 +32,7 @@ use Rattle.ir_print_law.proofs.State.{Invariant, Ready, IsLater, Reads}
 use Rattle.ir_print_law.proofs.Shown.{shown, IsTypeRead}
 use Rattle.ir_print_law.proofs.Steps.{looked, given, sign_reads, word_skipped, word_seen, intern_reads, grows_itself, later_before}
 use Rattle.ir_print_law.proofs.WholeTypes.{type_begins}
-use Rattle.ir_print_law.proofs.PrintedTypes.{void_shown, type_shown, read_again, scalar_reads}
+use Rattle.ir_print_law.proofs.PrintedTypes.{type_shown, read_again, scalar_reads}
 use Rattle.ir_print_law.proofs.Parts.{IsLaterAgain, OpAgain, Sets}
 use Rattle.ir_print_law.proofs.Setting.{on, said_on, set_reads}
 use Rattle.std.specs.List.{AllByRecursion}
@@ -56,7 +56,6 @@ use Rattle.ir_forms.specs.Decorations.{trail_of}
 use Rattle.ir_forms.specs.Ops.{as_op}
 use Rattle.ir_print_law.proofs.ListsAgain.{no_comma_seen, trailing_said}
 use Rattle.ir_print_law.proofs.ArgumentsAgain.{EndsLine, undecorated_line, undecorated_type, decorations_said, AllArgumentsAgain, arguments_read}
-use Rattle.ir_print_law.proofs.SameParts.{same3, listed_same, result_same, global_same, argument_same}
 
 -- a call of these texts
 abbrev call_by : (returned callee arguments : Text) → Text
@@ -65,6 +64,11 @@ call_by returned callee arguments = codes "call " ++ returned ++ 32 ∷ callee +
 -- the parts of a call, and what follows it
 call_front : (returned callee arguments rest : Text) → call_by returned callee arguments ++ rest ≡ codes "call" ++ (32 ∷ (returned ++ (32 ∷ (callee ++ (40 ∷ (arguments ++ 41 ∷ rest))))))
 call_front returned callee arguments rest = simp append_assoc
+
+-- how `void` is printed
+pub void_shown : (n : Module) (t : ℕ) → slice_get n.types t ≡ Some type.Void → type_text n t ≡ codes "void"
+unfolding type_within
+void_shown n t e = ap (type_by (type_within 63 n) n) e
 
 -- a call is this one again, in each module later on
 abbrev pub CallAgain : Module → (locals : List Text) → Call → Call → Input → Type 0
@@ -82,8 +86,8 @@ module _ {m : Module} {f : Function} (v : Invariant m f) where
   -- `@f(T V, ..)`
   pub call_behind_reads : (x : Call) (number : ℕ) (i : Input) (rest : Text) (s : ℕ) → IsIn (functions_of m) (name_at m.symbols x.callee) → AllByRecursion (IsArgument m f) x.arguments
       → ((n : Module) (others : List Text) → IsLater i n others → IsResultAgain m n x.returned number) → EndsLine rest
-      → Ready v s i (32 ∷ (global_text m x.callee ++ (40 ∷ (listed (argument_text m f.locals) x.arguments ++ 41 ∷ rest)))) → Reads v s (calls.call_after number) i rest (CallAgain m f.locals x)
-  unfolding calls.call_after calls.called class_of
+      → Ready v s i (32 ∷ (global_text m x.callee ++ (40 ∷ (listed (argument_text m f.locals) x.arguments ++ 41 ∷ rest)))) → Reads v s (calls.call_behind number) i rest (CallAgain m f.locals x)
+  unfolding calls.call_behind calls.called class_of
   call_behind_reads x number i rest s there own again ends ready =
       let name = name_at m.symbols x.callee in
       let good = CallAgain m f.locals x in
@@ -147,7 +151,7 @@ module _ {m : Module} {f : Function} (v : Invariant m f) where
       let t1 = codes "void" ++ t2 in
       let ready = subst (λ (y : Text). Ready v s i (gap ++ y)) (call_front (type_text m x.returned) (global_text m x.callee) (listed (argument_text m f.locals) x.arguments) rest) ready in
       let ready = subst (λ (y : Text). Ready v s i (gap ++ (codes "call" ++ (32 ∷ (y ++ t2))))) (void_shown m x.returned is_void) ready in
-      on v v skip (λ _. calls.call_statement_after) i (32 ∷ t1) rest s s (λ _ o. advanced i ≡ o) good
+      on v v skip (λ _. calls.call_statement_behind) i (32 ∷ t1) rest s s (λ _ o. advanced i ≡ o) good
       (word_skipped v (codes "call") i gap (32 ∷ t1) s s blanks refl refl (omega arith) ready)
       (λ _ o ready g e.
       let is = word_seen v (codes "void") o (32 ∷ []) t2 s refl refl refl ready in
@@ -155,7 +159,7 @@ module _ {m : Module} {f : Function} (v : Invariant m f) where
       (looked v (λ i. kind i.cursor) calls.call_by o rest s good k.Void is
       (on v v (as_op op.Call calls.void_call) calls.unnamed o rest rest s s (OpAgain m f.locals (op.Call x)) good
       (on v v calls.void_call (λ y. pure (op.Call y)) o rest rest s s (CallAgain m f.locals x) (OpAgain m f.locals (op.Call x))
-      (on v v (skip >> w.intern type.Void) calls.call_after o t2 rest s s (λ n q. slice_get q.types n ≡ Some type.Void) (CallAgain m f.locals x)
+      (on v v (skip >> w.intern type.Void) calls.call_behind o t2 rest s s (λ n q. slice_get q.types n ≡ Some type.Void) (CallAgain m f.locals x)
       (on v v skip (λ _. w.intern type.Void) o t2 t2 (s + 1) s (λ _ q. advanced o ≡ q) (λ n q. slice_get q.types n ≡ Some type.Void)
       (word_skipped v (codes "void") o (32 ∷ []) t2 s (s + 1) refl refl refl (omega arith) ready)
       (λ _ q ready h e. intern_reads v type.Void q t2 s tt ready))
@@ -186,7 +190,7 @@ module _ {m : Module} {f : Function} (v u : Invariant m f) where
       (on v u w.scalar call_form o t2 rest s s (IsTypeRead shape 64) good
       (scalar_reads v shape o (32 ∷ []) t2 s scalar.0.2 scalar.0.1 scalar.1 refl (ends_global (name_at m.symbols x.callee) (40 ∷ (listed (argument_text m f.locals) x.arguments ++ 41 ∷ rest)) is.0 refl) ready)
       (λ p q ready h read.
-      on v u (calls.call_after p.id) (set_form p) q rest rest s s (CallAgain m f.locals x) good
+      on v u (calls.call_behind p.id) (set_form p) q rest rest s s (CallAgain m f.locals x) good
       (call_behind_reads v x p.id q rest s there own (λ n others later. inr (read_again m shape x.returned p.id q n others scalar.0.0 read.has_shape later)) ends ready)
       (λ y r ready hh again. set_reads v u (λ n others. IsCallAgain m n f.locals others) value (local.Value p.id) x y r rest s sets refl ready again))))
     where
@@ -194,16 +198,7 @@ module _ {m : Module} {f : Function} (v u : Invariant m f) where
       set_form p x = set_type value p.id >> pure x
 
       call_form : WrittenType → Form Call
-      call_form p = calls.call_after p.id >>= set_form p
+      call_form p = calls.call_behind p.id >>= set_form p
 
       typed_form : Form Call
       typed_form = decorations spot.Result >> calls.typed_call value
-
--- ---- its text
-
-module _ (m n : Module) (locals others : List Text) where
-  -- a call that is another one again has its text
-  pub call_same : (x y : Call) → IsCallAgain m n locals others x y → call_text m locals x ≡ call_text n others y
-  call_same x y h =
-      same3 (λ a b c. codes "call " ++ a ++ 32 ∷ b ++ 40 ∷ c ++ 41 ∷ []) (result_same m n x.returned y.returned h.0) (global_same m n x.callee y.callee h.1)
-      (listed_same (IsArgumentAgain m n locals others) (argument_text m locals) (argument_text n others) x.arguments y.arguments (argument_same m n locals others) h.2)

@@ -1,5 +1,5 @@
 -- Printed bitcasts are read as these bitcasts again.
-use Rattle.std.proofs.Common.{◌≡◌, ℕ, List, [], ◌∷◌, ◌++◌, refl, arith, ap}
+use Rattle.std.proofs.Common.{◌≡◌, ℕ, List, [], ◌∷◌, ◌++◌, refl, arith}
 use Rattle.std.specs.Prelude.{codes}
 use Rattle.grammar.specs.Grammar.{pure, ◌>>=◌, ◌>>◌}
 use Rattle.ir_ast.specs.declared.argument.Argument.{Argument}
@@ -24,7 +24,6 @@ use Rattle.ir_print_law.proofs.Steps.{word_skipped}
 use Rattle.ir_print_law.proofs.Types.{EndsType}
 use Rattle.ir_print_law.proofs.Parts.{IsLaterAgain, Sets}
 use Rattle.ir_print_law.proofs.Setting.{on, converted_reads}
-use Rattle.ir_print_law.proofs.SameParts.{converted_same}
 
 -- a bitcast is this one again, in each module later on
 abbrev pub CastAgain : Module → (locals : List Text) → Cast → Cast → Input → Type 0
@@ -45,10 +44,3 @@ module _ {m : Module} {f : Function} (v u : Invariant m f) where
     where
       made : Argument → ℕ → Cast
       made b to = record { from = b.written; operand = b.operand; to = to }
-
--- ---- its text
-
-module _ (m n : Module) (locals others : List Text) where
-  -- a bitcast that is another one again has its text
-  pub cast_same : (x y : Cast) → IsCastAgain m n locals others x y → cast_text m locals x ≡ cast_text n others y
-  cast_same x y h = ap (λ (z : Text). codes "bitcast " ++ z) (converted_same m n locals others (typed x.from x.operand) (typed y.from y.operand) x.to y.to (h.0, h.1) h.2)

@@ -8,7 +8,7 @@ use Rattle.ir_ast.specs.declared.function.LocalSort.TheVariants as local
 use Rattle.ir_ast.specs.declared.module.Module.{Module}
 use Rattle.ir_tokens.specs.declared.token.Kind.{Kind}
 use Rattle.ir_tokens.specs.declared.token.Kind.TheVariants as k
-use Rattle.ir_forms.specs.Choices.{select, separated, incoming, entry, ends_entries, behind_entry, all_entries, phi_value_by, phi_value, phi_after, phi, at_no_phi, phis}
+use Rattle.ir_forms.specs.Choices.{select, separated, incoming, entry, ends_entries, behind_entry, all_entries, phi_value_by, phi_value, phi_behind, phi, at_no_phi, phis}
 use Rattle.ir_forms.specs.Cursor.{kind}
 use Rattle.ir_forms.specs.ManyWith.{Follows}
 use Rattle.ir_forms.specs.Written.{is_scalar, bits_of}
@@ -131,7 +131,7 @@ module _ {m : Module} {f : Function} {Back : Input → Type 0} {Fore : Progress 
   phi_value_keeps g i = phi_value_by_keeps g (kind i.cursor) i refl
 
   -- what follows the name of the value of a phi
-  phi_behind_keeps : (g : Progress) (n : ℕ) (i : Input) (x : Phi) (o : Input) → (phi_after n).says i x o → Open g n i
+  phi_behind_keeps : (g : Progress) (n : ℕ) (i : Input) (x : Phi) (o : Input) → (phi_behind n).says i x o → Open g n i
       → Fore (with_named_value g x.value) o × (Back o → Back i × IsPhi m f x)
   phi_behind_keeps g n i x o h fore =
       let naming = naming_of b g n in

@@ -35,7 +35,6 @@ use Rattle.ir_print_law.proofs.AgainTypes.{again_reads}
 use Rattle.ir_print_law.proofs.NumbersAgain.{condition_reads}
 use Rattle.ir_print_law.proofs.Parts.{ends_again, IsLaterAgain, ArgumentAgain, PairAgain, Sets, operand_at}
 use Rattle.ir_print_law.proofs.Setting.{on, set_reads}
-use Rattle.ir_print_law.proofs.SameParts.{same3, typed_same}
 
 -- a select is this one again, in each module later on
 abbrev pub ChoiceAgain : Module → (locals : List Text) → Choice → Choice → Input → Type 0
@@ -138,12 +137,3 @@ module _ {m : Module} {f : Function} (v u : Invariant m f) where
 
       condition_form : Form Choice
       condition_form = numbers.condition >>= comma_form
-
--- ---- its text
-
-module _ (m n : Module) (locals others : List Text) where
-  -- a select that is another one again has its text
-  pub choice_same : (x y : Choice) → IsChoiceAgain m n locals others x y → choice_text m locals x ≡ choice_text n others y
-  choice_same x y h =
-      same3 (λ k l o. codes "select " ++ k ++ codes ", " ++ l ++ codes ", " ++ o) (typed_same m n locals others x.condition_type y.condition_type x.condition y.condition h.0 h.1)
-      (typed_same m n locals others x.written y.written x.chosen y.chosen h.2.0 h.2.1) (typed_same m n locals others x.written y.written x.other y.other h.2.0 h.2.2)

@@ -16,7 +16,7 @@ use Rattle.ir_tokens.specs.Keywords.{word_kind, keywords}
 use Rattle.ir_ast.specs.declared.operand.Constant.{Constant}
 use Rattle.ir_ast.specs.declared.operand.Constant.TheVariants as c
 use Rattle.ir_forms.specs.Cursor.{kind, next}
-use Rattle.ir_forms.specs.Literals as literals
+use Rattle.ir_forms.specs.Number as numbers
 use Rattle.ir_forms.specs.declared.input.Input.{Input}
 use Rattle.ir_forms.specs.Input.{advanced}
 use Rattle.ir_forms.specs.Operand.{constant, constant_by, number, number_at, truth_of}
@@ -36,8 +36,8 @@ use Rattle.ir_print_law.proofs.Words.{word_comes, number_comes}
 
 -- ---- numbers
 
-model : IsNumeralModel (λ (ds : Text). list_all is_digit ds ≡ true) (literals.decimal_behind 0)
-model = numerals_by_fold _ (search rules) literals.decimal_behind (search rules)
+model : IsNumeralModel (λ (ds : Text). list_all is_digit ds ≡ true) (numbers.decimal_behind 0)
+model = numerals_by_fold _ (search rules) numbers.decimal_behind (search rules)
 
 pub are_digits : (n : ℕ) → n < 2 ^ 64 → AreDigits (text.decimal n)
 are_digits n less = (decimal_nonempty n less, digits_decimal model n less)
@@ -45,16 +45,16 @@ are_digits n less = (decimal_nonempty n less, digits_decimal model n less)
 pub no_minus : (b : ℕ) → is_digit b ≡ true → b == 45 ≡ false
 no_minus b e = let low : nat_le 48 b ≡ true = (and_parts (nat_le 48 b) (nat_le b 57) e).0 in grind (arith, nat_tests)
 
-number_value : (digits : Text) (n bits : ℕ) → AreDigits digits → literals.decimal digits ≡ n → n < 2 ^ 64 → n < 2 * literals.half_of bits → literals.constant digits bits ≡ Some n
-unfolding literals.constant
+number_value : (digits : Text) (n bits : ℕ) → AreDigits digits → numbers.decimal digits ≡ n → n < 2 ^ 64 → n < 2 * numbers.half_of bits → numbers.constant digits bits ≡ Some n
+unfolding numbers.constant
 number_value [] n bits own is less fits = absurd (omega (arith, own.0))
 number_value (b ∷ digits) n bits own is less fits =
     let minus = no_minus b (and_parts (is_digit b) (list_all is_digit digits) own.1).0 in
     let small : nat_lt n 18446744073709551616 ≡ true = grind (arith, nat_tests) in
-    let within : nat_lt n (2 * literals.half_of bits) ≡ true = grind (arith, nat_tests) in
+    let within : nat_lt n (2 * numbers.half_of bits) ≡ true = grind (arith, nat_tests) in
     rw (minus, is, small, within) refl
 
-pub half_is : (bits : ℕ) → 1 ≤ bits → bits ≤ 64 → 2 * literals.half_of bits ≡ 2 ^ bits
+pub half_is : (bits : ℕ) → 1 ≤ bits → bits ≤ 64 → 2 * numbers.half_of bits ≡ 2 ^ bits
 half_is zero some most = absurd (omega (arith, some))
 half_is (suc p) some most =
     let same : min (suc p) 64 - 1 ≡ p = omega (arith, most) in
@@ -85,13 +85,13 @@ null_read bits i gap rest blanks seam at =
     let w = word_comes i.cursor gap (codes "null") rest blanks refl seam at in
     (by_kind bits c.Null i (advanced i) k.Null w.0 (tt, advanced i, (refl, refl), (refl, refl)), w.3)
 
-number_read : (bits : Option ℕ) (n : ℕ) (i : Input) (gap rest : Text) → n < 2 ^ 64 → n < 2 * literals.half_of (unwrap_or bits 64) → AreBlanks gap → IsSeam rest → Stands i.cursor (gap ++ (text.decimal n ++ rest))
+number_read : (bits : Option ℕ) (n : ℕ) (i : Input) (gap rest : Text) → n < 2 ^ 64 → n < 2 * numbers.half_of (unwrap_or bits 64) → AreBlanks gap → IsSeam rest → Stands i.cursor (gap ++ (text.decimal n ++ rest))
     → IsConstantRead bits (c.Number n) i rest
 unfolding number number_at
 number_read bits n i gap rest less fits blanks seam at =
     let own = are_digits n less in
     let w = number_comes i.cursor gap (text.decimal n) rest blanks own seam at in
-    let e : number_at bits i ≡ Some n = ap (λ (x : Text). literals.constant x (unwrap_or bits 64)) w.1 ∙ number_value (text.decimal n) n (unwrap_or bits 64) own (number_is n less) less fits in (
+    let e : number_at bits i ≡ Some n = ap (λ (x : Text). numbers.constant x (unwrap_or bits 64)) w.1 ∙ number_value (text.decimal n) n (unwrap_or bits 64) own (number_is n less) less fits in (
       by_kind bits (c.Number n) i (advanced i) k.Number w.0 (tt, i, (ap (λ (x : Option ℕ). is_some x) e, refl), (ap (λ (x : Option ℕ). c.Number (unwrap_or x 0)) e, refl)),
       w.3,
     )
@@ -118,7 +118,7 @@ constant_is_read (Some bits) (c.Number n) i gap rest fits blanks seam at = by (b
   by : (one : Bool) → bits == 1 ≡ one → Stands i.cursor (gap ++ (number_text one n ++ rest)) → IsConstantRead (Some bits) (c.Number n) i rest
   by true e at = bit_read bits n i gap rest e fits.2 blanks seam at
   by false e at =
-      let within : n < 2 * literals.half_of bits = subst (λ (most : ℕ). n < most) (sym (half_is bits fits.0 fits.1)) fits.2 in
+      let within : n < 2 * numbers.half_of bits = subst (λ (most : ℕ). n < most) (sym (half_is bits fits.0 fits.1)) fits.2 in
       number_read (Some bits) n i gap rest (wide bits n fits.1 fits.2) within blanks seam at
 constant_is_read bits c.Null i gap rest fits blanks seam at = null_read bits i gap rest blanks seam at
 constant_is_read None (c.Truth truth) i gap rest fits blanks seam at = truth_read None truth i gap rest blanks seam at
@@ -149,7 +149,7 @@ integer_types_are_read bits i gap rest some most blanks seam at =
     let less : bits < 2 ^ 64 = omega (arith, most) in
     let own = are_digits bits less in
     let w = word_comes i.cursor gap (105 ∷ text.decimal bits) rest blanks (plain_digits (text.decimal bits) own.1) seam at in
-    let value : bits_at i ≡ bits = ap (λ (x : Text). literals.decimal (drop 1 x)) w.1 ∙ number_is bits less in
+    let value : bits_at i ≡ bits = ap (λ (x : Text). numbers.decimal (drop 1 x)) w.1 ∙ number_is bits less in
     let low : nat_le 1 bits ≡ true = grind (arith, nat_tests) in
     let high : nat_le bits 64 ≡ true = grind (arith, nat_tests) in
     let in_range : (nat_le 1 (bits_at i) && nat_le (bits_at i) 64) ≡ true = ap (λ (n : ℕ). nat_le 1 n && nat_le n 64) value ∙ rw (low, high) refl in

@@ -131,8 +131,8 @@ module _ (m : Module) (f : Function) (named : AreNamed m f) (types : TypesRead m
   abbrev behind_first : List ℕ → (rest : Text) → Text
   behind_first ps rest = flat_map (λ (p : ℕ). codes ", " ++ type_text m p) ps ++ 41 ∷ rest
 
-  more_after : (p : ℕ) (ps : List ℕ) (rest : Text) → behind_first (p ∷ ps) rest ≡ 44 ∷ 32 ∷ (type_text m p ++ behind_first ps rest)
-  more_after p ps rest =
+  more_behind : (p : ℕ) (ps : List ℕ) (rest : Text) → behind_first (p ∷ ps) rest ≡ 44 ∷ 32 ∷ (type_text m p ++ behind_first ps rest)
+  more_behind p ps rest =
       append_assoc (codes ", " ++ type_text m p) (flat_map (λ (p : ℕ). codes ", " ++ type_text m p) ps) (41 ∷ rest) ∙ append_assoc (codes ", ") (type_text m p) (behind_first ps rest)
 
   first_seam : (ps : List ℕ) (rest : Text) → IsSeam (behind_first ps rest)
@@ -165,7 +165,7 @@ module _ (m : Module) (f : Function) (named : AreNamed m f) (types : TypesRead m
       )
   further_go x (p ∷ ps) far i gap rest are few blanks ready =
       let behind = type_text m p ++ behind_first ps rest in
-      let here = subst (λ (t : Text). Ready (known m f named far) 0 i (gap ++ (type_text m x ++ t))) (more_after p ps rest) ready in
+      let here = subst (λ (t : Text). Ready (known m f named far) 0 i (gap ++ (type_text m x ++ t))) (more_behind p ps rest) ready in
       let one = declared_goes x far i gap (44 ∷ 32 ∷ behind) (32 ∷ behind) are.0 (omega (arith, few)) blanks (comma_next (32 ∷ behind))
       (λ now. comma_separates m f named types now are.1.0.0 p (behind_first ps rest) are.1.0.1 (first_seam ps rest)) here in
       let q = one.1 in

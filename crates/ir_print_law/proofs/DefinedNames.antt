@@ -5,7 +5,7 @@ use Rattle.std.specs.Fmt.{decimal}
 use Rattle.std.specs.List.{list_all}
 use Rattle.std.proofs.lemmas.List.{append-nil}
 use Rattle.ir_ast.specs.LocalKeys.{key_of_name}
-use Rattle.ir_forms.specs.Literals as literals
+use Rattle.ir_forms.specs.Number as numbers
 use Rattle.ir_tokens.specs.Bytes.{Text, is_digit}
 use Rattle.name_text.specs.Readings.{AreBytes}
 use Rattle.ir_print.specs.Standing.{AreDigits}
@@ -90,7 +90,7 @@ no_name key name n less is same =
     cc
 
 number_same : (k n : ℕ) → k < 2 ^ 64 → n < 2 ^ 64 → decimal k ≡ decimal n → k ≡ n
-number_same k n low less e = sym (number_is k low) ∙ ap literals.decimal e ∙ number_is n less
+number_same k n low less e = sym (number_is k low) ∙ ap numbers.decimal e ∙ number_is n less
 
 -- the last number is not below the first
 pub counts_on : (seen : List Text) (unnamed : ℕ) (keys : List Text) (next : ℕ) → Defines seen unnamed keys next → unnamed ≤ next

@@ -28,7 +28,7 @@ use Rattle.ir_print.specs.Operands.{operand_text, argument_text}
 use Rattle.ir_print.specs.Parts.{typed}
 use Rattle.ir_print.specs.Standing.{Stands, IsSeam, AreBlanks}
 use Rattle.ir_print.specs.Types.{type_text}
-use Rattle.ir_print_law.specs.Again.{IsElementAgain, IsArgumentAgain}
+use Rattle.ir_print_law.specs.Again.{IsElementAgain}
 use Rattle.ir_print_law.specs.Printable.{IsArgument, IsElement}
 use Rattle.ir_print_law.proofs.State.{Invariant, Ready, Grows, Reads}
 use Rattle.ir_print_law.proofs.Shown.{shown, IsTypeRead, read_stays}
@@ -40,7 +40,6 @@ use Rattle.ir_print_law.proofs.ListsAgain.{no_metadata, list_ends, list_goes_on}
 use Rattle.ir_print_law.proofs.MemoryAgain.{optional_said, place_reads}
 use Rattle.ir_print_law.proofs.Parts.{ends_comma, IsLaterAgain, ArgumentAgain, Sets, typed_reads}
 use Rattle.ir_print_law.proofs.Setting.{on, said_on, set_reads}
-use Rattle.ir_print_law.proofs.SameParts.{same2, lines_same, placed_same, index_same}
 
 -- a getelementptr is this one again, in each module later on
 abbrev pub ElementAgain : Module → (locals : List Text) → Element → Element → Input → Type 0
@@ -78,14 +77,14 @@ module _ {m : Module} {f : Function} (v : Invariant m f) where
       stops false e = refl
 
   -- further indices are read
-  indices_after : (xs : List Argument) (i : Input) (rest : Text) (s : ℕ) → AllByRecursion (IsArgument m f) xs → EndsLine rest → Ready v s i (flat_map (index_text m f.locals) xs ++ rest)
+  indices_behind : (xs : List Argument) (i : Input) (rest : Text) (s : ℕ) → AllByRecursion (IsArgument m f) xs → EndsLine rest → Ready v s i (flat_map (index_text m f.locals) xs ++ rest)
       → (ys : List Argument) × (o : Input) × Follows lists.ends_indices (λ c. (lists.any_index c).says) lists.behind_index (record { is_further = true }) i ys o × Ready v s o rest × Grows i o × AllArgumentsAgain m f.locals xs ys o
-  indices_after [] i rest s own ends ready = ([], i, (list_ends i (ends.1 i ready.stands), refl), ready, grows_itself i, λ n others later. tt)
-  indices_after (x ∷ xs) i rest s own ends ready =
+  indices_behind [] i rest s own ends ready = ([], i, (list_ends i (ends.1 i ready.stands), refl), ready, grows_itself i, λ n others later. tt)
+  indices_behind (x ∷ xs) i rest s own ends ready =
       let ready = subst (λ (y : Text). Ready v s i y) (append_assoc (codes ", " ++ argument_text m f.locals x) (flat_map (index_text m f.locals) xs) rest ∙ append_assoc (codes ", ") (argument_text m f.locals x) (flat_map (index_text m f.locals) xs ++ rest)) ready in
       let h = index_reads x xs true i rest s own.0 ends ready in
       let a = h.1 in
-      let b = indices_after xs a.1 rest s own.1 ends a.3 in (
+      let b = indices_behind xs a.1 rest s own.1 ends a.3 in (
         a.0 ∷ b.0,
         b.1,
         (h.0, a.1, a.2, b.2),
@@ -103,7 +102,7 @@ module _ {m : Module} {f : Function} (v : Invariant m f) where
       let ready = subst (λ (y : Text). Ready v s i y) (append_assoc (codes ", " ++ argument_text m f.locals x) (flat_map (index_text m f.locals) xs) rest ∙ append_assoc (codes ", ") (argument_text m f.locals x) (flat_map (index_text m f.locals) xs ++ rest)) ready in
       let h = index_reads x xs false i rest s own.0 ends ready in
       let a = h.1 in
-      let b = indices_after xs a.1 rest s own.1 ends a.3 in (
+      let b = indices_behind xs a.1 rest s own.1 ends a.3 in (
         a.0 ∷ b.0,
         b.1,
         (h.0, a.1, a.2, b.2),
@@ -172,12 +171,3 @@ module _ {m : Module} {f : Function} (v u : Invariant m f) where
 
       source_form : Form Element
       source_form = elements.source >>= comma_form
-
--- ---- its text
-
-module _ (m n : Module) (locals others : List Text) where
-  -- a getelementptr that is another one again has its text
-  pub element_same : (x y : Element) → IsElementAgain m n locals others x y → element_text m locals x ≡ element_text n others y
-  element_same x y h =
-      same2 (λ a b. element_word ++ a ++ b) (placed_same m n locals others x.source y.source (typed x.base_type x.base) (typed y.base_type y.base) h.0 (h.1, h.2))
-      (lines_same (IsArgumentAgain m n locals others) (index_text m locals) (index_text n others) x.indices y.indices (index_same m n locals others) h.3)

@@ -12,7 +12,7 @@ use Rattle.ir_tokens.specs.Bytes.{Text, class_of}
 use Rattle.ir_forms.specs.Cursor.{kind, sees}
 use Rattle.ir_forms.specs.declared.input.Input.{Input}
 use Rattle.ir_forms.specs.declared.site.Site.{Site}
-use Rattle.ir_forms.specs.Instructions.{named_after, instruction, instruction_by, placed}
+use Rattle.ir_forms.specs.Instructions.{named_behind, instruction, instruction_by, placed}
 use Rattle.ir_print.specs.Instructions.{op_text, instruction_line}
 use Rattle.ir_print.specs.Names.{name_at, key_text, local_text}
 use Rattle.ir_print.specs.Standing.{Stands}
@@ -26,10 +26,9 @@ use Rattle.ir_print_law.proofs.Empty.{not_trailed}
 use Rattle.ir_print_law.proofs.WholeForms.{widens_further, grows_widens, Leads}
 use Rattle.ir_print_law.proofs.Known.{Far, AreNamed, known, is_last}
 use Rattle.ir_print_law.proofs.NewValues.{IsNext, unnamed_then, far_value, value_by, value_goes, kind_then}
-use Rattle.ir_print_law.proofs.OpNeeds.{OpsRead}
+use Rattle.ir_print_law.proofs.OpNeeds.{begins_body_line, EndsOp, OpsRead}
 use Rattle.ir_print_law.proofs.CallsAgain.{plain, PlainAgain}
 use Rattle.ir_print_law.proofs.Parts.{IsLaterAgain}
-use Rattle.ir_print_law.proofs.ArgumentsAgain.{EndsLine, ends_line}
 
 -- a form that is told by the kind of the next token
 by_kind : (site : Site) (x : Kind) (i o : Input) (a : Instr) → kind i.cursor ≡ x → (instruction_by site x).says i a o → (instruction site).says i a o
@@ -43,8 +42,8 @@ placed_is : (site : Site) (i o : Input) (a : Instr) → site.place < 4294967295 
 placed_is site i o a less h = (tt, i, (few_places site.place less, refl), h)
 
 -- no comma comes after a line
-pub comma_free : (rest : Text) (i : Input) → EndsLine rest → Stands i.cursor rest → sees k.Comma i.cursor ≡ false
-comma_free rest i ends at = unlike k.Comma ends_line i refl (ends.1 i at)
+pub comma_free : (rest : Text) (i : Input) → EndsOp rest → Stands i.cursor rest → sees k.Comma i.cursor ≡ false
+comma_free rest i ends at = unlike k.Comma begins_body_line i refl (ends.1 i at)
 
 -- the line of an instruction with a value
 pub valued_line : (m : Module) (locals : List Text) (x : Op) (value : ℕ) (rest : Text)
@@ -73,13 +72,13 @@ module _ (m : Module) (f : Function) (named : AreNamed m f) (ops : OpsRead m f n
   -- ---- an instruction with a value
 
   value_says : (site : Site) (key : Text) (is : IsNext far.unnamed key) (i p o : Input) (n : ℕ) (y : Op)
-      → kind i.cursor ≡ kind_then k.LocalNumber k.LocalName far.unnamed key is → (value_by m f named far key is).says i n p → (named_after site n).says p (record { result = Some n; op = y }) o
+      → kind i.cursor ≡ kind_then k.LocalNumber k.LocalName far.unnamed key is → (value_by m f named far key is).says i n p → (named_behind site n).says p (record { result = Some n; op = y }) o
       → (instruction site).says i (record { result = Some n; op = y }) o
   value_says site key (inl e) i p o n y is said behind = by_kind site k.LocalNumber i o (record { result = Some n; op = y }) is (n, p, said, behind)
   value_says site key (inr e) i p o n y is said behind = by_kind site k.LocalName i o (record { result = Some n; op = y }) is (n, p, said, behind)
 
   pub value_goes_on : (x : Op) (value : ℕ) (site : Site) (i : Input) (rest : Text) (is : IsNext far.unnamed (name_at f.locals value)) → IsOp m f x → gives_value m x ≡ true → site.place < 4294967295 → (IsIn far.seen (name_at f.locals value) → ⊥) → (IsIn far.labels (name_at f.locals value) → ⊥)
-      → far.count < 1000000 → far.unnamed < 4294967295 → far.pending ≡ [] → EndsLine (10 ∷ rest)
+      → far.count < 1000000 → far.unnamed < 4294967295 → far.pending ≡ [] → EndsOp (10 ∷ rest)
       → Ready (known m f named far) 0 i (10 ∷ (instruction_line m f.locals (record { result = Some value; op = x }) ++ rest))
       → Leads m f named 0 (placed site) i (10 ∷ rest)
       (IsInnerRead (record { result = Some value; op = x }) (far_result (name_at f.locals value) (unnamed_then far.unnamed (name_at f.locals value) is)))
@@ -100,7 +99,7 @@ module _ (m : Module) (f : Function) (named : AreNamed m f) (ops : OpsRead m f n
       let y = r.0 in
       let o = r.1 in
       let trail = not_trailed r.0 r.1 (comma_free (10 ∷ rest) r.1 ends r.3.stands) in
-      let behind : (named_after site n).says p (record { result = Some n; op = y }) o = (tt, q, equals.2, (r.0, r.1, r.2, (r.0, r.1, trail, (refl, refl)))) in
+      let behind : (named_behind site n).says p (record { result = Some n; op = y }) o = (tt, q, equals.2, (r.0, r.1, r.2, (r.0, r.1, trail, (refl, refl)))) in
       let wide = widens_further i p o w.1.4 (widens_further p q o (grows_widens p q equals.4) (grows_widens q o r.4)) in
       let wide_p = widens_further p q o (grows_widens p q equals.4) (grows_widens q o r.4) in (
         record { result = Some w.1.0; op = r.0 },

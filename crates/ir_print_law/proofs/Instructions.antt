@@ -15,7 +15,7 @@ use Rattle.ir_forms.specs.Choices.{select}
 use Rattle.ir_forms.specs.Cursor.{kind}
 use Rattle.ir_forms.specs.Elements.{element}
 use Rattle.ir_forms.specs.Input.{Form}
-use Rattle.ir_forms.specs.Instructions.{named_op_by, named_op, named_after, instruction_by, instruction, placed, at_terminator, body}
+use Rattle.ir_forms.specs.Instructions.{named_op_by, named_op, named_behind, instruction_by, instruction, placed, at_terminator, body}
 use Rattle.ir_forms.specs.ManyWith.{Follows}
 use Rattle.ir_forms.specs.Memory.{alloca, load, store}
 use Rattle.ir_forms.specs.Numbers.{compare, integer_op}
@@ -109,7 +109,7 @@ module _ {m : Module} {f : Function} {Back : Input → Type 0} {Fore : Progress 
       let d = unnamed_keeps g h.0 h.1 y o h.3 a.0 in
       (d.0, λ back. let db = d.1 back in let ab = a.1 db.0 in (ab.0, db.1 ab.1))
 
-  named_behind_keeps : (g : Progress) (n : ℕ) (site : Site) (i : Input) (y : Instr) (o : Input) → (named_after site n).says i y o → Open g n i
+  named_behind_keeps : (g : Progress) (n : ℕ) (site : Site) (i : Input) (y : Instr) (o : Input) → (named_behind site n).says i y o → Open g n i
       → Fore (with_result g y.result) o × (Back o → Back i × IsInstr m f y)
   named_behind_keeps g n site i y o h fore =
       let t = h.3 in

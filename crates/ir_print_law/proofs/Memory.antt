@@ -9,7 +9,7 @@ use Rattle.ir_ast.specs.declared.module.Module.{Module}
 use Rattle.ir_ast.specs.declared.op.Op.TheVariants as op
 use Rattle.ir_tokens.specs.declared.token.Kind.TheVariants as k
 use Rattle.ir_forms.specs.declared.input.Input.{Input}
-use Rattle.ir_forms.specs.Memory.{alloca, load, stored_after, store}
+use Rattle.ir_forms.specs.Memory.{alloca, load, stored_behind, store}
 use Rattle.ir_forms.specs.Written.{bits_of}
 use Rattle.ir_print_law.specs.Printable.{IsMemoryOp, gives_value}
 use Rattle.ir_print_law.proofs.Arguments.{operand_at, place_keeps}
@@ -70,7 +70,7 @@ module _ {m : Module} {f : Function} {value : ℕ} (n : Naming m f value) where
       )
 
 module _ {m : Module} {f : Function} (v : Within m f) where
-  stored_keeps : (i : Input) → Keeps v.reading.Fore (Same v.reading.Fore) v.reading.Back stored_after (IsGivingMemory m f false) i
+  stored_keeps : (i : Input) → Keeps v.reading.Fore (Same v.reading.Fore) v.reading.Back stored_behind (IsGivingMemory m f false) i
   stored_keeps i x o h fore =
       let r = v.reading in
       let t = h.3 in

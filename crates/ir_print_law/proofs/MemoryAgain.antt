@@ -1,5 +1,5 @@
 -- Printed operations on memory are read as these operations again.
-use Rattle.std.proofs.Common.{◌≡◌, ℕ, ◌+◌, Bool, true, false, List, [], ◌∷◌, ◌++◌, slice_get, None, Some, refl, sym, subst, arith, append_assoc, ap}
+use Rattle.std.proofs.Common.{◌≡◌, ℕ, ◌+◌, Bool, false, List, [], ◌∷◌, ◌++◌, slice_get, None, Some, refl, sym, subst, arith, append_assoc}
 use Rattle.std.specs.Prelude.{codes}
 use Rattle.grammar.specs.Grammar.{pure, ◌>>=◌, ◌>>◌}
 use Rattle.ir_ast.specs.declared.argument.Argument.{Argument}
@@ -9,16 +9,12 @@ use Rattle.ir_ast.specs.declared.ir_type.IrType.TheVariants as type
 use Rattle.ir_ast.specs.declared.memory.MemoryOp.{MemoryOp}
 use Rattle.ir_ast.specs.declared.memory.MemoryOp.TheVariants as memory
 use Rattle.ir_ast.specs.declared.module.Module.{Module}
-use Rattle.ir_ast.specs.declared.op.Op.TheVariants as op
 use Rattle.ir_ast.specs.declared.operand.Operand.{Operand}
 use Rattle.ir_tokens.specs.declared.token.Kind.{Kind}
 use Rattle.ir_tokens.specs.declared.token.Kind.TheVariants as k
 use Rattle.ir_tokens.specs.Bytes.{Text, class_of}
 use Rattle.ir_tokens.specs.Keywords.{word_kind, keywords}
-use Rattle.ir_forms.specs.Calls.{unnamed}
-use Rattle.ir_forms.specs.Cursor.{sees, kind, same_kind}
-use Rattle.ir_forms.specs.Place.{Place}
-use Rattle.ir_forms.specs.declared.site.Site.{Site}
+use Rattle.ir_forms.specs.Cursor.{sees}
 use Rattle.ir_forms.specs.declared.input.Input.{Input}
 use Rattle.ir_forms.specs.declared.written.WrittenType.{WrittenType}
 use Rattle.ir_forms.specs.Input.{Form, advanced, skip, expect}
@@ -27,15 +23,13 @@ use Rattle.ir_forms.specs.Operand as form
 use Rattle.ir_forms.specs.Written as w
 use Rattle.ir_forms.specs.Decorations.{optional, either}
 use Rattle.ir_forms.specs.Memory as forms
-use Rattle.ir_forms.specs.Instructions as whole
-use Rattle.ir_forms.specs.Ops.{as_op}
 use Rattle.ir_print.specs.Memory.{memory_op_text}
 use Rattle.ir_print.specs.Operands.{operand_text, typed_text, argument_text}
-use Rattle.ir_print.specs.Parts.{typed, placed_text}
-use Rattle.ir_print.specs.Standing.{Stands, IsSeam, AreBlanks}
+use Rattle.ir_print.specs.Parts.{typed}
+use Rattle.ir_print.specs.Standing.{IsSeam, AreBlanks}
 use Rattle.ir_print.specs.Types.{type_text}
 use Rattle.ir_print_law.specs.Again.{IsMemoryOpAgain}
-use Rattle.ir_print_law.specs.Printable.{IsType, IsOperand, IsPlaceType, IsMemoryOp, gives_value}
+use Rattle.ir_print_law.specs.Printable.{IsType, IsOperand, IsPlaceType, IsMemoryOp}
 use Rattle.ir_print_law.specs.Shapes.{Shape, Pointer, HasShape}
 use Rattle.ir_print_law.proofs.State.{Invariant, Ready, Reads}
 use Rattle.ir_print_law.proofs.Shown.{shown, IsTypeRead, read_stays}
@@ -45,13 +39,8 @@ use Rattle.ir_print_law.proofs.WholeTypes.{type_begins}
 use Rattle.ir_print_law.proofs.PrintedTypes.{type_shown, read_again, scalar_reads}
 use Rattle.ir_print_law.proofs.OperandsAgain.{OperandAgain, operand_reads, ends_operand}
 use Rattle.ir_print_law.proofs.AgainTypes.{pointer_again_reads}
-use Rattle.ir_print_law.proofs.Parts.{ends_comma, IsLaterAgain, OpAgain, ArgumentAgain, Sets, operand_at}
+use Rattle.ir_print_law.proofs.Parts.{ends_comma, IsLaterAgain, ArgumentAgain, Sets, operand_at}
 use Rattle.ir_print_law.proofs.Setting.{on, said_on, set_reads}
-use Rattle.ir_print_law.proofs.Words.{word_comes}
-use Rattle.ir_print_law.proofs.ArgumentsAgain.{EndsLine, line_ends_type}
-use Rattle.ir_print_law.proofs.CallsAgain.{PlainAgain, unnamed_reads}
-use Rattle.ir_print_law.proofs.ByWord.{no_phi, op_reads, by_word, plain_by_word}
-use Rattle.ir_print_law.proofs.SameParts.{same2, type_same, typed_same, placed_same}
 
 -- an operation on memory is this one again, in each module later on
 abbrev pub MemoryAgain : Module → (locals : List Text) → MemoryOp → MemoryOp → Input → Type 0
@@ -88,7 +77,7 @@ module _ {m : Module} {f : Function} (v : Invariant m f) where
       place_form pointer = form.operand None >>= λ y. pure (record { written = pointer; operand = y })
 
   -- `T V, T* W` after its word
-  store_reads : (stored : ℕ) (x : Operand) (place_type : ℕ) (y : Operand) (i : Input) (gap rest : Text) (s : ℕ) → IsMemoryOp m f (memory.Store stored x place_type y)
+  pub store_reads : (stored : ℕ) (x : Operand) (place_type : ℕ) (y : Operand) (i : Input) (gap rest : Text) (s : ℕ) → IsMemoryOp m f (memory.Store stored x place_type y)
       → AreBlanks gap → IsSeam rest
       → Ready v s i (gap ++ (memory_op_text m f.locals (memory.Store stored x place_type y) ++ rest)) → Reads v s forms.store i rest (MemoryAgain m f.locals (memory.Store stored x place_type y))
   unfolding forms.store class_of word_kind keywords
@@ -107,7 +96,7 @@ module _ {m : Module} {f : Function} (v : Invariant m f) where
       (word_skipped v (codes "store") i gap (32 ∷ t1) s s blanks refl refl (omega arith) ready)
       (λ _ o ready g e.
       let begins = type_begins v shape o (32 ∷ []) (32 ∷ (operand_text m f.locals stored x ++ t2)) scalar.0.2 refl refl ready.stands in
-      said_on v (optional k.Volatile) (λ _. forms.stored_after) o tt rest s good (optional_said k.Volatile o (unlike k.Volatile w.begins_type o refl begins))
+      said_on v (optional k.Volatile) (λ _. forms.stored_behind) o tt rest s good (optional_said k.Volatile o (unlike k.Volatile w.begins_type o refl begins))
       (on v v w.scalar value_form o (32 ∷ (operand_text m f.locals stored x ++ t2)) rest s s (IsTypeRead shape 64) good
       (scalar_reads v shape o (32 ∷ []) (32 ∷ (operand_text m f.locals stored x ++ t2)) s scalar.0.2 scalar.0.1 scalar.1 refl (ends_operand v shape stored x t2 scalar.0.0 own.2 refl) ready)
       (λ p q ready h read.
@@ -140,11 +129,11 @@ module _ {m : Module} {f : Function} (v : Invariant m f) where
       value_form p = form.operand (w.bits_of p) >>= comma_form p
 
       volatile_form : Form MemoryOp
-      volatile_form = optional k.Volatile >> forms.stored_after
+      volatile_form = optional k.Volatile >> forms.stored_behind
 
 module _ {m : Module} {f : Function} (v u : Invariant m f) where
   -- `load T, T* V`
-  load_reads : (value loaded place_type : ℕ) (x : Operand) (i : Input) (gap rest : Text) (s : ℕ) → IsMemoryOp m f (memory.Load loaded place_type x) → Sets v u value
+  pub load_reads : (value loaded place_type : ℕ) (x : Operand) (i : Input) (gap rest : Text) (s : ℕ) → IsMemoryOp m f (memory.Load loaded place_type x) → Sets v u value
       → AreBlanks gap → IsSeam rest → Ready v s i (gap ++ (memory_op_text m f.locals (memory.Load loaded place_type x) ++ rest)) → Reads u s (forms.load value) i rest (MemoryAgain m f.locals (memory.Load loaded place_type x))
   unfolding forms.load class_of word_kind keywords
   load_reads value loaded place_type x i gap rest s own sets blanks seam ready =
@@ -194,7 +183,7 @@ module _ {m : Module} {f : Function} (v u : Invariant m f) where
       volatile_form = optional k.Volatile >> loaded_form
 
   -- `alloca T`
-  alloca_reads : (value held : ℕ) (i : Input) (gap rest : Text) (s : ℕ) → IsMemoryOp m f (memory.Alloca held) → Sets v u value → AreBlanks gap → EndsType rest
+  pub alloca_reads : (value held : ℕ) (i : Input) (gap rest : Text) (s : ℕ) → IsMemoryOp m f (memory.Alloca held) → Sets v u value → AreBlanks gap → EndsType rest
       → Ready v s i (gap ++ (codes "alloca" ++ (32 ∷ (type_text m held ++ rest)))) → Reads u s (forms.alloca value) i rest (MemoryAgain m f.locals (memory.Alloca held))
   unfolding forms.alloca class_of
   alloca_reads value held i gap rest s own sets blanks ends ready =
@@ -223,60 +212,3 @@ module _ {m : Module} {f : Function} (v u : Invariant m f) where
 
       held_form : Form MemoryOp
       held_form = w.scalar >>= slot_form
-
-  -- ---- by the word
-
-  -- an operation on memory is one of instructions
-  as_memory : (form : Form MemoryOp) (x : MemoryOp) (i : Input) (rest : Text) (s : ℕ) → Reads u s form i rest (MemoryAgain m f.locals x) → Reads u s (as_op op.Memory form) i rest (OpAgain m f.locals (op.Memory x))
-  as_memory form x i rest s h = op_reads u op.Memory form (λ n others. IsMemoryOpAgain m n f.locals others) x (op.Memory x) i rest s (λ y o again. again) h
-
-  -- one that gives a value, after `%v =`
-  pub memory_reads : (site : Site) (value : ℕ) (x : MemoryOp) (i : Input) (gap rest : Text) (s : ℕ) → AreBlanks gap → IsMemoryOp m f x → gives_value m (op.Memory x) ≡ true → Sets v u value → EndsLine rest
-      → Ready v s i (gap ++ (memory_op_text m f.locals x ++ rest)) → Reads u s (whole.named_op site value) i rest (OpAgain m f.locals (op.Memory x))
-  unfolding word_kind keywords class_of
-  memory_reads site value (memory.Alloca held) i gap rest s blanks own gives sets ends ready =
-      by_word v u site value (op.Memory (memory.Alloca held)) (codes "alloca") (32 ∷ (type_text m held ++ rest)) i gap rest s blanks refl refl ready
-      (as_memory (forms.alloca value) (memory.Alloca held) i rest s (alloca_reads value held i gap rest s own sets blanks (line_ends_type rest ends) ready))
-  memory_reads site value (memory.Load loaded place_type place) i gap rest s blanks own gives sets ends ready =
-      by_word v u site value (op.Memory (memory.Load loaded place_type place)) (codes "load") (32 ∷ (placed_text m f.locals loaded (typed place_type place) ++ rest)) i gap rest s blanks refl refl ready
-      (as_memory (forms.load value) (memory.Load loaded place_type place) i rest s (load_reads value loaded place_type place i gap rest s own sets blanks ends.0 ready))
-  memory_reads site value (memory.Store stored a place_type place) i gap rest s blanks own gives sets ends ready = absurd cc
-
-module _ {m : Module} {f : Function} (v : Invariant m f) where
-  -- one that gives none
-  pub plain_memory_reads : (site : Site) (x : MemoryOp) (i : Input) (gap rest : Text) (s : ℕ) → AreBlanks gap → IsMemoryOp m f x → gives_value m (op.Memory x) ≡ false → EndsLine rest
-      → Ready v s i (gap ++ (memory_op_text m f.locals x ++ rest)) → Reads v s (whole.instruction site) i rest (PlainAgain m f.locals (op.Memory x))
-  unfolding word_kind keywords class_of
-  plain_memory_reads site (memory.Store stored a place_type place) i gap rest s blanks own gives ends ready =
-      let x = op.Memory (memory.Store stored a place_type place) in
-      plain_by_word v site x (codes "store") _ i gap rest s blanks refl refl ready
-      (on v v (as_op op.Memory forms.store) unnamed i rest rest s s (OpAgain m f.locals (op.Memory (memory.Store stored a place_type place))) (PlainAgain m f.locals (op.Memory (memory.Store stored a place_type place)))
-      (as_memory v v forms.store (memory.Store stored a place_type place) i rest s (store_reads v stored a place_type place i gap rest s own blanks ends.0 ready))
-      (λ y o ready g again. unnamed_reads v (op.Memory (memory.Store stored a place_type place)) y o rest s ends again ready))
-  plain_memory_reads site (memory.Alloca held) i gap rest s blanks own gives ends ready = absurd cc
-  plain_memory_reads site (memory.Load loaded place_type place) i gap rest s blanks own gives ends ready = absurd cc
-
--- one that gives a value does not begin like a phi
-pub memory_word : (m : Module) (locals : List Text) (x : MemoryOp) (place : Place) (rest : Text) → gives_value m (op.Memory x) ≡ true → Stands place (32 ∷ (memory_op_text m locals x ++ 10 ∷ rest)) → same_kind (kind place) k.Phi ≡ false
-unfolding class_of word_kind keywords same_kind
-memory_word m locals (memory.Alloca held) place rest gives at = no_phi place (codes "alloca") _ refl refl refl at
-memory_word m locals (memory.Load loaded place_type x) place rest gives at = no_phi place (codes "load") _ refl refl refl at
-memory_word m locals (memory.Store stored value place_type x) place rest gives at = absurd cc
-
--- one that gives none begins its line with the word `store`
-pub plain_memory_kind : (m : Module) (locals : List Text) (x : MemoryOp) (place : Place) (rest : Text) → gives_value m (op.Memory x) ≡ false → Stands place (10 ∷ 32 ∷ 32 ∷ (memory_op_text m locals x ++ rest)) → kind place ≡ k.Store
-unfolding class_of word_kind keywords
-plain_memory_kind m locals (memory.Store stored value place_type x) place rest gives at = (word_comes place (10 ∷ 32 ∷ 32 ∷ []) (codes "store") _ refl refl refl at).0
-plain_memory_kind m locals (memory.Alloca held) place rest gives at = absurd cc
-plain_memory_kind m locals (memory.Load loaded place_type x) place rest gives at = absurd cc
-
--- ---- its text
-
-module _ (m n : Module) (locals others : List Text) where
-  -- an operation on memory that is another one again has its text
-  pub memory_op_same : (x y : MemoryOp) → IsMemoryOpAgain m n locals others x y → memory_op_text m locals x ≡ memory_op_text n others y
-  memory_op_same (memory.Alloca t) (memory.Alloca u) h = ap (λ (x : Text). codes "alloca " ++ x) (type_same m n t u h)
-  memory_op_same (memory.Load t place x) (memory.Load u other y) h = ap (λ (z : Text). codes "load " ++ z) (placed_same m n locals others t u (typed place x) (typed other y) h.0 (h.1, h.2))
-  memory_op_same (memory.Store t v place x) (memory.Store u w other y) h =
-      same2 (λ a b. codes "store " ++ a ++ codes ", " ++ b) (typed_same m n locals others t u v w h.0 h.1) (typed_same m n locals others place other x y h.2 h.3)
-  memory_op_same _ _ h = absurd h

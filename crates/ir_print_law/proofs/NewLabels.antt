@@ -14,7 +14,7 @@ use Rattle.ir_tokens.specs.declared.token.Kind.TheVariants as k
 use Rattle.ir_tokens.specs.Bytes.{Text, is_digit, is_letter}
 use Rattle.ir_tokens.specs.Tokens.{begins_gap, past_gap}
 use Rattle.ir_forms.specs.Cursor.{kind, next, spelled, local_key}
-use Rattle.ir_forms.specs.Literals as literals
+use Rattle.ir_forms.specs.Number as numbers
 use Rattle.ir_forms.specs.Place.{Place}
 use Rattle.ir_forms.specs.Table.{mentioned}
 use Rattle.ir_forms.specs.declared.input.Input.{Input}
@@ -85,9 +85,9 @@ number_next u i same e less =
     let small : nat_lt u 18446744073709551616 ≡ true = grind (arith, nat_tests) in
     let equal : u == u ≡ true = grind (arith, nat_tests) in
     let further : nat_lt u 4294967295 ≡ true = grind (arith, nat_tests) in
-    let value : literals.decimal (spelled i.cursor) ≡ u = ap literals.decimal e ∙ number_is u wide in
+    let value : numbers.decimal (spelled i.cursor) ≡ u = ap numbers.decimal e ∙ number_is u wide in
     let written : names.is_written_next i ≡ true =
-    ap (λ (n : ℕ). names.is_at i.unnamed (literals.small n)) value ∙ ap (λ (t : Bool). names.is_at i.unnamed (if t then Some u else None)) small ∙ ap (λ (n : ℕ). u == n) same ∙ equal in
+    ap (λ (n : ℕ). names.is_at i.unnamed (numbers.small n)) value ∙ ap (λ (t : Bool). names.is_at i.unnamed (if t then Some u else None)) small ∙ ap (λ (n : ℕ). u == n) same ∙ equal in
     (tt, i, (written, refl), (tt, i, (ap (λ (n : ℕ). nat_lt n 4294967295) same ∙ further, refl), (refl, refl)))
 
 pub numbered_label_read : (u block : ℕ) (i : Input) (rest : Text) → i.unnamed ≡ u → u < 4294967295 → number_of (text.decimal u) i.locals.names < 2 ^ 32

@@ -341,8 +341,8 @@ number_reads i x o e h = by (first_class h.1) refl h.3 where
   by _ f s = (h.0, h.2.0 ∙ ap (λ (y : Text). h.0 ++ y) s.1, no_number x _ (subst (λ (y : Kind). is_local_number y ≡ false) s.0 refl))
 
 -- a number after its sign
-number_after : (b : ℕ) (i : Text) (x : Kind) (o : Text) → begins is_digit i ≡ true → (digits k.LocalNumber).says i x o → Reads (b ∷ i) x o
-number_after b i x o e h = (
+number_behind : (b : ℕ) (i : Text) (x : Kind) (o : Text) → begins is_digit i ≡ true → (digits k.LocalNumber).says i x o → Reads (b ∷ i) x o
+number_behind b i x o e h = (
   b ∷ h.0,
   ap (λ (y : Text). b ∷ y) (h.2.0 ∙ ap (λ (y : Text). h.0 ++ y) h.3.1),
   λ _. subst (λ (y : Kind). AreDigits (unquoted (bare y (b ∷ h.0)))) h.3.0 (spelled_digits h.0 (span_digits i h.0 h.1 e h.2)),
@@ -357,7 +357,7 @@ local_reads b i x o h = by (first_class i) refl h where
   by : (y : Class) → first_class i ≡ y → (local_by y).says i x o → Reads (b ∷ i) x o
   by c.Quote e s = other (quotation k.LocalName) (quotation_other k.LocalName refl) s
   by c.Letter e s = other (name k.LocalName) (name_other k.LocalName refl) s
-  by c.Digit e s = number_after b i x o (first_digit i e) s
+  by c.Digit e s = number_behind b i x o (first_digit i e) s
   by _ e s = absurd s
 
 -- each token

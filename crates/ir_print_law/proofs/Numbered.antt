@@ -10,7 +10,7 @@ use Rattle.ir_ast.specs.LocalKeys.{key_of_digits}
 use Rattle.ir_ast.specs.Names.{number_of}
 use Rattle.ir_ast.specs.declared.function.LocalSort.TheVariants.{Unknown}
 use Rattle.ir_forms.specs.Cursor.{spelled, local_key}
-use Rattle.ir_forms.specs.Literals as literals
+use Rattle.ir_forms.specs.Number as numbers
 use Rattle.ir_forms.specs.Table.{mentioned}
 use Rattle.ir_forms.specs.declared.input.Input.{Input}
 use Rattle.ir_forms.specs.Names.{local_number, is_known_local, is_local, is_at, is_written_next, next_number, take_number, new_value, numbered_value, with_number_taken}
@@ -48,9 +48,9 @@ number_next i e less =
     let small : nat_lt i.unnamed 18446744073709551616 ≡ true = grind (arith, nat_tests) in
     let itself : i.unnamed == i.unnamed ≡ true = grind (arith, nat_tests) in
     let further : nat_lt i.unnamed 4294967295 ≡ true = grind (arith, nat_tests) in
-    let value : literals.decimal (spelled i.cursor) ≡ i.unnamed = ap literals.decimal e ∙ number_is i.unnamed wide in
+    let value : numbers.decimal (spelled i.cursor) ≡ i.unnamed = ap numbers.decimal e ∙ number_is i.unnamed wide in
     let written : is_written_next i ≡ true =
-    ap (λ (n : ℕ). is_at i.unnamed (literals.small n)) value ∙ ap (λ (t : Bool). is_at i.unnamed (if t then Some i.unnamed else None)) small ∙ itself in
+    ap (λ (n : ℕ). is_at i.unnamed (numbers.small n)) value ∙ ap (λ (t : Bool). is_at i.unnamed (if t then Some i.unnamed else None)) small ∙ itself in
     (tt, i, (written, refl), (tt, i, (further, refl), (refl, refl)))
 
 pub numbered_values_are_read : NumberedValuesAreRead

@@ -1,5 +1,5 @@
--- Printed operations on integers, and conditions, are read as they were printed. A new one is a clause of `number_reads` and of `number_word`.
-use Rattle.std.proofs.Common.{◌≡◌, ℕ, ◌+◌, Bool, true, false, not, List, [], ◌∷◌, ◌++◌, slice_get, None, Some, refl, sym, ap, subst, ◌∙◌, arith, append_assoc}
+-- Printed operations on integers, and conditions, are read as they were printed.
+use Rattle.std.proofs.Common.{◌≡◌, ℕ, ◌+◌, Bool, true, false, not, List, [], ◌∷◌, ◌++◌, slice_get, None, Some, refl, ap, subst, ◌∙◌, arith, append_assoc}
 use Rattle.std.specs.Prelude.{codes}
 use Rattle.grammar.specs.Grammar.{pure, ◌>>=◌, ◌>>◌}
 use Rattle.ir_ast.specs.declared.argument.Argument.{Argument}
@@ -8,24 +8,18 @@ use Rattle.ir_ast.specs.declared.function.LocalSort.TheVariants as local
 use Rattle.ir_ast.specs.declared.ir_type.IrType.TheVariants as type
 use Rattle.ir_ast.specs.declared.module.Module.{Module}
 use Rattle.ir_ast.specs.declared.numbers.Arithmetic.{Arithmetic}
-use Rattle.ir_ast.specs.declared.numbers.Arithmetic.TheVariants as arithmetic
 use Rattle.ir_ast.specs.declared.numbers.Comparison.{Comparison}
 use Rattle.ir_ast.specs.declared.numbers.Comparison.TheVariants as comparison
 use Rattle.ir_ast.specs.declared.numbers.NumberOp.{NumberOp}
 use Rattle.ir_ast.specs.declared.numbers.NumberOp.TheVariants as number
 use Rattle.ir_ast.specs.declared.numbers.Resize.{Resize}
-use Rattle.ir_ast.specs.declared.numbers.Resize.TheVariants as resize
-use Rattle.ir_ast.specs.declared.op.Op.{Op}
-use Rattle.ir_ast.specs.declared.op.Op.TheVariants as op
 use Rattle.ir_ast.specs.declared.operand.Operand.{Operand}
 use Rattle.ir_tokens.specs.declared.token.Kind.{Kind}
 use Rattle.ir_tokens.specs.declared.token.Kind.TheVariants as k
 use Rattle.ir_tokens.specs.Bytes.{Text, class_of}
 use Rattle.ir_tokens.specs.Keywords.{word_kind, keywords}
-use Rattle.ir_forms.specs.Cursor.{kind, same_kind}
-use Rattle.ir_forms.specs.Place.{Place}
+use Rattle.ir_forms.specs.Cursor.{kind}
 use Rattle.ir_forms.specs.declared.input.Input.{Input}
-use Rattle.ir_forms.specs.declared.site.Site.{Site}
 use Rattle.ir_forms.specs.Input.{Form, advanced, skip, expect}
 use Rattle.ir_forms.specs.Names.{set_type}
 use Rattle.ir_forms.specs.Operand as form
@@ -35,16 +29,14 @@ use Rattle.ir_forms.specs.Decorations.{flags}
 use Rattle.ir_forms.specs.Starts.{is_flag}
 use Rattle.ir_forms.specs.Lists as lists
 use Rattle.ir_forms.specs.Numbers as numbers
-use Rattle.ir_forms.specs.Instructions as whole
-use Rattle.ir_forms.specs.Ops.{as_op}
-use Rattle.ir_print.specs.Numbers.{arithmetic_word, comparison_word, number_op_text, resize_word}
+use Rattle.ir_print.specs.Numbers.{arithmetic_word, comparison_word}
 use Rattle.ir_print.specs.Operands.{operand_text, typed_text}
 use Rattle.ir_print.specs.Parts.{typed, pair_text, converted_text}
 use Rattle.ir_print.specs.Standing.{Stands, IsSeam, AreBlanks}
 use Rattle.ir_print.specs.Types.{type_text}
 use Rattle.name_text.specs.Names.{is_plain}
 use Rattle.ir_print_law.specs.Again.{IsNumberOpAgain}
-use Rattle.ir_print_law.specs.Printable.{ArePair, IsConverted, IsCondition, IsNumberOp}
+use Rattle.ir_print_law.specs.Printable.{ArePair, IsConverted, IsCondition}
 use Rattle.ir_print_law.specs.Shapes.{Integer}
 use Rattle.ir_print_law.proofs.State.{Invariant, Ready, Reads, Any}
 use Rattle.ir_print_law.proofs.Shown.{shown}
@@ -54,11 +46,8 @@ use Rattle.ir_print_law.proofs.WholeTypes.{type_begins}
 use Rattle.ir_print_law.proofs.PrintedTypes.{type_shown, read_again}
 use Rattle.ir_print_law.proofs.OperandsAgain.{OperandAgain, operand_reads, ends_operand}
 use Rattle.ir_print_law.proofs.AgainTypes.{again_reads}
-use Rattle.ir_print_law.proofs.Parts.{ends_again, IsLaterAgain, OpAgain, ArgumentAgain, PairAgain, Sets, pair_reads}
+use Rattle.ir_print_law.proofs.Parts.{ends_again, IsLaterAgain, ArgumentAgain, PairAgain, Sets, pair_reads}
 use Rattle.ir_print_law.proofs.Setting.{on, said_on, set_reads, converted_reads}
-use Rattle.ir_print_law.proofs.ArgumentsAgain.{EndsLine, line_ends_type}
-use Rattle.ir_print_law.proofs.ByWord.{no_phi, op_reads, by_word}
-use Rattle.ir_print_law.proofs.SameParts.{same2, pair_same, converted_same}
 
 -- an operation on integers is this one again, in each module later on
 abbrev pub NumberAgain : Module → (locals : List Text) → NumberOp → NumberOp → Input → Type 0
@@ -110,7 +99,7 @@ module _ {m : Module} {f : Function} (v u : Invariant m f) where
   -- ---- sums and the like
 
   -- `add T V, W`, and so for the other five
-  arithmetic_reads : (x : Arithmetic) (name : Text) (value t : ℕ) (a b : Operand) (i : Input) (gap rest : Text) (s : ℕ) → arithmetic_word x ≡ name ++ 32 ∷ [] → is_plain name ≡ true → ArePair m f t a b
+  pub arithmetic_reads : (x : Arithmetic) (name : Text) (value t : ℕ) (a b : Operand) (i : Input) (gap rest : Text) (s : ℕ) → arithmetic_word x ≡ name ++ 32 ∷ [] → is_plain name ≡ true → ArePair m f t a b
       → Sets v u value → AreBlanks gap → IsSeam rest
       → Ready v s i (gap ++ (name ++ (32 ∷ (pair_text m f.locals (typed t a) b ++ rest)))) → Reads u s (numbers.arithmetic x value) i rest (NumberAgain m f.locals (number.Arithmetic x t a b))
   unfolding numbers.arithmetic class_of
@@ -144,7 +133,7 @@ module _ {m : Module} {f : Function} (v u : Invariant m f) where
   -- ---- comparisons
 
   -- `icmp C T V, W`
-  compare_reads : (x : Comparison) (name : Text) (value t : ℕ) (a b : Operand) (i : Input) (gap rest : Text) (s : ℕ) → numbers.comparison_of (word_kind name) ≡ Some x → is_plain name ≡ true → ArePair m f t a b
+  pub compare_reads : (x : Comparison) (name : Text) (value t : ℕ) (a b : Operand) (i : Input) (gap rest : Text) (s : ℕ) → numbers.comparison_of (word_kind name) ≡ Some x → is_plain name ≡ true → ArePair m f t a b
       → Sets v u value → AreBlanks gap → IsSeam rest
       → Ready v s i (gap ++ (codes "icmp" ++ (32 ∷ (name ++ (32 ∷ (pair_text m f.locals (typed t a) b ++ rest)))))) → Reads u s (numbers.compare value) i rest (NumberAgain m f.locals (number.Compare x t a b))
   unfolding numbers.compare numbers.comparison class_of
@@ -184,7 +173,7 @@ module _ {m : Module} {f : Function} (v u : Invariant m f) where
   -- ---- changes of width
 
   -- `zext T V to U`, and so for the other two
-  resize_reads : (x : Resize) (name : Text) (value from : ℕ) (a : Operand) (to : ℕ) (i : Input) (gap rest : Text) (s : ℕ) → is_plain name ≡ true → IsConverted m f from a to → Sets v u value → AreBlanks gap → EndsType rest
+  pub resize_reads : (x : Resize) (name : Text) (value from : ℕ) (a : Operand) (to : ℕ) (i : Input) (gap rest : Text) (s : ℕ) → is_plain name ≡ true → IsConverted m f from a to → Sets v u value → AreBlanks gap → EndsType rest
       → Ready v s i (gap ++ (name ++ (32 ∷ (converted_text m f.locals (typed from a) to ++ rest)))) → Reads u s (numbers.resize x value) i rest (NumberAgain m f.locals (number.Resize x from a to))
   unfolding numbers.resize class_of
   resize_reads x name value from a to i gap rest s plain own sets blanks ends ready =
@@ -197,7 +186,7 @@ module _ {m : Module} {f : Function} (v u : Invariant m f) where
   -- ---- by the word
 
   -- a sum or the like, by its word
-  by_arithmetic : (value : ℕ) (x : Arithmetic) (name : Text) (t : ℕ) (a b : Operand) (i : Input) (gap rest : Text) (s : ℕ) → arithmetic_word x ≡ name ++ 32 ∷ [] → numbers.arithmetic_of (word_kind name) ≡ Some x → is_plain name ≡ true
+  pub by_arithmetic : (value : ℕ) (x : Arithmetic) (name : Text) (t : ℕ) (a b : Operand) (i : Input) (gap rest : Text) (s : ℕ) → arithmetic_word x ≡ name ++ 32 ∷ [] → numbers.arithmetic_of (word_kind name) ≡ Some x → is_plain name ≡ true
       → ArePair m f t a b → Sets v u value → AreBlanks gap → IsSeam rest → Ready v s i (gap ++ (name ++ (32 ∷ (pair_text m f.locals (typed t a) b ++ rest))))
       → Reads u s (numbers.integer_op value) i rest (NumberAgain m f.locals (number.Arithmetic x t a b))
   unfolding numbers.integer_op class_of
@@ -207,7 +196,7 @@ module _ {m : Module} {f : Function} (v u : Invariant m f) where
       (arithmetic_reads x name value t a b i gap rest s is plain own sets blanks seam ready)
 
   -- a change of width, by its word
-  by_resize : (value : ℕ) (x : Resize) (name : Text) (from : ℕ) (a : Operand) (to : ℕ) (i : Input) (gap rest : Text) (s : ℕ) → numbers.arithmetic_of (word_kind name) ≡ None → numbers.resize_of (word_kind name) ≡ Some x → is_plain name ≡ true
+  pub by_resize : (value : ℕ) (x : Resize) (name : Text) (from : ℕ) (a : Operand) (to : ℕ) (i : Input) (gap rest : Text) (s : ℕ) → numbers.arithmetic_of (word_kind name) ≡ None → numbers.resize_of (word_kind name) ≡ Some x → is_plain name ≡ true
       → IsConverted m f from a to → Sets v u value → AreBlanks gap → EndsType rest → Ready v s i (gap ++ (name ++ (32 ∷ (converted_text m f.locals (typed from a) to ++ rest))))
       → Reads u s (numbers.integer_op value) i rest (NumberAgain m f.locals (number.Resize x from a to))
   unfolding numbers.integer_op numbers.resized class_of
@@ -219,7 +208,7 @@ module _ {m : Module} {f : Function} (v u : Invariant m f) where
       (resize_reads x name value from a to i gap rest s plain own sets blanks ends ready))
 
   -- a comparison, by what it asks
-  by_compare : (value : ℕ) (c : Comparison) (t : ℕ) (a b : Operand) (i : Input) (gap rest : Text) (s : ℕ) → ArePair m f t a b → Sets v u value → AreBlanks gap → IsSeam rest
+  pub by_compare : (value : ℕ) (c : Comparison) (t : ℕ) (a b : Operand) (i : Input) (gap rest : Text) (s : ℕ) → ArePair m f t a b → Sets v u value → AreBlanks gap → IsSeam rest
       → Ready v s i (gap ++ (codes "icmp" ++ (32 ∷ ((comparison_word c ++ pair_text m f.locals (typed t a) b) ++ rest)))) → Reads u s (numbers.compare value) i rest (NumberAgain m f.locals (number.Compare c t a b))
   unfolding word_kind keywords class_of
   by_compare value comparison.Equal t a b i gap rest s own sets blanks seam ready = compare_reads comparison.Equal (codes "eq") value t a b i gap rest s refl refl own sets blanks seam ready
@@ -232,86 +221,3 @@ module _ {m : Module} {f : Function} (v u : Invariant m f) where
   by_compare value comparison.SignedGreaterOrEqual t a b i gap rest s own sets blanks seam ready = compare_reads comparison.SignedGreaterOrEqual (codes "sge") value t a b i gap rest s refl refl own sets blanks seam ready
   by_compare value comparison.SignedLess t a b i gap rest s own sets blanks seam ready = compare_reads comparison.SignedLess (codes "slt") value t a b i gap rest s refl refl own sets blanks seam ready
   by_compare value comparison.SignedLessOrEqual t a b i gap rest s own sets blanks seam ready = compare_reads comparison.SignedLessOrEqual (codes "sle") value t a b i gap rest s refl refl own sets blanks seam ready
-
-  -- ---- after `%v =`
-
-  -- an operation on integers is one of instructions
-  as_number : (form : Form NumberOp) (x : NumberOp) (i : Input) (rest : Text) (s : ℕ) → Reads u s form i rest (NumberAgain m f.locals x) → Reads u s (as_op op.Number form) i rest (OpAgain m f.locals (op.Number x))
-  as_number form x i rest s h = op_reads u op.Number form (λ n others. IsNumberOpAgain m n f.locals others) x (op.Number x) i rest s (λ y o again. again) h
-
-  -- a sum or the like, whose word leads to the operations on integers
-  named_arithmetic : (site : Site) (value : ℕ) (x : Arithmetic) (name : Text) (t : ℕ) (a b : Operand) (i : Input) (gap rest : Text) (s : ℕ) → arithmetic_word x ≡ name ++ 32 ∷ [] → numbers.arithmetic_of (word_kind name) ≡ Some x
-      → is_plain name ≡ true → whole.named_op_by site value (word_kind name) ≡ as_op op.Number (numbers.integer_op value) → ArePair m f t a b → Sets v u value → AreBlanks gap → EndsLine rest
-      → Ready v s i (gap ++ (name ++ (32 ∷ (pair_text m f.locals (typed t a) b ++ rest)))) → Reads u s (whole.named_op site value) i rest (OpAgain m f.locals (op.Number (number.Arithmetic x t a b)))
-  unfolding class_of
-  named_arithmetic site value x name t a b i gap rest s is of plain leads own sets blanks ends ready =
-      let good = OpAgain m f.locals (op.Number (number.Arithmetic x t a b)) in
-      by_word v u site value (op.Number (number.Arithmetic x t a b)) name (32 ∷ (pair_text m f.locals (typed t a) b ++ rest)) i gap rest s blanks plain refl ready
-      (subst (λ (form : Form Op). Reads u s form i rest good) (sym leads)
-      (as_number (numbers.integer_op value) (number.Arithmetic x t a b) i rest s (by_arithmetic value x name t a b i gap rest s is of plain own sets blanks ends.0 ready)))
-
-  -- a change of width, whose word leads to the operations on integers
-  named_resize : (site : Site) (value : ℕ) (x : Resize) (name : Text) (from : ℕ) (a : Operand) (to : ℕ) (i : Input) (gap rest : Text) (s : ℕ) → numbers.arithmetic_of (word_kind name) ≡ None → numbers.resize_of (word_kind name) ≡ Some x
-      → is_plain name ≡ true → whole.named_op_by site value (word_kind name) ≡ as_op op.Number (numbers.integer_op value) → IsConverted m f from a to → Sets v u value → AreBlanks gap → EndsLine rest
-      → Ready v s i (gap ++ (name ++ (32 ∷ (converted_text m f.locals (typed from a) to ++ rest)))) → Reads u s (whole.named_op site value) i rest (OpAgain m f.locals (op.Number (number.Resize x from a to)))
-  unfolding class_of
-  named_resize site value x name from a to i gap rest s none of plain leads own sets blanks ends ready =
-      let good = OpAgain m f.locals (op.Number (number.Resize x from a to)) in
-      by_word v u site value (op.Number (number.Resize x from a to)) name (32 ∷ (converted_text m f.locals (typed from a) to ++ rest)) i gap rest s blanks plain refl ready
-      (subst (λ (form : Form Op). Reads u s form i rest good) (sym leads)
-      (as_number (numbers.integer_op value) (number.Resize x from a to) i rest s (by_resize value x name from a to i gap rest s none of plain own sets blanks (line_ends_type rest ends) ready)))
-
-  -- any operation on integers, by its word
-  pub number_reads : (site : Site) (value : ℕ) (x : NumberOp) (i : Input) (gap rest : Text) (s : ℕ) → AreBlanks gap → IsNumberOp m f x → Sets v u value → EndsLine rest
-      → Ready v s i (gap ++ (number_op_text m f.locals x ++ rest)) → Reads u s (whole.named_op site value) i rest (OpAgain m f.locals (op.Number x))
-  unfolding word_kind keywords class_of
-  number_reads site value (number.Arithmetic arithmetic.Add t a b) i gap rest s blanks own sets ends ready =
-      named_arithmetic site value arithmetic.Add (codes "add") t a b i gap rest s refl refl refl refl own sets blanks ends ready
-  number_reads site value (number.Arithmetic arithmetic.Sub t a b) i gap rest s blanks own sets ends ready =
-      named_arithmetic site value arithmetic.Sub (codes "sub") t a b i gap rest s refl refl refl refl own sets blanks ends ready
-  number_reads site value (number.Arithmetic arithmetic.Mul t a b) i gap rest s blanks own sets ends ready =
-      named_arithmetic site value arithmetic.Mul (codes "mul") t a b i gap rest s refl refl refl refl own sets blanks ends ready
-  number_reads site value (number.Arithmetic arithmetic.And t a b) i gap rest s blanks own sets ends ready =
-      named_arithmetic site value arithmetic.And (codes "and") t a b i gap rest s refl refl refl refl own sets blanks ends ready
-  number_reads site value (number.Arithmetic arithmetic.Or t a b) i gap rest s blanks own sets ends ready =
-      named_arithmetic site value arithmetic.Or (codes "or") t a b i gap rest s refl refl refl refl own sets blanks ends ready
-  number_reads site value (number.Arithmetic arithmetic.Xor t a b) i gap rest s blanks own sets ends ready =
-      named_arithmetic site value arithmetic.Xor (codes "xor") t a b i gap rest s refl refl refl refl own sets blanks ends ready
-  number_reads site value (number.Resize resize.ZeroExtend from a to) i gap rest s blanks own sets ends ready =
-      named_resize site value resize.ZeroExtend (codes "zext") from a to i gap rest s refl refl refl refl own sets blanks ends ready
-  number_reads site value (number.Resize resize.SignExtend from a to) i gap rest s blanks own sets ends ready =
-      named_resize site value resize.SignExtend (codes "sext") from a to i gap rest s refl refl refl refl own sets blanks ends ready
-  number_reads site value (number.Resize resize.Truncate from a to) i gap rest s blanks own sets ends ready =
-      named_resize site value resize.Truncate (codes "trunc") from a to i gap rest s refl refl refl refl own sets blanks ends ready
-  number_reads site value (number.Compare c t a b) i gap rest s blanks own sets ends ready =
-      let front = ap (λ (y : Text). y ++ rest) (append_assoc (codes "icmp ") (comparison_word c) (pair_text m f.locals (typed t a) b)) in
-      let ready : Ready v s i (gap ++ (codes "icmp" ++ (32 ∷ ((comparison_word c ++ pair_text m f.locals (typed t a) b) ++ rest)))) = subst (λ (y : Text). Ready v s i (gap ++ y)) front ready in
-      by_word v u site value (op.Number (number.Compare c t a b)) (codes "icmp") (32 ∷ ((comparison_word c ++ pair_text m f.locals (typed t a) b) ++ rest)) i gap rest s blanks refl refl ready
-      (as_number (numbers.compare value) (number.Compare c t a b) i rest s (by_compare value c t a b i gap rest s own sets blanks ends.0 ready))
-
--- no operation on integers begins like a phi
-pub number_word : (m : Module) (locals : List Text) (x : NumberOp) (place : Place) (rest : Text) → Stands place (32 ∷ (number_op_text m locals x ++ 10 ∷ rest)) → same_kind (kind place) k.Phi ≡ false
-unfolding class_of word_kind keywords same_kind
-number_word m locals (number.Arithmetic arithmetic.Add t a b) place rest at = no_phi place (codes "add") _ refl refl refl at
-number_word m locals (number.Arithmetic arithmetic.Sub t a b) place rest at = no_phi place (codes "sub") _ refl refl refl at
-number_word m locals (number.Arithmetic arithmetic.Mul t a b) place rest at = no_phi place (codes "mul") _ refl refl refl at
-number_word m locals (number.Arithmetic arithmetic.And t a b) place rest at = no_phi place (codes "and") _ refl refl refl at
-number_word m locals (number.Arithmetic arithmetic.Or t a b) place rest at = no_phi place (codes "or") _ refl refl refl at
-number_word m locals (number.Arithmetic arithmetic.Xor t a b) place rest at = no_phi place (codes "xor") _ refl refl refl at
-number_word m locals (number.Resize resize.ZeroExtend from a to) place rest at = no_phi place (codes "zext") _ refl refl refl at
-number_word m locals (number.Resize resize.SignExtend from a to) place rest at = no_phi place (codes "sext") _ refl refl refl at
-number_word m locals (number.Resize resize.Truncate from a to) place rest at = no_phi place (codes "trunc") _ refl refl refl at
-number_word m locals (number.Compare c t a b) place rest at = no_phi place (codes "icmp") _ refl refl refl at
-
--- ---- its text
-
-module _ (m n : Module) (locals others : List Text) where
-  -- an operation on integers that is another one again has its text
-  pub number_op_same : (x y : NumberOp) → IsNumberOpAgain m n locals others x y → number_op_text m locals x ≡ number_op_text n others y
-  number_op_same (number.Arithmetic kind t a b) (number.Arithmetic other u x y) h =
-      same2 (λ c d. c ++ d) (ap arithmetic_word h.0) (pair_same m n locals others (typed t a) (typed u x) b y (h.1.0, h.1.1) h.1.2)
-  number_op_same (number.Resize kind t x to) (number.Resize other u y into) h =
-      same2 (λ a b. a ++ b) (ap resize_word h.0) (converted_same m n locals others (typed t x) (typed u y) to into (h.1, h.2) h.3)
-  number_op_same (number.Compare kind t a b) (number.Compare other u x y) h =
-      same2 (λ c d. codes "icmp " ++ c ++ d) (ap comparison_word h.0) (pair_same m n locals others (typed t a) (typed u x) b y (h.1.0, h.1.1) h.1.2)
-  number_op_same _ _ h = absurd h

@@ -16,7 +16,7 @@ use Rattle.ir_tokens.specs.declared.token.Kind.{Kind}
 use Rattle.ir_tokens.specs.declared.token.Kind.TheVariants as k
 use Rattle.ir_tokens.specs.Bytes.{Text}
 use Rattle.ir_forms.specs.Cursor.{kind, spelled, spelling, start, local_key}
-use Rattle.ir_forms.specs.Literals as literals
+use Rattle.ir_forms.specs.Number as numbers
 use Rattle.ir_forms.specs.Intrinsics.{is_intrinsic}
 use Rattle.ir_forms.specs.declared.fault.Fault.TheVariants.{OutOfRange}
 use Rattle.ir_forms.specs.declared.uses.Wanted.{Wanted}
@@ -46,17 +46,17 @@ AreBits (Some bits) = (1 ≤ bits) × (bits ≤ 64)
 abbrev pub Fits : Option ℕ → Constant → Type 0
 Fits bits x = AreBits bits → FitsType bits x
 
-half_some : (bits : ℕ) → 0 < literals.half_of bits
+half_some : (bits : ℕ) → 0 < numbers.half_of bits
 half_some bits = pow_pos (min bits 64 - 1)
 
-positive_less : (half : ℕ) (x : Option ℕ) → 0 < half → unwrap_or (option_and_then (literals.positive half) x) 0 < 2 * half
+positive_less : (half : ℕ) (x : Option ℕ) → 0 < half → unwrap_or (option_and_then (numbers.positive half) x) 0 < 2 * half
 positive_less half None some = omega (arith, some)
 positive_less half (Some n) some = by (nat_lt n (2 * half)) refl where
   by : (t : Bool) → nat_lt n (2 * half) ≡ t → unwrap_or (if t then Some n else None) 0 < 2 * half
   by true e = grind (arith, nat_tests)
   by false e = omega (arith, some)
 
-negative_less : (half : ℕ) (x : Option ℕ) → 0 < half → unwrap_or (option_and_then (literals.negative half) x) 0 < 2 * half
+negative_less : (half : ℕ) (x : Option ℕ) → 0 < half → unwrap_or (option_and_then (numbers.negative half) x) 0 < 2 * half
 negative_less half None some = omega (arith, some)
 negative_less half (Some n) some = by (nat_le n half) where
   inner : (t : Bool) → n == 0 ≡ t → (if t then 0 else 2 * half - n) < 2 * half
@@ -67,13 +67,13 @@ negative_less half (Some n) some = by (nat_le n half) where
   by true = inner (n == 0) refl
   by false = omega (arith, some)
 
-constant_less : (s : List ℕ) (bits : ℕ) → unwrap_or (literals.constant s bits) 0 < 2 * literals.half_of bits
-unfolding literals.constant
-constant_less [] bits = positive_less (literals.half_of bits) (literals.small (literals.decimal [])) (half_some bits)
+constant_less : (s : List ℕ) (bits : ℕ) → unwrap_or (numbers.constant s bits) 0 < 2 * numbers.half_of bits
+unfolding numbers.constant
+constant_less [] bits = positive_less (numbers.half_of bits) (numbers.small (numbers.decimal [])) (half_some bits)
 constant_less (byte ∷ digits) bits = by (byte == 45) where
-  by : (t : Bool) → unwrap_or (if t then option_and_then (literals.negative (literals.half_of bits)) (literals.small (literals.decimal digits)) else option_and_then (literals.positive (literals.half_of bits)) (literals.small (literals.decimal (byte ∷ digits)))) 0 < 2 * literals.half_of bits
-  by true = negative_less (literals.half_of bits) (literals.small (literals.decimal digits)) (half_some bits)
-  by false = positive_less (literals.half_of bits) (literals.small (literals.decimal (byte ∷ digits))) (half_some bits)
+  by : (t : Bool) → unwrap_or (if t then option_and_then (numbers.negative (numbers.half_of bits)) (numbers.small (numbers.decimal digits)) else option_and_then (numbers.positive (numbers.half_of bits)) (numbers.small (numbers.decimal (byte ∷ digits)))) 0 < 2 * numbers.half_of bits
+  by true = negative_less (numbers.half_of bits) (numbers.small (numbers.decimal digits)) (half_some bits)
+  by false = positive_less (numbers.half_of bits) (numbers.small (numbers.decimal (byte ∷ digits))) (half_some bits)
 
 pub number_fits : (bits : Option ℕ) (i : Input) → Fits bits (number_or_zero bits i)
 unfolding number_at

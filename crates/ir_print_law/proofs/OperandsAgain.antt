@@ -349,7 +349,7 @@ module _ {m : Module} {f : Function} (v : Invariant m f) where
       let there : Ready v s i (gap ++ (cast_by (shown false first) (global_text m symbol) (shown false second) ++ rest)) = subst (λ (x : Text). Ready v s i (gap ++ (x ++ rest))) whole ready in
       let there : Ready v s i (gap ++ (codes "bitcast" ++ (32 ∷ 40 ∷ (shown false first ++ (32 ∷ 64 ∷ (name_text blank.Kept (name_at m.symbols symbol) ++ (codes " to " ++ (shown false second ++ 41 ∷ rest)))))))) = simp append_assoc at there in
       looked v (λ i. kind i.cursor) (form.operand_by (bits_of_shape shape)) i rest s good k.Bitcast (word_seen v (codes "bitcast") i gap (32 ∷ 40 ∷ t1) s blanks refl refl there)
-      (go_on v skip (λ _. form.cast_after) i (32 ∷ 40 ∷ t1) rest s s (λ _ o. advanced i ≡ o) good
+      (go_on v skip (λ _. form.cast_behind) i (32 ∷ 40 ∷ t1) rest s s (λ _ o. advanced i ≡ o) good
       (word_skipped v (codes "bitcast") i gap (32 ∷ 40 ∷ t1) s s blanks refl refl (omega arith) there)
       (λ _ o ready g e.
       go_on v (expect k.OpenRound) (λ _. w.pointer_type >>= cast_global) o t1 rest s s (λ _ q. advanced o ≡ q) good

@@ -1,14 +1,18 @@
 -- The types and the instructions of a printed module are read as they are needed.
-use Rattle.std.proofs.Common.{◌≡◌, ℕ, List, [], ◌∷◌, ◌++◌, subst}
+use Rattle.std.proofs.Common.{◌≡◌, ℕ, true, List, [], ◌∷◌, ◌++◌, refl, subst}
 use Rattle.ir_ast.specs.declared.function.Function.{Function}
 use Rattle.ir_ast.specs.declared.function.LocalSort.{LocalSort}
 use Rattle.ir_ast.specs.declared.function.LocalSort.TheVariants as local
 use Rattle.ir_ast.specs.declared.module.Module.{Module}
+use Rattle.ir_tokens.specs.declared.token.Kind.{Kind}
+use Rattle.ir_tokens.specs.declared.token.Kind.TheVariants as k
 use Rattle.ir_tokens.specs.Bytes.{Text}
+use Rattle.ir_forms.specs.Cursor.{kind}
 use Rattle.ir_print.specs.Standing.{Stands}
 use Rattle.ir_print_law.specs.Definitions.{defined_structs}
 use Rattle.ir_print_law.specs.Shapes.{IsIn}
 use Rattle.ir_print_law.proofs.State.{Ready}
+use Rattle.ir_print_law.proofs.ArgumentsAgain.{EndsLine, ends_line}
 use Rattle.ir_print_law.proofs.EndsAgain.{end_reads}
 use Rattle.ir_print_law.proofs.InstructionsAgain.{named_op_reads, plain_reads}
 use Rattle.ir_print_law.proofs.Parts.{Sets}
@@ -19,7 +23,7 @@ use Rattle.ir_print_law.proofs.WholeTypes.{shape_comes}
 use Rattle.ir_print_law.proofs.Defining.{IsValueSort, value_set}
 use Rattle.ir_print_law.proofs.Known.{Far, AreNamed, LocalsKnown, known}
 use Rattle.ir_print_law.proofs.Needs.{TypesRead}
-use Rattle.ir_print_law.proofs.OpNeeds.{OpsRead, far_set}
+use Rattle.ir_print_law.proofs.OpNeeds.{begins_body_line, EndsOp, OpsRead, far_set}
 
 -- ---- types
 
@@ -39,6 +43,23 @@ types_given m = record {
 }
 
 -- ---- instructions
+
+line_of : (x : Kind) → begins_body_line x ≡ true → ends_line x ≡ true
+line_of k.LocalName e = refl
+line_of k.LocalNumber e = refl
+line_of k.Call e = refl
+line_of k.Store e = refl
+line_of k.Ret e = refl
+line_of k.Br e = refl
+line_of k.Switch e = refl
+line_of k.Unreachable e = refl
+line_of k.LabelName e = refl
+line_of k.LabelNumber e = refl
+line_of k.CloseBrace e = refl
+line_of _ e = absurd cc
+
+line_ends : (rest : Text) → EndsOp rest → EndsLine rest
+line_ends rest ends = (ends.0, λ i at. line_of (kind i.cursor) (ends.1 i at))
 
 value_sort : (sort : LocalSort) → parts.IsValueSort sort → IsValueSort sort
 value_sort local.Unknown e = absurd cc
@@ -60,9 +81,9 @@ module _ (m : Module) (f : Function) (named : AreNamed m f) where
   pub ops_given : OpsRead m f named
   ops_given = record {
     phi_read = λ x key value far i gap rest own pending there apart blanks ends ready.
-        phi_reads (known m f named far) (known m f named (far_set key far)) x value i gap rest 0 own (sets key value far pending there apart) ends blanks ready;
+        phi_reads (known m f named far) (known m f named (far_set key far)) x value i gap rest 0 own (sets key value far pending there apart) (line_ends rest ends) blanks ready;
     named_read = λ x key value far site i gap rest own gives pending there apart blanks ends ready.
-        named_op_reads (known m f named far) (known m f named (far_set key far)) site value x i gap rest 0 blanks own gives (sets key value far pending there apart) ends ready;
-    plain_read = λ x far site i gap rest own gives blanks ends ready. plain_reads (known m f named far) site x i gap rest 0 blanks own gives ends ready;
-    end_read = λ x far i gap rest own blanks ends ready. end_reads (known m f named far) x i gap rest 0 own blanks ends ready;
+        named_op_reads (known m f named far) (known m f named (far_set key far)) site value x i gap rest 0 blanks own gives (sets key value far pending there apart) (line_ends rest ends) ready;
+    plain_read = λ x far site i gap rest own gives blanks ends ready. plain_reads (known m f named far) site x i gap rest 0 blanks own gives (line_ends rest ends) ready;
+    end_read = λ x far i gap rest own blanks ends ready. end_reads (known m f named far) x i gap rest 0 own blanks (line_ends rest ends) ready;
   }

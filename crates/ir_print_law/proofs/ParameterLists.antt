@@ -194,18 +194,18 @@ module _ (m : Module) (f : Function) (named : AreNamed m f) (types : TypesRead m
   abbrev from_type : Parameter → (sep : Text) → Text
   from_type p sep = type_text m p.written ++ 32 ∷ 37 ∷ (key_text (parameter_key f.locals p) ++ sep)
 
-  one_after : (p : Parameter) (sep : Text) → parameter_text m f.locals p ++ sep ≡ from_type p sep
-  one_after p sep = append_assoc (type_text m p.written) (32 ∷ local_text f.locals p.value) sep
+  one_behind : (p : Parameter) (sep : Text) → parameter_text m f.locals p ++ sep ≡ from_type p sep
+  one_behind p sep = append_assoc (type_text m p.written) (32 ∷ local_text f.locals p.value) sep
 
-  more_after : (p : Parameter) (ps : List Parameter) (rest : Text) → behind_first (p ∷ ps) rest ≡ 44 ∷ 32 ∷ from_type p (behind_first ps rest)
-  more_after p ps rest =
+  more_behind : (p : Parameter) (ps : List Parameter) (rest : Text) → behind_first (p ∷ ps) rest ≡ 44 ∷ 32 ∷ from_type p (behind_first ps rest)
+  more_behind p ps rest =
       append_assoc (codes ", " ++ parameter_text m f.locals p) (flat_map (λ (p : Parameter). codes ", " ++ parameter_text m f.locals p) ps) (41 ∷ rest)
-      ∙ append_assoc (codes ", ") (parameter_text m f.locals p) (behind_first ps rest) ∙ ap (λ (t : Text). 44 ∷ 32 ∷ t) (one_after p (behind_first ps rest))
+      ∙ append_assoc (codes ", ") (parameter_text m f.locals p) (behind_first ps rest) ∙ ap (λ (t : Text). 44 ∷ 32 ∷ t) (one_behind p (behind_first ps rest))
 
-  seam_after : (ps : List Parameter) (rest : Text) → IsSeam (behind_first ps rest)
+  seam_behind : (ps : List Parameter) (rest : Text) → IsSeam (behind_first ps rest)
   unfolding class_of
-  seam_after [] rest = refl
-  seam_after (p ∷ ps) rest = refl
+  seam_behind [] rest = refl
+  seam_behind (p ∷ ps) rest = refl
 
   abbrev pub ParametersGo : List Parameter → (more : List Text) → Far → Input → (rest : Text) → Type 0
   ParametersGo ps more far i rest =
@@ -239,7 +239,7 @@ module _ (m : Module) (f : Function) (named : AreNamed m f) (types : TypesRead m
   further_go x (p ∷ ps) more far i gap rest are keys steady room few blanks ready =
       let behind = from_type p (behind_first ps rest) in
       let name_bytes = 32 ∷ 37 ∷ (key_text (parameter_key f.locals p) ++ behind_first ps rest) in
-      let here = subst (λ (t : Text). Ready (known m f named far) 0 i (gap ++ from_type x t)) (more_after p ps rest) ready in
+      let here = subst (λ (t : Text). Ready (known m f named far) 0 i (gap ++ from_type x t)) (more_behind p ps rest) ready in
       let one = parameter_goes x (map (parameter_key f.locals) (p ∷ ps) ++ more) far i gap (44 ∷ 32 ∷ behind) (32 ∷ behind) are.0 keys.0 steady (omega (arith, room)) few blanks refl
       (λ now. comma_separates now are.1.0.0 p.written name_bytes are.1.0.1 refl) here in
       let q = one.1 in
@@ -264,5 +264,5 @@ module _ (m : Module) (f : Function) (named : AreNamed m f) (types : TypesRead m
   parameters_go [] more far i rest are keys steady room few ready =
       ([], i, far, (at_close i rest ready.stands, refl), ready, widens_itself i, onward_itself far more steady, λ n others later. tt)
   parameters_go (x ∷ ps) more far i rest are keys steady room few ready =
-      let e = append_assoc (parameter_text m f.locals x) (flat_map (λ (p : Parameter). codes ", " ++ parameter_text m f.locals p) ps) (41 ∷ rest) ∙ one_after x (behind_first ps rest) in
+      let e = append_assoc (parameter_text m f.locals x) (flat_map (λ (p : Parameter). codes ", " ++ parameter_text m f.locals p) ps) (41 ∷ rest) ∙ one_behind x (behind_first ps rest) in
       further_go x ps more far i [] rest are keys steady room few refl (subst (λ (t : Text). Ready (known m f named far) 0 i t) e ready)

@@ -11,7 +11,7 @@ use Rattle.ir_tokens.specs.declared.token.Kind.{Kind}
 use Rattle.ir_tokens.specs.declared.token.Kind.TheVariants as k
 use Rattle.ir_tokens.specs.Bytes.{Text, class_of}
 use Rattle.ir_tokens.specs.Keywords.{word_kind, keywords}
-use Rattle.ir_forms.specs.Cursor.{kind, kind_after, kind_third, next, same_kind}
+use Rattle.ir_forms.specs.Cursor.{kind, kind_behind, kind_third, next, same_kind}
 use Rattle.ir_forms.specs.Place.{Place}
 use Rattle.ir_forms.specs.declared.input.Input.{Input}
 use Rattle.ir_forms.specs.Choices.{is_local, begins_phi, at_no_phi, phi_value, phi_value_by, phi}
@@ -31,12 +31,11 @@ use Rattle.ir_print_law.proofs.InnerLines.{far_result}
 use Rattle.ir_print_law.proofs.Known.{Far, AreNamed, known, is_last}
 use Rattle.ir_print_law.proofs.NamesRead.{digits_text, name_key_text}
 use Rattle.ir_print_law.proofs.NewValues.{IsNext, unnamed_then, far_value, value_by, value_goes, kind_then}
-use Rattle.ir_print_law.proofs.OpNeeds.{OpsRead, phi_rest}
+use Rattle.ir_print_law.proofs.OpNeeds.{begins_body_line, EndsOp, OpsRead, phi_rest}
 use Rattle.ir_print_law.proofs.Parts.{IsLaterAgain}
 use Rattle.ir_print_law.proofs.Steady.{Steady, Onward, onward_itself, onward_further, next_key, steady_value}
 use Rattle.ir_print_law.proofs.WholeForms.{Widens, widens_itself, widens_further, grows_widens, Leads, later_widened}
 use Rattle.ir_print_law.proofs.Words.{word_comes, sign_comes, local_comes, local_number_comes}
-use Rattle.ir_print_law.proofs.ArgumentsAgain.{EndsLine, ends_line}
 
 -- ---- with which tokens a phi begins
 
@@ -66,7 +65,7 @@ other_word x y z e = both (is_local x) (same_kind y k.Equals) (same_kind z k.Phi
 
 -- another token than a local name
 pub no_local : (i : Input) → is_local (kind i.cursor) ≡ false → begins_phi i ≡ false
-no_local i e = ap (λ (a : Bool). a && (same_kind (kind_after i.cursor) k.Equals && same_kind (kind_third i.cursor) k.Phi)) e
+no_local i e = ap (λ (a : Bool). a && (same_kind (kind_behind i.cursor) k.Equals && same_kind (kind_third i.cursor) k.Phi)) e
 
 -- no phi begins where these bytes come next
 abbrev pub BeginsNoPhi : Text → Type 0
@@ -81,17 +80,17 @@ phi_line_is m locals x rest = front (local_text locals x.value) (type_text m x.w
 -- a phi begins there
 phi_begins : (m : Module) (locals : List Text) (x : Phi) (i : Input) (rest : Text) → IsKey (name_at locals x.value) → Stands i.cursor (10 ∷ (phi_line m locals x ++ rest))
     → IsLocalKind (kind i.cursor) × (begins_phi i ≡ true)
-unfolding class_of word_kind keywords kind kind_after kind_third next
+unfolding class_of word_kind keywords kind kind_behind kind_third next
 phi_begins m locals x i rest own at =
     let at = subst (λ (t : Text). Stands i.cursor (10 ∷ t)) (phi_line_is m locals x rest) at in
     let a = local_passed i.cursor (10 ∷ 32 ∷ 32 ∷ []) (name_at locals x.value) (32 ∷ phi_rest m locals x (10 ∷ rest)) own refl refl at in
     let b = sign_comes (next i.cursor) (32 ∷ []) 61 _ k.Equals refl refl refl a.1 in
     let c = word_comes (next (next i.cursor)) (32 ∷ []) (codes "phi") _ refl refl refl b.3 in
-    (a.0, three_tokens (kind i.cursor) (kind_after i.cursor) (kind_third i.cursor) a.0 b.0 c.0)
+    (a.0, three_tokens (kind i.cursor) (kind_behind i.cursor) (kind_third i.cursor) a.0 b.0 c.0)
 
-local_line : (x : Kind) → IsLocalKind x → ends_line x ≡ true
-local_line x (inl e) = ap ends_line e
-local_line x (inr e) = ap ends_line e
+local_line : (x : Kind) → IsLocalKind x → begins_body_line x ≡ true
+local_line x (inl e) = ap begins_body_line e
+local_line x (inr e) = ap begins_body_line e
 
 -- a token ends before a new line
 pub seam_line : (rest : Text) → IsSeam (10 ∷ rest)
@@ -111,7 +110,7 @@ module _ (m : Module) (f : Function) (named : AreNamed m f) (ops : OpsRead m f n
   IsOneRead far more x y now o = Onward far now (phi_key f.locals x ∷ []) [] more × IsLaterAgain (λ n others. IsPhiAgain m n f.locals others) x y o
 
   one_goes : (x : Phi) (more : List Text) (far : Far) (i : Input) (rest : Text) → IsPhi m f x → Steady far (phi_key f.locals x ∷ more) → length far.values + 1 ≤ 1000000 → length far.labels ≤ 65535
-      → EndsLine (10 ∷ rest) → Ready (known m f named far) 0 i (10 ∷ (phi_line m f.locals x ++ rest)) → Leads m f named 0 phi i (10 ∷ rest) (IsOneRead far more x)
+      → EndsOp (10 ∷ rest) → Ready (known m f named far) 0 i (10 ∷ (phi_line m f.locals x ++ rest)) → Leads m f named 0 phi i (10 ∷ rest) (IsOneRead far more x)
   unfolding phi class_of
   one_goes x more far i rest own steady room blocks ends ready =
       let key = name_at f.locals x.value in
@@ -150,7 +149,7 @@ module _ (m : Module) (f : Function) (named : AreNamed m f) (ops : OpsRead m f n
   phi_lines xs = flat_map (phi_line m f.locals) xs
 
   -- the next line is one of a phi, or what follows the phis
-  pub phis_end : (xs : List Phi) (rest : Text) → AllByRecursion IsKey (map (phi_key f.locals) xs) → EndsLine (10 ∷ rest) → EndsLine (10 ∷ (phi_lines xs ++ rest))
+  pub phis_end : (xs : List Phi) (rest : Text) → AllByRecursion IsKey (map (phi_key f.locals) xs) → EndsOp (10 ∷ rest) → EndsOp (10 ∷ (phi_lines xs ++ rest))
   phis_end [] rest keys ends = ends
   phis_end (x ∷ xs) rest keys ends = (
     seam_line (phi_lines (x ∷ xs) ++ rest),
@@ -164,7 +163,7 @@ module _ (m : Module) (f : Function) (named : AreNamed m f) (ops : OpsRead m f n
       × Onward far now (map (phi_key f.locals) xs) [] more × IsLaterAgain (λ n others. AreAlike (IsPhiAgain m n f.locals others)) xs ys o
 
   pub phis_go : (xs : List Phi) (more : List Text) (far : Far) (i : Input) (rest : Text) → AllByRecursion (IsPhi m f) xs → AllByRecursion IsKey (map (phi_key f.locals) xs)
-      → Steady far (map (phi_key f.locals) xs ++ more) → length far.values + length xs ≤ 1000000 → length far.labels ≤ 65535 → EndsLine (10 ∷ rest) → BeginsNoPhi (10 ∷ rest)
+      → Steady far (map (phi_key f.locals) xs ++ more) → length far.values + length xs ≤ 1000000 → length far.labels ≤ 65535 → EndsOp (10 ∷ rest) → BeginsNoPhi (10 ∷ rest)
       → Ready (known m f named far) 0 i (10 ∷ (phi_lines xs ++ rest)) → PhisGo xs more far i rest
   phis_go [] more far i rest own keys steady room blocks ends none ready =
       ([], i, far, (ap not (none i ready.stands), refl), ready, widens_itself i, onward_itself far more steady, λ n others later. tt)

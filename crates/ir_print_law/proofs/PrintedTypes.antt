@@ -7,7 +7,6 @@ use Rattle.ir_print_law.proofs.Named.{place_name}
 use Rattle.grammar.specs.Grammar.{pure, checked, ◌>>=◌, ◌>>◌}
 use Rattle.ir_ast.specs.declared.function.Function.{Function}
 use Rattle.ir_ast.specs.declared.ir_type.IrType.{IrType}
-use Rattle.ir_ast.specs.declared.ir_type.IrType.TheVariants as type
 use Rattle.ir_ast.specs.declared.module.Module.{Module}
 use Rattle.ir_tokens.specs.declared.token.Kind.TheVariants as k
 use Rattle.ir_tokens.specs.Bytes.{Text}
@@ -31,11 +30,6 @@ use Rattle.ir_print_law.proofs.Types.{EndsType}
 use Rattle.ir_print_law.proofs.WholeTypes.{claims, braced_reads}
 
 -- ---- a type is printed as its shape is shown
-
--- how `void` is printed
-pub void_shown : (n : Module) (t : ℕ) → slice_get n.types t ≡ Some type.Void → type_text n t ≡ codes "void"
-unfolding type_within
-void_shown n t e = ap (type_by (type_within 63 n) n) e
 
 module _ (n : Module) where
   -- a type of this shape is printed so

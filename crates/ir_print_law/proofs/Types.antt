@@ -16,7 +16,7 @@ use Rattle.ir_tokens.specs.declared.token.Kind.{Kind}
 use Rattle.ir_tokens.specs.declared.token.Kind.TheVariants as k
 use Rattle.ir_tokens.specs.Bytes.{Text, class_of, is_digit}
 use Rattle.ir_forms.specs.Cursor.{kind, sees, spelled, spelling, left_out}
-use Rattle.ir_forms.specs.Literals as literals
+use Rattle.ir_forms.specs.Number as numbers
 use Rattle.ir_forms.specs.declared.input.Input.{Input}
 use Rattle.ir_forms.specs.declared.written.Base.{Base}
 use Rattle.ir_forms.specs.declared.written.Base.TheVariants as base
@@ -66,8 +66,8 @@ name_text_some name = by name (is_plain name) refl where
   by (b ∷ name) true e = omega arith
 
 -- digits spell their number
-natural_of : (digits : Text) (n : ℕ) → AreDigits digits → literals.decimal digits ≡ n → n < 2 ^ 64 → literals.natural digits ≡ Some n
-unfolding literals.natural
+natural_of : (digits : Text) (n : ℕ) → AreDigits digits → numbers.decimal digits ≡ n → n < 2 ^ 64 → numbers.natural digits ≡ Some n
+unfolding numbers.natural
 natural_of [] n own is less = absurd (let h = own.0 in omega (arith, h))
 natural_of (b ∷ digits) n own is less =
     let minus = no_minus b (and_parts (is_digit b) (list_all is_digit digits) own.1).0 in
@@ -75,7 +75,7 @@ natural_of (b ∷ digits) n own is less =
     rw (minus, is, small) refl
 
 -- a printed length spells that length
-natural_is : (n : ℕ) → n < 2 ^ 64 → literals.natural (text.decimal n) ≡ Some n
+natural_is : (n : ℕ) → n < 2 ^ 64 → numbers.natural (text.decimal n) ≡ Some n
 natural_is n less = natural_of (text.decimal n) n (are_digits n less) (number_is n less) less
 
 module _ {m : Module} {f : Function} (v : Invariant m f) where
@@ -238,5 +238,5 @@ module _ {m : Module} {f : Function} (v : Invariant m f) where
   pub length_said : (count : ℕ) (i : Input) → count < 2 ^ 64 → kind i.cursor ≡ k.Number → spelling i.cursor ≡ text.decimal count → w.array_length.says i count (advanced i)
   unfolding w.array_length w.length_at
   length_said count i less is spelled_so =
-      let e : w.length_at i ≡ Some count = ap literals.natural spelled_so ∙ natural_is count less in
+      let e : w.length_at i ≡ Some count = ap numbers.natural spelled_so ∙ natural_is count less in
       (tt, i, (tt, i, (seen k.Number i is, refl), (ap is_some e, refl)), (ap (λ x. unwrap_or x 0) e, refl))

@@ -12,7 +12,7 @@ use Rattle.ir_tokens.specs.declared.token.Kind.{Kind}
 use Rattle.ir_tokens.specs.declared.token.Kind.TheVariants as k
 use Rattle.ir_forms.specs.declared.fault.Fault.TheVariants.{OutOfRange}
 use Rattle.ir_forms.specs.Cursor.{start, kind, spelling}
-use Rattle.ir_forms.specs.Literals as literals
+use Rattle.ir_forms.specs.Number as numbers
 use Rattle.ir_forms.specs.declared.input.Input.{Input}
 use Rattle.ir_forms.specs.declared.written.Base.{Base}
 use Rattle.ir_forms.specs.declared.written.Base.TheVariants as base
@@ -162,26 +162,26 @@ module _ {m : Module} (r : Reading m) where
 
   -- ---- arrays
 
-  small_less : (n : ℕ) → unwrap_or (literals.small n) 0 < 2 ^ 64
+  small_less : (n : ℕ) → unwrap_or (numbers.small n) 0 < 2 ^ 64
   small_less n = by (nat_lt n 18446744073709551616) refl where
     by : (t : Bool) → nat_lt n 18446744073709551616 ≡ t → unwrap_or (if t then Some n else None) 0 < 2 ^ 64
     by true less = grind (arith, nat_tests)
     by false less = omega arith
 
-  opposite_less : (x : Option ℕ) → unwrap_or (option_and_then literals.not_below_zero x) 0 < 2 ^ 64
+  opposite_less : (x : Option ℕ) → unwrap_or (option_and_then numbers.not_below_zero x) 0 < 2 ^ 64
   opposite_less None = omega arith
   opposite_less (Some n) = by (n == 0) where
     by : (t : Bool) → unwrap_or (if t then Some 0 else None) 0 < 2 ^ 64
     by true = omega arith
     by false = omega arith
 
-  natural_less : (s : List ℕ) → unwrap_or (literals.natural s) 0 < 2 ^ 64
-  unfolding literals.natural
-  natural_less [] = small_less (literals.decimal [])
+  natural_less : (s : List ℕ) → unwrap_or (numbers.natural s) 0 < 2 ^ 64
+  unfolding numbers.natural
+  natural_less [] = small_less (numbers.decimal [])
   natural_less (byte ∷ digits) = by (byte == 45) where
-    by : (t : Bool) → unwrap_or (if t then option_and_then literals.not_below_zero (literals.small (literals.decimal digits)) else literals.small (literals.decimal (byte ∷ digits))) 0 < 2 ^ 64
-    by true = opposite_less (literals.small (literals.decimal digits))
-    by false = small_less (literals.decimal (byte ∷ digits))
+    by : (t : Bool) → unwrap_or (if t then option_and_then numbers.not_below_zero (numbers.small (numbers.decimal digits)) else numbers.small (numbers.decimal (byte ∷ digits))) 0 < 2 ^ 64
+    by true = opposite_less (numbers.small (numbers.decimal digits))
+    by false = small_less (numbers.decimal (byte ∷ digits))
 
   length_keeps : (i : Input) → Keeps r.Fore (Same r.Fore) r.Back array_length (λ n. n < 2 ^ 64) i
   unfolding array_length length_at

@@ -50,20 +50,20 @@ fields_stay most (Array count part) ps i o g h = absurd h
 fields_stay most (Named name) ps i o g h = absurd h
 
 -- the forms after the parts of an array
-abbrev square_after : ℕ → WrittenType → Form WrittenType
-square_after n p = w.interned base.Aggregate p.room (type.Array n p.id)
+abbrev square_behind : ℕ → WrittenType → Form WrittenType
+square_behind n p = w.interned base.Aggregate p.room (type.Array n p.id)
 
 -- after the part of an array its bracket closes
-abbrev part_after : ℕ → WrittenType → Form WrittenType
-part_after n p = expect k.CloseSquare >> square_after n p
+abbrev part_behind : ℕ → WrittenType → Form WrittenType
+part_behind n p = expect k.CloseSquare >> square_behind n p
 
 -- after the `x` of an array comes its part
-abbrev x_after : (room n : ℕ) → Form WrittenType
-x_after room n = part room >>= part_after n
+abbrev x_behind : (room n : ℕ) → Form WrittenType
+x_behind room n = part room >>= part_behind n
 
 -- after the length of an array comes an `x`
-abbrev length_after : (room n : ℕ) → Form WrittenType
-length_after room n = expect k.X >> x_after room n
+abbrev length_behind : (room n : ℕ) → Form WrittenType
+length_behind room n = expect k.X >> x_behind room n
 
 -- a bracket ends a type
 ends_square : (behind : Text) → EndsType (93 ∷ behind)
@@ -129,10 +129,10 @@ module _ {m : Module} {f : Function} (v : Invariant m f) where
       → Ready v s i (shown true shape ++ (codes " }" ++ rest)) → FieldsRead n shape p s i rest
 
   -- a token ends before stars
-  seam_after : (count : ℕ) (rest : Text) → IsSeam rest → IsSeam (stars count ++ rest)
+  seam_behind : (count : ℕ) (rest : Text) → IsSeam rest → IsSeam (stars count ++ rest)
   unfolding class_of
-  seam_after zero rest seam = seam
-  seam_after (suc count) rest seam = refl
+  seam_behind zero rest seam = seam
+  seam_behind (suc count) rest seam = refl
 
   -- ---- arrays
 
@@ -146,20 +146,20 @@ module _ {m : Module} {f : Function} (v : Invariant m f) where
       let t = shown false shape in
       let ready : Ready v s i (gap ++ 91 ∷ (text.decimal count ++ (codes " x " ++ (shown false shape ++ 93 ∷ behind)))) = simp append_assoc at ready in
       looked v (λ i. kind i.cursor) (w.base_by room (firm room)) i behind s good k.OpenSquare (sign_kind v 91 k.OpenSquare i gap _ s blanks refl refl ready)
-      (go_on v skip (λ _. w.array_after (firm room)) i (text.decimal count ++ (codes " x " ++ (shown false shape ++ 93 ∷ behind))) behind (s + 1) s (λ _ o. advanced i ≡ o) good
+      (go_on v skip (λ _. w.array_behind (firm room)) i (text.decimal count ++ (codes " x " ++ (shown false shape ++ 93 ∷ behind))) behind (s + 1) s (λ _ o. advanced i ≡ o) good
       (sign_skipped v 91 k.OpenSquare i gap _ s (s + 1) blanks refl refl (omega arith) ready)
       (λ _ o ready g e.
       let c = number_comes o.cursor [] (text.decimal count) (codes " x " ++ (shown false shape ++ 93 ∷ behind)) refl (are_digits count less) refl ready.stands in
-      token_then v w.array_length (length_after room) o count (text.decimal count ++ (codes " x " ++ (shown false shape ++ 93 ∷ behind))) (codes " x " ++ (shown false shape ++ 93 ∷ behind)) behind (s + 1) (s + 1) s good
+      token_then v w.array_length (length_behind room) o count (text.decimal count ++ (codes " x " ++ (shown false shape ++ 93 ∷ behind))) (codes " x " ++ (shown false shape ++ 93 ∷ behind)) behind (s + 1) (s + 1) s good
       (length_said v count o less c.0 c.1) ready c.3 (shorter v [] (text.decimal count) _ (s + 1) (s + 1) (omega arith))
       (λ ready.
-      go_on v (expect k.X) (λ _. x_after room count) (advanced o) (32 ∷ (shown false shape ++ 93 ∷ behind)) behind (s + 1) s (λ _ q. advanced (advanced o) ≡ q) good
+      go_on v (expect k.X) (λ _. x_behind room count) (advanced o) (32 ∷ (shown false shape ++ 93 ∷ behind)) behind (s + 1) s (λ _ q. advanced (advanced o) ≡ q) good
       (word_reads v (codes "x") (advanced o) (32 ∷ []) (32 ∷ (shown false shape ++ 93 ∷ behind)) (s + 1) (s + 1) refl refl refl (omega arith) ready)
       (λ _ o ready g e.
-      go_on v (part room) (part_after count) o (93 ∷ behind) behind (s + 1) s (IsTypeRead shape room) good
+      go_on v (part room) (part_behind count) o (93 ∷ behind) behind (s + 1) s (IsTypeRead shape room) good
       (claim 0 room o (32 ∷ []) (93 ∷ behind) (s + 1) own (omega (arith, le)) refl (ends_square behind) ready)
       (λ p o ready g read.
-      go_on v (expect k.CloseSquare) (λ _. square_after count p) o behind behind (s + 1) s (λ _ q. advanced o ≡ q) good
+      go_on v (expect k.CloseSquare) (λ _. square_behind count p) o behind behind (s + 1) s (λ _ q. advanced o ≡ q) good
       (sign_reads v 93 k.CloseSquare o [] behind (s + 1) (s + 1) refl refl refl (omega arith) ready)
       (λ _ q ready h e.
       let fits = read.fits in
@@ -271,7 +271,7 @@ module _ {m : Module} {f : Function} (v : Invariant m f) where
   unfolding class_of
   empty_braced room i gap behind s blanks ready =
       let good = IsTypeRead Empty (suc room) in
-      go_on v skip (λ _. w.fields_after room (firm room)) i (125 ∷ behind) behind s s (λ _ o. advanced i ≡ o) good
+      go_on v skip (λ _. w.fields_behind room (firm room)) i (125 ∷ behind) behind s s (λ _ o. advanced i ≡ o) good
       (sign_skipped v 123 k.OpenBrace i gap (125 ∷ behind) s s blanks refl refl (omega arith) ready)
       (λ _ o ready g e.
       let closes = seen k.CloseBrace o (sign_kind v 125 k.CloseBrace o [] behind s refl refl refl ready) in
@@ -293,7 +293,7 @@ module _ {m : Module} {f : Function} (v : Invariant m f) where
   struct_braced first others room i gap behind s claim more own le blanks ready =
       let good = IsTypeRead (Struct first others) (suc room) in
       let ends = ends_field others behind own.0 in
-      go_on v skip (λ _. w.fields_after room (firm room)) i (32 ∷ (shown false first ++ (shown true others ++ (codes " }" ++ behind)))) behind (s + 1) s (λ _ o. advanced i ≡ o) good
+      go_on v skip (λ _. w.fields_behind room (firm room)) i (32 ∷ (shown false first ++ (shown true others ++ (codes " }" ++ behind)))) behind (s + 1) s (λ _ o. advanced i ≡ o) good
       (sign_skipped v 123 k.OpenBrace i gap _ s (s + 1) blanks refl refl (omega arith) ready)
       (λ _ o ready g e.
       let b = claim 0 room o (32 ∷ []) (shown true others ++ (codes " }" ++ behind)) (s + 1) own.1 (omega (arith, le)) refl ends ready in
@@ -329,12 +329,12 @@ module _ {m : Module} {f : Function} (v : Invariant m f) where
     by : PartClaim (Integer bits)
     by count zero i gap rest s own le blanks ends ready = absurd (no_levels (Integer bits) count le)
     by count (suc room) i gap rest s own le blanks ends ready =
-        over_read v count room (Integer bits) i rest s refl le ends (integer_read v bits room i gap (stars count ++ rest) s own.0 own.1 blanks (seam_after count rest ends.0) ready)
+        over_read v count room (Integer bits) i rest s refl le ends (integer_read v bits room i gap (stars count ++ rest) s own.0 own.1 blanks (seam_behind count rest ends.0) ready)
   claims (Named name) = (by, λ n i rest s p own is le ready. absurd is) where
     by : PartClaim (Named name)
     by count zero i gap rest s own le blanks ends ready = absurd (no_levels (Named name) count le)
     by count (suc room) i gap rest s own le blanks ends ready =
-        over_read v count room (Named name) i rest s refl le ends (named_read v name room i gap (stars count ++ rest) s own.0 own.1 blanks (seam_after count rest ends.0) ready)
+        over_read v count room (Named name) i rest s refl le ends (named_read v name room i gap (stars count ++ rest) s own.0 own.1 blanks (seam_behind count rest ends.0) ready)
   claims Empty = (by, no_field_read) where
     by : PartClaim Empty
     by count zero i gap rest s own le blanks ends ready = absurd (no_levels Empty count le)

@@ -1,11 +1,11 @@
 //! Numbers as they are written.
 ghost use Rattle.std.specs.Prelude.{◌≡◌, ◌≤◌};
-ghost use Rattle.ir_forms.specs.Literals as spec;
+ghost use Rattle.ir_forms.specs.Number as spec;
 
 use name_text::decimal;
 
 /// The number that a length spells, if it is at least 0 and below 2 to the 64.
-#[tactic(auto, unfolding(crate::specs::Literals::natural))]
+#[tactic(auto, unfolding(crate::specs::Number::natural))]
 pub fn natural(spelling: &[u8]) -> Option<u64>
     ensures { result ≡ spec.natural spelling.now }
 {
@@ -31,7 +31,7 @@ fn half_of(bits: u32) -> u64
 }
 
 /// The number that a constant of `bits` bits spells; a negative one is counted down from 2 to the bits.
-#[tactic(auto, unfolding(crate::specs::Literals::constant))]
+#[tactic(auto, unfolding(crate::specs::Number::constant))]
 pub fn constant(spelling: &[u8], bits: u32) -> Option<u64>
     ensures { result ≡ spec.constant spelling.now bits }
 {
