@@ -97,8 +97,8 @@ refuses words error (Err fault) kind is = subst (IsRefusalOf words) (sym is) (is
 
 -- the name and the rows of what was entered, from each of them
 name_and_rows : {X : Type 0} (name_in : X → Text) (rows_in : X → List Row) (entered : Option X) (name : Text) (rows : List Row)
-    → Some name ≡ option_map name_in entered → Some rows ≡ option_map (λ p. p.1) (option_map (λ x. (name_in x, rows_in x)) entered)
-    → option_map (λ x. (name_in x, rows_in x)) entered ≡ Some (name, rows)
+    → Some name ≡ option_map name_in entered → Some rows ≡ option_map (λ (p : Text × List Row). p.1) (option_map {U = Text × List Row} (λ x. (name_in x, rows_in x)) entered)
+    → option_map {U = Text × List Row} (λ x. (name_in x, rows_in x)) entered ≡ Some (name, rows)
 name_and_rows name_in rows_in None name rows named given = absurd cc
 name_and_rows name_in rows_in (Some x) name rows named given =
     let name_is : name ≡ name_in x = ap (λ o. unwrap_or o name) named in
@@ -107,7 +107,7 @@ name_and_rows name_in rows_in (Some x) name rows named given =
 
 -- the words ask for what the subcommand with its rows asks for
 pub asked_from : (words : List Text) (m : ArgMatches) (name : Text) (rows : List Row) (asked : Option Asked)
-    → subcommand_rows_of m ≡ subcommand_of dgc_app words → Some name ≡ subcommand_name_of m → Some rows ≡ option_map (λ p. p.1) (subcommand_rows_of m)
+    → subcommand_rows_of m ≡ subcommand_of dgc_app words → Some name ≡ subcommand_name_of m → Some rows ≡ option_map (λ (p : Text × List Row). p.1) (subcommand_rows_of m)
     → asked ≡ asked_of (Some (name, rows)) → asked_in words ≡ asked
 asked_from words m name rows asked of_words named given gives =
     let entered : subcommand_rows_of m ≡ Some (name, rows) =

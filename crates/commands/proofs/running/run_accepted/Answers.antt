@@ -1,4 +1,4 @@
-use Rattle.std.proofs.Common.{refl, subst}
+use Rattle.std.proofs.Common.{refl, rules, subst}
 use Rattle.std.proofs.lemmas.Result.{IfOk-weaker}
 use Rattle.layout.specs.Layouts.{LaidOut}
 use Rattle.trace_text.specs.Traces.{IsTraceOf}
@@ -8,7 +8,7 @@ use Rattle.commands.proofs.running.run_accepted.Goals as goal
 
 pub run_threads-status-requires : goal.run_threads-status-requires
 run_threads-status-requires g c =
-    (c.type_bounds.sync-rt, subst (λ (p : LaidOut). IsTraceOf p c.in-Ok.trace) c.program.ensures.program c.in-Ok.ensures.of_program)
+    (search rules, subst (λ (p : LaidOut). IsTraceOf p c.in-Ok.trace) c.program.ensures.program c.in-Ok.ensures.of_program)
 
 pub returns-in-Ok : goal.returns-in-Ok
 returns-in-Ok g c =
