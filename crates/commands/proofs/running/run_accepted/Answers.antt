@@ -8,7 +8,7 @@ use Rattle.commands.proofs.running.run_accepted.Goals as goal
 
 pub run_threads-status-requires : goal.run_threads-status-requires
 run_threads-status-requires g c =
-    (search rules, subst (λ (p : LaidOut). IsTraceOf p c.in-Ok.trace) c.program.ensures.program c.in-Ok.ensures.of_program)
+    (c.type_bounds.sync-typeof-rt, subst (λ (p : LaidOut). IsTraceOf p c.in-Ok.trace) c.program.ensures.program c.in-Ok.ensures.of_program)
 
 pub returns-in-Ok : goal.returns-in-Ok
 returns-in-Ok g c =
