@@ -18,6 +18,7 @@ const TWO_FUNCTIONS: &str =
 const TWO_CERTIFICATES: &str = "cert 1\nfunction @f none\nend\nfunction @g none\nend\n";
 
 /// Holds up the check of the first function until that of the second has begun.
+#[derive(Drop)]
 struct Meeting {
     has_second_begun: AtomicBool,
     have_met: AtomicBool,
