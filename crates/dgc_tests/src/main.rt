@@ -15,6 +15,8 @@ mod failure;
 #[cfg(test)]
 mod machine_tests;
 #[cfg(test)]
+mod meeting;
+#[cfg(test)]
 mod mutator_tests;
 mod printed;
 #[cfg(test)]

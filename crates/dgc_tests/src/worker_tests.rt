@@ -1,45 +1,18 @@
 //! Checks by workers: they check at the same time, and what is found does not depend on how many they are.
+use crate::meeting::Meeting;
 use crate::texts::{HEAD, joined};
 use certificate::read_cert;
 use commands::{STATUS_NO, STATUS_YES, line, status_of, work};
 use ir_text::read;
-use parallel_check::{Gate, check_with};
+use parallel_check::check_with;
 use std::alloc::{AllocError, Global};
-use std::sync::atomic::{AtomicBool, Ordering};
 use std::test::Fail;
 use std::thread::Threads;
-
-/// How often the check of the first function looks whether that of the second has begun.
-const TURNS: u32 = 100_000_000;
 
 const TWO_FUNCTIONS: &str =
     "define void @f() {\nentry:\n  ret void\n}\ndefine void @g() {\nentry:\n  ret void\n}\n";
 
 const TWO_CERTIFICATES: &str = "cert 1\nfunction @f none\nend\nfunction @g none\nend\n";
-
-/// Holds up the check of the first function until that of the second has begun.
-#[derive(Drop)]
-struct Meeting {
-    has_second_begun: AtomicBool,
-    have_met: AtomicBool,
-}
-
-impl Gate for Meeting {
-    fn before(&self, piece: usize) {
-        if piece == 1 {
-            self.has_second_begun.store(true, Ordering::SeqCst);
-            return;
-        }
-        for _turn in 0..TURNS {
-            if self.has_second_begun.load(Ordering::SeqCst) {
-                self.have_met.store(true, Ordering::SeqCst);
-                return;
-            }
-        }
-    }
-
-    fn after(&self, _piece: usize) {}
-}
 
 /// Whether two functions are accepted by two workers that pass this gate.
 fn is_accepted_by_two(rt: &(impl Threads + Sync), alloc: Global, gate: &Meeting) -> Option<bool> {
@@ -53,12 +26,9 @@ fn is_accepted_by_two(rt: &(impl Threads + Sync), alloc: Global, gate: &Meeting)
 
 #[test]
 fn two_workers_check_at_the_same_time(rt: HostRuntime) {
-    let gate = Meeting {
-        has_second_begun: AtomicBool::new(false),
-        have_met: AtomicBool::new(false),
-    };
+    let gate = Meeting::of(2);
     assert_eq!(rt; is_accepted_by_two(&rt, rt.alloc(), &gate), Some(true));
-    assert!(rt; gate.have_met.load(Ordering::SeqCst));
+    assert!(rt; gate.is_over());
 }
 
 /// The status and the output of a check of these files by this number of workers, if the standard error has nothing.
