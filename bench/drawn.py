@@ -2,7 +2,7 @@
 
 Each function keeps its references in root slots, and goes through pieces: it claims a cell, links one cell to another with the
 barrier, follows a link, publishes a cell in a global, takes one from there, forgets one, counts in a cell, comes to a safepoint,
-or calls a later function. It does so for ever, or once and returns.
+or calls a later function. It does so for ever, or once and returns. Two more functions return a number and a reference.
 """
 from generate import DECLARED
 
@@ -11,7 +11,24 @@ HEAD = """%Node = type { i64, %Node*, %Node* }
 @g0 = global %Node* null
 @g1 = global %Node* null
 @l = global %Leaf* null
+@n = global i64 7
 """ + DECLARED
+LAST = """define i64 @count(i64 %k) gc "shadow-stack" {
+entry:
+  call void @dg_safepoint()
+  %v = load i64, i64* @n
+  %w = add i64 %v, %k
+  store i64 %w, i64* @n
+  ret i64 %k
+}
+define %Node* @take() gc "shadow-stack" {
+entry:
+  call void @dg_safepoint()
+  %x = load %Node*, %Node** @g0
+  ret %Node* %x
+}
+"""
+LAST_CERT = "function @count may\nend\nfunction @take may\nend\n"
 SLOTS = 3
 
 
@@ -133,7 +150,7 @@ class Function:
         for slot in range(SLOTS):
             self.add(f"%s{slot} = alloca %Node*", f"%r{slot} = bitcast %Node** %s{slot} to i8**", f"call void @llvm.gcroot(i8** %r{slot}, i8* null)")
         chosen = [self.draw.choice(pieces) for _ in range(self.draw.randrange(3, 16))] + [self.safepoint]
-        if not is_endless or self.number + 1 == self.count:
+        if self.draw.random() < 0.6:
             chosen.insert(self.draw.randrange(len(chosen)), self.call)
         self.add("br label %p0")
         for number, piece in enumerate(chosen):
@@ -148,11 +165,13 @@ class Function:
 
 
 def draw_module(draw):
-    """A module and its certificate, and for each function whether it goes on for ever."""
+    """A module and its certificate, and what a thread that begins at a function may print after its number."""
     count = draw.randrange(2, 7)
-    endless = [draw.random() < 0.6 for _ in range(count)]
-    endless[-1] = False
     # a function that is called returns: an endless one comes before those that are called
-    endless.sort(reverse=True)
-    written = [Function(draw, number, count).written(endless[number]) for number in range(count)]
-    return HEAD + "\n".join(text for text, _ in written) + "\n", "cert 1\n" + "\n".join(section for _, section in written) + "\n", endless
+    endless = sorted([draw.random() < 0.6 for _ in range(count - 1)] + [False], reverse=True)
+    written = [Function(draw, number, count).written(is_endless) for number, is_endless in enumerate(endless)]
+    ends = {f"f{number}": "stopped|memory|absent" if is_endless else "returned|stopped|memory|absent" for number, is_endless in enumerate(endless)}
+    ends["count"] = r"returned \d+|stopped|memory|absent"
+    ends["take"] = r"returned (null|ref \d+)|stopped|memory|absent"
+    module = HEAD + "\n".join(text for text, _ in written) + "\n" + LAST
+    return module, "cert 1\n" + "\n".join(section for _, section in written) + "\n" + LAST_CERT, ends

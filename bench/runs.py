@@ -3,8 +3,8 @@
 
     runs.py DGC [--runs R] [--seed S] [--steps N] [--cells C]
 
-Draws R runs: which function each of 1 to 8 threads begins at, which of them are late, how many cells there are, and the
-limits. Each run has to end with status 0, a line for each thread of a form that fits its function, and a line for the
+Draws R runs: the module, which function each of 1 to 8 threads begins at, which of them are late, how many cells there are,
+and the limits. Each run has to end with status 0, a line for each thread of a form that fits its function, and a line for the
 collector within its limit. Then it times `dgc run` of the walkthrough's module, with N instructions a thread over C cells,
 on one, two and four threads. Prints what it found. For use by hand.
 """
@@ -18,88 +18,10 @@ import sys
 import tempfile
 import time
 
-from generate import DECLARED
+from drawn import draw_module
 
 HERE = os.path.dirname(os.path.abspath(__file__))
 SWAP = os.path.join(HERE, "..", "examples", "swap")
-
-ROOT = ("  %s = alloca %Node*\n  %r = bitcast %Node** %s to i8**\n"
-        "  call void @llvm.gcroot(i8** %r, i8* null)\n")
-
-MODULE = """%Node = type { i64, %Node* }
-@g = global %Node* null
-@n = global i64 7
-""" + DECLARED + """define void @spin() gc "shadow-stack" {
-entry:
-""" + ROOT + """  br label %loop
-loop:
-  %a = call i8* @dg_alloc(i32 0)
-  %x = bitcast i8* %a to %Node*
-  store %Node* %x, %Node** %s
-  call void @llvm.gcwrite(i8* %a, i8* null, i8** bitcast (%Node** @g to i8**))
-  call void @dg_safepoint()
-  br label %loop
-}
-define i64 @count(i64 %k) gc "shadow-stack" {
-entry:
-  call void @dg_safepoint()
-  %v = load i64, i64* @n
-  %w = add i64 %v, %k
-  store i64 %w, i64* @n
-  ret i64 %k
-}
-define %Node* @take() gc "shadow-stack" {
-entry:
-  call void @dg_safepoint()
-  %x = load %Node*, %Node** @g
-  ret %Node* %x
-}
-define void @push() gc "shadow-stack" {
-entry:
-""" + ROOT + """  br label %again
-again:
-  call void @dg_safepoint()
-  %a = call i8* @dg_alloc(i32 0)
-  %x = bitcast i8* %a to %Node*
-  %c = icmp eq %Node* %x, null
-  br i1 %c, label %drop, label %link
-drop:
-  call void @llvm.gcwrite(i8* null, i8* null, i8** bitcast (%Node** @g to i8**))
-  br label %again
-link:
-  %p = getelementptr %Node, %Node* %x, i32 0, i32 1
-  %old = load %Node*, %Node** @g
-  store %Node* %old, %Node** %p
-  store %Node* %x, %Node** %s
-  call void @llvm.gcwrite(i8* %a, i8* null, i8** bitcast (%Node** @g to i8**))
-  br label %again
-}
-"""
-
-CERT = """cert 1
-function @spin may
-block %loop
-end
-function @count may
-end
-function @take may
-end
-function @push may
-block %again
-block %drop
-block %link
-%a ref Node nonnull fresh
-%x ref Node nonnull fresh same %a
-end
-"""
-
-# What a thread that begins at a function may print after its number.
-ENDS = {
-    "spin": r"stopped|memory|absent",
-    "count": r"returned \d+|stopped|memory|absent",
-    "take": r"returned (null|ref \d+)|stopped|memory|absent",
-    "push": r"stopped|memory|absent",
-}
 
 
 def run(dgc, *words):
@@ -110,23 +32,23 @@ def draw_runs(dgc, folder, options):
     """Makes the drawn runs; returns how often each kind of end came, and stops at the first run that is wrong."""
     draw = random.Random(options.seed)
     module, cert, trace = (os.path.join(folder, name) for name in ("m.ll", "m.cert", "m.trace"))
-    for path, text in ((module, MODULE), (cert, CERT)):
-        with open(path, "w") as out:
-            out.write(text)
     told, cycles = collections.Counter(), 0
     for number in range(options.runs):
-        names = [draw.choice(list(ENDS)) for _ in range(draw.randrange(1, 9))]
-        starts = [("late" if draw.random() < 0.3 else "start", name) for name in names]
-        lines = [f"{when} @{name}" + (f" {draw.randrange(1000)}" if name == "count" else "") for when, name in starts]
-        with open(trace, "w") as out:
-            out.write("\n".join(["trace 2", f"pool Node {draw.randrange(1, 64)}", *lines, "steps", "end", ""]))
+        text, certificate, ends = draw_module(draw)
+        names = [draw.choice(list(ends)) for _ in range(draw.randrange(1, 9))]
+        starts = [("late" if draw.random() < 0.3 else "start") + f" @{name}" + (f" {draw.randrange(1000)}" if name == "count" else "") for name in names]
+        pools = [f"pool Node {draw.randrange(1, 64)}", f"pool Leaf {draw.randrange(1, 16)}"]
+        threads = "\n".join(["trace 2", *pools, *starts, "steps", "end", ""])
+        for path, content in ((module, text), (cert, certificate), (trace, threads)):
+            with open(path, "w") as out:
+                out.write(content)
         turns, steps = draw.randrange(20000), draw.choice([0, 1, 5, 50, 500, 5000])
         ran = run(dgc, module, cert, trace, "--turns", turns, "--steps", steps)
         printed = ran.stdout.split("\n")
         last = re.fullmatch(r"collector turns (\d+) cycles (\d+)", printed[-2] if len(printed) > 1 else "")
         good = ran.returncode == 0 and not ran.stderr and len(printed) == len(names) + 2 and last and int(last[1]) <= turns
         for thread, (name, line) in enumerate(zip(names, printed)):
-            good = good and re.fullmatch(rf"t {thread} ({ENDS[name]})", line)
+            good = good and re.fullmatch(rf"t {thread} ({ends[name]})", line)
             told[line.split(" ")[2] if line.count(" ") > 1 else line] += 1
         if not good:
             sys.exit(f"run {number} is wrong: status {ran.returncode}\n{ran.stdout}{ran.stderr}")
