@@ -5,11 +5,11 @@
                          the same bytes, and exits with 1
 
 The gate runs each row and compares what it prints. So an example that equals a row is one that the program prints.
-Checked are docs/HELP.md, docs/RULES.md, docs/WALKTHROUGH.md, README.md, the files of examples/, and the certificates and
+Checked are docs/HELP.md, docs/RULES.md, docs/FRONT_ENDS.md, docs/WALKTHROUGH.md, README.md, the files of examples/, and the certificates and
 printed lines that stand as blocks in docs/CERTIFICATES.md, docs/TRACES.md and docs/TEXT.md. Not checked are lines within
 a paragraph, and blocks that show a form.
 
-docs/RULES.md is written in one form. An example is three blocks: the functions, the certificate, the printed line. After
+docs/RULES.md and docs/FRONT_ENDS.md are written in one form. An example is three blocks: the functions, the certificate, the printed line. After
 it sentences may say what is printed of a changed example, each thing in backquotes:
 
     With A in place of B the answer is C.           B, which is there once, becomes A
@@ -181,9 +181,9 @@ def change_places(rows, where, head, example, text):
     return places
 
 
-def rules_places(rows):
-    """docs/RULES.md: its examples, each of three blocks, and the sentences that change them."""
-    page, places, head, blocks, example = "docs/RULES.md", [], None, [], None
+def rules_places(rows, page):
+    """docs/RULES.md and docs/FRONT_ENDS.md: their examples, each of three blocks, and the sentences that change them."""
+    places, head, blocks, example = [], None, [], None
     for number, kind, text in pieces(page) + [(0, "words", "")]:
         where = f"{page}:{number}"
         if kind == "block" and head is None:
@@ -199,7 +199,7 @@ def rules_places(rows):
             if blocks:
                 places.append(Place(blocks[0][0], False, "an example without its three parts"))
                 blocks = []
-            if kind == "heading" or text.startswith("**K"):
+            if kind == "heading" or text.startswith("**"):
                 example = None
             places += change_places(rows, where, head, example, text)
     return places
@@ -312,7 +312,7 @@ def form_places(rows, page):
 def main():
     argparse.ArgumentParser(description=__doc__.split("\n")[0]).parse_args()
     rows = read_rows()
-    places = help_places(rows) + rules_places(rows)
+    places = help_places(rows) + rules_places(rows, "docs/RULES.md") + rules_places(rows, "docs/FRONT_ENDS.md")
     for page in ("docs/WALKTHROUGH.md", "README.md"):
         places += story_places(rows, page)
     places += file_places(rows)

@@ -1,0 +1,342 @@
+"""Makes gcroot code of what clang prints of the programs in bench/programs, a module for each function.
+
+A call of new_NAME becomes a claim of a cell of struct NAME. A safepoint comes to the head of each loop and before each call of a
+function of the program. A reference that is used after a safepoint is kept in a root slot: it is stored there where it is made,
+and loaded from there before each such use. An address is computed again after a safepoint. A reference is stored into a cell or
+a global by gcwrite.
+"""
+import re
+
+RUNTIME = """declare i8* @dg_alloc(i32)
+declare void @dg_safepoint()
+declare void @llvm.gcroot(i8**, i8*)
+declare i8* @llvm.gcread(i8*, i8**)
+declare void @llvm.gcwrite(i8*, i8*, i8**)
+"""
+DECORATIONS = re.compile(r"\b(noundef|nonnull|nocapture|readonly|readnone|writeonly|noalias|signext|zeroext|returned|dso_local|internal|"
+                         r"local_unnamed_addr|unnamed_addr|fastcc|tail|notail|dereferenceable(_or_null)?\(\d+\)|align \d+(?=[ ,)])) ?")
+NAME = r"%[-\w.$]+"
+REFERENCE = re.compile(r"%struct\.\w+\*$|i8\*$")
+SAFEPOINT = "call void @dg_safepoint()"
+
+
+def plain(line):
+    """A line without decorations, metadata and comments."""
+    line = re.sub(r", ![\w.]+ ![\w.]+|, align \d+| #\d+|;.*", "", line)
+    return re.sub(r" +", " ", DECORATIONS.sub("", line)).replace(" ,", ",").replace(" )", ")").strip()
+
+
+class Function:
+    def __init__(self, head, lines):
+        found = re.match(r"define (\S+) @([\w.$]+)\((.*)\)", head)
+        self.result, self.name = found[1], found[2]
+        self.parameters = [tuple(part.rsplit(" ", 1)) for part in found[3].split(", ") if part]
+        self.blocks = {}
+        for line in lines:
+            label = re.match(r"([-\w.$]+):", line)
+            if label:
+                block = self.blocks[label[1]] = []
+            elif plain(line):
+                block.append(plain(line))
+        self.entry = next(iter(self.blocks))
+        self.count = 0
+
+    def calls(self):
+        return {name for block in self.blocks.values() for line in block for name in re.findall(r"\bcall \S+ @([\w.$]+)\(", line)}
+
+    def fresh(self, name):
+        self.count += 1
+        return f"%{name.lstrip('%')}.{self.count}x"
+
+    def ways_out(self, label):
+        return re.findall(r"label %([-\w.$]+)", self.blocks[label][-1])
+
+    def loop_heads(self):
+        """The blocks to which a way leads back."""
+        heads, state, stack = set(), {}, [(self.entry, iter(self.ways_out(self.entry)))]
+        state[self.entry] = "open"
+        while stack:
+            label, ways = stack[-1]
+            to = next(ways, None)
+            if to is None:
+                state[label] = "done"
+                stack.pop()
+            elif state.get(to) == "open":
+                heads.add(to)
+            elif to not in state:
+                state[to] = "open"
+                stack.append((to, iter(self.ways_out(to))))
+        return heads
+
+    def made(self):
+        """For each local name what it is: a reference of a type, an address with the line that makes it, a slot, or else None."""
+        found = {name: ("reference", kind) for kind, name in self.parameters if REFERENCE.match(kind)}
+        for block in self.blocks.values():
+            for line in block:
+                made = re.match(rf"({NAME}) = (.*)", line)
+                if not made:
+                    continue
+                name, rest = made.groups()
+                kind = re.match(r"load ([^,]+),|phi (\S+) \[|select i1 [^,]+, (\S+) |call (\S+) @", rest)
+                cast = re.match(rf"bitcast (\S+) ({NAME}) to (\S+)", rest)
+                if rest.startswith("alloca"):
+                    found[name] = ("slot", rest.split()[1])
+                elif rest.startswith("getelementptr") and re.search(rf"\* ({NAME}),", rest):
+                    found[name] = ("address", line)
+                elif cast and found.get(cast[2], ("",))[0] == "address":
+                    found[name] = ("address", line)
+                elif cast and REFERENCE.match(cast[3]) or kind and REFERENCE.match(next(part for part in kind.groups() if part)):
+                    found[name] = ("reference", cast[3] if cast else next(part for part in kind.groups() if part))
+        return found
+
+
+def uses(line):
+    """The local names that a line uses, but for labels and the entries of phis."""
+    rest = line.split(" = ", 1)[1] if re.match(rf"{NAME} = ", line) else line
+    if rest.startswith("phi "):
+        return []
+    rest = re.sub(rf"label {NAME}", "", rest)
+    return [name for name in re.findall(NAME, rest) if not name.startswith("%struct.")]
+
+
+def replaced(line, name, other):
+    start = re.match(rf"{NAME} = ", line)
+    at = start.end() if start else 0
+    return line[:at] + re.sub(rf"(?<!label ){re.escape(name)}(?![-\w.$])", other, line[at:])
+
+
+class Lowering:
+    """The gcroot code of one function."""
+
+    def __init__(self, function, layouts, may):
+        self.f, self.layouts, self.may = function, layouts, may
+        self.slots, self.stores = [], {}
+
+    def is_safepoint(self, line):
+        called = re.search(r"\bcall \S+ @([\w.$]+)\(", line)
+        return bool(called) and (called[1] == "dg_safepoint" or called[1] in self.may)
+
+    def add_calls(self):
+        """Claims, and safepoints at the heads of loops and before calls."""
+        heads = self.f.loop_heads()
+        for label, block in self.f.blocks.items():
+            lines, waits = [], label in heads
+            for line in block:
+                if waits and " = phi " not in line:
+                    lines.append(SAFEPOINT)
+                    waits = False
+                claim = re.match(rf"({NAME}) = call (\S+) @new_(\w+)\(\)", line)
+                called = re.search(r"\bcall \S+ @([\w.$]+)\(", line)
+                if claim:
+                    name, kind, layout = claim.groups()
+                    lines += [f"{name}.cell = call i8* @dg_alloc(i32 {self.layouts.index(layout)})", f"{name} = bitcast i8* {name}.cell to {kind}"]
+                    continue
+                if called and not called[1].startswith("llvm."):
+                    lines.append(SAFEPOINT)
+                lines.append(line)
+            block[:] = lines
+
+    def current_at(self, names):
+        """For each block, which of these names are still current where it begins: no way from where they are made meets a safepoint."""
+        parameters = {name for _, name in self.f.parameters}
+        known = {self.f.entry: names & parameters}
+        todo = [self.f.entry]
+        while todo:
+            label = todo.pop()
+            now = set(known[label])
+            for line in self.f.blocks[label]:
+                now = self.current_after(line, now, names)
+            for to in self.f.ways_out(label):
+                joined = now & known[to] if to in known else now
+                if to not in known or joined != known[to]:
+                    known[to] = joined
+                    todo.append(to)
+        return known
+
+    def current_after(self, line, now, names):
+        if self.is_safepoint(line):
+            now = set()
+        made = re.match(rf"({NAME}) = ", line)
+        return now | {made[1]} if made and made[1] in names else now
+
+    def mend_uses(self, names, again):
+        """Puts lines before each use of a name that is not current there, and the name that they make in its place."""
+        known = self.current_at(names)
+        ends = {}
+        for label, block in self.f.blocks.items():
+            now, lines = set(known.get(label, names)), []
+            for line in block:
+                for name in dict.fromkeys(uses(line)):
+                    if name in names and name not in now:
+                        before, other = again(name)
+                        lines += before
+                        line = replaced(line, name, other)
+                lines.append(line)
+                now = self.current_after(line, now, names)
+            block[:] = lines
+            ends[label] = now
+        self.mend_phis(names, again, ends)
+
+    def mend_phis(self, names, again, ends):
+        for label, block in self.f.blocks.items():
+            for at, line in enumerate(block):
+                if " = phi " not in line:
+                    continue
+                for value, source in re.findall(rf"\[ ({NAME}), %([-\w.$]+) \]", line):
+                    if value in names and value not in ends[source]:
+                        before, other = again(value)
+                        self.f.blocks[source][-1:-1] = before
+                        line = line.replace(f"[ {value}, %{source} ]", f"[ {other}, %{source} ]")
+                block[at] = line
+
+    def mend_addresses(self):
+        """Computes addresses again after safepoints."""
+        for _ in range(8):
+            made = self.f.made()
+            names = {name for name, (sort, _) in made.items() if sort == "address"}
+
+            def again(name):
+                other = self.f.fresh(name)
+                return [f"{other} = {made[name][1].split(' = ', 1)[1]}"], other
+
+            before = [list(block) for block in self.f.blocks.values()]
+            self.mend_uses(names, again)
+            if before == [list(block) for block in self.f.blocks.values()]:
+                return
+
+    def mend_references(self):
+        """Keeps references in slots over safepoints."""
+        made = self.f.made()
+        names = {name for name, (sort, _) in made.items() if sort == "reference"}
+        kept = []
+
+        def again(name):
+            if name not in kept:
+                kept.append(name)
+            other, kind = self.f.fresh(name), made[name][1]
+            return [f"{other} = load {kind}, {kind}* {name}.root"], other
+
+        self.mend_uses(names, again)
+        for name in kept:
+            self.slots.append((f"{name}.root", made[name][1]))
+            self.keep(name, made[name][1])
+
+    def keep(self, name, kind):
+        """Stores a reference into its slot where it is made."""
+        store = f"store {kind} {name}, {kind}* {name}.root"
+        if name in [parameter for _, parameter in self.f.parameters]:
+            self.f.blocks[self.f.entry].insert(self.end_of_allocas(), store)
+            return
+        for block in self.f.blocks.values():
+            for at, line in enumerate(block):
+                if line.startswith(f"{name} = "):
+                    while " = phi " in block[at] and " = phi " in block[at + 1]:
+                        at += 1
+                    block.insert(at + 1, store)
+                    return
+
+    def end_of_allocas(self):
+        block = self.f.blocks[self.f.entry]
+        return max([at + 1 for at, line in enumerate(block) if " = alloca " in line], default=0)
+
+    def base_of(self, made, place):
+        """The reference whose cell an address lies in."""
+        while made.get(place, ("",))[0] == "address":
+            place = re.search(rf"\* ({NAME})", made[place][1].split(" = ", 1)[1])[1]
+        return place
+
+    def add_barriers(self):
+        made = self.f.made()
+        slots = {name for name, _ in self.slots}
+        for block in self.f.blocks.values():
+            lines = []
+            for line in block:
+                store = re.match(r"store (\S+) (\S+), (\S+) (\S+)$", line)
+                if not store or not REFERENCE.match(store[1]) or made.get(store[4], ("",))[0] == "slot" or store[4] in slots:
+                    lines.append(line)
+                    continue
+                kind, value, place_kind, place = store.groups()
+                lines += self.barrier(made, kind, value, place_kind, place)
+            block[:] = lines
+
+    def barrier(self, made, kind, value, place_kind, place):
+        lines = []
+
+        def bytes_of(name, kind):
+            if kind == "i8*" or name == "null":
+                return name
+            other = self.f.fresh(name)
+            lines.append(f"{other} = bitcast {kind} {name} to i8*")
+            return other
+
+        stored = bytes_of(value, kind)
+        if place.startswith("@"):
+            return lines + [f"call void @llvm.gcwrite(i8* {stored}, i8* null, i8** bitcast ({place_kind} {place} to i8**))"]
+        base = self.base_of(made, place)
+        owner = bytes_of(base, made[base][1]) if made.get(base, ("",))[0] == "reference" else "null"
+        word = self.f.fresh(place)
+        lines.append(f"{word} = bitcast {place_kind} {place} to i8**")
+        return lines + [f"call void @llvm.gcwrite(i8* {stored}, i8* {owner}, i8** {word})"]
+
+    def add_roots(self):
+        """Puts the allocas first, and makes a root of each slot of references."""
+        block = self.f.blocks[self.f.entry]
+        allocas = [line for line in block if " = alloca " in line] + [f"{name} = alloca {kind}" for name, kind in self.slots]
+        roots = []
+        for line in allocas:
+            name, kind = re.match(rf"({NAME}) = alloca (\S+)", line).groups()
+            if REFERENCE.match(kind):
+                place = name
+                if kind != "i8*":
+                    place = f"{name}.place"
+                    roots.append(f"{place} = bitcast {kind}* {name} to i8**")
+                roots.append(f"call void @llvm.gcroot(i8** {place}, i8* null)")
+        block[:] = allocas + roots + [line for line in block if " = alloca " not in line]
+
+    def text(self):
+        """The text of the function."""
+        self.add_calls()
+        self.mend_addresses()
+        self.mend_references()
+        self.add_barriers()
+        self.add_roots()
+        lines = [f"define {self.f.result} @{self.f.name}({', '.join(f'{kind} {name}' for kind, name in self.f.parameters)}) gc \"shadow-stack\" {{"]
+        for label, block in self.f.blocks.items():
+            lines.append(f"{label}:")
+            lines += [f"  {line}" for line in block]
+        return "\n".join(lines + ["}"])
+
+
+def functions_of(text):
+    """The functions that a text defines, by their names."""
+    found = {}
+    for head, body in re.findall(r"^(define [^\n]*)\{\n(.*?)^\}", re.sub(r"\[\n(.*?)\n *\]", lambda cases: "[ " + cases[1].replace("\n", " ") + " ]", text, flags=re.S), flags=re.S | re.M):
+        function = Function(plain(head), body.split("\n"))
+        found[function.name] = function
+    return found
+
+
+def closure(functions, name):
+    """A function and those that it calls, in the order of the text."""
+    wanted, todo = set(), [name]
+    while todo:
+        it = todo.pop()
+        if it not in wanted:
+            wanted.add(it)
+            todo += [called for called in functions[it].calls() if called in functions]
+    return [it for it in functions if it in wanted]
+
+
+def modules(text):
+    """For each function of what clang prints, the module that has it and what it calls, as gcroot code."""
+    types = [plain(line) for line in text.split("\n") if re.match(r"%struct\.\w+ = type \{", line)]
+    globals_of = [plain(line) for line in text.split("\n") if re.match(r"@\S+ = ", line)]
+    layouts = [re.match(r"%struct\.(\w+)", line)[1] for line in types]
+    for name in functions_of(text):
+        functions = functions_of(text)
+        names = closure(functions, name)
+        may = {it for it in names if functions[it].loop_heads() or functions[it].calls() & set(functions)}
+        for _ in names:
+            may |= {it for it in names if functions[it].calls() & may}
+        bodies = [Lowering(functions[it], layouts, may).text() for it in names]
+        yield name, "\n".join(types + globals_of) + "\n" + RUNTIME + "\n".join(bodies) + "\n"

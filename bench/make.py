@@ -1,0 +1,133 @@
+#!/usr/bin/env python3
+"""Counts for how many functions `dgc make` makes a certificate.
+
+    make.py DGC [--clang PROGRAM] [--opt PROGRAM] [--keep FOLDER] [--all]
+
+- Each function of the C programs in bench/programs is compiled at several levels, and made into gcroot code by gcroot.py, with
+  what it calls. Prints for each level how many modules are read, for how many of them a certificate is made, and by which rule
+  the others are refused. With --all it prints the refusal of each.
+- The module of each worked example that `check` accepts (crates/dgc_tests/data), and modules of generate.py: a certificate
+  has to be made for each.
+Each certificate that is made has to be accepted by `dgc check`. Ends with status 1 where something is not as it has to be.
+clang has to write typed pointers, as up to version 14. For use by hand.
+"""
+import argparse
+import collections
+import glob
+import os
+import subprocess
+import sys
+import tempfile
+
+from gcroot import modules
+
+HERE = os.path.dirname(os.path.abspath(__file__))
+ROWS = os.path.join(HERE, "..", "crates", "dgc_tests", "data", "rows")
+FLAGS = ["-S", "-emit-llvm", "-w", "-fno-builtin", "-fno-vectorize", "-fno-slp-vectorize", "-fno-unroll-loops", "-fno-exceptions",
+         "-fno-discard-value-names", "-Xclang", "-disable-O0-optnone"]
+LEVELS = [("-O0", "instnamer"), ("-O0", "mem2reg,jump-threading,instnamer"), ("-O1", "instnamer"), ("-O2", "instnamer")]
+
+
+def run(*words, text=None):
+    return subprocess.run(words, input=text, capture_output=True, text=True, timeout=600)
+
+
+class Maker:
+    """Makes certificates, and keeps what was found."""
+
+    def __init__(self, dgc, folder):
+        self.dgc, self.folder, self.wrong = dgc, folder, []
+
+    def made(self, name, module):
+        """`made`, or the rule of the refusal, or the fault of the text; and the line that says so."""
+        path = os.path.join(self.folder, name + ".ll")
+        with open(path, "w") as out:
+            out.write(module)
+        answer = run(self.dgc, "make", path, "--why")
+        if answer.returncode == 0:
+            cert = path[:-3] + ".cert"
+            with open(cert, "w") as out:
+                out.write(answer.stdout)
+            checked = run(self.dgc, "check", path, cert)
+            if checked.returncode != 0:
+                self.wrong.append(f"{name}: made, and then {checked.stdout.strip()}{checked.stderr.strip()}")
+            return "made", ""
+        line = (answer.stderr.strip() or answer.stdout.strip()).split("\n")[-1]
+        words = line.split()
+        if answer.returncode == 1:
+            return next((word for word in words if word[0] == "K" and word[1:].isdigit()), "no answer"), line
+        if answer.returncode != 2:
+            self.wrong.append(f"{name}: status {answer.returncode} {line}")
+        return words[1] if len(words) > 1 else "error", line
+
+
+def compiled(options, path, level, passes):
+    text = run(options.clang, *FLAGS, level, "-o", "-", path).stdout
+    return run(options.opt, "-S", f"-passes={passes}", text=text).stdout
+
+
+def corpus(options, maker):
+    """A line for each level."""
+    print(f"{'level':40} functions  read  made  others")
+    for level, passes in LEVELS:
+        told = collections.Counter()
+        for path in sorted(glob.glob(f"{HERE}/programs/*.c")):
+            for name, module in modules(compiled(options, path, level, passes)):
+                answer, line = maker.made(f"{name}{level}{passes.count(',')}", module)
+                told[answer] += 1
+                if options.all and answer != "made":
+                    print(f"  {name}: {line}")
+        count, unread = sum(told.values()), sum(number for answer, number in told.items() if answer[0] in "LYe")
+        others = ", ".join(f"{answer} {number}" for answer, number in sorted(told.items()) if answer != "made")
+        print(f"{level + ' ' + passes.replace('instnamer', '').rstrip(','):40} {count:9} {count - unread:5} {told['made']:5}  {others}", flush=True)
+
+
+def accepted_rows():
+    """The modules of the worked examples that `check` accepts."""
+    for row in sorted(os.listdir(ROWS)):
+        with open(f"{ROWS}/{row}/args") as args, open(f"{ROWS}/{row}/status") as status:
+            words = args.read().split("\n")
+            if words[0] == "check" and status.read().strip() == "0" and os.path.exists(f"{ROWS}/{row}/{words[1]}"):
+                with open(f"{ROWS}/{row}/{words[1]}") as module:
+                    yield row, module.read()
+
+
+def references(maker):
+    """Modules that have a certificate: one has to be made for each."""
+    count = 0
+    for row, module in accepted_rows():
+        answer, line = maker.made(f"row_{row}", module)
+        count += 1
+        if answer != "made":
+            maker.wrong.append(f"row {row}: {line}")
+    for seed in range(10):
+        base = os.path.join(maker.folder, f"generated{seed}")
+        run(sys.executable, f"{HERE}/generate.py", "--functions", "200", "--seed", str(seed), base)
+        with open(base + ".ll") as module:
+            answer, line = maker.made(f"made{seed}", module.read())
+        count += 1
+        if answer != "made":
+            maker.wrong.append(f"generated {seed}: {line}")
+    print(f"{count} modules that have a certificate")
+
+
+def main():
+    options = argparse.ArgumentParser(description=__doc__.split("\n")[0])
+    options.add_argument("dgc")
+    options.add_argument("--clang", default="clang")
+    options.add_argument("--opt", default="opt")
+    options.add_argument("--keep")
+    options.add_argument("--all", action="store_true")
+    options = options.parse_args()
+    with tempfile.TemporaryDirectory() as folder:
+        if options.keep:
+            os.makedirs(options.keep, exist_ok=True)
+        maker = Maker(options.dgc, options.keep or folder)
+        corpus(options, maker)
+        references(maker)
+    print("\n".join(maker.wrong) or "none wrong")
+    sys.exit(1 if maker.wrong else 0)
+
+
+if __name__ == "__main__":
+    main()

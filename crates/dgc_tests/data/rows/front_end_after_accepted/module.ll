@@ -1,0 +1,23 @@
+%Node = type { i64, %Node* }
+%Row = type { i64, [4 x i64] }
+@g = global %Node* null
+declare i8* @dg_alloc(i32)
+declare void @dg_safepoint()
+declare void @llvm.gcroot(i8**, i8*)
+declare i8* @llvm.gcread(i8*, i8**)
+declare void @llvm.gcwrite(i8*, i8*, i8**)
+define %Node* @after(%Node* %n) gc "shadow-stack" {
+entry:
+  %f = getelementptr %Node, %Node* %n, i32 0, i32 1
+  %x = load %Node*, %Node** %f
+  %c = icmp eq %Node* %x, null
+  br i1 %c, label %none, label %some
+none:
+  ret %Node* null
+some:
+  %q = getelementptr %Node, %Node* %n, i32 0, i32 1
+  %y = load %Node*, %Node** %q
+  %w = getelementptr %Node, %Node* %x, i32 0, i32 1
+  %z = load %Node*, %Node** %w
+  ret %Node* %z
+}

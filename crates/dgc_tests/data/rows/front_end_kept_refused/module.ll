@@ -1,0 +1,22 @@
+%Node = type { i64, %Node* }
+%Row = type { i64, [4 x i64] }
+@g = global %Node* null
+declare i8* @dg_alloc(i32)
+declare void @dg_safepoint()
+declare void @llvm.gcroot(i8**, i8*)
+declare i8* @llvm.gcread(i8*, i8**)
+declare void @llvm.gcwrite(i8*, i8*, i8**)
+define i64 @kept(%Row* %a, i64 %i) gc "shadow-stack" {
+entry:
+  %s = alloca i64
+  store i64 %i, i64* %s
+  %c = icmp ult i64 %i, 4
+  br i1 %c, label %in, label %out
+in:
+  %k = load i64, i64* %s
+  %p = getelementptr %Row, %Row* %a, i64 0, i32 1, i64 %k
+  %v = load i64, i64* %p
+  ret i64 %v
+out:
+  ret i64 0
+}
