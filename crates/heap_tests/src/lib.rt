@@ -1,7 +1,7 @@
 //! Tests of the shared heap, by one caller and by real threads. Each is proved to call the heap as its contracts ask.
 #![tactic(auto)]
 
-ghost use Rattle.std.specs.Prelude.{◌≡◌, ◌<◌, [], ◌∷◌, true, length, Some, IfOk, IfSome};
+ghost use Rattle.std.specs.Prelude.{◌≡◌, ◌<◌, ◌≤◌, [], ◌∷◌, true, length, Some, IfOk, IfSome};
 ghost use Rattle.pools.specs.Heap.{IsSetup, kind_of};
 ghost use Rattle.pools.specs.declared.word_kind.WordKind.TheVariants.{Reference};
 ghost use Rattle.heap_table.specs.Holders.{IsOf, MayCall, MayBegin};
@@ -16,6 +16,7 @@ use std::alloc::Global;
 use std::test::Fail;
 use std::thread::{Threads, join_mut};
 
+pub mod late;
 #[cfg(test)]
 mod tests;
 
@@ -175,6 +176,21 @@ pub fn take_four(
     [a, b, c, d]
 }
 
+/// How many of the collector's next turns find the only thread at its first stage.
+pub fn count_looks(heap: &Heap<'_>, sweeper: &mut Sweeper<'_>, turns: u32) -> u32
+    requires { IsSweeperOf heap.now sweeper.old }
+    ensures token { IsSweeperOf heap.now sweeper.new }
+    ensures most { result ≤ turns }
+{
+    let mut looks = 0;
+    for _ in 0..turns {
+        if sweeper.turn(heap) == Some(Turn::ReadStage(0, 0)) {
+            looks += 1;
+        }
+    }
+    looks
+}
+
 /// Whether the collector's next turns are these.
 pub fn turns_are(heap: &Heap<'_>, sweeper: &mut Sweeper<'_>, turns: &[Turn]) -> bool
     requires { IsSweeperOf heap.now sweeper.old }
@@ -186,6 +202,40 @@ pub fn turns_are(heap: &Heap<'_>, sweeper: &mut Sweeper<'_>, turns: &[Turn]) -> 
         }
     }
     true
+}
+
+/// Whether the collector's next turns are these, where the thread answers after each of them and names no roots.
+pub fn answered_turns_are(
+    heap: &Heap<'_>,
+    me: &mut Mutator,
+    sweeper: &mut Sweeper<'_>,
+    turns: &[Turn],
+) -> bool
+    requires token { MayCall heap.now me.old }
+    requires sweeper { IsSweeperOf heap.now sweeper.old }
+    ensures token { MayCall heap.now me.new }
+    ensures sweeper { IsSweeperOf heap.now sweeper.new }
+{
+    for turn in turns {
+        if sweeper.turn(heap).as_ref() != Some(turn) {
+            return false;
+        }
+        answer(heap, me);
+    }
+    true
+}
+
+/// Makes turns of the collector, and lets the thread answer after each of them with no roots.
+pub fn answer_each(heap: &Heap<'_>, me: &mut Mutator, sweeper: &mut Sweeper<'_>, turns: u32)
+    requires token { MayCall heap.now me.old }
+    requires sweeper { IsSweeperOf heap.now sweeper.old }
+    ensures token { MayCall heap.now me.new }
+    ensures sweeper { IsSweeperOf heap.now sweeper.new }
+{
+    for _ in 0..turns {
+        sweeper.turn(heap);
+        answer(heap, me);
+    }
 }
 
 /// Gives back the words of a heap whose tokens were never used.
@@ -204,6 +254,22 @@ pub fn finish(heap: &Heap<'_>, me: &mut Mutator)
     ensures { IsOf heap.now me.new }
 {
     heap.finish(me);
+}
+
+/// Gives back the words of a heap of one thread.
+pub fn close_one<'a>(
+    alloc: Global,
+    heap: Heap<'a>,
+    me: Mutator,
+    sweeper: Sweeper<'_>,
+) -> Result<Closed<'a>, Fail>
+    requires token { IsOf heap me }
+    requires sweeper { IsSweeperOf heap sweeper }
+    ensures { IfOk result (λ closed. closed.setup ≡ heap.entry.setup) }
+{
+    let mut mutators = Vec::new(alloc);
+    mutators.push(me)?;
+    Ok(heap.close(mutators, sweeper))
 }
 
 /// Gives back the words of a heap of two threads.

@@ -1,8 +1,9 @@
 //! The shared heap, by one caller and by real threads.
+use crate::late::{both_tokens, read_late};
 use crate::{
-    begin_and_take, close_new, close_two, colours_of, finish, global, keep_a_cell, keep_two,
-    last_token, late_token, one_layout, plan_of, take, take_four, take_two, the_layout,
-    turn_and_answer, turn_on, turns_are,
+    answer_each, answered_turns_are, begin_and_take, close_new, close_one, close_two, colours_of,
+    count_looks, finish, global, keep_a_cell, keep_two, last_token, late_token, one_layout,
+    plan_of, take, take_four, take_two, the_layout, turn_and_answer, turn_on, turns_are,
 };
 use colours::{DONE, Turn};
 use heap_table::Heap;
@@ -67,18 +68,72 @@ fn two_threads_share_two_cells(rt: HostRuntime) -> Result<(), Fail> {
 }
 
 #[test]
-fn the_collector_waits_for_a_silent_thread(rt: HostRuntime) -> Result<(), Fail> {
+fn a_thread_without_a_call_holds_up_no_turn(rt: HostRuntime) -> Result<(), Fail> {
     let alloc = rt.alloc();
     let layouts = one_layout(alloc)?;
-    let pools = Pools::new(alloc, &layouts, &[1])?;
+    let pools = Pools::new(alloc, &layouts, &[2])?;
     let plan = plan_of(&pools, &layouts, &[], 1, &[]);
     let (heap, mutators, mut sweeper) = Heap::new(alloc, plan)?;
     assert!(rt; turns_are(&heap, &mut sweeper, &[Turn::PostStage(1)]));
-    turn_on(&heap, &mut sweeper, 100);
-    assert!(rt; turns_are(&heap, &mut sweeper, &[Turn::ReadStage(0, 0)]));
+    assert_eq!(rt; count_looks(&heap, &mut sweeper, 9_999), 9_999);
+    assert_eq!(rt; sweeper.cycles(), 0);
     let closed = close_new(heap, mutators, sweeper);
-    assert_eq!(rt; closed.posted(), 1);
-    assert_eq!(rt; closed.stage(0), 0);
+    assert_eq!(rt; (closed.posted(), closed.stage(0)), (1, 0));
+    assert_eq!(rt; colours_of(&closed), [1, 0, 0]);
+    Ok(())
+}
+
+/// The turns of the first cycle over a global, a cell that it names, and a cell that nothing names, where the only thread answers
+/// each stage; but the last two, the look at the last cell and its freeing.
+const ANSWERED_TURNS: [Turn; 19] = [
+    Turn::PostStage(1),
+    Turn::ReadStage(0, 1),
+    Turn::PostStage(2),
+    Turn::ReadStage(0, 2),
+    Turn::MarkFound(0, 1),
+    Turn::PostStage(3),
+    Turn::ReadStage(0, 3),
+    Turn::ReadColour(0, 2),
+    Turn::ScanWord(0, 0, 1),
+    Turn::MarkFound(1, 1),
+    Turn::Blacken(0),
+    Turn::ReadColour(1, 2),
+    Turn::Blacken(1),
+    Turn::ReadColour(1, 3),
+    Turn::ReadColour(2, 1),
+    Turn::ReadColour(0, 3),
+    Turn::ReadColour(1, 3),
+    Turn::ReadColour(2, 1),
+    Turn::ReadColour(1, 3),
+];
+
+#[test]
+fn a_cycle_frees_the_cell_that_nothing_names(rt: HostRuntime) -> Result<(), Fail> {
+    let alloc = rt.alloc();
+    let layouts = one_layout(alloc)?;
+    let pools = Pools::new(alloc, &layouts, &[2])?;
+    let globals = [WordKind::Reference(the_layout())];
+    let plan = plan_of(&pools, &layouts, &globals, 1, &[]);
+    let (heap, mut mutators, mut sweeper) = Heap::new(alloc, plan)?;
+    let mut me = last_token(&heap, &mut mutators).expect(&rt, "a token");
+    assert_eq!(rt; keep_a_cell(&heap, &mut me, 0), (1, 1));
+    assert_eq!(rt; take_two(&heap, &mut me), [2, 0]);
+    assert!(rt; answered_turns_are(&heap, &mut me, &mut sweeper, &ANSWERED_TURNS));
+    assert_eq!(rt; sweeper.cycles(), 0);
+    assert!(rt; answered_turns_are(&heap, &mut me, &mut sweeper, &[Turn::ReadColour(2, 1)]));
+    assert_eq!(rt; (sweeper.cycles(), take(&heap, &mut me)), (1, 0));
+    assert!(rt; answered_turns_are(&heap, &mut me, &mut sweeper, &[Turn::Free(2)]));
+    assert_eq!(rt; take_two(&heap, &mut me), [2, 0]);
+    // The second cycle takes 21 turns too.
+    answer_each(&heap, &mut me, &mut sweeper, 19);
+    assert_eq!(rt; sweeper.cycles(), 1);
+    answer_each(&heap, &mut me, &mut sweeper, 1);
+    assert_eq!(rt; (sweeper.cycles(), take(&heap, &mut me)), (2, 0));
+    answer_each(&heap, &mut me, &mut sweeper, 1);
+    assert_eq!(rt; global(&heap, &mut me, 0), 1);
+    finish(&heap, &mut me);
+    let closed = close_one(alloc, heap, me, sweeper)?;
+    assert_eq!(rt; (closed.posted(), colours_of(&closed)), (6, [5, 5, 0]));
     Ok(())
 }
 
@@ -143,5 +198,25 @@ fn a_late_thread_begins_at_the_posted_stage(rt: HostRuntime) -> Result<(), Fail>
     let mut me = late_token(&heap, &mut mutators).expect(&rt, "a token");
     turn_on(&heap, &mut sweeper, 3);
     assert_eq!(rt; begin_and_take(&heap, &mut me), Some((2, 1)));
+    Ok(())
+}
+
+#[test]
+fn a_late_thread_reads_what_another_one_wrote(rt: HostRuntime) -> Result<(), Fail> {
+    let alloc = rt.alloc();
+    let layouts = one_layout(alloc)?;
+    let pools = Pools::new(alloc, &layouts, &[2])?;
+    let globals = [WordKind::Reference(the_layout())];
+    let plan = plan_of(&pools, &layouts, &globals, 2, &[false, true]);
+    let (heap, mut mutators, mut sweeper) = Heap::new(alloc, plan)?;
+    let (mut first, mut late) = both_tokens(&heap, &mut mutators).expect(&rt, "two tokens");
+    let (cell, seen) = read_late(&rt, &heap, &mut first, &mut late, &mut sweeper);
+    let (stage, found) = seen.expect(&rt, "it has begun");
+    assert_eq!(rt; (cell, found), (1, 1));
+    // A cycle takes 23 turns before the late thread has begun, and the next one posts stage 4.
+    assert!(rt; stage >= 4);
+    let closed = close_two(alloc, heap, first, late, sweeper)?;
+    assert!(rt; closed.posted() >= stage);
+    assert_eq!(rt; (closed.stage(0), closed.stage(1)), (DONE, DONE));
     Ok(())
 }
