@@ -1,7 +1,7 @@
 //! Tests of the shared heap, by one caller and by real threads. Each is proved to call the heap as its contracts ask.
 #![tactic(auto)]
 
-ghost use Rattle.std.specs.Prelude.{◌≡◌, ◌<◌, ◌≤◌, [], ◌∷◌, true, length, Some, IfOk, IfSome};
+ghost use Rattle.std.specs.Prelude.{◌≡◌, ◌<◌, [], ◌∷◌, true, length, Some, IfOk, IfSome};
 ghost use Rattle.pools.specs.Heap.{IsSetup, kind_of};
 ghost use Rattle.pools.specs.declared.word_kind.WordKind.TheVariants.{Reference};
 ghost use Rattle.heap_table.specs.Holders.{IsOf, MayCall, MayBegin};
@@ -176,19 +176,17 @@ pub fn take_four(
     [a, b, c, d]
 }
 
-/// How many of the collector's next turns find the only thread at its first stage.
-pub fn count_looks(heap: &Heap<'_>, sweeper: &mut Sweeper<'_>, turns: u32) -> u32
+/// Whether so many next turns of the collector find the only thread at its first stage.
+pub fn are_looks(heap: &Heap<'_>, sweeper: &mut Sweeper<'_>, turns: u32) -> bool
     requires { IsSweeperOf heap.now sweeper.old }
-    ensures token { IsSweeperOf heap.now sweeper.new }
-    ensures most { result ≤ turns }
+    ensures { IsSweeperOf heap.now sweeper.new }
 {
-    let mut looks = 0;
     for _ in 0..turns {
-        if sweeper.turn(heap) == Some(Turn::ReadStage(0, 0)) {
-            looks += 1;
+        if sweeper.turn(heap) != Some(Turn::ReadStage(0, 0)) {
+            return false;
         }
     }
-    looks
+    true
 }
 
 /// Whether the collector's next turns are these.
