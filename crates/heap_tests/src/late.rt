@@ -6,7 +6,8 @@ ghost use Rattle.heap_table.specs.Holders.{IsOf, MayCall, MayBegin};
 ghost use Rattle.heap_table.specs.Opening.{AreNew};
 ghost use Rattle.heap_table.specs.Sweepers.{IsSweeperOf};
 
-use crate::{answer_each, finish, global, keep_a_cell};
+use crate::cycles::answer_each;
+use crate::{finish, global, keep_a_cell};
 use heap_table::{Heap, Mutator, Sweeper};
 use std::sync::atomic::{AtomicBool, Ordering};
 use std::thread::{Threads, join_mut};

@@ -16,6 +16,7 @@ use std::alloc::Global;
 use std::test::Fail;
 use std::thread::{Threads, join_mut};
 
+pub mod cycles;
 pub mod late;
 #[cfg(test)]
 mod tests;
@@ -200,40 +201,6 @@ pub fn turns_are(heap: &Heap<'_>, sweeper: &mut Sweeper<'_>, turns: &[Turn]) -> 
         }
     }
     true
-}
-
-/// Whether the collector's next turns are these, where the thread answers after each of them and names no roots.
-pub fn answered_turns_are(
-    heap: &Heap<'_>,
-    me: &mut Mutator,
-    sweeper: &mut Sweeper<'_>,
-    turns: &[Turn],
-) -> bool
-    requires token { MayCall heap.now me.old }
-    requires sweeper { IsSweeperOf heap.now sweeper.old }
-    ensures token { MayCall heap.now me.new }
-    ensures sweeper { IsSweeperOf heap.now sweeper.new }
-{
-    for turn in turns {
-        if sweeper.turn(heap).as_ref() != Some(turn) {
-            return false;
-        }
-        answer(heap, me);
-    }
-    true
-}
-
-/// Makes turns of the collector, and lets the thread answer after each of them with no roots.
-pub fn answer_each(heap: &Heap<'_>, me: &mut Mutator, sweeper: &mut Sweeper<'_>, turns: u32)
-    requires token { MayCall heap.now me.old }
-    requires sweeper { IsSweeperOf heap.now sweeper.old }
-    ensures token { MayCall heap.now me.new }
-    ensures sweeper { IsSweeperOf heap.now sweeper.new }
-{
-    for _ in 0..turns {
-        sweeper.turn(heap);
-        answer(heap, me);
-    }
 }
 
 /// Gives back the words of a heap whose tokens were never used.

@@ -1,9 +1,10 @@
 //! The shared heap, by one caller and by real threads.
+use crate::cycles::{first_cycle, second_cycle, take_all};
 use crate::late::{both_tokens, read_late};
 use crate::{
-    answer_each, answered_turns_are, are_looks, begin_and_take, close_new, close_one, close_two,
-    colours_of, finish, global, keep_a_cell, keep_two, last_token, late_token, one_layout, plan_of,
-    take, take_four, take_two, the_layout, turn_and_answer, turn_on, turns_are,
+    are_looks, begin_and_take, close_new, close_one, close_two, colours_of, finish, global,
+    keep_a_cell, keep_two, last_token, late_token, one_layout, plan_of, take, take_four, take_two,
+    the_layout, turn_and_answer, turn_on, turns_are,
 };
 use colours::{DONE, Turn};
 use heap_table::Heap;
@@ -83,30 +84,6 @@ fn a_thread_without_a_call_holds_up_no_turn(rt: HostRuntime) -> Result<(), Fail>
     Ok(())
 }
 
-/// The turns of the first cycle over a global, a cell that it names, and a cell that nothing names, where the only thread answers
-/// each stage; but the last two, the look at the last cell and its freeing.
-const ANSWERED_TURNS: [Turn; 19] = [
-    Turn::PostStage(1),
-    Turn::ReadStage(0, 1),
-    Turn::PostStage(2),
-    Turn::ReadStage(0, 2),
-    Turn::MarkFound(0, 1),
-    Turn::PostStage(3),
-    Turn::ReadStage(0, 3),
-    Turn::ReadColour(0, 2),
-    Turn::ScanWord(0, 0, 1),
-    Turn::MarkFound(1, 1),
-    Turn::Blacken(0),
-    Turn::ReadColour(1, 2),
-    Turn::Blacken(1),
-    Turn::ReadColour(1, 3),
-    Turn::ReadColour(2, 1),
-    Turn::ReadColour(0, 3),
-    Turn::ReadColour(1, 3),
-    Turn::ReadColour(2, 1),
-    Turn::ReadColour(1, 3),
-];
-
 #[test]
 fn a_cycle_frees_the_cell_that_nothing_names(rt: HostRuntime) -> Result<(), Fail> {
     let alloc = rt.alloc();
@@ -116,21 +93,10 @@ fn a_cycle_frees_the_cell_that_nothing_names(rt: HostRuntime) -> Result<(), Fail
     let plan = plan_of(&pools, &layouts, &globals, 1, &[]);
     let (heap, mut mutators, mut sweeper) = Heap::new(alloc, plan)?;
     let mut me = last_token(&heap, &mut mutators).expect(&rt, "a token");
-    assert_eq!(rt; keep_a_cell(&heap, &mut me, 0), (1, 1));
-    assert_eq!(rt; take_two(&heap, &mut me), [2, 0]);
-    assert!(rt; answered_turns_are(&heap, &mut me, &mut sweeper, &ANSWERED_TURNS));
-    assert_eq!(rt; sweeper.cycles(), 0);
-    assert!(rt; answered_turns_are(&heap, &mut me, &mut sweeper, &[Turn::ReadColour(2, 1)]));
-    assert_eq!(rt; (sweeper.cycles(), take(&heap, &mut me)), (1, 0));
-    assert!(rt; answered_turns_are(&heap, &mut me, &mut sweeper, &[Turn::Free(2)]));
-    assert_eq!(rt; take_two(&heap, &mut me), [2, 0]);
-    // The second cycle takes 21 turns too.
-    answer_each(&heap, &mut me, &mut sweeper, 19);
-    assert_eq!(rt; sweeper.cycles(), 1);
-    answer_each(&heap, &mut me, &mut sweeper, 1);
-    assert_eq!(rt; (sweeper.cycles(), take(&heap, &mut me)), (2, 0));
-    answer_each(&heap, &mut me, &mut sweeper, 1);
-    assert_eq!(rt; global(&heap, &mut me, 0), 1);
+    assert_eq!(rt; take_all(&heap, &mut me), [1, 2, 0]);
+    let first = first_cycle(&heap, &mut me, &mut sweeper);
+    assert_eq!(rt; first, Some(([0, 1], [0, 2, 0])));
+    assert_eq!(rt; second_cycle(&heap, &mut me, &mut sweeper), ([1, 2], 1));
     finish(&heap, &mut me);
     let closed = close_one(alloc, heap, me, sweeper)?;
     assert_eq!(rt; (closed.posted(), colours_of(&closed)), (6, [5, 5, 0]));
