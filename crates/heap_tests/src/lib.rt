@@ -16,6 +16,8 @@ use std::alloc::Global;
 use std::test::Fail;
 use std::thread::{Threads, join_mut};
 
+pub mod cycles;
+pub mod late;
 #[cfg(test)]
 mod tests;
 
@@ -175,6 +177,19 @@ pub fn take_four(
     [a, b, c, d]
 }
 
+/// Whether so many next turns of the collector find the only thread at its first stage.
+pub fn are_looks(heap: &Heap<'_>, sweeper: &mut Sweeper<'_>, turns: u32) -> bool
+    requires { IsSweeperOf heap.now sweeper.old }
+    ensures { IsSweeperOf heap.now sweeper.new }
+{
+    for _ in 0..turns {
+        if sweeper.turn(heap) != Some(Turn::ReadStage(0, 0)) {
+            return false;
+        }
+    }
+    true
+}
+
 /// Whether the collector's next turns are these.
 pub fn turns_are(heap: &Heap<'_>, sweeper: &mut Sweeper<'_>, turns: &[Turn]) -> bool
     requires { IsSweeperOf heap.now sweeper.old }
@@ -204,6 +219,22 @@ pub fn finish(heap: &Heap<'_>, me: &mut Mutator)
     ensures { IsOf heap.now me.new }
 {
     heap.finish(me);
+}
+
+/// Gives back the words of a heap of one thread.
+pub fn close_one<'a>(
+    alloc: Global,
+    heap: Heap<'a>,
+    me: Mutator,
+    sweeper: Sweeper<'_>,
+) -> Result<Closed<'a>, Fail>
+    requires token { IsOf heap me }
+    requires sweeper { IsSweeperOf heap sweeper }
+    ensures { IfOk result (λ closed. closed.setup ≡ heap.entry.setup) }
+{
+    let mut mutators = Vec::new(alloc);
+    mutators.push(me)?;
+    Ok(heap.close(mutators, sweeper))
 }
 
 /// Gives back the words of a heap of two threads.

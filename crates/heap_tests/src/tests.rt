@@ -1,8 +1,10 @@
 //! The shared heap, by one caller and by real threads.
+use crate::cycles::{first_cycle, second_cycle, take_all};
+use crate::late::{both_tokens, read_late};
 use crate::{
-    begin_and_take, close_new, close_two, colours_of, finish, global, keep_a_cell, keep_two,
-    last_token, late_token, one_layout, plan_of, take, take_four, take_two, the_layout,
-    turn_and_answer, turn_on, turns_are,
+    are_looks, begin_and_take, close_new, close_one, close_two, colours_of, finish, global,
+    keep_a_cell, keep_two, last_token, late_token, one_layout, plan_of, take, take_four, take_two,
+    the_layout, turn_and_answer, turn_on, turns_are,
 };
 use colours::{DONE, Turn};
 use heap_table::Heap;
@@ -67,18 +69,37 @@ fn two_threads_share_two_cells(rt: HostRuntime) -> Result<(), Fail> {
 }
 
 #[test]
-fn the_collector_waits_for_a_silent_thread(rt: HostRuntime) -> Result<(), Fail> {
+fn a_thread_without_a_call_holds_up_no_turn(rt: HostRuntime) -> Result<(), Fail> {
     let alloc = rt.alloc();
     let layouts = one_layout(alloc)?;
-    let pools = Pools::new(alloc, &layouts, &[1])?;
+    let pools = Pools::new(alloc, &layouts, &[2])?;
     let plan = plan_of(&pools, &layouts, &[], 1, &[]);
     let (heap, mutators, mut sweeper) = Heap::new(alloc, plan)?;
     assert!(rt; turns_are(&heap, &mut sweeper, &[Turn::PostStage(1)]));
-    turn_on(&heap, &mut sweeper, 100);
-    assert!(rt; turns_are(&heap, &mut sweeper, &[Turn::ReadStage(0, 0)]));
+    assert!(rt; are_looks(&heap, &mut sweeper, 9_999));
+    assert_eq!(rt; sweeper.cycles(), 0);
     let closed = close_new(heap, mutators, sweeper);
-    assert_eq!(rt; closed.posted(), 1);
-    assert_eq!(rt; closed.stage(0), 0);
+    assert_eq!(rt; (closed.posted(), closed.stage(0)), (1, 0));
+    assert_eq!(rt; colours_of(&closed), [1, 0, 0]);
+    Ok(())
+}
+
+#[test]
+fn a_cycle_frees_the_cell_that_nothing_names(rt: HostRuntime) -> Result<(), Fail> {
+    let alloc = rt.alloc();
+    let layouts = one_layout(alloc)?;
+    let pools = Pools::new(alloc, &layouts, &[2])?;
+    let globals = [WordKind::Reference(the_layout())];
+    let plan = plan_of(&pools, &layouts, &globals, 1, &[]);
+    let (heap, mut mutators, mut sweeper) = Heap::new(alloc, plan)?;
+    let mut me = last_token(&heap, &mut mutators).expect(&rt, "a token");
+    assert_eq!(rt; take_all(&heap, &mut me), [1, 2, 0]);
+    let first = first_cycle(&heap, &mut me, &mut sweeper);
+    assert_eq!(rt; first, Some(([0, 1], [0, 2, 0])));
+    assert_eq!(rt; second_cycle(&heap, &mut me, &mut sweeper), ([1, 2], 1));
+    finish(&heap, &mut me);
+    let closed = close_one(alloc, heap, me, sweeper)?;
+    assert_eq!(rt; (closed.posted(), colours_of(&closed)), (6, [5, 5, 0]));
     Ok(())
 }
 
@@ -143,5 +164,25 @@ fn a_late_thread_begins_at_the_posted_stage(rt: HostRuntime) -> Result<(), Fail>
     let mut me = late_token(&heap, &mut mutators).expect(&rt, "a token");
     turn_on(&heap, &mut sweeper, 3);
     assert_eq!(rt; begin_and_take(&heap, &mut me), Some((2, 1)));
+    Ok(())
+}
+
+#[test]
+fn a_late_thread_reads_what_another_one_wrote(rt: HostRuntime) -> Result<(), Fail> {
+    let alloc = rt.alloc();
+    let layouts = one_layout(alloc)?;
+    let pools = Pools::new(alloc, &layouts, &[2])?;
+    let globals = [WordKind::Reference(the_layout())];
+    let plan = plan_of(&pools, &layouts, &globals, 2, &[false, true]);
+    let (heap, mut mutators, mut sweeper) = Heap::new(alloc, plan)?;
+    let (mut first, mut late) = both_tokens(&heap, &mut mutators).expect(&rt, "two tokens");
+    let (cell, seen) = read_late(&rt, &heap, &mut first, &mut late, &mut sweeper);
+    let (stage, found) = seen.expect(&rt, "it has begun");
+    assert_eq!(rt; (cell, found), (1, 1));
+    // A cycle takes 23 turns before the late thread has begun, and the next one posts stage 4.
+    assert!(rt; stage >= 4);
+    let closed = close_two(alloc, heap, first, late, sweeper)?;
+    assert!(rt; closed.posted() >= stage);
+    assert_eq!(rt; (closed.stage(0), closed.stage(1)), (DONE, DONE));
     Ok(())
 }
