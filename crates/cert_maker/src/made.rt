@@ -1,0 +1,31 @@
+use block_rules::Refusal;
+use certs::Certs;
+use ir_ast::Module;
+use layout::LayoutFault;
+
+/// Why no certificates are made.
+#[derive(Clone, Copy, PartialEq, Eq)]
+pub enum MakeFault {
+    /// The module has no layouts.
+    Layout(LayoutFault),
+    /// None of those that are proposed is accepted, and the plain ones are not.
+    NoAnswer,
+    /// Memory was refused.
+    Memory,
+}
+
+/// Certificates, and the first instruction that is refused with them.
+#[derive(Drop)]
+pub struct Refused {
+    pub certs: Certs,
+    pub refusal: Refusal,
+}
+
+/// A module for which no certificates are made, given back.
+#[derive(Drop)]
+pub struct NotMade {
+    pub fault: MakeFault,
+    pub of_module: Module,
+    /// The boldest certificates that were refused.
+    pub refused: Option<Refused>,
+}

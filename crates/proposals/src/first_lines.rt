@@ -1,0 +1,260 @@
+//! The lines of a block by the first way to it.
+use crate::draft::Listed;
+use crate::ground::Ground;
+use crate::rows::row_or;
+use block_rules::Scene;
+use certs::{Age, Fact, Line, family_of_value};
+use facts::{ClassId, Facts, Known};
+use indexmap::{IndexMap, IndexSet};
+use ir_ast::{BlockId, ValueId};
+use pools::LayoutId;
+use shadow_stack::SlotId;
+use std::alloc::{AllocError, Global};
+
+/// What is listed of what is known on a way.
+#[derive(Drop)]
+struct Lister<'a> {
+    scene: Scene<'a>,
+    ground: &'a Ground,
+    facts: &'a Facts,
+    /// What is wanted, in its order.
+    wanted: &'a [u32],
+    listed: Listed,
+    /// The first value that is listed of each class.
+    firsts: IndexMap<usize, ValueId>,
+}
+
+/// The lines of a block by what is known on the first way to it; `names` are all values of which something may be known.
+pub fn first_lines(
+    alloc: Global,
+    scene: Scene<'_>,
+    ground: &Ground,
+    facts: &Facts,
+    to: BlockId,
+    names: &[ValueId],
+) -> Result<Listed, AllocError> {
+    let mut lister = Lister {
+        scene,
+        ground,
+        facts,
+        wanted: ground.wanted.group(to.number() as usize),
+        listed: Listed::new(alloc),
+        firsts: IndexMap::new(alloc),
+    };
+    lister.values()?;
+    lister.held(alloc, names)?;
+    lister.addresses()?;
+    lister.slots()?;
+    Ok(lister.listed)
+}
+
+impl<'a> Lister<'a> {
+    fn is_wanted(&self, number: u32) -> bool {
+        self.wanted.binary_search(&number).is_ok()
+    }
+
+    fn is_slot_wanted(&self, slot: SlotId) -> bool {
+        let values = self.scene.function.locals.count();
+        match u32::try_from(values.saturating_add(slot.number())) {
+            Ok(number) => self.is_wanted(number),
+            Err(_) => false,
+        }
+    }
+
+    fn value(&mut self, value: ValueId, fact: Fact) -> Result<(), AllocError> {
+        self.listed.add(Line::Value { value, fact }, 0)
+    }
+
+    /// The numbers and references that are wanted.
+    fn values(&mut self) -> Result<(), AllocError> {
+        for number in self.wanted {
+            let value = ValueId::new(*number);
+            match self.facts.known(value) {
+                Known::Number { bits, below } => {
+                    self.value(value, Fact::Number { bits, below })?;
+                }
+                Known::Cell {
+                    class,
+                    layout,
+                    stale: false,
+                } => self.reference(value, class, layout)?,
+                Known::Null => self.null(value)?,
+                Known::Nothing
+                | Known::Cell { .. }
+                | Known::Address { .. }
+                | Known::GlobalAddress(_) => {}
+            }
+        }
+        Ok(())
+    }
+
+    fn reference(
+        &mut self,
+        value: ValueId,
+        class: ClassId,
+        layout: LayoutId,
+    ) -> Result<(), AllocError> {
+        let known = self.facts.class(class);
+        let same = self.firsts.get(&class.number()).copied();
+        let age = if known.fresh { Age::Fresh } else { Age::Held };
+        self.value(
+            value,
+            Fact::Reference {
+                layout,
+                nonnull: known.nonnull,
+                age,
+                same,
+            },
+        )?;
+        if same.is_none() {
+            self.firsts.insert(class.number(), value)?;
+        }
+        Ok(())
+    }
+
+    /// Null has the layout that its type or the text gives.
+    fn null(&mut self, value: ValueId) -> Result<(), AllocError> {
+        let family = family_of_value(self.scene.module(), self.scene.function, value);
+        let guess = row_or(
+            &self.ground.guesses.layouts,
+            value.number() as usize,
+            None,
+        );
+        let layout = match family {
+            certs::Family::Reference(layout) => Some(layout),
+            _ => guess,
+        };
+        match layout {
+            Some(layout) => self.value(
+                value,
+                Fact::Reference {
+                    layout,
+                    nonnull: false,
+                    age: Age::Held,
+                    same: None,
+                },
+            ),
+            None => Ok(()),
+        }
+    }
+
+    /// The addresses that are wanted, on references that are listed.
+    fn addresses(&mut self) -> Result<(), AllocError> {
+        for number in self.wanted {
+            let value = ValueId::new(*number);
+            match self.facts.known(value) {
+                Known::Address { base, words } if self.is_base(base) => {
+                    self.value(value, Fact::Address { base, words })?;
+                }
+                Known::GlobalAddress(global) => {
+                    self.value(value, Fact::GlobalAddress(global))?;
+                }
+                _ => {}
+            }
+        }
+        Ok(())
+    }
+
+    fn is_base(&self, base: ValueId) -> bool {
+        self.is_wanted(base.number())
+            && matches!(self.facts.known(base), Known::Cell { stale: false, .. })
+    }
+
+    /// What a wanted slot holds is listed, though it is not wanted, where it is fresh or two slots hold it.
+    fn held(&mut self, alloc: Global, names: &[ValueId]) -> Result<(), AllocError> {
+        let mut once = IndexSet::new(alloc);
+        let mut hidden = IndexMap::new(alloc);
+        for slot in self.ground.slots.root_slots() {
+            if let Some(class) = self.unlisted(*slot) {
+                if self.facts.class(class).fresh || once.contains(&class.number()) {
+                    self.list_hidden(&mut hidden, names, class)?;
+                }
+                once.insert(class.number())?;
+            }
+        }
+        Ok(())
+    }
+
+    /// The class that a wanted slot holds, if no value of it is listed.
+    fn unlisted(&self, slot: SlotId) -> Option<ClassId> {
+        let class = self.facts.slot(slot).holds?;
+        if self.is_slot_wanted(slot) && self.firsts.get(&class.number()).is_none() {
+            Some(class)
+        } else {
+            None
+        }
+    }
+
+    fn list_hidden(
+        &mut self,
+        hidden: &mut IndexMap<usize, (ValueId, LayoutId)>,
+        names: &[ValueId],
+        class: ClassId,
+    ) -> Result<(), AllocError> {
+        if hidden.is_empty() {
+            self.find_hidden(hidden, names)?;
+        }
+        match hidden.get(&class.number()).copied() {
+            Some((value, layout)) => self.reference(value, class, layout),
+            None => Ok(()),
+        }
+    }
+
+    /// A value of each class of which one has a name.
+    fn find_hidden(
+        &self,
+        hidden: &mut IndexMap<usize, (ValueId, LayoutId)>,
+        names: &[ValueId],
+    ) -> Result<(), AllocError> {
+        for value in names {
+            if let Known::Cell {
+                class,
+                layout,
+                stale: false,
+            } = self.facts.known(*value)
+            {
+                hidden.insert(class.number(), (*value, layout))?;
+            }
+        }
+        Ok(())
+    }
+
+    /// The slots that are wanted, and those that hold what is listed as fresh.
+    fn slots(&mut self) -> Result<(), AllocError> {
+        for slot in self.ground.slots.root_slots() {
+            self.slot(*slot)?;
+        }
+        Ok(())
+    }
+
+    fn slot(&mut self, slot: SlotId) -> Result<(), AllocError> {
+        let fact = self.facts.slot(slot);
+        let holds = match fact.holds {
+            Some(class) => self.firsts.get(&class.number()).copied(),
+            None => None,
+        };
+        let nonnull = self.facts.slot_nonnull(fact);
+        let wanted = self.is_slot_wanted(slot);
+        let fresh = holds.is_some() && self.holds_fresh(fact.holds);
+        let says = nonnull || holds.is_some();
+        let name = row_or(&self.ground.guesses.slots, slot.number(), None);
+        match name {
+            Some(name) if says && (wanted || fresh) => self.listed.add(
+                Line::Slot {
+                    slot: name,
+                    nonnull,
+                    holds,
+                },
+                0,
+            ),
+            _ => Ok(()),
+        }
+    }
+
+    fn holds_fresh(&self, holds: Option<ClassId>) -> bool {
+        match holds {
+            Some(class) => self.facts.class(class).fresh,
+            None => false,
+        }
+    }
+}

@@ -1,0 +1,197 @@
+//! What the text of a function tells of its values before they are known.
+use crate::call_graph::defined;
+use crate::deals::Deals;
+use crate::rows::{put, row_or};
+use block_rules::TypeKind;
+use ir_ast::{Call, Cast, Constant, End, Function, Instr, Module, Op, Operand, Phi, Runtime, ValueId};
+use pools::LayoutId;
+use shadow_stack::Slots;
+use std::alloc::{AllocError, Global};
+use types::runtime_called;
+
+/// What the text tells of each value of a function.
+#[derive(Drop)]
+pub struct Guesses {
+    /// The reference on which an address is.
+    pub bases: Vec<Option<ValueId>>,
+    /// The layout of an `i8*`.
+    pub layouts: Vec<Option<LayoutId>>,
+    /// The name of the alloca of each slot.
+    pub slots: Vec<Option<ValueId>>,
+}
+
+impl Guesses {
+    pub fn of(
+        alloc: Global,
+        module: &Module,
+        function: &Function,
+        slots: &Slots,
+        deals: &Deals,
+    ) -> Result<Guesses, AllocError> {
+        let values = function.locals.count();
+        let mut guesses = Guesses {
+            bases: vec![in alloc; None; values]?,
+            layouts: cast_layouts(alloc, module, function)?,
+            slots: vec![in alloc; None; slots.count()]?,
+        };
+        for block in function.blocks.as_slice() {
+            for instr in block.body.as_slice() {
+                guesses.note(module, slots, deals, instr);
+            }
+        }
+        for block in function.blocks.as_slice() {
+            for phi in block.phis.as_slice() {
+                note_phi_layout(&mut guesses.layouts, phi);
+            }
+        }
+        Ok(guesses)
+    }
+
+    fn note(&mut self, module: &Module, slots: &Slots, deals: &Deals, instr: &Instr) {
+        let Some(value) = instr.result else {
+            return;
+        };
+        let at = value.number() as usize;
+        if let Some(slot) = slots.slot_of(value) {
+            if let Op::Memory(_) = &instr.op {
+                put(&mut self.slots, slot.number(), Some(value));
+            }
+            return;
+        }
+        match &instr.op {
+            Op::Element(element) => self.note_element(at, &element.base),
+            Op::Cast(cast) => self.note_cast(at, cast),
+            Op::Call(call) => {
+                if let Some(layout) = layout_called(module, deals, call) {
+                    put(&mut self.layouts, at, Some(layout));
+                }
+            }
+            Op::Number(_) | Op::Memory(_) | Op::Choice(_) => {}
+        }
+    }
+
+    /// An element is on the base of its own base, if that is an address, or on its own base.
+    fn note_element(&mut self, at: usize, base: &Operand) {
+        if let Operand::Local(base) = base {
+            let found = row_or(&self.bases, base.number() as usize, None);
+            let base = match found {
+                Some(found) => found,
+                None => *base,
+            };
+            put(&mut self.bases, at, Some(base));
+        }
+    }
+
+    fn note_cast(&mut self, at: usize, cast: &Cast) {
+        let Operand::Local(from) = &cast.operand else {
+            return;
+        };
+        let base = row_or(&self.bases, from.number() as usize, None);
+        put(&mut self.bases, at, base);
+    }
+}
+
+/// The layout of a module that has one.
+fn only_layout(module: &Module) -> Option<LayoutId> {
+    if module.structs.len() == 1 {
+        Some(LayoutId::new(0))
+    } else {
+        None
+    }
+}
+
+/// The layout of what a call returns.
+fn layout_called(module: &Module, deals: &Deals, call: &Call) -> Option<LayoutId> {
+    if let Some(callee) = defined(module, call.callee) {
+        return deals.result(callee).layout();
+    }
+    match (
+        runtime_called(module, call.callee),
+        call.arguments.as_slice(),
+    ) {
+        (Some(Runtime::Alloc), [size, ..]) => match size.operand {
+            Operand::Constant(Constant::Number(number)) => layout_numbered(number),
+            _ => None,
+        },
+        _ => None,
+    }
+}
+
+fn layout_numbered(number: u64) -> Option<LayoutId> {
+    match u32::try_from(number) {
+        Ok(number) => Some(LayoutId::new(number)),
+        Err(_) => None,
+    }
+}
+
+/// The layouts of the `i8*` of a function that are made of references, or made into some.
+pub fn cast_layouts(
+    alloc: Global,
+    module: &Module,
+    function: &Function,
+) -> Result<Vec<Option<LayoutId>>, AllocError> {
+    let mut layouts = vec![in alloc; only_layout(module); function.locals.count()]?;
+    for block in function.blocks.as_slice() {
+        for instr in block.body.as_slice() {
+            if let (Op::Cast(cast), Some(value)) = (&instr.op, instr.result) {
+                note_cast_layouts(module, &mut layouts, value.number() as usize, cast);
+            }
+        }
+    }
+    for block in function.blocks.as_slice() {
+        for phi in block.phis.as_slice() {
+            note_phi_layout(&mut layouts, phi);
+        }
+    }
+    Ok(layouts)
+}
+
+fn note_cast_layouts(
+    module: &Module,
+    layouts: &mut [Option<LayoutId>],
+    at: usize,
+    cast: &Cast,
+) {
+    if let Some(layout) = TypeKind::of(module, cast.from).layout() {
+        put(layouts, at, Some(layout));
+    }
+    if let (Some(layout), Operand::Local(from)) = (
+        TypeKind::of(module, cast.to).layout(),
+        &cast.operand,
+    ) {
+        put(layouts, from.number() as usize, Some(layout));
+    }
+}
+
+/// A phi has the layout of the last entry that has one, if it has none.
+fn note_phi_layout(layouts: &mut [Option<LayoutId>], phi: &Phi) {
+    let at = phi.value.number() as usize;
+    for entry in phi.incoming.as_slice() {
+        if let Operand::Local(value) = entry.operand {
+            let layout = row_or(layouts, value.number() as usize, None);
+            if layout.is_some() {
+                put(layouts, at, layout);
+            }
+        }
+    }
+}
+
+/// The layout of what a function returns, by its last return.
+pub fn returned_layout(
+    module: &Module,
+    function: &Function,
+    layouts: &[Option<LayoutId>],
+) -> Option<LayoutId> {
+    let mut found = only_layout(module);
+    for block in function.blocks.as_slice() {
+        if let End::Return(argument) = &block.end {
+            if let Operand::Local(value) = argument.operand {
+                let layout = row_or(layouts, value.number() as usize, None);
+                if layout.is_some() {
+                    found = layout;
+                }
+            }
+        }
+    }
+    found
+}
