@@ -2,9 +2,9 @@
 #![tactic(auto)]
 
 mod made;
-mod make;
+mod maker;
 mod plain;
 mod tried;
 
 pub use made::{MakeFault, NotMade, Refused};
-pub use make::make;
+pub use maker::make;

@@ -36,11 +36,7 @@ fn best_fact(scene: &Scene, ground: &Ground, value: ValueId) -> Option<Fact> {
             });
         }
         Family::Reference(layout) => layout,
-        Family::AnyReference => row_or(
-            &ground.guesses.layouts,
-            value.number() as usize,
-            None,
-        )?,
+        Family::AnyReference => row_or(&ground.guesses.layouts, value.number() as usize, None)?,
         Family::Address | Family::Nothing => return None,
     };
     Some(Fact::Reference {

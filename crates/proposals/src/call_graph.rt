@@ -48,7 +48,12 @@ impl CallGraph {
 }
 
 impl Calls {
-    fn note_block(&mut self, module: &Module, caller: u32, block: &Block) -> Result<(), AllocError> {
+    fn note_block(
+        &mut self,
+        module: &Module,
+        caller: u32,
+        block: &Block,
+    ) -> Result<(), AllocError> {
         for instr in block.body.as_slice() {
             if let Op::Call(call) = &instr.op {
                 self.note_call(module, caller, call)?;

@@ -8,10 +8,7 @@ pub enum Shown {
     /// An integer, and what it is below.
     Number(Option<u64>),
     Null,
-    Cell {
-        layout: LayoutId,
-        nonnull: bool,
-    },
+    Cell { layout: LayoutId, nonnull: bool },
 }
 
 /// What is promised of a parameter or of a result, as far as it was found.

@@ -74,7 +74,11 @@ impl Deals {
     /// What is promised of a parameter of a function.
     pub fn parameter(&self, func: FuncId, place: usize) -> Claim {
         let first = row_or(&self.firsts, func.number() as usize, usize::MAX);
-        row_or(&self.parameters, first.saturating_add(place), Claim::Nothing)
+        row_or(
+            &self.parameters,
+            first.saturating_add(place),
+            Claim::Nothing,
+        )
     }
 
     /// What is promised of the result of a function.

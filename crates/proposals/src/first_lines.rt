@@ -115,11 +115,7 @@ impl<'a> Lister<'a> {
     /// Null has the layout that its type or the text gives.
     fn null(&mut self, value: ValueId) -> Result<(), AllocError> {
         let family = family_of_value(self.scene.module(), self.scene.function, value);
-        let guess = row_or(
-            &self.ground.guesses.layouts,
-            value.number() as usize,
-            None,
-        );
+        let guess = row_or(&self.ground.guesses.layouts, value.number() as usize, None);
         let layout = match family {
             certs::Family::Reference(layout) => Some(layout),
             _ => guess,

@@ -3,7 +3,9 @@ use crate::call_graph::defined;
 use crate::deals::Deals;
 use crate::rows::{put, row_or};
 use block_rules::TypeKind;
-use ir_ast::{Call, Cast, Constant, End, Function, Instr, Module, Op, Operand, Phi, Runtime, ValueId};
+use ir_ast::{
+    Call, Cast, Constant, End, Function, Instr, Module, Op, Operand, Phi, Runtime, ValueId,
+};
 use pools::LayoutId;
 use shadow_stack::Slots;
 use std::alloc::{AllocError, Global};
@@ -146,12 +148,7 @@ pub fn cast_layouts(
     Ok(layouts)
 }
 
-fn note_cast_layouts(
-    module: &Module,
-    layouts: &mut [Option<LayoutId>],
-    at: usize,
-    cast: &Cast,
-) {
+fn note_cast_layouts(module: &Module, layouts: &mut [Option<LayoutId>], at: usize, cast: &Cast) {
     if let Some(layout) = TypeKind::of(module, cast.from).layout() {
         put(layouts, at, Some(layout));
     }

@@ -74,12 +74,7 @@ impl Knowledge {
     }
 
     /// Goes past an instruction.
-    pub fn step(
-        &mut self,
-        scene: &Scene,
-        deals: &Deals,
-        instr: &Instr,
-    ) -> Result<(), AllocError> {
+    pub fn step(&mut self, scene: &Scene, deals: &Deals, instr: &Instr) -> Result<(), AllocError> {
         if let Op::Call(call) = &instr.op {
             if let Some(callee) = defined(scene.module(), call.callee) {
                 self.drop_arguments(call);

@@ -16,11 +16,11 @@ mod knowledge;
 mod marks;
 mod needs;
 mod order;
-mod propose;
+mod proposal;
 mod rows;
 mod scan;
 mod walk;
 mod wanted;
 mod weaken;
 
-pub use propose::{Boldness, propose};
+pub use proposal::{Boldness, propose};

@@ -66,7 +66,13 @@ impl<'a> Needs<'a> {
         let mut part = element.source;
         for index in element.indices.as_slice().iter().skip(1) {
             match self.program.step(part, *index) {
-                Some(Step::Elements { length, part: next, .. }) => {
+                Some(
+                    Step::Elements {
+                        length,
+                        part: next,
+                        ..
+                    },
+                ) => {
                     self.need(&index.operand, Some(length));
                     part = next;
                 }

@@ -107,11 +107,11 @@ impl<'a> Scan<'a> {
 
     fn number(&mut self, op: &NumberOp) -> Result<(), AllocError> {
         match op {
-            NumberOp::Arithmetic { first, second, .. }
-            | NumberOp::Compare { first, second, .. } => {
-                self.operand(first)?;
-                self.operand(second)
-            }
+            NumberOp::Arithmetic { first, second, .. } | NumberOp::Compare { first, second, .. } =>
+                {
+                    self.operand(first)?;
+                    self.operand(second)
+                }
             NumberOp::Resize { operand, .. } => self.operand(operand),
         }
     }

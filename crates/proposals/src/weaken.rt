@@ -51,9 +51,9 @@ pub fn weakened(
 }
 
 fn shows_all(ground: &Ground, knowledge: &Knowledge, lines: &[Line]) -> bool {
-    lines
-        .iter()
-        .all(|line| knowledge.way.shows_line(&ground.slots, &knowledge.there, *line))
+    lines.iter().all(|line| knowledge
+        .way
+        .shows_line(&ground.slots, &knowledge.there, *line))
 }
 
 /// What both the lines and the way say, line by line.
@@ -73,13 +73,7 @@ fn met(
     Ok(met)
 }
 
-fn met_line(
-    ground: &Ground,
-    way: &Facts,
-    lengths: &[u64],
-    line: Line,
-    grown: u8,
-) -> Option<Left> {
+fn met_line(ground: &Ground, way: &Facts, lengths: &[u64], line: Line, grown: u8) -> Option<Left> {
     match line {
         Line::Value { value, fact } => met_value(way, lengths, value, fact, grown),
         Line::Slot {
@@ -93,13 +87,7 @@ fn met_line(
     }
 }
 
-fn met_value(
-    way: &Facts,
-    lengths: &[u64],
-    value: ValueId,
-    fact: Fact,
-    grown: u8,
-) -> Option<Left> {
+fn met_value(way: &Facts, lengths: &[u64], value: ValueId, fact: Fact, grown: u8) -> Option<Left> {
     let known = way.known(value);
     match fact {
         Fact::Number { bits, below } => met_number(lengths, value, bits, below, grown, known),
@@ -160,7 +148,11 @@ fn met_number(
     } else {
         below
     };
-    let grown = if grows { grown.saturating_add(1) } else { grown };
+    let grown = if grows {
+        grown.saturating_add(1)
+    } else {
+        grown
+    };
     Some(Left {
         line: Line::Value {
             value,
@@ -350,7 +342,9 @@ fn without_lost_fresh(
 ) -> Result<Listed, AllocError> {
     let mut left = Listed::new(alloc);
     for (line, grown) in kept.lines.iter().zip(kept.grown.iter()) {
-        let shown = knowledge.way.shows_line(&ground.slots, &knowledge.there, *line);
+        let shown = knowledge
+            .way
+            .shows_line(&ground.slots, &knowledge.there, *line);
         let line = if shown { *line } else { held(*line) };
         left.add(line, *grown)?;
     }

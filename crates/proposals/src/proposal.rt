@@ -1,5 +1,6 @@
 //! Certificates that are proposed for a whole module.
 use crate::call_graph::CallGraph;
+pub use crate::deals::Boldness;
 use crate::deals::Deals;
 use crate::draft::Draft;
 use crate::ground::Ground;
@@ -11,14 +12,8 @@ use items::Items;
 use layout::Program;
 use std::alloc::{AllocError, Global};
 
-pub use crate::deals::Boldness;
-
 /// Certificates for a module. Each says what the rules show of its functions, or less.
-pub fn propose(
-    alloc: Global,
-    program: &Program,
-    boldness: Boldness,
-) -> Result<Certs, AllocError> {
+pub fn propose(alloc: Global, program: &Program, boldness: Boldness) -> Result<Certs, AllocError> {
     let module = program.module();
     let graph = CallGraph::of(alloc, module)?;
     let mut deals = Deals::of(alloc, program, &graph, boldness)?;
