@@ -1,3 +1,4 @@
+use crate::tried::Lack;
 use block_rules::Refusal;
 use certs::Certs;
 use ir_ast::Module;
@@ -26,6 +27,34 @@ pub struct Refused {
 pub struct NotMade {
     pub fault: MakeFault,
     pub of_module: Module,
-    /// The boldest certificates that were refused.
+    /// The boldest of the proposed certificates that were refused.
     pub refused: Option<Refused>,
+}
+
+impl From<LayoutFault> for MakeFault {
+    ghost use Rattle.std.specs.Prelude.{◌≡◌};
+    ghost use Rattle.cert_maker.specs.Made.{fault_of_layout};
+
+    ghost from_gives = { λ fault made. made ≡ fault_of_layout fault };
+
+    fn from(fault: LayoutFault) -> MakeFault {
+        match fault {
+            LayoutFault::Memory => MakeFault::Memory,
+            fault => MakeFault::Layout(fault),
+        }
+    }
+}
+
+impl From<Lack> for MakeFault {
+    ghost use Rattle.std.specs.Prelude.{◌≡◌};
+    ghost use Rattle.cert_maker.specs.Made.{fault_of_lack};
+
+    ghost from_gives = { λ lack made. made ≡ fault_of_lack lack };
+
+    fn from(lack: Lack) -> MakeFault {
+        match lack {
+            Lack::NoAnswer => MakeFault::NoAnswer,
+            Lack::Memory => MakeFault::Memory,
+        }
+    }
 }

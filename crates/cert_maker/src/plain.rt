@@ -1,20 +1,36 @@
 //! The plain certificates of a module: they say the least.
-use certs::{Certs, Mark, Promise, Section};
+ghost use Rattle.std.specs.Prelude.{◌≡◌, [], None, map, true, IfOk};
+ghost use Rattle.certs.specs.Fits.{fits};
+ghost use Rattle.cert_maker.specs.Plain.{plain, plain_section};
+
+use certs::{Certs, Line, Mark, Promise, Section};
 use ir_ast::{Block, Function, Module, Parameter};
 use items::Items;
 use std::alloc::{AllocError, Global};
 
 /// Certificates that mark each function `may`, promise nothing and list nothing.
-pub fn plain(alloc: Global, of_module: &Module) -> Result<Certs, AllocError> {
-    let mut sections = Items::new(alloc);
-    for function in of_module.functions.as_slice() {
-        let section = plain_section(alloc, function)?;
-        sections.push(section)?;
-    }
+pub fn plain(alloc: Global, of_module: &Module) -> Result<Certs, AllocError>
+    ensures plain { IfOk result (λ certs. certs ≡ plain of_module.now) }
+    ensures fits { fits of_module.now (plain of_module.now) ≡ true }
+{
+    let sections = plain_sections(alloc, of_module.functions.as_slice())?;
     Ok(Certs::new(sections))
 }
 
-fn plain_section(alloc: Global, function: &Function) -> Result<Section, AllocError> {
+fn plain_sections(alloc: Global, functions: &[Function]) -> Result<Items<Section>, AllocError>
+    ensures { IfOk result (λ sections. sections ≡ map plain_section functions.now) }
+{
+    let mut sections = Items::new(alloc);
+    for function in functions {
+        let section = plain_section(alloc, function)?;
+        sections.push(section)?;
+    }
+    Ok(sections)
+}
+
+fn plain_section(alloc: Global, function: &Function) -> Result<Section, AllocError>
+    ensures { IfOk result (λ section. section ≡ plain_section function.now) }
+{
     let parameters = no_promises(alloc, function.parameters.as_slice())?;
     let blocks = no_lines(alloc, function.blocks.as_slice())?;
     Ok(Section {
@@ -28,7 +44,9 @@ fn plain_section(alloc: Global, function: &Function) -> Result<Section, AllocErr
 fn no_promises(
     alloc: Global,
     parameters: &[Parameter],
-) -> Result<Items<Option<Promise>>, AllocError> {
+) -> Result<Items<Option<Promise>>, AllocError>
+    ensures { IfOk result (λ promises. promises ≡ map (λ _. None) parameters.now) }
+{
     let mut promises = Items::new(alloc);
     for _parameter in parameters {
         promises.push(None)?;
@@ -36,7 +54,9 @@ fn no_promises(
     Ok(promises)
 }
 
-fn no_lines(alloc: Global, blocks: &[Block]) -> Result<Items<Items<certs::Line>>, AllocError> {
+fn no_lines(alloc: Global, blocks: &[Block]) -> Result<Items<Items<Line>>, AllocError>
+    ensures { IfOk result (λ lines. lines ≡ map (λ _. []) blocks.now) }
+{
     let mut lines = Items::new(alloc);
     for _block in blocks {
         lines.push(Items::new(alloc))?;
