@@ -1,0 +1,5 @@
+use Rattle.cert_maker.proofs.Plain.{plain_fits}
+use Rattle.cert_maker.proofs.plain.plain.Goals as goal
+
+pub returns-clause-fits : goal.returns-clause-fits
+returns-clause-fits c = plain_fits c.args.of_module.now
