@@ -224,18 +224,15 @@ impl<'a> Lister<'a> {
     }
 
     fn slot(&mut self, slot: SlotId) -> Result<(), AllocError> {
-        let fact = self.facts.slot(slot);
-        let holds = match fact.holds {
-            Some(class) => self.firsts.get(&class.number()).copied(),
-            None => None,
-        };
-        let nonnull = self.facts.slot_nonnull(fact);
-        let wanted = self.is_slot_wanted(slot);
-        let fresh = holds.is_some() && self.holds_fresh(fact.holds);
+        let class = self.facts.slot(slot).holds;
+        let nonnull = self.facts.slot_nonnull(self.facts.slot(slot));
+        let holds = self.first_of(class);
+        let fresh = holds.is_some() && self.is_fresh(class);
         let says = nonnull || holds.is_some();
+        let listed = says && (fresh || self.is_slot_wanted(slot));
         let name = row_or(&self.ground.guesses.slots, slot.number(), None);
         match name {
-            Some(name) if says && (wanted || fresh) => self.listed.add(
+            Some(name) if listed => self.listed.add(
                 Line::Slot {
                     slot: name,
                     nonnull,
@@ -247,8 +244,13 @@ impl<'a> Lister<'a> {
         }
     }
 
-    fn holds_fresh(&self, holds: Option<ClassId>) -> bool {
-        match holds {
+    /// The first value that is listed of a class.
+    fn first_of(&self, class: Option<ClassId>) -> Option<ValueId> {
+        self.firsts.get(&class?.number()).copied()
+    }
+
+    fn is_fresh(&self, class: Option<ClassId>) -> bool {
+        match class {
             Some(class) => self.facts.class(class).fresh,
             None => false,
         }

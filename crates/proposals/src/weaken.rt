@@ -245,9 +245,9 @@ fn met_slot(
     nonnull: bool,
     holds: Option<ValueId>,
 ) -> Option<Line> {
-    let fact = way.slot(ground.slots.slot_of(slot)?);
-    let nonnull = nonnull && way.slot_nonnull(fact);
-    let holds = match fact.holds {
+    let place = ground.slots.slot_of(slot)?;
+    let nonnull = nonnull && way.slot_nonnull(way.slot(place));
+    let holds = match way.slot(place).holds {
         Some(class) => same_in(way, class, holds),
         None => None,
     };
