@@ -224,8 +224,9 @@ impl<'a> Lister<'a> {
     }
 
     fn slot(&mut self, slot: SlotId) -> Result<(), AllocError> {
-        let class = self.facts.slot(slot).holds;
-        let nonnull = self.facts.slot_nonnull(self.facts.slot(slot));
+        let fact = self.facts.slot(slot);
+        let class = fact.holds;
+        let nonnull = self.facts.slot_nonnull(fact);
         let holds = self.first_of(class);
         let fresh = holds.is_some() && self.is_fresh(class);
         let says = nonnull || holds.is_some();

@@ -246,8 +246,10 @@ fn met_slot(
     holds: Option<ValueId>,
 ) -> Option<Line> {
     let place = ground.slots.slot_of(slot)?;
-    let nonnull = nonnull && way.slot_nonnull(way.slot(place));
-    let holds = match way.slot(place).holds {
+    let fact = way.slot(place);
+    let class = fact.holds;
+    let nonnull = nonnull && way.slot_nonnull(fact);
+    let holds = match class {
         Some(class) => same_in(way, class, holds),
         None => None,
     };
