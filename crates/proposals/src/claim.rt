@@ -66,17 +66,9 @@ impl Claim {
     /// It as a certificate writes it.
     pub fn promise(self) -> Option<Promise> {
         match self {
-            Claim::Nothing | Claim::Number(None) | Claim::Reference { nonnull: false } => None,
-            Claim::Number(below) => Some(Promise {
-                layout: None,
-                nonnull: false,
-                below,
-            }),
-            Claim::Reference { nonnull } => Some(Promise {
-                layout: None,
-                nonnull,
-                below: None,
-            }),
+            Claim::Nothing => None,
+            Claim::Number(below) => number_promise(below),
+            Claim::Reference { nonnull } => reference_promise(nonnull),
             Claim::AnyReference { layout, nonnull } => Some(Promise {
                 layout: Some(layout),
                 nonnull,
@@ -100,6 +92,28 @@ impl Claim {
             _ => None,
         }
     }
+}
+
+fn number_promise(below: Option<u64>) -> Option<Promise> {
+    if below.is_none() {
+        return None;
+    }
+    Some(Promise {
+        layout: None,
+        nonnull: false,
+        below,
+    })
+}
+
+fn reference_promise(nonnull: bool) -> Option<Promise> {
+    if !nonnull {
+        return None;
+    }
+    Some(Promise {
+        layout: None,
+        nonnull,
+        below: None,
+    })
 }
 
 /// The larger of two bounds; None is no bound.

@@ -7,7 +7,7 @@ use std::alloc::{AllocError, Global};
 /// The lines of a block, and how often the bound of each has grown.
 #[derive(Drop)]
 pub struct Listed {
-    pub lines: Vec<Line>,
+    pub lines: Items<Line>,
     pub grown: Vec<u8>,
 }
 
@@ -24,7 +24,7 @@ pub struct Draft {
 impl Listed {
     pub fn new(alloc: Global) -> Listed {
         Listed {
-            lines: Vec::new(alloc),
+            lines: Items::new(alloc),
             grown: Vec::new(alloc),
         }
     }
@@ -103,7 +103,7 @@ impl Draft {
         let mut each = Items::new(alloc);
         for listed in self.blocks {
             match listed {
-                Some(listed) => each.push(Items::from_vec(listed.lines))?,
+                Some(listed) => each.push(listed.lines)?,
                 None => each.push(Items::new(alloc))?,
             }
         }

@@ -3,11 +3,11 @@ use crate::draft::Listed;
 use crate::ground::Ground;
 use crate::rows::row_or;
 use block_rules::Scene;
-use certs::{Age, Fact, Line, family_of_value};
+use certs::{Age, Fact, Family, Line, family_of_value};
 use facts::{ClassId, Facts, Known};
 use indexmap::{IndexMap, IndexSet};
 use ir_ast::{BlockId, ValueId};
-use pools::LayoutId;
+use pools::{LayoutId, WordSet};
 use shadow_stack::SlotId;
 use std::alloc::{AllocError, Global};
 
@@ -76,16 +76,28 @@ impl<'a> Lister<'a> {
                 Known::Cell {
                     class,
                     layout,
-                    stale: false,
-                } => self.reference(value, class, layout)?,
+                    stale,
+                } => self.cell(value, class, layout, stale)?,
                 Known::Null => self.null(value)?,
-                Known::Nothing
-                | Known::Cell { .. }
-                | Known::Address { .. }
-                | Known::GlobalAddress(_) => {}
+                Known::Nothing | Known::Address { .. } | Known::GlobalAddress(_) => {}
             }
         }
         Ok(())
+    }
+
+    /// A stale reference is of no use.
+    fn cell(
+        &mut self,
+        value: ValueId,
+        class: ClassId,
+        layout: LayoutId,
+        stale: bool,
+    ) -> Result<(), AllocError> {
+        if stale {
+            Ok(())
+        } else {
+            self.reference(value, class, layout)
+        }
     }
 
     fn reference(
@@ -114,23 +126,24 @@ impl<'a> Lister<'a> {
 
     /// Null has the layout that its type or the text gives.
     fn null(&mut self, value: ValueId) -> Result<(), AllocError> {
-        let family = family_of_value(self.scene.module(), self.scene.function, value);
-        let guess = row_or(&self.ground.guesses.layouts, value.number() as usize, None);
-        let layout = match family {
-            certs::Family::Reference(layout) => Some(layout),
-            _ => guess,
+        let Some(layout) = self.null_layout(value) else {
+            return Ok(());
         };
-        match layout {
-            Some(layout) => self.value(
-                value,
-                Fact::Reference {
-                    layout,
-                    nonnull: false,
-                    age: Age::Held,
-                    same: None,
-                },
-            ),
-            None => Ok(()),
+        self.value(
+            value,
+            Fact::Reference {
+                layout,
+                nonnull: false,
+                age: Age::Held,
+                same: None,
+            },
+        )
+    }
+
+    fn null_layout(&self, value: ValueId) -> Option<LayoutId> {
+        match family_of_value(self.scene.module(), self.scene.function, value) {
+            Family::Reference(layout) => Some(layout),
+            _ => row_or(&self.ground.guesses.layouts, value.number() as usize, None),
         }
     }
 
@@ -139,21 +152,22 @@ impl<'a> Lister<'a> {
         for number in self.wanted {
             let value = ValueId::new(*number);
             match self.facts.known(value) {
-                Known::Address { base, words } if self.is_base(base) => {
-                    self.value(value, Fact::Address { base, words })?;
-                }
+                Known::Address { base, words } => self.address(value, base, words)?,
                 Known::GlobalAddress(global) => {
                     self.value(value, Fact::GlobalAddress(global))?;
                 }
-                _ => {}
+                Known::Nothing | Known::Number { .. } | Known::Cell { .. } | Known::Null => {}
             }
         }
         Ok(())
     }
 
-    fn is_base(&self, base: ValueId) -> bool {
-        self.is_wanted(base.number())
-            && matches!(self.facts.known(base), Known::Cell { stale: false, .. })
+    fn address(&mut self, value: ValueId, base: ValueId, words: WordSet) -> Result<(), AllocError> {
+        if self.is_wanted(base.number()) && is_current(self.facts.known(base)) {
+            self.value(value, Fact::Address { base, words })
+        } else {
+            Ok(())
+        }
     }
 
     /// What a wanted slot holds is listed, though it is not wanted, where it is fresh or two slots hold it.
@@ -203,13 +217,9 @@ impl<'a> Lister<'a> {
         names: &[ValueId],
     ) -> Result<(), AllocError> {
         for value in names {
-            if let Known::Cell {
-                class,
-                layout,
-                stale: false,
-            } = self.facts.known(*value)
-            {
-                hidden.insert(class.number(), (*value, layout))?;
+            let known = self.facts.known(*value);
+            if is_current(known) {
+                note_hidden(hidden, *value, known)?;
             }
         }
         Ok(())
@@ -232,8 +242,11 @@ impl<'a> Lister<'a> {
         let says = nonnull || holds.is_some();
         let listed = says && (fresh || self.is_slot_wanted(slot));
         let name = row_or(&self.ground.guesses.slots, slot.number(), None);
+        if !listed {
+            return Ok(());
+        }
         match name {
-            Some(name) if listed => self.listed.add(
+            Some(name) => self.listed.add(
                 Line::Slot {
                     slot: name,
                     nonnull,
@@ -241,7 +254,7 @@ impl<'a> Lister<'a> {
                 },
                 0,
             ),
-            _ => Ok(()),
+            None => Ok(()),
         }
     }
 
@@ -255,5 +268,27 @@ impl<'a> Lister<'a> {
             Some(class) => self.facts.class(class).fresh,
             None => false,
         }
+    }
+}
+
+/// Whether it is a reference that is not stale.
+fn is_current(known: Known) -> bool {
+    match known {
+        Known::Cell { stale, .. } => !stale,
+        _ => false,
+    }
+}
+
+fn note_hidden(
+    hidden: &mut IndexMap<usize, (ValueId, LayoutId)>,
+    value: ValueId,
+    known: Known,
+) -> Result<(), AllocError> {
+    match known {
+        Known::Cell { class, layout, .. } => {
+            hidden.insert(class.number(), (value, layout))?;
+            Ok(())
+        }
+        _ => Ok(()),
     }
 }

@@ -64,9 +64,8 @@ impl Guesses {
             Op::Element(element) => self.note_element(at, &element.base),
             Op::Cast(cast) => self.note_cast(at, cast),
             Op::Call(call) => {
-                if let Some(layout) = layout_called(module, deals, call) {
-                    put(&mut self.layouts, at, Some(layout));
-                }
+                let layout = layout_called(module, deals, call);
+                note_layout(&mut self.layouts, value, layout);
             }
             Op::Number(_) | Op::Memory(_) | Op::Choice(_) => {}
         }
@@ -107,14 +106,16 @@ fn layout_called(module: &Module, deals: &Deals, call: &Call) -> Option<LayoutId
     if let Some(callee) = defined(module, call.callee) {
         return deals.result(callee).layout();
     }
-    match (
-        runtime_called(module, call.callee),
-        call.arguments.as_slice(),
-    ) {
-        (Some(Runtime::Alloc), [size, ..]) => match size.operand {
-            Operand::Constant(Constant::Number(number)) => layout_numbered(number),
-            _ => None,
-        },
+    match runtime_called(module, call.callee) {
+        Some(Runtime::Alloc) => layout_allocated(call.arguments.as_slice()),
+        _ => None,
+    }
+}
+
+fn layout_allocated(arguments: &[Argument]) -> Option<LayoutId> {
+    let size = arguments.first()?;
+    match &size.operand {
+        Operand::Constant(Constant::Number(number)) => layout_numbered(*number),
         _ => None,
     }
 }
@@ -135,9 +136,7 @@ pub fn cast_layouts(
     let mut layouts = vec![in alloc; only_layout(module); function.locals.count()]?;
     for block in function.blocks.as_slice() {
         for instr in block.body.as_slice() {
-            if let (Op::Cast(cast), Some(value)) = (&instr.op, instr.result) {
-                note_cast_layouts(module, &mut layouts, value.number() as usize, cast);
-            }
+            note_layouts(module, &mut layouts, instr);
         }
     }
     for block in function.blocks.as_slice() {
@@ -148,28 +147,30 @@ pub fn cast_layouts(
     Ok(layouts)
 }
 
-fn note_cast_layouts(module: &Module, layouts: &mut [Option<LayoutId>], at: usize, cast: &Cast) {
-    if let Some(layout) = TypeKind::of(module, cast.from).layout() {
-        put(layouts, at, Some(layout));
+fn note_layouts(module: &Module, layouts: &mut [Option<LayoutId>], instr: &Instr) {
+    let Some(value) = instr.result else {
+        return;
+    };
+    if let Op::Cast(cast) = &instr.op {
+        note_layout(layouts, value, TypeKind::of(module, cast.from).layout());
+        if let Operand::Local(from) = &cast.operand {
+            note_layout(layouts, *from, TypeKind::of(module, cast.to).layout());
+        }
     }
-    if let (Some(layout), Operand::Local(from)) = (
-        TypeKind::of(module, cast.to).layout(),
-        &cast.operand,
-    ) {
-        put(layouts, from.number() as usize, Some(layout));
+}
+
+/// A value has this layout, if there is one.
+fn note_layout(layouts: &mut [Option<LayoutId>], value: ValueId, layout: Option<LayoutId>) {
+    if layout.is_some() {
+        put(layouts, value.number() as usize, layout);
     }
 }
 
 /// A phi has the layout of the last entry that has one, if it has none.
 fn note_phi_layout(layouts: &mut [Option<LayoutId>], phi: &Phi) {
-    let at = phi.value.number() as usize;
     for entry in phi.incoming.as_slice() {
-        if let Operand::Local(value) = entry.operand {
-            let layout = row_or(layouts, value.number() as usize, None);
-            if layout.is_some() {
-                put(layouts, at, layout);
-            }
-        }
+        let layout = layout_of(layouts, &entry.operand);
+        note_layout(layouts, phi.value, layout);
     }
 }
 
@@ -182,13 +183,18 @@ pub fn returned_layout(
     let mut found = only_layout(module);
     for block in function.blocks.as_slice() {
         if let End::Return(argument) = &block.end {
-            if let Operand::Local(value) = argument.operand {
-                let layout = row_or(layouts, value.number() as usize, None);
-                if layout.is_some() {
-                    found = layout;
-                }
+            let layout = layout_of(layouts, &argument.operand);
+            if layout.is_some() {
+                found = layout;
             }
         }
     }
     found
+}
+
+fn layout_of(layouts: &[Option<LayoutId>], operand: &Operand) -> Option<LayoutId> {
+    match operand {
+        Operand::Local(value) => row_or(layouts, value.number() as usize, None),
+        _ => None,
+    }
 }

@@ -170,7 +170,7 @@ impl Knowledge {
         for phi in block.phis.as_slice() {
             let kind = TypeKind::of(scene.module(), phi.written);
             let operand = ground.arrivals.operand(to, place, from);
-            let known = comes_in(&self.way, kind, operand);
+            let known = comes_in(&self.way, kind, &operand);
             self.entries.push(Entry {
                 phi: phi.value,
                 known,
@@ -182,17 +182,28 @@ impl Knowledge {
 }
 
 /// What is known of what comes in to a phi.
-fn comes_in(facts: &Facts, kind: TypeKind, operand: Option<Operand>) -> Known {
+fn comes_in(facts: &Facts, kind: TypeKind, operand: &Option<Operand>) -> Known {
     match operand {
-        Some(Operand::Constant(Constant::Number(number))) => match kind {
-            TypeKind::Bits(bits) => Known::Number {
-                bits,
-                below: below_next(number),
-            },
-            _ => Known::Nothing,
+        Some(Operand::Constant(constant)) => constant_comes_in(*constant, kind),
+        Some(operand) => known_of(facts, operand),
+        None => Known::Nothing,
+    }
+}
+
+fn constant_comes_in(constant: Constant, kind: TypeKind) -> Known {
+    match constant {
+        Constant::Number(number) => number_comes_in(number, kind),
+        Constant::Null => Known::Null,
+        Constant::Truth(_) => Known::Nothing,
+    }
+}
+
+fn number_comes_in(number: u64, kind: TypeKind) -> Known {
+    match kind {
+        TypeKind::Bits(bits) => Known::Number {
+            bits,
+            below: below_next(number),
         },
-        Some(Operand::Constant(Constant::Null)) => Known::Null,
-        Some(Operand::Constant(Constant::Truth(_))) | None => Known::Nothing,
-        Some(operand) => known_of(facts, &operand),
+        _ => Known::Nothing,
     }
 }

@@ -3,7 +3,7 @@ use crate::call_graph::defined;
 use crate::claim::smaller;
 use crate::deals::Deals;
 use crate::rows::{put, row_or};
-use ir_ast::{Block, Call, Element, Function, Instr, Module, NumberOp, Op, Operand, Phi, ValueId};
+use ir_ast::{Block, Call, Element, Function, Instr, Module, NumberOp, Op, Operand, Phi, TypeId};
 use layout::{Program, Step};
 use std::alloc::{AllocError, Global};
 
@@ -65,20 +65,11 @@ impl<'a> Needs<'a> {
     fn note_element(&mut self, element: &Element) {
         let mut part = element.source;
         for index in element.indices.as_slice().iter().skip(1) {
-            match self.program.step(part, *index) {
-                Some(
-                    Step::Elements {
-                        length,
-                        part: next,
-                        ..
-                    },
-                ) => {
-                    self.need(&index.operand, Some(length));
-                    part = next;
-                }
-                Some(Step::Field { part: next, .. }) => part = next,
-                None => return,
-            }
+            let Some(step) = self.program.step(part, *index) else {
+                return;
+            };
+            self.need(&index.operand, length_of(&step));
+            part = part_of(&step);
         }
     }
 
@@ -107,5 +98,20 @@ impl<'a> Needs<'a> {
             let before = row_or(&self.each, at, None);
             put(&mut self.each, at, smaller(before, below));
         }
+    }
+}
+
+/// The length of the array into which a step leads.
+fn length_of(step: &Step) -> Option<u64> {
+    match step {
+        Step::Elements { length, .. } => Some(*length),
+        Step::Field { .. } => None,
+    }
+}
+
+fn part_of(step: &Step) -> TypeId {
+    match step {
+        Step::Elements { part, .. } => *part,
+        Step::Field { part, .. } => *part,
     }
 }

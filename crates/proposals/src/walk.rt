@@ -136,7 +136,8 @@ impl Room {
                     self.names.push(value)?;
                 }
             }
-            self.knowledge.begin(alloc, subject.ground, &listed.lines)
+            self.knowledge
+                .begin(alloc, subject.ground, listed.lines.as_slice())
         }
     }
 

@@ -6,7 +6,7 @@ use crate::rows::row_or;
 use certs::{Age, Fact, Line};
 use facts::{Class, ClassId, Facts, Known};
 use indexmap::IndexSet;
-use ir_ast::ValueId;
+use ir_ast::{SymbolId, ValueId};
 use pools::{LayoutId, WordSet};
 use std::alloc::{AllocError, Global};
 
@@ -40,13 +40,13 @@ pub fn weakened(
     lengths: &[u64],
     listed: &Listed,
 ) -> Result<Option<Listed>, AllocError> {
-    knowledge.begin_there(alloc, ground, &listed.lines)?;
-    if shows_all(ground, knowledge, &listed.lines) {
+    knowledge.begin_there(alloc, ground, listed.lines.as_slice())?;
+    if shows_all(ground, knowledge, listed.lines.as_slice()) {
         return Ok(None);
     }
     let met = met(alloc, ground, &knowledge.way, lengths, listed)?;
     let kept = without_unlisted(alloc, &met)?;
-    knowledge.begin_there(alloc, ground, &kept.lines)?;
+    knowledge.begin_there(alloc, ground, kept.lines.as_slice())?;
     Ok(Some(without_lost_fresh(alloc, ground, knowledge, &kept)?))
 }
 
@@ -65,7 +65,7 @@ fn met(
     listed: &Listed,
 ) -> Result<Listed, AllocError> {
     let mut met = Listed::new(alloc);
-    for (line, grown) in listed.lines.iter().zip(listed.grown.iter()) {
+    for (line, grown) in listed.lines.as_slice().iter().zip(listed.grown.iter()) {
         if let Some(left) = met_line(ground, way, lengths, *line, *grown) {
             met.add(left.line, left.grown)?;
         }
@@ -103,17 +103,17 @@ fn met_value(way: &Facts, lengths: &[u64], value: ValueId, fact: Fact, grown: u8
                 age,
                 same,
             };
-            let fact = met_reference(way, told, known)?;
+            let fact = met_reference(way, &told, known)?;
             Some(unchanged(value, fact))
         }
         Fact::Address { base, words } => {
-            let fact = met_address(base, words, known)?;
+            let fact = met_address(base, &words, known)?;
             Some(unchanged(value, fact))
         }
-        Fact::GlobalAddress(global) => match known {
-            Known::GlobalAddress(other) if other == global => Some(unchanged(value, fact)),
-            _ => None,
-        },
+        Fact::GlobalAddress(global) => {
+            let fact = met_global(global, known)?;
+            Some(unchanged(value, fact))
+        }
     }
 }
 
@@ -182,20 +182,31 @@ fn grown_bound(lengths: &[u64], shown: Option<u64>, grown: u8) -> Option<u64> {
     }
 }
 
-fn met_reference(way: &Facts, told: Told, known: Known) -> Option<Fact> {
+fn met_global(global: SymbolId, known: Known) -> Option<Fact> {
+    match known {
+        Known::GlobalAddress(other) => {
+            if other == global {
+                Some(Fact::GlobalAddress(global))
+            } else {
+                None
+            }
+        }
+        _ => None,
+    }
+}
+
+fn met_reference(way: &Facts, told: &Told, known: Known) -> Option<Fact> {
     match known {
         Known::Cell {
             class,
             layout,
-            stale: false,
-        } if layout == told.layout => {
-            let Class { nonnull, fresh } = way.class(class);
-            Some(Fact::Reference {
-                layout,
-                nonnull: told.nonnull && nonnull,
-                age: if fresh { told.age } else { Age::Held },
-                same: same_in(way, class, told.same),
-            })
+            stale,
+        } => {
+            if stale || layout != told.layout {
+                None
+            } else {
+                Some(met_cell(way, told, class))
+            }
         }
         Known::Null => Some(Fact::Reference {
             layout: told.layout,
@@ -207,29 +218,58 @@ fn met_reference(way: &Facts, told: Told, known: Known) -> Option<Fact> {
     }
 }
 
-/// A value, if it is of this class.
-fn same_in(way: &Facts, class: ClassId, same: Option<ValueId>) -> Option<ValueId> {
-    match way.known(same?) {
-        Known::Cell { class: other, .. } if other == class => same,
-        _ => None,
+fn met_cell(way: &Facts, told: &Told, class: ClassId) -> Fact {
+    let Class { nonnull, fresh } = way.class(class);
+    Fact::Reference {
+        layout: told.layout,
+        nonnull: told.nonnull && nonnull,
+        age: if fresh { told.age } else { Age::Held },
+        same: same_in(way, class, told.same),
     }
 }
 
-fn met_address(base: ValueId, words: WordSet, known: Known) -> Option<Fact> {
+/// A value, if it is of this class.
+fn same_in(way: &Facts, class: ClassId, same: Option<ValueId>) -> Option<ValueId> {
+    match same {
+        Some(value) => {
+            if is_of(way.known(value), class) {
+                same
+            } else {
+                None
+            }
+        }
+        None => None,
+    }
+}
+
+fn is_of(known: Known, class: ClassId) -> bool {
+    match known {
+        Known::Cell { class: other, .. } => other == class,
+        _ => false,
+    }
+}
+
+fn met_address(base: ValueId, words: &WordSet, known: Known) -> Option<Fact> {
     match known {
         Known::Address {
             base: other,
             words: shown,
-        } if other == base => Some(Fact::Address {
-            base,
-            words: union(words, shown),
-        }),
+        } => {
+            if other == base {
+                Some(Fact::Address {
+                    base,
+                    words: union(words, &shown),
+                })
+            } else {
+                None
+            }
+        }
         _ => None,
     }
 }
 
-fn union(one: WordSet, other: WordSet) -> WordSet {
-    let mut words = one;
+fn union(one: &WordSet, other: &WordSet) -> WordSet {
+    let mut words = *one;
     for word in 0..64u32 {
         if other.has(word) {
             words.add(word);
@@ -253,36 +293,38 @@ fn met_slot(
         Some(class) => same_in(way, class, holds),
         None => None,
     };
-    if nonnull || holds.is_some() {
-        Some(Line::Slot {
-            slot,
-            nonnull,
-            holds,
-        })
-    } else {
-        None
-    }
+    slot_line(slot, nonnull, holds)
 }
 
 /// The lines that are left where a value that they name is not listed.
 fn without_unlisted(alloc: Global, met: &Listed) -> Result<Listed, AllocError> {
     let mut references = IndexSet::new(alloc);
     for line in met.lines.as_slice() {
-        if let Line::Value {
-            value,
-            fact: Fact::Reference { .. },
-        } = *line
-        {
+        if let Some(value) = reference_listed(line) {
             references.insert(value.number())?;
         }
     }
     let mut kept = Listed::new(alloc);
-    for (line, grown) in met.lines.iter().zip(met.grown.iter()) {
+    for (line, grown) in met.lines.as_slice().iter().zip(met.grown.iter()) {
         if let Some(line) = on_listed(&references, *line) {
             kept.add(line, *grown)?;
         }
     }
     Ok(kept)
+}
+
+/// The value of a line, if it is a reference.
+fn reference_listed(line: &Line) -> Option<ValueId> {
+    match line {
+        Line::Value { value, fact } => {
+            if matches!(fact, Fact::Reference { .. }) {
+                Some(*value)
+            } else {
+                None
+            }
+        }
+        Line::Slot { .. } => None,
+    }
 }
 
 fn on_listed(references: &IndexSet<u32>, line: Line) -> Option<Line> {
@@ -297,16 +339,21 @@ fn on_listed(references: &IndexSet<u32>, line: Line) -> Option<Line> {
             holds,
         } => {
             let holds = if_listed(references, holds);
-            if nonnull || holds.is_some() {
-                Some(Line::Slot {
-                    slot,
-                    nonnull,
-                    holds,
-                })
-            } else {
-                None
-            }
+            slot_line(slot, nonnull, holds)
         }
+    }
+}
+
+/// A line of a slot, if it says something.
+fn slot_line(slot: ValueId, nonnull: bool, holds: Option<ValueId>) -> Option<Line> {
+    if nonnull || holds.is_some() {
+        Some(Line::Slot {
+            slot,
+            nonnull,
+            holds,
+        })
+    } else {
+        None
     }
 }
 
@@ -323,15 +370,27 @@ fn fact_on_listed(references: &IndexSet<u32>, fact: Fact) -> Option<Fact> {
             age,
             same: if_listed(references, same),
         }),
-        Fact::Address { base, .. } if !references.contains(&base.number()) => None,
-        fact => Some(fact),
+        Fact::Address { base, words } => {
+            if references.contains(&base.number()) {
+                Some(Fact::Address { base, words })
+            } else {
+                None
+            }
+        }
+        Fact::Number { .. } | Fact::GlobalAddress(_) => Some(fact),
     }
 }
 
 fn if_listed(references: &IndexSet<u32>, value: Option<ValueId>) -> Option<ValueId> {
     match value {
-        Some(listed) if references.contains(&listed.number()) => value,
-        _ => None,
+        Some(listed) => {
+            if references.contains(&listed.number()) {
+                value
+            } else {
+                None
+            }
+        }
+        None => None,
     }
 }
 
@@ -343,7 +402,7 @@ fn without_lost_fresh(
     kept: &Listed,
 ) -> Result<Listed, AllocError> {
     let mut left = Listed::new(alloc);
-    for (line, grown) in kept.lines.iter().zip(kept.grown.iter()) {
+    for (line, grown) in kept.lines.as_slice().iter().zip(kept.grown.iter()) {
         let shown = knowledge
             .way
             .shows_line(&ground.slots, &knowledge.there, *line);
@@ -356,23 +415,27 @@ fn without_lost_fresh(
 /// A line whose reference is not fresh.
 fn held(line: Line) -> Line {
     match line {
-        Line::Value {
+        Line::Value { value, fact } => Line::Value {
             value,
-            fact: Fact::Reference {
-                layout,
-                nonnull,
-                same,
-                ..
-            },
-        } => Line::Value {
-            value,
-            fact: Fact::Reference {
-                layout,
-                nonnull,
-                age: Age::Held,
-                same,
-            },
+            fact: held_fact(fact),
         },
-        line => line,
+        Line::Slot { .. } => line,
+    }
+}
+
+fn held_fact(fact: Fact) -> Fact {
+    match fact {
+        Fact::Reference {
+            layout,
+            nonnull,
+            same,
+            ..
+        } => Fact::Reference {
+            layout,
+            nonnull,
+            age: Age::Held,
+            same,
+        },
+        _ => fact,
     }
 }
