@@ -22,12 +22,22 @@ impl Arrivals {
         let mut arrivals = Arrivals {
             each: IndexMap::new(alloc),
         };
+        match arrivals.note_blocks(function) {
+            Ok(()) => Ok(arrivals),
+            Err(refused) => {
+                drop(arrivals);
+                Err(refused)
+            }
+        }
+    }
+
+    fn note_blocks(&mut self, function: &Function) -> Result<(), AllocError> {
         let mut to = 0u32;
         for block in function.blocks.as_slice() {
-            arrivals.note_block(function, to, block)?;
+            self.note_block(function, to, block)?;
             to = to.saturating_add(1);
         }
-        Ok(arrivals)
+        Ok(())
     }
 
     /// The operand that comes in to the phi at a place of a block from another.

@@ -16,7 +16,7 @@ pub fn best_lines(
 ) -> Result<Listed, AllocError> {
     let values = scene.function.locals.count();
     let mut listed = Listed::new(alloc);
-    for number in ground.wanted.group(block.number() as usize) {
+    for number in ground.reading.wanted.group(block.number() as usize) {
         let value = ValueId::new(*number);
         if (*number as usize) < values {
             if let Some(fact) = best_fact(scene, ground, value) {
@@ -36,7 +36,11 @@ fn best_fact(scene: &Scene, ground: &Ground, value: ValueId) -> Option<Fact> {
             });
         }
         Family::Reference(layout) => layout,
-        Family::AnyReference => row_or(&ground.guesses.layouts, value.number() as usize, None)?,
+        Family::AnyReference => row_or(
+            &ground.reading.guesses.layouts,
+            value.number() as usize,
+            None,
+        )?,
         Family::Address | Family::Nothing => return None,
     };
     Some(Fact::Reference {

@@ -29,25 +29,27 @@ impl CallGraph {
             upward: Vec::new(alloc),
             safepoints: Vec::new(alloc),
         };
-        let mut number = 0u32;
-        for function in module.functions.as_slice() {
-            for block in function.blocks.as_slice() {
-                calls.note_block(module, number, block)?;
-            }
-            number = number.saturating_add(1);
-        }
-        let count = module.functions.len();
-        let callees = Buckets::of(alloc, &calls.downward, count)?;
-        let callers = Buckets::of(alloc, &calls.upward, count)?;
-        Ok(CallGraph {
-            callees,
-            callers,
-            safepoints: calls.safepoints,
-        })
+        let graph = match calls.note_functions(module) {
+            Ok(()) => calls.graph(alloc, module.functions.len()),
+            Err(refused) => Err(refused),
+        };
+        drop(calls);
+        graph
     }
 }
 
 impl Calls {
+    fn note_functions(&mut self, module: &Module) -> Result<(), AllocError> {
+        let mut number = 0u32;
+        for function in module.functions.as_slice() {
+            for block in function.blocks.as_slice() {
+                self.note_block(module, number, block)?;
+            }
+            number = number.saturating_add(1);
+        }
+        Ok(())
+    }
+
     fn note_block(
         &mut self,
         module: &Module,
@@ -71,6 +73,25 @@ impl Calls {
             self.safepoints.push(caller)?;
         }
         Ok(())
+    }
+
+    /// The graph of `count` functions.
+    fn graph(&self, alloc: Global, count: usize) -> Result<CallGraph, AllocError> {
+        let callees = Buckets::of(alloc, &self.downward, count)?;
+        let Ok(callers) = Buckets::of(alloc, &self.upward, count) else {
+            drop(callees);
+            return Err(AllocError);
+        };
+        let Ok(safepoints) = Vec::from_slice(alloc, &self.safepoints) else {
+            drop(callees);
+            drop(callers);
+            return Err(AllocError);
+        };
+        Ok(CallGraph {
+            callees,
+            callers,
+            safepoints,
+        })
     }
 }
 

@@ -85,6 +85,11 @@ impl Claim {
         }
     }
 
+    /// Whether it is of an integer.
+    pub fn is_number(self) -> bool {
+        matches!(self, Claim::Number(_))
+    }
+
     /// What an integer is promised to be below.
     pub fn below(self) -> Option<u64> {
         match self {

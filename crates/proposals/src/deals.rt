@@ -8,6 +8,7 @@ use crate::rows::{put, row_or};
 use certs::{Mark, Promise, family_of_type, family_of_value};
 use ir_ast::{FuncId, Function, Module};
 use layout::Program;
+use pools::LayoutId;
 use std::alloc::{AllocError, Global};
 
 /// How much is promised at first.
@@ -46,24 +47,44 @@ impl Deals {
         graph: &CallGraph,
         boldness: Boldness,
     ) -> Result<Deals, AllocError> {
-        let module = program.module();
-        let count = module.functions.len();
         let mut deals = Deals {
-            marks: marks_of(alloc, graph, count)?,
+            marks: Vec::new(alloc),
             firsts: Vec::new(alloc),
             parameters: Vec::new(alloc),
             results: Vec::new(alloc),
-            queue: callees_first(alloc, graph, count)?,
-            waiting: vec![in alloc; true; count]?,
-            walks: vec![in alloc; 0u8; count]?,
+            queue: Vec::new(alloc),
+            waiting: Vec::new(alloc),
+            walks: Vec::new(alloc),
         };
+        match deals.fill(alloc, program, graph, boldness) {
+            Ok(()) => Ok(deals),
+            Err(refused) => {
+                drop(deals);
+                Err(refused)
+            }
+        }
+    }
+
+    fn fill(
+        &mut self,
+        alloc: Global,
+        program: &Program,
+        graph: &CallGraph,
+        boldness: Boldness,
+    ) -> Result<(), AllocError> {
+        let module = program.module();
+        let count = module.functions.len();
+        self.marks = marks_of(alloc, graph, count)?;
+        self.queue = callees_first(alloc, graph, count)?;
+        self.waiting = vec![in alloc; true; count]?;
+        self.walks = vec![in alloc; 0u8; count]?;
         for function in module.functions.as_slice() {
-            deals.add(alloc, module, function, boldness)?;
+            self.add(alloc, module, function, boldness)?;
         }
         if boldness == Boldness::Bounded {
-            deals.ask_bounds(alloc, program)?;
+            self.ask_bounds(alloc, program)?;
         }
-        Ok(deals)
+        Ok(())
     }
 
     /// The mark of a function.
@@ -156,17 +177,31 @@ impl Deals {
         boldness: Boldness,
     ) -> Result<(), AllocError> {
         let layouts = cast_layouts(alloc, module, function)?;
+        let added = self.add_promises(module, function, &layouts, boldness);
+        drop(layouts);
+        added
+    }
+
+    /// The promises of a function; `layouts` are those of its values, as far as the text tells.
+    fn add_promises(
+        &mut self,
+        module: &Module,
+        function: &Function,
+        layouts: &[Option<LayoutId>],
+        boldness: Boldness,
+    ) -> Result<(), AllocError> {
         let nonnull = boldness != Boldness::Timid;
         self.firsts.push(self.parameters.len())?;
         for parameter in function.parameters.as_slice() {
             let family = family_of_value(module, function, parameter.value);
-            let layout = row_or(&layouts, parameter.value.number() as usize, None);
-            self.parameters
-                .push(Claim::of(family, nonnull, None, layout))?;
+            let layout = row_or(layouts, parameter.value.number() as usize, None);
+            let claim = Claim::of(family, nonnull, None, layout);
+            self.parameters.push(claim)?;
         }
         let family = family_of_type(module, function.returned);
-        let layout = returned_layout(module, function, &layouts);
-        self.results.push(Claim::of(family, true, Some(1), layout))?;
+        let layout = returned_layout(module, function, layouts);
+        let claim = Claim::of(family, true, Some(1), layout);
+        self.results.push(claim)?;
         Ok(())
     }
 
@@ -190,16 +225,21 @@ impl Deals {
             return Ok(());
         };
         let needs = needs_of(alloc, program, function, self)?;
+        self.ask_needs(func, function, &needs);
+        drop(needs);
+        Ok(())
+    }
+
+    fn ask_needs(&mut self, func: FuncId, function: &Function, needs: &[Option<u64>]) {
         let first = row_or(&self.firsts, func.number() as usize, usize::MAX);
         let mut place = 0usize;
         for parameter in function.parameters.as_slice() {
             let at = first.saturating_add(place);
-            if let Claim::Number(_) = row_or(&self.parameters, at, Claim::Nothing) {
-                let need = row_or(&needs, parameter.value.number() as usize, None);
+            if self.parameter(func, place).is_number() {
+                let need = row_or(needs, parameter.value.number() as usize, None);
                 put(&mut self.parameters, at, Claim::Number(need));
             }
             place = place.saturating_add(1);
         }
-        Ok(())
     }
 }

@@ -40,14 +40,15 @@ impl Listed {
 impl Draft {
     /// No way to any of `count` blocks was walked, but to the first one.
     pub fn new(alloc: Global, count: usize) -> Result<Draft, AllocError> {
-        let mut blocks = Vec::new(alloc);
-        for _ in 0..count {
-            blocks.push(None)?;
-        }
+        let blocks = no_lines(alloc, count)?;
+        let Ok(waiting) = vec![in alloc; false; count] else {
+            drop(blocks);
+            return Err(AllocError);
+        };
         let mut draft = Draft {
             blocks,
             queue: Vec::new(alloc),
-            waiting: vec![in alloc; false; count]?,
+            waiting,
         };
         draft.set(BlockId::new(0), Listed::new(alloc));
         Ok(draft)
@@ -99,14 +100,28 @@ impl Draft {
     }
 
     /// The lines of each block.
-    pub fn into_lines(self, alloc: Global) -> Result<Items<Items<Line>>, AllocError> {
+    pub fn each_lines(&self, alloc: Global) -> Result<Items<Items<Line>>, AllocError> {
         let mut each = Items::new(alloc);
-        for listed in self.blocks {
-            match listed {
-                Some(listed) => each.push(listed.lines)?,
-                None => each.push(Items::new(alloc))?,
-            }
+        for listed in self.blocks.as_slice() {
+            let lines = lines_in(alloc, listed)?;
+            each.push(lines)?;
         }
         Ok(each)
     }
+}
+
+fn lines_in(alloc: Global, listed: &Option<Listed>) -> Result<Items<Line>, AllocError> {
+    match listed {
+        Some(listed) => Items::from_slice(alloc, listed.lines.as_slice()),
+        None => Ok(Items::new(alloc)),
+    }
+}
+
+/// No lines are found of `count` blocks.
+fn no_lines(alloc: Global, count: usize) -> Result<Vec<Option<Listed>>, AllocError> {
+    let mut blocks = Vec::new(alloc);
+    for _ in 0..count {
+        blocks.push(None)?;
+    }
+    Ok(blocks)
 }

@@ -37,18 +37,31 @@ pub fn first_lines(
         scene,
         ground,
         facts,
-        wanted: ground.wanted.group(to.number() as usize),
+        wanted: ground.reading.wanted.group(to.number() as usize),
         listed: Listed::new(alloc),
         firsts: IndexMap::new(alloc),
     };
-    lister.values()?;
-    lister.held(alloc, names)?;
-    lister.addresses()?;
-    lister.slots()?;
-    Ok(lister.listed)
+    match lister.list(alloc, names) {
+        Ok(()) => Ok(lister.into_listed()),
+        Err(refused) => {
+            drop(lister);
+            Err(refused)
+        }
+    }
 }
 
 impl<'a> Lister<'a> {
+    fn list(&mut self, alloc: Global, names: &[ValueId]) -> Result<(), AllocError> {
+        self.values()?;
+        self.held(alloc, names)?;
+        self.addresses()?;
+        self.slots()
+    }
+
+    fn into_listed(self) -> Listed {
+        self.listed
+    }
+
     fn is_wanted(&self, number: u32) -> bool {
         self.wanted.binary_search(&number).is_ok()
     }
@@ -143,7 +156,11 @@ impl<'a> Lister<'a> {
     fn null_layout(&self, value: ValueId) -> Option<LayoutId> {
         match family_of_value(self.scene.module(), self.scene.function, value) {
             Family::Reference(layout) => Some(layout),
-            _ => row_or(&self.ground.guesses.layouts, value.number() as usize, None),
+            _ => row_or(
+                &self.ground.reading.guesses.layouts,
+                value.number() as usize,
+                None,
+            ),
         }
     }
 
@@ -174,10 +191,22 @@ impl<'a> Lister<'a> {
     fn held(&mut self, alloc: Global, names: &[ValueId]) -> Result<(), AllocError> {
         let mut once = IndexSet::new(alloc);
         let mut hidden = IndexMap::new(alloc);
+        let held = self.held_by_slots(&mut once, &mut hidden, names);
+        drop(hidden);
+        drop(once);
+        held
+    }
+
+    fn held_by_slots(
+        &mut self,
+        once: &mut IndexSet<usize>,
+        hidden: &mut IndexMap<usize, (ValueId, LayoutId)>,
+        names: &[ValueId],
+    ) -> Result<(), AllocError> {
         for slot in self.ground.slots.root_slots() {
             if let Some(class) = self.unlisted(*slot) {
                 if self.facts.class(class).fresh || once.contains(&class.number()) {
-                    self.list_hidden(&mut hidden, names, class)?;
+                    self.list_hidden(hidden, names, class)?;
                 }
                 once.insert(class.number())?;
             }
@@ -241,7 +270,7 @@ impl<'a> Lister<'a> {
         let fresh = holds.is_some() && self.is_fresh(class);
         let says = nonnull || holds.is_some();
         let listed = says && (fresh || self.is_slot_wanted(slot));
-        let name = row_or(&self.ground.guesses.slots, slot.number(), None);
+        let name = row_or(&self.ground.reading.guesses.slots, slot.number(), None);
         if !listed {
             return Ok(());
         }

@@ -16,6 +16,12 @@ pub struct Ground {
     pub slots: Slots,
     /// Nothing is known of its values and slots.
     pub blank: Facts,
+    pub reading: Reading,
+}
+
+/// What is read in the text of a function.
+#[derive(Drop)]
+pub struct Reading {
     pub arrivals: Arrivals,
     pub guesses: Guesses,
     /// The values and slots that are wanted at each block; a slot's number comes after those of all values.
@@ -31,14 +37,44 @@ impl Ground {
         deals: &Deals,
     ) -> Result<Ground, AllocError> {
         let slots = Slots::of(alloc, module, function)?;
-        let blank = Facts::new(alloc, function.locals.count(), slots.count())?;
-        let guesses = Guesses::of(alloc, module, function, &slots, deals)?;
-        let wanted = wanted_in(alloc, function, &slots, &guesses)?;
+        let Ok(reading) = Reading::of(alloc, module, function, &slots, deals) else {
+            drop(slots);
+            return Err(AllocError);
+        };
+        let Ok(blank) = Facts::new(alloc, function.locals.count(), slots.count()) else {
+            drop(slots);
+            drop(reading);
+            return Err(AllocError);
+        };
         Ok(Ground {
             func,
-            arrivals: Arrivals::of(alloc, function)?,
             slots,
             blank,
+            reading,
+        })
+    }
+}
+
+impl Reading {
+    fn of(
+        alloc: Global,
+        module: &Module,
+        function: &Function,
+        slots: &Slots,
+        deals: &Deals,
+    ) -> Result<Reading, AllocError> {
+        let guesses = Guesses::of(alloc, module, function, slots, deals)?;
+        let Ok(wanted) = wanted_in(alloc, function, slots, &guesses) else {
+            drop(guesses);
+            return Err(AllocError);
+        };
+        let Ok(arrivals) = Arrivals::of(alloc, function) else {
+            drop(guesses);
+            drop(wanted);
+            return Err(AllocError);
+        };
+        Ok(Reading {
+            arrivals,
             guesses,
             wanted,
         })
@@ -52,5 +88,7 @@ fn wanted_in(
     guesses: &Guesses,
 ) -> Result<Buckets, AllocError> {
     let scan = Scan::of(alloc, function, slots, &guesses.bases)?;
-    wanted_of(alloc, function, &scan)
+    let wanted = wanted_of(alloc, function, &scan);
+    drop(scan);
+    wanted
 }

@@ -4,7 +4,8 @@ use crate::deals::Deals;
 use crate::rows::{put, row_or};
 use block_rules::TypeKind;
 use ir_ast::{
-    Call, Cast, Constant, End, Function, Instr, Module, Op, Operand, Phi, Runtime, ValueId,
+    Argument, Call, Cast, Constant, End, Function, Instr, Module, Op, Operand, Phi, Runtime,
+    ValueId,
 };
 use pools::LayoutId;
 use shadow_stack::Slots;
@@ -30,12 +31,7 @@ impl Guesses {
         slots: &Slots,
         deals: &Deals,
     ) -> Result<Guesses, AllocError> {
-        let values = function.locals.count();
-        let mut guesses = Guesses {
-            bases: vec![in alloc; None; values]?,
-            layouts: cast_layouts(alloc, module, function)?,
-            slots: vec![in alloc; None; slots.count()]?,
-        };
+        let mut guesses = Guesses::before(alloc, module, function, slots.count())?;
         for block in function.blocks.as_slice() {
             for instr in block.body.as_slice() {
                 guesses.note(module, slots, deals, instr);
@@ -47,6 +43,30 @@ impl Guesses {
             }
         }
         Ok(guesses)
+    }
+
+    /// What is told before the instructions are looked at.
+    fn before(
+        alloc: Global,
+        module: &Module,
+        function: &Function,
+        slots: usize,
+    ) -> Result<Guesses, AllocError> {
+        let layouts = cast_layouts(alloc, module, function)?;
+        let Ok(bases) = vec![in alloc; None; function.locals.count()] else {
+            drop(layouts);
+            return Err(AllocError);
+        };
+        let Ok(slots) = vec![in alloc; None; slots] else {
+            drop(layouts);
+            drop(bases);
+            return Err(AllocError);
+        };
+        Ok(Guesses {
+            bases,
+            layouts,
+            slots,
+        })
     }
 
     fn note(&mut self, module: &Module, slots: &Slots, deals: &Deals, instr: &Instr) {

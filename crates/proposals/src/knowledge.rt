@@ -22,8 +22,15 @@ pub struct Knowledge {
 impl Knowledge {
     pub fn new(alloc: Global) -> Result<Knowledge, AllocError> {
         let here = Facts::new(alloc, 0, 0)?;
-        let way = Facts::new(alloc, 0, 0)?;
-        let there = Facts::new(alloc, 0, 0)?;
+        let Ok(way) = Facts::new(alloc, 0, 0) else {
+            drop(here);
+            return Err(AllocError);
+        };
+        let Ok(there) = Facts::new(alloc, 0, 0) else {
+            drop(here);
+            drop(way);
+            return Err(AllocError);
+        };
         Ok(Knowledge {
             here,
             way,
@@ -169,7 +176,7 @@ impl Knowledge {
         let mut place = 0usize;
         for phi in block.phis.as_slice() {
             let kind = TypeKind::of(scene.module(), phi.written);
-            let operand = ground.arrivals.operand(to, place, from);
+            let operand = ground.reading.arrivals.operand(to, place, from);
             let known = comes_in(&self.way, kind, &operand);
             self.entries.push(Entry {
                 phi: phi.value,

@@ -18,27 +18,48 @@ pub fn callees_first(
     graph: &CallGraph,
     count: usize,
 ) -> Result<Vec<u32>, AllocError> {
+    let entered = vec![in alloc; false; count]?;
     let mut descent = Descent {
         path: Vec::new(alloc),
-        entered: vec![in alloc; false; count]?,
+        entered,
         order: Vec::new(alloc),
     };
-    let Ok(count) = u32::try_from(count) else {
-        return Ok(descent.order);
-    };
-    for func in 0..count {
-        descent.enter(func)?;
-        for _ in 0..usize::MAX {
-            let Some((func, followed)) = descent.path.pop() else {
-                break;
-            };
-            descent.follow(graph, func, followed)?;
+    match descent.go(graph, count) {
+        Ok(()) => Ok(descent.into_order()),
+        Err(refused) => {
+            drop(descent);
+            Err(refused)
         }
     }
-    Ok(descent.order)
 }
 
 impl Descent {
+    fn go(&mut self, graph: &CallGraph, count: usize) -> Result<(), AllocError> {
+        let Ok(count) = u32::try_from(count) else {
+            return Ok(());
+        };
+        for func in 0..count {
+            self.enter(func)?;
+            self.descend(graph)?;
+        }
+        Ok(())
+    }
+
+    /// Goes down the calls until no function is on the way.
+    fn descend(&mut self, graph: &CallGraph) -> Result<(), AllocError> {
+        for _ in 0..usize::MAX {
+            let Some((func, followed)) = self.path.pop() else {
+                break;
+            };
+            self.follow(graph, func, followed)?;
+        }
+        Ok(())
+    }
+
+    fn into_order(self) -> Vec<u32> {
+        self.order
+    }
+
     fn enter(&mut self, func: u32) -> Result<(), AllocError> {
         let at = func as usize;
         if !row_or(&self.entered, at, true) {

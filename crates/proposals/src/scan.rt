@@ -34,19 +34,33 @@ impl<'a> Scan<'a> {
         bases: &'a [Option<ValueId>],
     ) -> Result<Scan<'a>, AllocError> {
         let count = function.locals.count().saturating_add(slots.count());
+        let written = vec![in alloc; None; count]?;
+        let Ok(phis) = vec![in alloc; None; count] else {
+            drop(written);
+            return Err(AllocError);
+        };
         let mut scan = Scan {
             function,
             slots,
             bases,
             block: 0,
-            written: vec![in alloc; None; count]?,
+            written,
             read: Vec::new(alloc),
             ended: Vec::new(alloc),
-            phis: vec![in alloc; None; count]?,
+            phis,
         };
-        scan.blocks()?;
-        scan.arrivals()?;
-        Ok(scan)
+        match scan.go() {
+            Ok(()) => Ok(scan),
+            Err(refused) => {
+                drop(scan);
+                Err(refused)
+            }
+        }
+    }
+
+    fn go(&mut self) -> Result<(), AllocError> {
+        self.blocks()?;
+        self.arrivals()
     }
 
     /// How many values and slots there are.

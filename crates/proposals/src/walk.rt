@@ -41,8 +41,9 @@ struct Way {
 
 impl Room {
     pub fn new(alloc: Global) -> Result<Room, AllocError> {
+        let knowledge = Knowledge::new(alloc)?;
         Ok(Room {
-            knowledge: Knowledge::new(alloc)?,
+            knowledge,
             names: Vec::new(alloc),
         })
     }

@@ -45,9 +45,15 @@ pub fn weakened(
         return Ok(None);
     }
     let met = met(alloc, ground, &knowledge.way, lengths, listed)?;
-    let kept = without_unlisted(alloc, &met)?;
-    knowledge.begin_there(alloc, ground, kept.lines.as_slice())?;
-    Ok(Some(without_lost_fresh(alloc, ground, knowledge, &kept)?))
+    let kept = without_unlisted(alloc, &met);
+    drop(met);
+    let kept = kept?;
+    let left = without_lost_fresh(alloc, ground, knowledge, &kept);
+    drop(kept);
+    match left {
+        Ok(left) => Ok(Some(left)),
+        Err(refused) => Err(refused),
+    }
 }
 
 fn shows_all(ground: &Ground, knowledge: &Knowledge, lines: &[Line]) -> bool {
@@ -398,9 +404,10 @@ fn if_listed(references: &IndexSet<u32>, value: Option<ValueId>) -> Option<Value
 fn without_lost_fresh(
     alloc: Global,
     ground: &Ground,
-    knowledge: &Knowledge,
+    knowledge: &mut Knowledge,
     kept: &Listed,
 ) -> Result<Listed, AllocError> {
+    knowledge.begin_there(alloc, ground, kept.lines.as_slice())?;
     let mut left = Listed::new(alloc);
     for (line, grown) in kept.lines.as_slice().iter().zip(kept.grown.iter()) {
         let shown = knowledge
