@@ -1,1 +1,1 @@
-mod Plain
+mod Fits

@@ -60,10 +60,11 @@ pub fn proposed(alloc: Global, program: &Program, boldness: Boldness) -> Result<
     ensures tried { IfErr result (IsTried program.now) }
 {
     let certs = propose(alloc, program, boldness)?;
-    tried(alloc, program, certs)
+    accepted(alloc, program, certs)
 }
 
-fn tried(alloc: Global, program: &Program, certs: Certs) -> Result<Certs, Tried>
+/// Certificates, if the module is accepted with them.
+fn accepted(alloc: Global, program: &Program, certs: Certs) -> Result<Certs, Tried>
     ensures good { IfOk result (AreGood program.now) }
     ensures tried { IfErr result (IsTried program.now) }
 {

@@ -216,7 +216,7 @@ impl<'a> Lister<'a> {
 
     /// The class that a wanted slot holds, if no value of it is listed.
     fn unlisted(&self, slot: SlotId) -> Option<ClassId> {
-        let class = self.facts.slot(slot).holds?;
+        let class = self.held_class(slot)?;
         if self.is_slot_wanted(slot) && self.firsts.get(&class.number()).is_none() {
             Some(class)
         } else {
@@ -246,10 +246,7 @@ impl<'a> Lister<'a> {
         names: &[ValueId],
     ) -> Result<(), AllocError> {
         for value in names {
-            let known = self.facts.known(*value);
-            if is_current(known) {
-                note_hidden(hidden, *value, known)?;
-            }
+            note_hidden(hidden, *value, self.facts.known(*value))?;
         }
         Ok(())
     }
@@ -263,11 +260,9 @@ impl<'a> Lister<'a> {
     }
 
     fn slot(&mut self, slot: SlotId) -> Result<(), AllocError> {
-        let fact = self.facts.slot(slot);
-        let class = fact.holds;
-        let nonnull = self.facts.slot_nonnull(fact);
-        let holds = self.first_of(class);
-        let fresh = holds.is_some() && self.is_fresh(class);
+        let nonnull = self.is_slot_nonnull(slot);
+        let holds = self.first_of(self.held_class(slot));
+        let fresh = holds.is_some() && self.is_fresh(self.held_class(slot));
         let says = nonnull || holds.is_some();
         let listed = says && (fresh || self.is_slot_wanted(slot));
         let name = row_or(&self.ground.reading.guesses.slots, slot.number(), None);
@@ -285,6 +280,15 @@ impl<'a> Lister<'a> {
             ),
             None => Ok(()),
         }
+    }
+
+    fn held_class(&self, slot: SlotId) -> Option<ClassId> {
+        self.facts.slot(slot).holds
+    }
+
+    fn is_slot_nonnull(&self, slot: SlotId) -> bool {
+        let fact = self.facts.slot(slot);
+        self.facts.slot_nonnull(fact)
     }
 
     /// The first value that is listed of a class.
@@ -314,8 +318,14 @@ fn note_hidden(
     known: Known,
 ) -> Result<(), AllocError> {
     match known {
-        Known::Cell { class, layout, .. } => {
-            hidden.insert(class.number(), (value, layout))?;
+        Known::Cell {
+            class,
+            layout,
+            stale,
+        } => {
+            if !stale {
+                hidden.insert(class.number(), (value, layout))?;
+            }
             Ok(())
         }
         _ => Ok(()),

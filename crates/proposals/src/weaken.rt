@@ -8,6 +8,7 @@ use facts::{Class, ClassId, Facts, Known};
 use indexmap::IndexSet;
 use ir_ast::{SymbolId, ValueId};
 use pools::{LayoutId, WordSet};
+use shadow_stack::SlotId;
 use std::alloc::{AllocError, Global};
 
 /// How often a bound may grow to what a way shows.
@@ -292,14 +293,17 @@ fn met_slot(
     holds: Option<ValueId>,
 ) -> Option<Line> {
     let place = ground.slots.slot_of(slot)?;
-    let fact = way.slot(place);
-    let class = fact.holds;
-    let nonnull = nonnull && way.slot_nonnull(fact);
-    let holds = match class {
+    let nonnull = nonnull && is_slot_nonnull(way, place);
+    let holds = match way.slot(place).holds {
         Some(class) => same_in(way, class, holds),
         None => None,
     };
     slot_line(slot, nonnull, holds)
+}
+
+fn is_slot_nonnull(way: &Facts, slot: SlotId) -> bool {
+    let fact = way.slot(slot);
+    way.slot_nonnull(fact)
 }
 
 /// The lines that are left where a value that they name is not listed.

@@ -1,4 +1,4 @@
-use Rattle.cert_maker.proofs.Plain.{plain_fits}
+use Rattle.cert_maker.proofs.Fits.{plain_fits}
 use Rattle.cert_maker.proofs.plain.plain.Goals as goal
 
 pub returns-clause-fits : goal.returns-clause-fits

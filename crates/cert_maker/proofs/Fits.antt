@@ -1,9 +1,9 @@
 -- The plain certificates of a module fit it.
 use Rattle.std.proofs.Common.{◌≡◌, List, [], ◌∷◌, None, Bool, true, ◌&&◌, length, map, refl, ap₂}
-use Rattle.std.specs.Prelude.{◌==◌}
+use Rattle.std.specs.Prelude.{◌==◌, replicate}
 use Rattle.std.specs.List.{list_all, zip}
 use Rattle.std.proofs.lemmas.Bool.{eq-eqb}
-use Rattle.std.proofs.lemmas.List.{length-map}
+use Rattle.std.proofs.lemmas.List.{length-map, length-replicate}
 use Rattle.ir_ast.specs.declared.block.Block.{Block}
 use Rattle.ir_ast.specs.declared.function.Function.{Function}
 use Rattle.ir_ast.specs.declared.function.Parameter.{Parameter}
@@ -15,7 +15,7 @@ use Rattle.cert_maker.specs.Plain.{plain, plain_section}
 as_long : {A B : Type 0} (f : A → B) (xs : List A) → (length (map f xs) == length xs) ≡ true
 as_long f xs = eq-eqb _ _ (length-map xs f)
 
-promises_fit : (m : Module) (f : Function) (parameters : List Parameter) → list_all (λ p. parameter_fits m f p.0 p.1) (zip parameters (map (λ _. None) parameters)) ≡ true
+promises_fit : (m : Module) (f : Function) (parameters : List Parameter) → list_all (λ p. parameter_fits m f p.0 p.1) (zip parameters (replicate (length parameters) None)) ≡ true
 promises_fit m f [] = refl
 promises_fit m f (p ∷ parameters) = promises_fit m f parameters
 
@@ -32,7 +32,7 @@ both a b h k = ap₂ (λ a b. a && b) h k
 
 plain_section_fits : (m : Module) (f : Function) → section_fits m f (plain_section f) ≡ true
 plain_section_fits m f =
-    both _ _ (both _ _ (as_long _ f.parameters) (promises_fit m f f.parameters))
+    both _ _ (both _ _ (eq-eqb _ _ (length-replicate (length f.parameters) None)) (promises_fit m f f.parameters))
     (both _ _ (as_long _ f.blocks) (both _ _ (entry_fits f.blocks) (each_block_fits m f f.blocks)))
 
 each_section_fits : (m : Module) (functions : List Function) → list_all (λ p. section_fits m p.0 p.1) (zip functions (map plain_section functions)) ≡ true
