@@ -44,8 +44,15 @@ fn plain_section(alloc: Global, function: &Function) -> Result<Section, AllocErr
 fn no_promises(alloc: Global, count: usize) -> Result<Items<Option<Promise>>, AllocError>
     ensures { IfOk result (λ promises. promises ≡ replicate count None) }
 {
-    let promises = vec![in alloc; None; count]?;
-    Ok(Items::from_vec(promises))
+    repeated(alloc, None, count)
+}
+
+/// An element as often as `count` says.
+fn repeated<T: Copy>(alloc: Global, element: T, count: usize) -> Result<Items<T>, AllocError>
+    ensures { IfOk result (λ elements. elements ≡ replicate count element) }
+{
+    let elements = vec![in alloc; element; count]?;
+    Ok(Items::from_vec(elements))
 }
 
 fn no_lines(alloc: Global, blocks: &[Block]) -> Result<Items<Items<Line>>, AllocError>

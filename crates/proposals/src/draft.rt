@@ -31,9 +31,8 @@ impl Listed {
 
     /// A line more, whose bound has grown so often.
     pub fn add(&mut self, line: Line, grown: u8) -> Result<(), AllocError> {
-        self.lines.push(line)?;
         self.grown.push(grown)?;
-        Ok(())
+        self.lines.push(line)
     }
 }
 
