@@ -32,7 +32,18 @@ impl Listed {
     /// A line more, whose bound has grown so often.
     pub fn add(&mut self, line: Line, grown: u8) -> Result<(), AllocError> {
         self.grown.push(grown)?;
-        self.lines.push(line)
+        match line {
+            Line::Value { value, fact } => self.lines.push(Line::Value { value, fact }),
+            Line::Slot {
+                slot,
+                nonnull,
+                holds,
+            } => self.lines.push(Line::Slot {
+                slot,
+                nonnull,
+                holds,
+            }),
+        }
     }
 }
 
