@@ -5,7 +5,7 @@ use Rattle.clap.specs.declared.error.Error.{Error}
 use Rattle.clap.specs.declared.error.kind.ErrorKind.{ErrorKind}
 use Rattle.clap.specs.declared.error.kind.ErrorKind.TheVariants.{OutOfMemory}
 use Rattle.commands.specs.declared.asked.Line.{Line}
-use Rattle.commands.specs.declared.asked.Line.TheVariants.{Check, Replay, Soak, Run}
+use Rattle.commands.specs.declared.asked.Line.TheVariants.{Check, Make, Replay, Soak, Run}
 use Rattle.commands.specs.declared.asked.LineFault.{LineFault}
 use Rattle.commands.specs.declared.asked.LineFault.TheVariants.{Memory, Words}
 
@@ -18,9 +18,10 @@ is_memory_kind _ = false
 abbrev pub fault_of_error : Error → LineFault
 fault_of_error error = if is_memory_kind (kind_of error) then Memory else Words error
 
--- what a line asks for: a command on the files of these paths, with its numbers
+-- what a line asks for: a command on the files of these paths, with its options
 pub data Asked : Type 0 where
   check : (module_path certificate_path : Text) (workers : ℕ) → Asked
+  make : (module_path : Text) (why : Bool) → Asked
   replay : (module_path trace_path : Text) → Asked
   soak : (module_path trace_path : Text) (seeds steps : ℕ) → Asked
   run : (module_path certificate_path trace_path : Text) (turns steps : ℕ) → Asked
@@ -28,6 +29,7 @@ pub data Asked : Type 0 where
 -- what a line asks for, as plain text and numbers
 abbrev pub asked_by : Line → Asked
 asked_by (Check module_path certificate_path workers) = check module_path.now certificate_path.now workers
+asked_by (Make module_path why) = make module_path.now why
 asked_by (Replay module_path trace_path) = replay module_path.now trace_path.now
 asked_by (Soak module_path trace_path seeds steps) = soak module_path.now trace_path.now seeds steps
 asked_by (Run module_path certificate_path trace_path turns steps) = run module_path.now certificate_path.now trace_path.now turns steps
@@ -35,6 +37,7 @@ asked_by (Run module_path certificate_path trace_path turns steps) = run module_
 -- the paths of the command's files, in the line's order
 abbrev pub paths_of : Asked → List Text
 paths_of (check module_path certificate_path workers) = module_path ∷ certificate_path ∷ []
+paths_of (make module_path why) = module_path ∷ []
 paths_of (replay module_path trace_path) = module_path ∷ trace_path ∷ []
 paths_of (soak module_path trace_path seeds steps) = module_path ∷ trace_path ∷ []
 paths_of (run module_path certificate_path trace_path turns steps) = module_path ∷ certificate_path ∷ trace_path ∷ []

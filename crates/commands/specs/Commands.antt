@@ -1,9 +1,13 @@
 -- What each command says of the files of its line.
-use Rattle.std.specs.Prelude.{◌≡◌, ◌≢◌, ℕ, List, Option, length}
+use Rattle.std.specs.Prelude.{◌≡◌, ◌≢◌, ℕ, List, Option, Bool, true, length}
+use Rattle.std.specs.Io.KnownBytes.{Appends}
 use Rattle.ir_ast.specs.declared.module.Module.{Module}
 use Rattle.layout.specs.Layouts.{IsLayoutFault, LaidOut}
 use Rattle.layout.specs.declared.fault.LayoutFault.{LayoutFault}
+use Rattle.certs.specs.Fits.{fits}
 use Rattle.certs.specs.declared.section.Section.{Section}
+use Rattle.certificate.specs.Print.{cert_text}
+use Rattle.cert_maker.specs.Plain.{plain}
 use Rattle.block_rules.specs.declared.block_fault.Refusal.{Refusal}
 use Rattle.module_check.specs.Accepted.{IsAccepted, IsFirstRefusal, IsProgramCertified}
 use Rattle.trace_text.specs.declared.trace.Trace.{Trace}
@@ -18,24 +22,27 @@ use Rattle.serving.specs.declared.beside.Limits.{Limits}
 use Rattle.mutators.specs.Faults.{HasNoRunFault, IsRunFault}
 use Rattle.mutators.specs.Reports.{IsReport}
 use Rattle.mutators.specs.declared.report.RunReport.{RunReport}
-use Rattle.commands.specs.Asked.{Asked, check, replay, soak, run}
-use Rattle.commands.specs.Report.{Answer, IsTold, line_of, no, no_memory, of_layout_fault, yes}
+use Rattle.commands.specs.Asked.{Asked, check, make, replay, soak, run}
+use Rattle.commands.specs.Report.{Answer, IsTold, line_of, no, no_answer, no_memory, of_layout_fault, yes}
 use Rattle.commands.specs.Runs.{of_outcome, of_setup_fault, of_soak}
 use Rattle.commands.specs.RunReport.{of_report}
-use Rattle.commands.specs.Files.{HasModule, HasCerts, HasProgram, HasTrace, IsNoTrace, IsUncertified, IsUntraced, of_unread}
+use Rattle.commands.specs.Files.{HasModule, HasCerts, HasProgram, HasTrace, IsNoModule, IsNoTrace, IsUncertified, IsUntraced, of_unread}
 use Rattle.commands.specs.declared.files.Unread.{Unread}
 
 -- ---- what is said, and where
 
--- an answer on the standard output, or a fault on the standard error
+-- an answer on the standard output, a fault on the standard error, or both
 pub data Said : Type 0 where
   OnOutput : Answer → Said
   OnError : Answer → Said
+  -- and a text on the standard error besides
+  OnBoth : Answer → List ℕ → Said
 
--- one writer was given the text, the other one nothing, and the status is the answer's
+-- one writer was given the text, the other one nothing or its own text, and the status is the answer's
 abbrev pub Tells : (old_output output old_error error : Option (List ℕ)) → (status : ℕ) → Said → Type 0
 Tells old_output output old_error error status (OnOutput answer) = IsTold old_output output status answer × (error ≡ old_error)
 Tells old_output output old_error error status (OnError answer) = (output ≡ old_output) × IsTold old_error error status answer
+Tells old_output output old_error error status (OnBoth answer text) = IsTold old_output output status answer × Appends old_error error text
 
 -- something was said that is one of these
 abbrev pub Says : (Said → Type 0) → (old_output output old_error error : Option (List ℕ)) → (status : ℕ) → Type 0
@@ -60,6 +67,23 @@ pub data OfCertified (Certs : Module → List Section → Said → Type 0) (modu
   not_certified : (unread : Unread) → IsUncertified module_path cert_path first second unread → OfCertified Certs module_path cert_path first second (OnError (of_unread unread))
   of_certified : (m : Module) (certs : List Section) (said : Said) → HasModule first m → HasCerts second m certs → Certs m certs said
       → OfCertified Certs module_path cert_path first second said
+
+-- ---- make
+
+-- what is said of a module for which certificates are made: some that fit it and with which it is accepted; that there are none, as the
+-- plain ones are refused, with some and their first refusal if that was asked for; the fault of the layouts; or that memory was refused
+pub data OfMade (why : Bool) (m : Module) : Said → Type 0 where
+  made : (certs : List Section) → fits m certs ≡ true → IsAccepted m certs → OfMade why m (OnOutput (record { text = cert_text certs m; status = 0 }))
+  none_made : (IsAccepted m (plain m) → ⊥) → OfMade why m (OnOutput no_answer)
+  none_made_why : (certs : List Section) (refusal : Refusal) → why ≡ true → (IsAccepted m (plain m) → ⊥) → IsFirstRefusal m certs refusal
+      → OfMade why m (OnBoth no_answer (no m (line_of certs m refusal.func refusal.detail) refusal).text)
+  without_layouts : (fault : LayoutFault) → IsLayoutFault m fault → OfMade why m (OnError (of_layout_fault m fault))
+  not_made : OfMade why m (OnError no_memory)
+
+-- what is said of the file of a module, which has this path
+pub data OfMake (why : Bool) (path : List ℕ) (file : Option (List ℕ)) : Said → Type 0 where
+  no_module : (unread : Unread) → IsNoModule path file unread → OfMake why path file (OnError (of_unread unread))
+  of_module : (m : Module) (said : Said) → HasModule file m → OfMade why m said → OfMake why path file said
 
 -- ---- replay and soak
 
@@ -102,6 +126,7 @@ pub data OfRunCerts (limits : Limits) (path : List ℕ) (file : Option (List ℕ
 -- what a command says of its files, each at its place in the line's order
 abbrev pub OfCommand : Asked → (file_at : ℕ → Option (List ℕ)) → Said → Type 0
 OfCommand (check module_path cert_path workers) file_at = OfCertified OfCerts module_path cert_path (file_at 0) (file_at 1)
+OfCommand (make module_path why) file_at = OfMake why module_path (file_at 0)
 OfCommand (replay module_path trace_path) file_at = OfRun OfTrace module_path trace_path (file_at 0) (file_at 1)
 OfCommand (soak module_path trace_path seeds steps) file_at = OfRun (OfSeeds seeds steps) module_path trace_path (file_at 0) (file_at 1)
 OfCommand (run module_path cert_path trace_path turns steps) file_at =

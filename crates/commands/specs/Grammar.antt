@@ -1,10 +1,11 @@
 -- The grammar of the command line, as `clap` has it, and what the words of a line ask for.
-use Rattle.std.specs.Prelude.{◌≡◌, ◌&&◌, ◌^◌, ℕ, pos, length, nat_lt, List, [], ◌∷◌, Option, Some, None, true, codes, option_map, option_and_then, if◌then◌else◌}
+use Rattle.std.specs.Prelude.{◌≡◌, ◌&&◌, ◌^◌, ℕ, pos, length, nat_lt, List, [], ◌∷◌, Option, Some, None, Bool, true, false, codes, option_map, option_map_or, option_and_then, if◌then◌else◌}
 use Rattle.std.specs.Str.{all_ascii_digits, bytes_eq}
 use Rattle.std.specs.Str.Parse.{digits_value, without_leading_plus}
 use Rattle.clap.specs.Words.{App, IsAmong, Row, Rule, Text, fault_of, first_of, kind_of, new_app, new_rule, one_of, subcommand_of, with_rule, with_subcommand}
+use Rattle.clap.specs.declared.builder.action.ArgAction.TheVariants.{SetTrue}
 use Rattle.clap.specs.declared.builder.value_parser.ValueParser.TheVariants.{Signed}
-use Rattle.commands.specs.Asked.{Asked, check, replay, soak, run}
+use Rattle.commands.specs.Asked.{Asked, check, make, replay, soak, run}
 use Rattle.commands.specs.declared.asked.LineFault.{LineFault}
 use Rattle.commands.specs.declared.asked.LineFault.TheVariants.{Memory, NoCommand, Words}
 
@@ -39,13 +40,28 @@ limit_rule name = record (new_rule name) {
   parser = Some (Signed (pos 0) (pos 4294967295));
 }
 
+-- an option without a value, which may be left out
+abbrev pub flag_rule : Text → Rule
+flag_rule name = record (new_rule name) {
+  long = Some name;
+  action = Some SetTrue;
+}
+
+-- NAME MODULE: a command on a module
+abbrev pub module_app : (name : Text) → App
+module_app name = with_rule (new_app name) (file_rule (codes "MODULE"))
+
 -- NAME MODULE SECOND: a command on two files
 abbrev pub files_app : (name second : Text) → App
-files_app name second = with_rule (with_rule (new_app name) (file_rule (codes "MODULE"))) (file_rule second)
+files_app name second = with_rule (module_app name) (file_rule second)
 
 -- check MODULE CERT --workers N
 abbrev pub check_app : App
 check_app = with_rule (files_app (codes "check") (codes "CERT")) workers_rule
+
+-- make MODULE [--why]
+abbrev pub make_app : App
+make_app = with_rule (module_app (codes "make")) (flag_rule (codes "why"))
 
 -- replay MODULE TRACE
 abbrev pub replay_app : App
@@ -66,8 +82,8 @@ with_version_and_commands app = record app { top = record app.top { has_version 
 -- the whole grammar
 abbrev pub dgc_app : App
 dgc_app =
-    with_subcommand (with_subcommand (with_subcommand (with_subcommand (with_version_and_commands (new_app (codes "dgc"))) check_app.top)
-    replay_app.top) soak_app.top) run_app.top
+    with_subcommand (with_subcommand (with_subcommand (with_subcommand (with_subcommand (with_version_and_commands (new_app (codes "dgc"))) check_app.top)
+    make_app.top) replay_app.top) soak_app.top) run_app.top
 
 -- the number that a text of decimal digits writes, where it is below 2 to the 32; a plus may come first
 abbrev pub number_in : Text → Option ℕ
@@ -79,6 +95,10 @@ number_in text =
 -- the number that was given as this option
 abbrev pub number_of : Text → List Row → Option ℕ
 number_of name given = option_and_then number_in (one_of name given)
+
+-- whether this option was given
+abbrev pub flag_of : Text → List Row → Bool
+flag_of name given = option_map_or (λ text. bytes_eq text (codes "true")) (first_of name given) false
 
 -- the paths of the module and of the other file, if both were given
 abbrev pub paths_in : (second : Text) → List Row → Option (Text × Text)
@@ -93,6 +113,10 @@ workers_of given = option_and_then (λ workers. if nat_lt 0 workers && nat_lt wo
 abbrev pub check_of : List Row → Option Asked
 check_of given =
     option_and_then (λ paths. option_map (λ workers. check paths.0 paths.1 workers) (workers_of given)) (paths_in (codes "CERT") given)
+
+-- `make` with what was given to it, if that is a module
+abbrev pub make_of : List Row → Option Asked
+make_of given = option_map (λ module_path. make module_path (flag_of (codes "why") given)) (first_of (codes "MODULE") given)
 
 -- `replay` with what was given to it, if that is a module and a trace
 abbrev pub replay_of : List Row → Option Asked
@@ -115,6 +139,7 @@ abbrev pub asked_of : Option (Text × List Row) → Option Asked
 asked_of None = None
 asked_of (Some found) =
     if bytes_eq found.0 (codes "check") then check_of found.1
+    else if bytes_eq found.0 (codes "make") then make_of found.1
     else if bytes_eq found.0 (codes "replay") then replay_of found.1
     else if bytes_eq found.0 (codes "soak") then soak_of found.1
     else if bytes_eq found.0 (codes "run") then run_of found.1

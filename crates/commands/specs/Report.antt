@@ -129,3 +129,9 @@ no m line refusal = record {
   text = codes "no " ++ place_text m refusal ++ 32 ∷ rule_name refusal.rule ++ detail_text m refusal.func line refusal.detail ++ 10 ∷ [];
   status = 1;
 }
+
+-- ---- the maker
+
+-- no certificates are made
+abbrev pub no_answer : Answer
+no_answer = record { text = codes "no answer" ++ 10 ∷ []; status = 1 }

@@ -16,6 +16,11 @@ pub enum Line<'a> {
         certificate_path: &'a str,
         workers: u32,
     },
+    /// Make a certificate of a module; where none is made, say what is refused if `why`.
+    Make {
+        module_path: &'a str,
+        why: bool,
+    },
     /// Make the steps of a trace of a module.
     Replay {
         module_path: &'a str,
@@ -81,6 +86,7 @@ impl<'a> Line<'a> {
                 certificate_path,
                 ..
             } => vec![in alloc; module_path, certificate_path]?,
+            Line::Make { module_path, .. } => vec![in alloc; module_path]?,
             Line::Replay {
                 module_path,
                 trace_path,

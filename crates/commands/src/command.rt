@@ -6,6 +6,7 @@ ghost use Rattle.commands.specs.Files as spec;
 
 use crate::asked::Line;
 use crate::checking::check_files;
+use crate::making::make_file;
 use crate::replaying::replay_files;
 use crate::running::run_files;
 use crate::soaking::soak_files;
@@ -42,6 +43,7 @@ pub fn work<O: Write, E: Write>(
             out,
             err,
         ),
+        Line::Make { module_path, why } => make_file(alloc, module_path, why, files, out, err),
         Line::Replay {
             module_path,
             trace_path,

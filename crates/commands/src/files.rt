@@ -48,7 +48,7 @@ pub enum Unread<'a> {
 }
 
 /// The module of the first file.
-fn module_in<'a>(
+pub fn module_in<'a>(
     alloc: Global,
     path: &'a str,
     files: &[Option<Vec<u8>>],

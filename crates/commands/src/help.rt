@@ -48,6 +48,25 @@ Exit status:
   4  the command line is refused, a file cannot be read, or a write failed",
 };
 
+pub(crate) const WHY: &str = "Where there is no answer, also prints what is refused";
+
+pub(crate) const MAKE_ABOUT: &str = "Makes a certificate of a module";
+
+pub(crate) const MAKE_AFTER: &str = "\
+Prints a certificate with which `dgc check` says yes. Or prints `no answer`: none of those
+that were tried is accepted. With --why the line that `dgc check` prints for the boldest of
+them goes to standard error, as `no @f %b I Kn`.
+
+Of a text that is not read, one line goes to standard error, as `error L4 23:13` (a line
+and a column).
+
+Exit status:
+  0  a certificate was made
+  1  no answer
+  2  the text is not read, or the module has no layouts
+  3  memory was refused
+  4  the command line is refused, a file cannot be read, or a write failed";
+
 pub(crate) const REPLAY: CommandHelp = CommandHelp {
     about: "Makes the steps of a trace, and says which one breaks the run",
     second: "A trace: how a run begins, and who makes its steps (docs/TRACES.md)",
@@ -114,8 +133,9 @@ Also runs that code beside the collector, one atomic step at a time or on real t
 
 pub(crate) const DGC_AFTER: &str = "\
 Exit status:
-  0  yes or sound, the threads were run, or help or the version was asked for
-  1  no or broken
+  0  yes or sound, a certificate was made, the threads were run, or help or the version was
+     asked for
+  1  no, no answer, or broken
   2  a text is not read, the module has no layouts, or a thread may not begin
   3  memory was refused
   4  the command line is refused, a file cannot be read, or a write failed";

@@ -8,6 +8,7 @@ mod faults;
 mod files;
 mod found;
 mod help;
+mod making;
 mod name;
 mod outcomes;
 mod reader;

@@ -3,14 +3,14 @@ ghost use Rattle.std.specs.Prelude.{◌≡◌, IfOk, IfErr, IsOk, [], map, optio
 ghost use Rattle.clap.specs.Words.{app_of, fault_of, first_of, found_of, new_app, rows_of, rule_of};
 ghost use Rattle.clap.specs.declared.builder.command.Command.TheViews.{out-Command};
 ghost use Rattle.commands.specs.Asked.{asked_by, HasWorkers};
-ghost use Rattle.commands.specs.Grammar.{asked_in, asked_of, check_app, check_of, dgc_app, file_rule, files_app, IsRefusalOf, limit_rule, number_of, number_rule, paths_in, replay_of, run_app, run_of, soak_app, soak_of, workers_of, workers_rule};
+ghost use Rattle.commands.specs.Grammar.{asked_in, asked_of, check_app, check_of, dgc_app, file_rule, files_app, flag_of, flag_rule, IsRefusalOf, limit_rule, make_app, make_of, module_app, number_of, number_rule, paths_in, replay_of, run_app, run_of, soak_app, soak_of, workers_of, workers_rule};
 
 use crate::asked::{Line, LineFault};
 use crate::help::{
-    CHECK, CommandHelp, DGC_ABOUT, DGC_AFTER, MODULE, REPLAY, RUN, RUN_STEPS, RUN_TRACE, SEEDS,
-    SOAK, STEPS, TURNS, WORKERS,
+    CHECK, CommandHelp, DGC_ABOUT, DGC_AFTER, MAKE_ABOUT, MAKE_AFTER, MODULE, REPLAY, RUN,
+    RUN_STEPS, RUN_TRACE, SEEDS, SOAK, STEPS, TURNS, WHY, WORKERS,
 };
-use clap::{Arg, ArgMatches, Command, value_parser};
+use clap::{Arg, ArgAction, ArgMatches, Command, value_parser};
 use std::alloc::{AllocError, Global};
 
 /// A file's path, which has to be given.
@@ -60,12 +60,36 @@ fn limit<'a>(alloc: Global, name: &'a str, shown: &'a str, help: &'a str) -> Arg
         .help(help)
 }
 
+/// An option without a value, which may be given.
+fn flag<'a>(alloc: Global, name: &'a str, help: &'a str) -> Arg<'a>
+    ensures rule { rule_of result ≡ flag_rule name.entry.now }
+    ensures own { result.global ≡ false }
+{
+    Arg::new(alloc, name)
+        .long(name)
+        .action(ArgAction::SetTrue)
+        .help(help)
+}
+
 /// A command of this name, with the texts that its help begins and ends with.
 fn told_command<'a>(alloc: Global, name: &'a str, about: &'a str, after: &'a str) -> Command<'a>
     ensures app { app_of result ≡ new_app name.entry.now }
     ensures own { (out-Command result).has_globals ≡ false }
 {
     Command::new(alloc, name).about(about).after_help(after)
+}
+
+/// A command of this name on a module, with the texts that its help begins and ends with.
+fn module_command<'a>(
+    alloc: Global,
+    name: &'a str,
+    about: &'a str,
+    after: &'a str,
+) -> Result<Command<'a>, AllocError>
+    ensures app { IfOk result (λ command. app_of command ≡ module_app name.entry.now) }
+    ensures own { IfOk result (λ command. (out-Command command).has_globals ≡ false) }
+{
+    told_command(alloc, name, about, after).arg(file(alloc, "MODULE", MODULE))
 }
 
 /// A command of this name on two files, a module and another one.
@@ -78,9 +102,7 @@ fn files_command<'a>(
     ensures app { IfOk result (λ command. app_of command ≡ files_app name.entry.now second.entry.now) }
     ensures own { IfOk result (λ command. (out-Command command).has_globals ≡ false) }
 {
-    told_command(alloc, name, help.about, help.after)
-        .arg(file(alloc, "MODULE", MODULE))?
-        .arg(file(alloc, second, help.second))
+    module_command(alloc, name, help.about, help.after)?.arg(file(alloc, second, help.second))
 }
 
 fn check_command<'a>(alloc: Global) -> Result<Command<'a>, AllocError>
@@ -88,6 +110,13 @@ fn check_command<'a>(alloc: Global) -> Result<Command<'a>, AllocError>
     ensures own { IfOk result (λ command. (out-Command command).has_globals ≡ false) }
 {
     files_command(alloc, "check", "CERT", CHECK)?.arg(workers(alloc))
+}
+
+fn make_command<'a>(alloc: Global) -> Result<Command<'a>, AllocError>
+    ensures app { IfOk result (λ command. app_of command ≡ make_app) }
+    ensures own { IfOk result (λ command. (out-Command command).has_globals ≡ false) }
+{
+    module_command(alloc, "make", MAKE_ABOUT, MAKE_AFTER)?.arg(flag(alloc, "why", WHY))
 }
 
 fn soak_command<'a>(alloc: Global) -> Result<Command<'a>, AllocError>
@@ -118,6 +147,11 @@ fn dgc_command<'a>(alloc: Global) -> Result<Command<'a>, AllocError>
         .version("0.1.0")
         .subcommand_required(true)
         .subcommand(check)?;
+    let Ok(make) = make_command(alloc) else {
+        drop(command);
+        return Err(AllocError);
+    };
+    let command = command.subcommand(make)?;
     let Ok(replay) = files_command(alloc, "replay", "TRACE", REPLAY) else {
         drop(command);
         return Err(AllocError);
@@ -191,6 +225,27 @@ fn check_line<'a>(given: &ArgMatches<'a>) -> Option<Line<'a>>
     })
 }
 
+/// Whether this option was given.
+fn flag_given(given: &ArgMatches<'_>, name: &str) -> bool
+    ensures { result ≡ flag_of name.now (rows_of (found_of given.now)) }
+{
+    match given.get_str(name) {
+        Some(text) => text == "true",
+        None => false,
+    }
+}
+
+/// The line of `make`, from what was given to it.
+fn make_line<'a>(given: &ArgMatches<'a>) -> Option<Line<'a>>
+    ensures { option_map asked_by result ≡ make_of (rows_of (found_of given.now)) }
+{
+    let Some(module_path) = path_given(given, "MODULE") else {
+        return None;
+    };
+    let why = flag_given(given, "why");
+    Some(Line::Make { module_path, why })
+}
+
 /// The line of `replay`, from what was given to it.
 fn replay_line<'a>(given: &ArgMatches<'a>) -> Option<Line<'a>>
     ensures { option_map asked_by result ≡ replay_of (rows_of (found_of given.now)) }
@@ -256,6 +311,7 @@ fn command_line<'a>(name: &str, given: &ArgMatches<'a>) -> Option<Line<'a>>
 {
     match name {
         "check" => check_line(given),
+        "make" => make_line(given),
         "replay" => replay_line(given),
         "soak" => soak_line(given),
         "run" => run_line(given),

@@ -1,5 +1,5 @@
 //! `dgc_tests`, the program: runs commands of `dgc` on files and compares what they print with what is wanted. Each check is run
-//! by one worker and by three.
+//! by one worker and by three. Of each module that is accepted a certificate is made, with which it is accepted too.
 //!
 //! `rows.txt` names the rows, one a line. The folder `rows/NAME` of a row has these files:
 //! - `args`: the command line after `dgc`, one word a line.
@@ -51,8 +51,8 @@ struct Tally {
     different: u32,
 }
 
-/// Runs the command of a row, and a check once more by three workers. Returns whether it prints what is wanted, and writes
-/// what differs.
+/// Runs the command of a row, and a check once more by three workers, and once more with a certificate that is made if the
+/// module is accepted. Returns whether each prints what is wanted, and writes what differs.
 fn compare_row<O: Write>(
     rt: &(impl Runtime + AllocGlobal + Threads + Sync),
     name: &str,
@@ -66,7 +66,12 @@ fn compare_row<O: Write>(
     }
     let printed = row.printed(rt, ["--workers", "3"].as_slice())?;
     let is_alike_by_three = printed.compare(out, name, row.wanted())?;
-    Ok(is_alike && is_alike_by_three)
+    if !row.is_accepted() {
+        return Ok(is_alike && is_alike_by_three);
+    }
+    let printed = row.checked_as_made(rt)?;
+    let is_alike_as_made = printed.compare(out, name, row.wanted())?;
+    Ok(is_alike && is_alike_by_three && is_alike_as_made)
 }
 
 /// Runs the command of a row. A row whose own files cannot be read is not as wanted.

@@ -1,9 +1,10 @@
 //! A row: a command line, the folder of its files, and what it has to print.
+ghost use Rattle.std.specs.Prelude.{◌≡◌, length, true};
 ghost use Rattle.commands.specs.Asked.{asked_by, HasWorkers};
 
 use crate::failure::Failure;
 use crate::printed::Printed;
-use commands::{Line, LineFault, STATUS_USAGE, line, status_of, work};
+use commands::{Line, LineFault, STATUS_USAGE, STATUS_YES, line, status_of, work};
 use std::fs;
 use std::rt::Runtime;
 use std::thread::Threads;
@@ -54,8 +55,15 @@ impl Row {
     }
 
     /// Whether it checks a module and a certificate, with no options.
-    pub fn is_plain_check(&self) -> bool {
+    pub fn is_plain_check(&self) -> bool
+        ensures { result ≡ true → length self.now.words.items ≡ 4 }
+    {
         self.words.len() == 4 && self.words[1].as_str() == "check"
+    }
+
+    /// Whether the module is accepted.
+    pub fn is_accepted(&self) -> bool {
+        self.wanted.status == STATUS_YES
     }
 
     /// Runs the command line with these words after it.
@@ -87,6 +95,37 @@ impl Row {
         }
     }
 
+    /// Makes a certificate of the module that is checked, and checks the module with it.
+    pub fn checked_as_made(
+        &self,
+        rt: &(impl Runtime + AllocGlobal + Threads + Sync),
+    ) -> Result<Printed, Failure>
+        requires { length self.now.words.items ≡ 4 }
+    {
+        let alloc = rt.alloc();
+        let module_path = self.words[2].as_str();
+        let made = self.done(
+            rt,
+            &Line::Make {
+                module_path,
+                why: false,
+            },
+        )?;
+        if made.status != STATUS_YES {
+            return Ok(made);
+        }
+        let path = format!(in alloc; "{}/{module_path}", self.folder)?;
+        let mut files = Vec::new(alloc);
+        files.push(bytes_of(rt, path.as_str())?)?;
+        files.push(Some(made.out))?;
+        let line = Line::Check {
+            module_path,
+            certificate_path: module_path,
+            workers: 1,
+        };
+        printed_of(rt, &line, files.as_slice())
+    }
+
     /// Runs the command of a line that is accepted.
     fn done(
         &self,
@@ -101,10 +140,22 @@ impl Row {
             let path = format!(in alloc; "{}/{path}", self.folder)?;
             files.push(bytes_of(rt, path.as_str())?)?;
         }
-        let mut out = Vec::new(alloc);
-        let mut err = Vec::new(alloc);
-        let answered = work(rt, alloc, line, files.as_slice(), &mut out, &mut err);
-        let status = status_of(answered);
-        Ok(Printed { status, out, err })
+        printed_of(rt, line, files.as_slice())
     }
+}
+
+/// Runs the command of a line on the bytes of its files.
+fn printed_of(
+    rt: &(impl Runtime + AllocGlobal + Threads + Sync),
+    line: &Line<'_>,
+    files: &[Option<Vec<u8>>],
+) -> Result<Printed, Failure>
+    requires { HasWorkers (asked_by line.now) }
+{
+    let alloc = rt.alloc();
+    let mut out = Vec::new(alloc);
+    let mut err = Vec::new(alloc);
+    let answered = work(rt, alloc, line, files, &mut out, &mut err);
+    let status = status_of(answered);
+    Ok(Printed { status, out, err })
 }

@@ -1,0 +1,55 @@
+-- When certificates are made, and why none are.
+use Rattle.std.specs.Prelude.{◌≡◌, List, length, true}
+use Rattle.ir_ast.specs.declared.module.Module.{Module}
+use Rattle.layout.specs.Layouts.{LaidOut}
+use Rattle.layout.specs.declared.fault.LayoutFault.{LayoutFault}
+use Rattle.layout.specs.declared.fault.LayoutFault.TheVariants as layout
+use Rattle.certs.specs.Fits.{fits}
+use Rattle.certs.specs.declared.section.Section.{Section}
+use Rattle.block_rules.specs.declared.block_fault.Refusal.{Refusal}
+use Rattle.module_check.specs.Accepted.{IsFirstInModule, IsFirstRefusal, IsModuleCertified}
+use Rattle.cert_maker.specs.Plain.{plain}
+use Rattle.cert_maker.specs.declared.made.MakeFault.{MakeFault}
+use Rattle.cert_maker.specs.declared.made.MakeFault.TheVariants.{Layout, NoAnswer, Memory}
+use Rattle.cert_maker.specs.declared.made.Refused.{Refused}
+use Rattle.cert_maker.specs.declared.tried.Tried.{Tried}
+use Rattle.cert_maker.specs.declared.tried.Tried.TheVariants as tried
+use Rattle.cert_maker.specs.declared.tried.Lack.{Lack}
+use Rattle.cert_maker.specs.declared.tried.Lack.TheVariants as lack
+
+-- this holds of the layouts' fault, if it is one
+abbrev pub IfLayout : MakeFault → (LayoutFault → Type 0) → Type 0
+IfLayout (Layout fault) P = P fault
+IfLayout _ P = Unit {0}
+
+-- the fault of a module without layouts
+abbrev pub fault_of_layout : LayoutFault → MakeFault
+fault_of_layout layout.Memory = Memory
+fault_of_layout fault = Layout fault
+
+-- they are certificates of a program's module, and with them each of its functions is certified
+pub record AreGood (program : LaidOut) (certs : List Section) : Type 0 where
+  pub fit : fits program.of_module certs ≡ true
+  pub certified : IsModuleCertified program certs (length program.of_module.functions)
+
+-- with these certificates this is the first instruction of a program that is refused
+abbrev pub IsFirstIn : LaidOut → List Section → Refusal → Type 0
+IsFirstIn program certs refusal = IsFirstInModule program certs (length program.of_module.functions) refusal
+
+-- with these certificates some instruction of a program is refused
+abbrev pub AreRefused : LaidOut → List Section → Type 0
+AreRefused program certs = (refusal : Refusal) × IsFirstIn program certs refusal
+
+-- what is refused with proposed certificates, if they fit
+abbrev pub IsTried : LaidOut → Tried → Type 0
+IsTried program (tried.Refused refused) = IsFirstIn program refused.certs refused.refusal
+IsTried program _ = Unit {0}
+
+-- the fault of a module that has layouts
+abbrev pub fault_of_lack : Lack → MakeFault
+fault_of_lack lack.NoAnswer = NoAnswer
+fault_of_lack lack.Memory = Memory
+
+-- these are certificates, and the first instruction of a module that is refused with them
+abbrev pub IsRefusedWith : Module → Refused → Type 0
+IsRefusedWith m refused = IsFirstRefusal m refused.certs refused.refusal

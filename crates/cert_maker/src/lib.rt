@@ -1,0 +1,10 @@
+//! The maker of certificates: it proposes some, and returns what the check accepts.
+#![tactic(auto)]
+
+mod made;
+mod maker;
+mod plain;
+mod tried;
+
+pub use made::{MakeFault, NotMade, Refused};
+pub use maker::make;

@@ -1,0 +1,60 @@
+use crate::tried::Lack;
+use block_rules::Refusal;
+use certs::Certs;
+use ir_ast::Module;
+use layout::LayoutFault;
+
+/// Why no certificates are made.
+#[derive(Clone, Copy, PartialEq, Eq)]
+pub enum MakeFault {
+    /// The module has no layouts.
+    Layout(LayoutFault),
+    /// None of those that are proposed is accepted, and the plain ones are not.
+    NoAnswer,
+    /// Memory was refused.
+    Memory,
+}
+
+/// Certificates, and the first instruction that is refused with them.
+#[derive(Drop)]
+pub struct Refused {
+    pub certs: Certs,
+    pub refusal: Refusal,
+}
+
+/// A module for which no certificates are made, given back.
+#[derive(Drop)]
+pub struct NotMade {
+    pub fault: MakeFault,
+    pub of_module: Module,
+    /// The boldest of the proposed certificates that were refused.
+    pub refused: Option<Refused>,
+}
+
+impl From<LayoutFault> for MakeFault {
+    ghost use Rattle.std.specs.Prelude.{◌≡◌};
+    ghost use Rattle.cert_maker.specs.Made.{fault_of_layout};
+
+    ghost from_gives = { λ fault made. made ≡ fault_of_layout fault };
+
+    fn from(fault: LayoutFault) -> MakeFault {
+        match fault {
+            LayoutFault::Memory => MakeFault::Memory,
+            fault => MakeFault::Layout(fault),
+        }
+    }
+}
+
+impl From<Lack> for MakeFault {
+    ghost use Rattle.std.specs.Prelude.{◌≡◌};
+    ghost use Rattle.cert_maker.specs.Made.{fault_of_lack};
+
+    ghost from_gives = { λ lack made. made ≡ fault_of_lack lack };
+
+    fn from(lack: Lack) -> MakeFault {
+        match lack {
+            Lack::NoAnswer => MakeFault::NoAnswer,
+            Lack::Memory => MakeFault::Memory,
+        }
+    }
+}

@@ -1,0 +1,66 @@
+//! The plain certificates of a module: they say the least.
+ghost use Rattle.std.specs.Prelude.{◌≡◌, [], None, map, replicate, true, IfOk};
+ghost use Rattle.certs.specs.Fits.{fits};
+ghost use Rattle.cert_maker.specs.Plain.{plain, plain_section};
+
+use certs::{Certs, Line, Mark, Promise, Section};
+use ir_ast::{Block, Function, Module};
+use items::Items;
+use std::alloc::{AllocError, Global};
+
+/// Certificates that mark each function `may`, promise nothing and list nothing.
+pub fn plain(alloc: Global, of_module: &Module) -> Result<Certs, AllocError>
+    ensures plain { IfOk result (λ certs. certs ≡ plain of_module.now) }
+    ensures fits { fits of_module.now (plain of_module.now) ≡ true }
+{
+    let sections = plain_sections(alloc, of_module.functions.as_slice())?;
+    Ok(Certs::new(sections))
+}
+
+fn plain_sections(alloc: Global, functions: &[Function]) -> Result<Items<Section>, AllocError>
+    ensures { IfOk result (λ sections. sections ≡ map plain_section functions.now) }
+{
+    let mut sections = Items::new(alloc);
+    for function in functions {
+        let section = plain_section(alloc, function)?;
+        sections.push(section)?;
+    }
+    Ok(sections)
+}
+
+fn plain_section(alloc: Global, function: &Function) -> Result<Section, AllocError>
+    ensures { IfOk result (λ section. section ≡ plain_section function.now) }
+{
+    let parameters = no_promises(alloc, function.parameters.len())?;
+    let blocks = no_lines(alloc, function.blocks.as_slice())?;
+    Ok(Section {
+        mark: Mark::May,
+        parameters,
+        result: None,
+        blocks,
+    })
+}
+
+fn no_promises(alloc: Global, count: usize) -> Result<Items<Option<Promise>>, AllocError>
+    ensures { IfOk result (λ promises. promises ≡ replicate count None) }
+{
+    repeated(alloc, None, count)
+}
+
+/// An element as often as `count` says.
+fn repeated<T: Copy>(alloc: Global, element: T, count: usize) -> Result<Items<T>, AllocError>
+    ensures { IfOk result (λ elements. elements ≡ replicate count element) }
+{
+    let elements = vec![in alloc; element; count]?;
+    Ok(Items::from_vec(elements))
+}
+
+fn no_lines(alloc: Global, blocks: &[Block]) -> Result<Items<Items<Line>>, AllocError>
+    ensures { IfOk result (λ lines. lines ≡ map (λ _. []) blocks.now) }
+{
+    let mut lines = Items::new(alloc);
+    for _block in blocks {
+        lines.push(Items::new(alloc))?;
+    }
+    Ok(lines)
+}

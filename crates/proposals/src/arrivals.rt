@@ -1,0 +1,101 @@
+use indexmap::IndexMap;
+use ir_ast::{Block, BlockId, Function, Incoming, Operand, Phi};
+use std::alloc::{AllocError, Global};
+use types::target_of;
+
+/// Where an operand comes in: to the phi at a place of a block, from another block.
+#[derive(Clone, Copy, PartialEq, Eq, Hash)]
+struct Arrival {
+    to: u32,
+    place: usize,
+    from: u32,
+}
+
+/// The operands that come in to the phis of a function's blocks.
+#[derive(Drop)]
+pub struct Arrivals {
+    each: IndexMap<Arrival, Operand>,
+}
+
+impl Arrivals {
+    pub fn of(alloc: Global, function: &Function) -> Result<Arrivals, AllocError> {
+        let mut arrivals = Arrivals {
+            each: IndexMap::new(alloc),
+        };
+        match arrivals.note_blocks(function) {
+            Ok(()) => Ok(arrivals),
+            Err(refused) => {
+                drop(arrivals);
+                Err(refused)
+            }
+        }
+    }
+
+    fn note_blocks(&mut self, function: &Function) -> Result<(), AllocError> {
+        let mut to = 0u32;
+        for block in function.blocks.as_slice() {
+            self.note_block(function, to, block)?;
+            to = to.saturating_add(1);
+        }
+        Ok(())
+    }
+
+    /// The operand that comes in to the phi at a place of a block from another.
+    pub fn operand(&self, to: BlockId, place: usize, from: BlockId) -> Option<Operand> {
+        let arrival = Arrival {
+            to: to.number(),
+            place,
+            from: from.number(),
+        };
+        self.each.get(&arrival).copied()
+    }
+
+    fn note_block(
+        &mut self,
+        function: &Function,
+        to: u32,
+        block: &Block,
+    ) -> Result<(), AllocError> {
+        let mut place = 0usize;
+        for phi in block.phis.as_slice() {
+            self.note_phi(function, to, place, phi)?;
+            place = place.saturating_add(1);
+        }
+        Ok(())
+    }
+
+    fn note_phi(
+        &mut self,
+        function: &Function,
+        to: u32,
+        place: usize,
+        phi: &Phi,
+    ) -> Result<(), AllocError> {
+        for entry in phi.incoming.as_slice() {
+            self.note_entry(function, to, place, *entry)?;
+        }
+        Ok(())
+    }
+
+    /// Notes an operand, unless one is noted for this place and this block.
+    fn note_entry(
+        &mut self,
+        function: &Function,
+        to: u32,
+        place: usize,
+        entry: Incoming,
+    ) -> Result<(), AllocError> {
+        let Some(from) = target_of(function, entry.from) else {
+            return Ok(());
+        };
+        let arrival = Arrival {
+            to,
+            place,
+            from: from.number(),
+        };
+        if self.each.get(&arrival).is_none() {
+            self.each.insert(arrival, entry.operand)?;
+        }
+        Ok(())
+    }
+}

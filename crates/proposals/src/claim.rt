@@ -1,0 +1,162 @@
+use certs::{Family, Promise};
+use pools::LayoutId;
+
+/// What is shown of an operand.
+#[derive(Clone, Copy)]
+pub enum Shown {
+    Nothing,
+    /// An integer, and what it is below.
+    Number(Option<u64>),
+    Null,
+    Cell { layout: LayoutId, nonnull: bool },
+}
+
+/// What is promised of a parameter or of a result, as far as it was found.
+#[derive(Clone, Copy, PartialEq, Eq)]
+pub enum Claim {
+    Nothing,
+    /// An integer, and what it is below.
+    Number(Option<u64>),
+    /// A reference to the layout that its type says.
+    Reference { nonnull: bool },
+    /// `i8*`: a reference to this layout.
+    AnyReference { layout: LayoutId, nonnull: bool },
+}
+
+impl Claim {
+    /// The most that can be promised of a value of this family; `below` and `layout` are those of a promise, if it has them.
+    pub fn of(
+        family: Family,
+        nonnull: bool,
+        below: Option<u64>,
+        layout: Option<LayoutId>,
+    ) -> Claim {
+        match family {
+            Family::Number(_) => Claim::Number(below),
+            Family::Reference(_) => Claim::Reference { nonnull },
+            Family::AnyReference => match layout {
+                Some(layout) => Claim::AnyReference { layout, nonnull },
+                None => Claim::Nothing,
+            },
+            Family::Address | Family::Nothing => Claim::Nothing,
+        }
+    }
+
+    /// What is left of it where this is shown.
+    pub fn weakened(self, shown: Shown) -> Claim {
+        match self {
+            Claim::Nothing => Claim::Nothing,
+            Claim::Number(below) => Claim::Number(larger(below, below_shown(shown))),
+            Claim::Reference { nonnull } => Claim::Reference {
+                nonnull: nonnull && is_nonnull(shown),
+            },
+            Claim::AnyReference { layout, nonnull } => {
+                if is_other(layout, shown) {
+                    Claim::Nothing
+                } else {
+                    Claim::AnyReference {
+                        layout,
+                        nonnull: nonnull && is_nonnull(shown),
+                    }
+                }
+            }
+        }
+    }
+
+    /// It as a certificate writes it.
+    pub fn promise(self) -> Option<Promise> {
+        match self {
+            Claim::Nothing => None,
+            Claim::Number(below) => number_promise(below),
+            Claim::Reference { nonnull } => reference_promise(nonnull),
+            Claim::AnyReference { layout, nonnull } => Some(Promise {
+                layout: Some(layout),
+                nonnull,
+                below: None,
+            }),
+        }
+    }
+
+    /// The layout that is promised of an `i8*`.
+    pub fn layout(self) -> Option<LayoutId> {
+        match self {
+            Claim::AnyReference { layout, .. } => Some(layout),
+            _ => None,
+        }
+    }
+
+    /// Whether it is of an integer.
+    pub fn is_number(self) -> bool {
+        matches!(self, Claim::Number(_))
+    }
+
+    /// What an integer is promised to be below.
+    pub fn below(self) -> Option<u64> {
+        match self {
+            Claim::Number(below) => below,
+            _ => None,
+        }
+    }
+}
+
+fn number_promise(below: Option<u64>) -> Option<Promise> {
+    if below.is_none() {
+        return None;
+    }
+    Some(Promise {
+        layout: None,
+        nonnull: false,
+        below,
+    })
+}
+
+fn reference_promise(nonnull: bool) -> Option<Promise> {
+    if !nonnull {
+        return None;
+    }
+    Some(Promise {
+        layout: None,
+        nonnull,
+        below: None,
+    })
+}
+
+/// The larger of two bounds; None is no bound.
+pub fn larger(one: Option<u64>, other: Option<u64>) -> Option<u64> {
+    match (one, other) {
+        (Some(one), Some(other)) => Some(one.max(other)),
+        _ => None,
+    }
+}
+
+/// The smaller of two bounds; None is no bound.
+pub fn smaller(one: Option<u64>, other: Option<u64>) -> Option<u64> {
+    match (one, other) {
+        (Some(one), Some(other)) => Some(one.min(other)),
+        (Some(one), None) => Some(one),
+        (None, other) => other,
+    }
+}
+
+fn below_shown(shown: Shown) -> Option<u64> {
+    match shown {
+        Shown::Number(below) => below,
+        _ => None,
+    }
+}
+
+fn is_nonnull(shown: Shown) -> bool {
+    match shown {
+        Shown::Cell { nonnull, .. } => nonnull,
+        _ => false,
+    }
+}
+
+/// Whether a cell of another layout is shown, or no reference.
+fn is_other(layout: LayoutId, shown: Shown) -> bool {
+    match shown {
+        Shown::Cell { layout: other, .. } => other != layout,
+        Shown::Null => false,
+        Shown::Nothing | Shown::Number(_) => true,
+    }
+}

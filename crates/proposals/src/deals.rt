@@ -1,0 +1,245 @@
+use crate::call_graph::CallGraph;
+use crate::claim::{Claim, Shown};
+use crate::guesses::{cast_layouts, returned_layout};
+use crate::marks::marks_of;
+use crate::needs::needs_of;
+use crate::order::callees_first;
+use crate::rows::{put, row_or};
+use certs::{Mark, Promise, family_of_type, family_of_value};
+use ir_ast::{FuncId, Function, Module};
+use layout::Program;
+use pools::LayoutId;
+use std::alloc::{AllocError, Global};
+
+/// How much is promised at first.
+#[derive(Clone, Copy, PartialEq, Eq)]
+pub enum Boldness {
+    /// No reference is null.
+    Bold,
+    /// And each integer parameter is below what is needed of it.
+    Bounded,
+    /// Nothing is promised of a parameter but its layout.
+    Timid,
+}
+
+/// How often a function is walked over at most.
+const WALK_LIMIT: u8 = 16;
+
+/// What is promised of the functions of a module, as far as it was found.
+#[derive(Drop)]
+pub struct Deals {
+    marks: Vec<Mark>,
+    /// Where the parameters of each function begin.
+    firsts: Vec<usize>,
+    parameters: Vec<Claim>,
+    results: Vec<Claim>,
+    /// The functions that are to be walked over, in this order; those from the front were.
+    queue: Vec<u32>,
+    waiting: Vec<bool>,
+    walks: Vec<u8>,
+}
+
+impl Deals {
+    /// What is promised at first, and all functions are to be walked over.
+    pub fn of(
+        alloc: Global,
+        program: &Program,
+        graph: &CallGraph,
+        boldness: Boldness,
+    ) -> Result<Deals, AllocError> {
+        let mut deals = Deals {
+            marks: Vec::new(alloc),
+            firsts: Vec::new(alloc),
+            parameters: Vec::new(alloc),
+            results: Vec::new(alloc),
+            queue: Vec::new(alloc),
+            waiting: Vec::new(alloc),
+            walks: Vec::new(alloc),
+        };
+        match deals.fill(alloc, program, graph, boldness) {
+            Ok(()) => Ok(deals),
+            Err(refused) => {
+                drop(deals);
+                Err(refused)
+            }
+        }
+    }
+
+    fn fill(
+        &mut self,
+        alloc: Global,
+        program: &Program,
+        graph: &CallGraph,
+        boldness: Boldness,
+    ) -> Result<(), AllocError> {
+        let module = program.module();
+        let count = module.functions.len();
+        self.marks = marks_of(alloc, graph, count)?;
+        self.queue = callees_first(alloc, graph, count)?;
+        self.waiting = vec![in alloc; true; count]?;
+        self.walks = vec![in alloc; 0u8; count]?;
+        for function in module.functions.as_slice() {
+            self.add(alloc, module, function, boldness)?;
+        }
+        if boldness == Boldness::Bounded {
+            self.ask_bounds(alloc, program)?;
+        }
+        Ok(())
+    }
+
+    /// The mark of a function.
+    pub fn mark(&self, func: FuncId) -> Mark {
+        row_or(&self.marks, func.number() as usize, Mark::May)
+    }
+
+    /// What is promised of a parameter of a function.
+    pub fn parameter(&self, func: FuncId, place: usize) -> Claim {
+        let first = row_or(&self.firsts, func.number() as usize, usize::MAX);
+        row_or(
+            &self.parameters,
+            first.saturating_add(place),
+            Claim::Nothing,
+        )
+    }
+
+    /// What is promised of the result of a function.
+    pub fn result(&self, func: FuncId) -> Claim {
+        row_or(&self.results, func.number() as usize, Claim::Nothing)
+    }
+
+    /// What is promised of the result of a function, as a certificate writes it.
+    pub fn promised(&self, func: FuncId) -> Option<Promise> {
+        self.result(func).promise()
+    }
+
+    /// The function that is to be walked over after this number of others.
+    pub fn next(&mut self, at: usize) -> Option<FuncId> {
+        let func = self.queue.get(at).copied()?;
+        put(&mut self.waiting, func as usize, false);
+        let walks = row_or(&self.walks, func as usize, 0);
+        put(&mut self.walks, func as usize, walks.saturating_add(1));
+        Some(FuncId::new(func))
+    }
+
+    /// Whether a function was not walked over too often.
+    pub fn may_walk(&self, func: FuncId) -> bool {
+        row_or(&self.walks, func.number() as usize, 0) <= WALK_LIMIT
+    }
+
+    /// A call shows this of its argument at a place.
+    pub fn note_argument(
+        &mut self,
+        func: FuncId,
+        place: usize,
+        shown: Shown,
+    ) -> Result<(), AllocError> {
+        let first = row_or(&self.firsts, func.number() as usize, usize::MAX);
+        let claim = self.parameter(func, place);
+        let weakened = claim.weakened(shown);
+        if weakened != claim {
+            put(&mut self.parameters, first.saturating_add(place), weakened);
+            self.wake(func.number())?;
+        }
+        Ok(())
+    }
+
+    /// A return shows this of its operand.
+    pub fn note_result(
+        &mut self,
+        graph: &CallGraph,
+        func: FuncId,
+        shown: Shown,
+    ) -> Result<(), AllocError> {
+        let claim = self.result(func);
+        let weakened = claim.weakened(shown);
+        if weakened != claim {
+            put(&mut self.results, func.number() as usize, weakened);
+            for caller in graph.callers.group(func.number() as usize) {
+                self.wake(*caller)?;
+            }
+        }
+        Ok(())
+    }
+
+    fn wake(&mut self, func: u32) -> Result<(), AllocError> {
+        if !row_or(&self.waiting, func as usize, true) {
+            put(&mut self.waiting, func as usize, true);
+            self.queue.push(func)?;
+        }
+        Ok(())
+    }
+
+    fn add(
+        &mut self,
+        alloc: Global,
+        module: &Module,
+        function: &Function,
+        boldness: Boldness,
+    ) -> Result<(), AllocError> {
+        let layouts = cast_layouts(alloc, module, function)?;
+        let added = self.add_promises(module, function, &layouts, boldness);
+        drop(layouts);
+        added
+    }
+
+    /// The promises of a function; `layouts` are those of its values, as far as the text tells.
+    fn add_promises(
+        &mut self,
+        module: &Module,
+        function: &Function,
+        layouts: &[Option<LayoutId>],
+        boldness: Boldness,
+    ) -> Result<(), AllocError> {
+        let nonnull = boldness != Boldness::Timid;
+        self.firsts.push(self.parameters.len())?;
+        for parameter in function.parameters.as_slice() {
+            let family = family_of_value(module, function, parameter.value);
+            let layout = row_or(layouts, parameter.value.number() as usize, None);
+            let claim = Claim::of(family, nonnull, None, layout);
+            self.parameters.push(claim)?;
+        }
+        let family = family_of_type(module, function.returned);
+        let layout = returned_layout(module, function, layouts);
+        let claim = Claim::of(family, true, Some(1), layout);
+        self.results.push(claim)?;
+        Ok(())
+    }
+
+    /// Each integer parameter is to be below what is needed of it.
+    fn ask_bounds(&mut self, alloc: Global, program: &Program) -> Result<(), AllocError> {
+        for at in 0..self.queue.len() {
+            if let Some(func) = self.queue.get(at).copied() {
+                self.ask_bounds_of(alloc, program, FuncId::new(func))?;
+            }
+        }
+        Ok(())
+    }
+
+    fn ask_bounds_of(
+        &mut self,
+        alloc: Global,
+        program: &Program,
+        func: FuncId,
+    ) -> Result<(), AllocError> {
+        let Some(function) = program.module().functions.get(func.number() as usize) else {
+            return Ok(());
+        };
+        let needs = needs_of(alloc, program, function, self)?;
+        self.ask_needs(func, function, &needs);
+        drop(needs);
+        Ok(())
+    }
+
+    fn ask_needs(&mut self, func: FuncId, function: &Function, needs: &[Option<u64>]) {
+        let first = row_or(&self.firsts, func.number() as usize, usize::MAX);
+        let mut place = 0usize;
+        for parameter in function.parameters.as_slice() {
+            let at = first.saturating_add(place);
+            if self.parameter(func, place).is_number() {
+                let need = row_or(needs, parameter.value.number() as usize, None);
+                put(&mut self.parameters, at, Claim::Number(need));
+            }
+            place = place.saturating_add(1);
+        }
+    }
+}

@@ -1,0 +1,94 @@
+use crate::arrivals::Arrivals;
+use crate::buckets::Buckets;
+use crate::deals::Deals;
+use crate::guesses::Guesses;
+use crate::scan::Scan;
+use crate::wanted::wanted_of;
+use facts::Facts;
+use ir_ast::{FuncId, Function, Module};
+use shadow_stack::Slots;
+use std::alloc::{AllocError, Global};
+
+/// What is found of a function once, for a walk over its blocks.
+#[derive(Drop)]
+pub struct Ground {
+    pub func: FuncId,
+    pub slots: Slots,
+    /// Nothing is known of its values and slots.
+    pub blank: Facts,
+    pub reading: Reading,
+}
+
+/// What is read in the text of a function.
+#[derive(Drop)]
+pub struct Reading {
+    pub arrivals: Arrivals,
+    pub guesses: Guesses,
+    /// The values and slots that are wanted at each block; a slot's number comes after those of all values.
+    pub wanted: Buckets,
+}
+
+impl Ground {
+    pub fn of(
+        alloc: Global,
+        module: &Module,
+        func: FuncId,
+        function: &Function,
+        deals: &Deals,
+    ) -> Result<Ground, AllocError> {
+        let slots = Slots::of(alloc, module, function)?;
+        let Ok(reading) = Reading::of(alloc, module, function, &slots, deals) else {
+            drop(slots);
+            return Err(AllocError);
+        };
+        let Ok(blank) = Facts::new(alloc, function.locals.count(), slots.count()) else {
+            drop(slots);
+            drop(reading);
+            return Err(AllocError);
+        };
+        Ok(Ground {
+            func,
+            slots,
+            blank,
+            reading,
+        })
+    }
+}
+
+impl Reading {
+    fn of(
+        alloc: Global,
+        module: &Module,
+        function: &Function,
+        slots: &Slots,
+        deals: &Deals,
+    ) -> Result<Reading, AllocError> {
+        let guesses = Guesses::of(alloc, module, function, slots, deals)?;
+        let Ok(wanted) = wanted_in(alloc, function, slots, &guesses) else {
+            drop(guesses);
+            return Err(AllocError);
+        };
+        let Ok(arrivals) = Arrivals::of(alloc, function) else {
+            drop(guesses);
+            drop(wanted);
+            return Err(AllocError);
+        };
+        Ok(Reading {
+            arrivals,
+            guesses,
+            wanted,
+        })
+    }
+}
+
+fn wanted_in(
+    alloc: Global,
+    function: &Function,
+    slots: &Slots,
+    guesses: &Guesses,
+) -> Result<Buckets, AllocError> {
+    let scan = Scan::of(alloc, function, slots, &guesses.bases)?;
+    let wanted = wanted_of(alloc, function, &scan);
+    drop(scan);
+    wanted
+}

@@ -1,0 +1,216 @@
+//! What is known at a place of a function, and how it goes on, by the rules.
+use crate::call_graph::defined;
+use crate::claim::Shown;
+use crate::deals::Deals;
+use crate::ground::Ground;
+use block_rules::{Scene, TypeKind, advance, below_next, given_by, known_of};
+use certs::{Line, Mark};
+use facts::{Entry, Facts, Known};
+use ir_ast::{BlockId, Call, Constant, Instr, Op, Operand, ValueId};
+use items::Items;
+use std::alloc::{AllocError, Global};
+
+/// What is known at a place of a block, on a way out of it, and where the block to which the way leads begins.
+#[derive(Drop)]
+pub struct Knowledge {
+    pub here: Facts,
+    pub way: Facts,
+    pub there: Facts,
+    entries: Items<Entry>,
+}
+
+impl Knowledge {
+    pub fn new(alloc: Global) -> Result<Knowledge, AllocError> {
+        let here = Facts::new(alloc, 0, 0)?;
+        let Ok(way) = Facts::new(alloc, 0, 0) else {
+            drop(here);
+            return Err(AllocError);
+        };
+        let Ok(there) = Facts::new(alloc, 0, 0) else {
+            drop(here);
+            drop(way);
+            return Err(AllocError);
+        };
+        Ok(Knowledge {
+            here,
+            way,
+            there,
+            entries: Items::new(alloc),
+        })
+    }
+
+    /// Goes to where the function begins.
+    pub fn begin_entry(
+        &mut self,
+        alloc: Global,
+        scene: &Scene,
+        ground: &Ground,
+        deals: &Deals,
+    ) -> Result<(), AllocError> {
+        self.here.set_from(alloc, &ground.blank)?;
+        let mut place = 0usize;
+        for parameter in scene.function.parameters.as_slice() {
+            let given = given_by(TypeKind::of(scene.module(), parameter.written));
+            let promise = deals.parameter(ground.func, place).promise();
+            self.here.receive(parameter.value, given, promise)?;
+            place = place.saturating_add(1);
+        }
+        Ok(())
+    }
+
+    /// Goes to where a block with these lines begins.
+    pub fn begin(
+        &mut self,
+        alloc: Global,
+        ground: &Ground,
+        lines: &[Line],
+    ) -> Result<(), AllocError> {
+        self.here.set_from(alloc, &ground.blank)?;
+        self.here.begin(alloc, &ground.slots, lines)
+    }
+
+    /// What a target with these lines begins with.
+    pub fn begin_there(
+        &mut self,
+        alloc: Global,
+        ground: &Ground,
+        lines: &[Line],
+    ) -> Result<(), AllocError> {
+        self.there.set_from(alloc, &ground.blank)?;
+        self.there.begin(alloc, &ground.slots, lines)
+    }
+
+    /// Goes past an instruction.
+    pub fn step(&mut self, scene: &Scene, deals: &Deals, instr: &Instr) -> Result<(), AllocError> {
+        if let Op::Call(call) = &instr.op {
+            if let Some(callee) = defined(scene.module(), call.callee) {
+                self.drop_arguments(call);
+                if deals.mark(callee) == Mark::May {
+                    self.here.make_stale();
+                }
+                return self.receive_result(scene, instr.result, call, deals.promised(callee));
+            }
+        }
+        advance(scene, &mut self.here, instr)
+    }
+
+    fn drop_arguments(&mut self, call: &Call) {
+        for argument in call.arguments.as_slice() {
+            let known = known_of(&self.here, &argument.operand);
+            self.here.drop_fresh_of(known);
+        }
+    }
+
+    fn receive_result(
+        &mut self,
+        scene: &Scene,
+        defined: Option<ValueId>,
+        call: &Call,
+        promise: Option<certs::Promise>,
+    ) -> Result<(), AllocError> {
+        match defined {
+            Some(value) => {
+                let given = given_by(TypeKind::of(scene.module(), call.returned));
+                self.here.receive(value, given, promise)
+            }
+            None => Ok(()),
+        }
+    }
+
+    /// What is shown of an operand here, where its type is of this kind.
+    pub fn shown(&self, operand: &Operand, kind: TypeKind) -> Shown {
+        match operand {
+            Operand::Constant(Constant::Number(number)) => Shown::Number(below_next(*number)),
+            Operand::Constant(Constant::Null) => Shown::Null,
+            Operand::Constant(Constant::Truth(_)) => Shown::Number(None),
+            operand => self.shown_of(known_of(&self.here, operand), kind),
+        }
+    }
+
+    fn shown_of(&self, known: Known, kind: TypeKind) -> Shown {
+        match known {
+            Known::Number { below, .. } => Shown::Number(below),
+            Known::Null => Shown::Null,
+            Known::Cell { class, layout, .. } => {
+                if kind.fits_layout(layout) {
+                    let nonnull = self.here.class(class).nonnull;
+                    Shown::Cell { layout, nonnull }
+                } else {
+                    Shown::Nothing
+                }
+            }
+            Known::Nothing | Known::Address { .. } | Known::GlobalAddress(_) => Shown::Nothing,
+        }
+    }
+
+    /// Goes on the way to a block, past its phis; `decided` is the value that decides the way, and what it is.
+    pub fn enter(
+        &mut self,
+        alloc: Global,
+        scene: &Scene,
+        ground: &Ground,
+        from: BlockId,
+        to: BlockId,
+        decided: Option<(ValueId, bool)>,
+    ) -> Result<(), AllocError> {
+        self.way.set_from(alloc, &self.here)?;
+        if let Some((value, taken)) = decided {
+            let test = self.way.test(value);
+            self.way.learn_test(test, taken)?;
+        }
+        self.note_entries(scene, ground, from, to)?;
+        self.way.after_phis(self.entries.as_slice())
+    }
+
+    fn note_entries(
+        &mut self,
+        scene: &Scene,
+        ground: &Ground,
+        from: BlockId,
+        to: BlockId,
+    ) -> Result<(), AllocError> {
+        self.entries.clear();
+        let Some(block) = scene.function.blocks.get(to.number() as usize) else {
+            return Ok(());
+        };
+        let mut place = 0usize;
+        for phi in block.phis.as_slice() {
+            let kind = TypeKind::of(scene.module(), phi.written);
+            let operand = ground.reading.arrivals.operand(to, place, from);
+            let known = comes_in(&self.way, kind, &operand);
+            self.entries.push(Entry {
+                phi: phi.value,
+                known,
+            })?;
+            place = place.saturating_add(1);
+        }
+        Ok(())
+    }
+}
+
+/// What is known of what comes in to a phi.
+fn comes_in(facts: &Facts, kind: TypeKind, operand: &Option<Operand>) -> Known {
+    match operand {
+        Some(Operand::Constant(constant)) => constant_comes_in(*constant, kind),
+        Some(operand) => known_of(facts, operand),
+        None => Known::Nothing,
+    }
+}
+
+fn constant_comes_in(constant: Constant, kind: TypeKind) -> Known {
+    match constant {
+        Constant::Number(number) => number_comes_in(number, kind),
+        Constant::Null => Known::Null,
+        Constant::Truth(_) => Known::Nothing,
+    }
+}
+
+fn number_comes_in(number: u64, kind: TypeKind) -> Known {
+    match kind {
+        TypeKind::Bits(bits) => Known::Number {
+            bits,
+            below: below_next(number),
+        },
+        _ => Known::Nothing,
+    }
+}

@@ -1,0 +1,229 @@
+//! Certificates that are proposed for a whole module.
+use crate::call_graph::CallGraph;
+pub use crate::deals::Boldness;
+use crate::deals::Deals;
+use crate::draft::Draft;
+use crate::ground::Ground;
+use crate::walk::{Room, Subject};
+use block_rules::Scene;
+use certs::{Certs, Promise, Section};
+use ir_ast::{FuncId, IrType, Module, TypeId};
+use items::Items;
+use layout::Program;
+use std::alloc::{AllocError, Global};
+
+/// What all walks look at.
+#[derive(Clone, Copy)]
+struct Shared<'a> {
+    program: &'a Program,
+    graph: &'a CallGraph,
+    /// No certificates.
+    none: &'a Certs,
+    /// The lengths of the module's arrays, in order.
+    lengths: &'a [u64],
+}
+
+/// Certificates for a module. Each says what the rules show of its functions, or less.
+pub fn propose(alloc: Global, program: &Program, boldness: Boldness) -> Result<Certs, AllocError> {
+    let graph = CallGraph::of(alloc, program.module())?;
+    let certs = propose_over(alloc, program, &graph, boldness);
+    drop(graph);
+    certs
+}
+
+fn propose_over(
+    alloc: Global,
+    program: &Program,
+    graph: &CallGraph,
+    boldness: Boldness,
+) -> Result<Certs, AllocError> {
+    let mut deals = Deals::of(alloc, program, graph, boldness)?;
+    let certs = propose_from(alloc, program, graph, &mut deals);
+    drop(deals);
+    certs
+}
+
+fn propose_from(
+    alloc: Global,
+    program: &Program,
+    graph: &CallGraph,
+    deals: &mut Deals,
+) -> Result<Certs, AllocError> {
+    let mut drafts = drafts_of(alloc, program.module())?;
+    let certs = match walk_all(alloc, program, graph, deals, &mut drafts) {
+        Ok(()) => certs_of(alloc, program.module(), deals, &drafts),
+        Err(refused) => Err(refused),
+    };
+    drop(drafts);
+    certs
+}
+
+fn drafts_of(alloc: Global, module: &Module) -> Result<Vec<Draft>, AllocError> {
+    let mut drafts = Vec::new(alloc);
+    for function in module.functions.as_slice() {
+        let draft = Draft::new(alloc, function.blocks.len())?;
+        drafts.push(draft)?;
+    }
+    Ok(drafts)
+}
+
+/// Walks over functions until nothing changes.
+fn walk_all(
+    alloc: Global,
+    program: &Program,
+    graph: &CallGraph,
+    deals: &mut Deals,
+    drafts: &mut [Draft],
+) -> Result<(), AllocError> {
+    let lengths = lengths_of(alloc, program.module())?;
+    let none = Certs::new(Items::new(alloc));
+    let shared = Shared {
+        program,
+        graph,
+        none: &none,
+        lengths: &lengths,
+    };
+    let walked = walk_with(alloc, &shared, deals, drafts);
+    drop(none);
+    drop(lengths);
+    walked
+}
+
+fn walk_with(
+    alloc: Global,
+    shared: &Shared,
+    deals: &mut Deals,
+    drafts: &mut [Draft],
+) -> Result<(), AllocError> {
+    let mut room = Room::new(alloc)?;
+    let walked = walk_each(alloc, shared, &mut room, deals, drafts);
+    drop(room);
+    walked
+}
+
+fn walk_each(
+    alloc: Global,
+    shared: &Shared,
+    room: &mut Room,
+    deals: &mut Deals,
+    drafts: &mut [Draft],
+) -> Result<(), AllocError> {
+    for at in 0..usize::MAX {
+        let Some(func) = deals.next(at) else {
+            break;
+        };
+        if deals.may_walk(func) {
+            walk_one(alloc, shared, room, deals, drafts, func)?;
+        }
+    }
+    Ok(())
+}
+
+fn walk_one(
+    alloc: Global,
+    shared: &Shared,
+    room: &mut Room,
+    deals: &mut Deals,
+    drafts: &mut [Draft],
+    func: FuncId,
+) -> Result<(), AllocError> {
+    let number = func.number() as usize;
+    let module = shared.program.module();
+    let Some(function) = module.functions.get(number) else {
+        return Ok(());
+    };
+    if number >= drafts.len() {
+        return Ok(());
+    }
+    let ground = Ground::of(alloc, module, func, function, deals)?;
+    let subject = Subject {
+        scene: Scene {
+            program: shared.program,
+            certs: shared.none,
+            function,
+            slots: &ground.slots,
+        },
+        ground: &ground,
+        graph: shared.graph,
+        lengths: shared.lengths,
+    };
+    let walked = room.walk(alloc, &subject, deals, &mut drafts[number]);
+    drop(ground);
+    walked
+}
+
+/// The lengths of the arrays of a module's types, in order.
+fn lengths_of(alloc: Global, module: &Module) -> Result<Vec<u64>, AllocError> {
+    let mut lengths = Vec::new(alloc);
+    let Ok(count) = u32::try_from(module.types.count()) else {
+        return Ok(lengths);
+    };
+    for number in 0..count {
+        if let Some(length) = length_of(module, TypeId::new(number)) {
+            lengths.push(length)?;
+        }
+    }
+    lengths.sort()?;
+    Ok(lengths)
+}
+
+/// The length of an array's type.
+fn length_of(module: &Module, written: TypeId) -> Option<u64> {
+    match module.types.get(written)? {
+        IrType::Array { length, .. } => Some(length),
+        _ => None,
+    }
+}
+
+/// The certificates that the drafts and the promises make.
+fn certs_of(
+    alloc: Global,
+    module: &Module,
+    deals: &Deals,
+    drafts: &[Draft],
+) -> Result<Certs, AllocError> {
+    let mut sections = Items::new(alloc);
+    let mut number = 0u32;
+    for draft in drafts {
+        let section = section_of(alloc, module, deals, FuncId::new(number), draft)?;
+        sections.push(section)?;
+        number = number.saturating_add(1);
+    }
+    Ok(Certs::new(sections))
+}
+
+fn section_of(
+    alloc: Global,
+    module: &Module,
+    deals: &Deals,
+    func: FuncId,
+    draft: &Draft,
+) -> Result<Section, AllocError> {
+    let blocks = draft.each_lines(alloc)?;
+    let Ok(parameters) = promises_of(alloc, module, deals, func) else {
+        drop(blocks);
+        return Err(AllocError);
+    };
+    Ok(Section {
+        mark: deals.mark(func),
+        parameters,
+        result: deals.promised(func),
+        blocks,
+    })
+}
+
+fn promises_of(
+    alloc: Global,
+    module: &Module,
+    deals: &Deals,
+    func: FuncId,
+) -> Result<Items<Option<Promise>>, AllocError> {
+    let mut promises = Items::new(alloc);
+    let Some(function) = module.functions.get(func.number() as usize) else {
+        return Ok(promises);
+    };
+    for place in 0..function.parameters.len() {
+        promises.push(deals.parameter(func, place).promise())?;
+    }
+    Ok(promises)
+}

@@ -1,0 +1,318 @@
+//! The walk over one function, until the lines of its blocks do not change.
+use crate::best::best_lines;
+use crate::call_graph::{CallGraph, defined};
+use crate::deals::Deals;
+use crate::draft::{Draft, Listed};
+use crate::first_lines::first_lines;
+use crate::ground::Ground;
+use crate::knowledge::Knowledge;
+use crate::weaken::weakened;
+use block_rules::{Scene, TypeKind};
+use certs::Line;
+use ir_ast::{Argument, Block, BlockId, Case, End, Instr, Op, Operand, ValueId};
+use std::alloc::{AllocError, Global};
+use types::target_of;
+
+/// What a walk looks at.
+#[derive(Clone, Copy)]
+pub struct Subject<'a> {
+    pub scene: Scene<'a>,
+    pub ground: &'a Ground,
+    pub graph: &'a CallGraph,
+    /// The lengths of the module's arrays, in order.
+    pub lengths: &'a [u64],
+}
+
+/// What a walk changes.
+#[derive(Drop)]
+pub struct Room {
+    pub knowledge: Knowledge,
+    /// All values of which something may be known in the block that is walked over.
+    pub names: Vec<ValueId>,
+}
+
+/// A way out of a block: the label that it leads to, the value that decides it, and what it is.
+#[derive(Clone, Copy)]
+struct Way {
+    from: BlockId,
+    label: ValueId,
+    decided: Option<(ValueId, bool)>,
+}
+
+impl Room {
+    pub fn new(alloc: Global) -> Result<Room, AllocError> {
+        let knowledge = Knowledge::new(alloc)?;
+        Ok(Room {
+            knowledge,
+            names: Vec::new(alloc),
+        })
+    }
+
+    /// Walks over a function until nothing changes; `limit` walks over blocks at most.
+    pub fn walk(
+        &mut self,
+        alloc: Global,
+        subject: &Subject,
+        deals: &mut Deals,
+        draft: &mut Draft,
+    ) -> Result<(), AllocError> {
+        draft.wake_all()?;
+        let blocks = subject.scene.function.blocks.len();
+        let limit = blocks.saturating_mul(64).saturating_add(64);
+        let mut unseen = 0u32;
+        let mut walked = 0usize;
+        for _ in 0..limit {
+            match draft.next(walked) {
+                Some(block) => {
+                    walked = walked.saturating_add(1);
+                    self.walk_block(alloc, subject, deals, draft, block)?;
+                }
+                None => {
+                    if unseen as usize >= blocks {
+                        return Ok(());
+                    }
+                    self.seed(alloc, subject, draft, BlockId::new(unseen))?;
+                    unseen = unseen.saturating_add(1);
+                }
+            }
+        }
+        Ok(())
+    }
+
+    /// A block that no way enters begins with all that it needs.
+    fn seed(
+        &mut self,
+        alloc: Global,
+        subject: &Subject,
+        draft: &mut Draft,
+        block: BlockId,
+    ) -> Result<(), AllocError> {
+        if draft.lines(block).is_none() {
+            let listed = best_lines(alloc, &subject.scene, subject.ground, block)?;
+            draft.set(block, listed);
+            draft.wake(block)?;
+        }
+        Ok(())
+    }
+
+    fn walk_block(
+        &mut self,
+        alloc: Global,
+        subject: &Subject,
+        deals: &mut Deals,
+        draft: &mut Draft,
+        number: BlockId,
+    ) -> Result<(), AllocError> {
+        let Some(block) = subject.scene.function.blocks.get(number.number() as usize) else {
+            return Ok(());
+        };
+        let Some(listed) = draft.lines(number) else {
+            return Ok(());
+        };
+        self.begin(alloc, subject, deals, number, listed)?;
+        for instr in block.body.as_slice() {
+            self.instr(subject, deals, instr)?;
+        }
+        self.end(alloc, subject, deals, draft, number, block)
+    }
+
+    fn begin(
+        &mut self,
+        alloc: Global,
+        subject: &Subject,
+        deals: &Deals,
+        number: BlockId,
+        listed: &Listed,
+    ) -> Result<(), AllocError> {
+        self.names.clear();
+        if number.number() == 0 {
+            for parameter in subject.scene.function.parameters.as_slice() {
+                self.names.push(parameter.value)?;
+            }
+            self.knowledge
+                .begin_entry(alloc, &subject.scene, subject.ground, deals)
+        } else {
+            for line in listed.lines.as_slice() {
+                if let Line::Value { value, .. } = *line {
+                    self.names.push(value)?;
+                }
+            }
+            self.knowledge
+                .begin(alloc, subject.ground, listed.lines.as_slice())
+        }
+    }
+
+    fn instr(
+        &mut self,
+        subject: &Subject,
+        deals: &mut Deals,
+        instr: &Instr,
+    ) -> Result<(), AllocError> {
+        if let Op::Call(call) = &instr.op {
+            if let Some(callee) = defined(subject.scene.module(), call.callee) {
+                let mut place = 0usize;
+                for argument in call.arguments.as_slice() {
+                    let shown = self.shown(subject, argument);
+                    deals.note_argument(callee, place, shown)?;
+                    place = place.saturating_add(1);
+                }
+            }
+        }
+        self.knowledge.step(&subject.scene, deals, instr)?;
+        if let Some(value) = instr.result {
+            self.names.push(value)?;
+        }
+        Ok(())
+    }
+
+    fn shown(&self, subject: &Subject, argument: &Argument) -> crate::claim::Shown {
+        let kind = TypeKind::of(subject.scene.module(), argument.written);
+        self.knowledge.shown(&argument.operand, kind)
+    }
+
+    fn end(
+        &mut self,
+        alloc: Global,
+        subject: &Subject,
+        deals: &mut Deals,
+        draft: &mut Draft,
+        from: BlockId,
+        block: &Block,
+    ) -> Result<(), AllocError> {
+        match &block.end {
+            End::Jump(label) => self.open_way(alloc, subject, draft, from, *label),
+            End::Branch {
+                condition,
+                taken,
+                other,
+                ..
+            } => {
+                let on = Way {
+                    from,
+                    label: *taken,
+                    decided: decided_by(condition, true),
+                };
+                self.way(alloc, subject, draft, on)?;
+                let off = Way {
+                    from,
+                    label: *other,
+                    decided: decided_by(condition, false),
+                };
+                self.way(alloc, subject, draft, off)
+            }
+            End::Switch {
+                otherwise,
+                cases,
+                ..
+            } => {
+                self.open_way(alloc, subject, draft, from, *otherwise)?;
+                self.cases(alloc, subject, draft, from, cases.as_slice())
+            }
+            End::Return(argument) => {
+                let shown = self.shown(subject, argument);
+                deals.note_result(subject.graph, subject.ground.func, shown)
+            }
+            End::Unreachable | End::ReturnVoid => Ok(()),
+        }
+    }
+
+    fn cases(
+        &mut self,
+        alloc: Global,
+        subject: &Subject,
+        draft: &mut Draft,
+        from: BlockId,
+        cases: &[Case],
+    ) -> Result<(), AllocError> {
+        for case in cases {
+            self.open_way(alloc, subject, draft, from, case.target)?;
+        }
+        Ok(())
+    }
+
+    /// A way that nothing decides of which something is known.
+    fn open_way(
+        &mut self,
+        alloc: Global,
+        subject: &Subject,
+        draft: &mut Draft,
+        from: BlockId,
+        label: ValueId,
+    ) -> Result<(), AllocError> {
+        let way = Way {
+            from,
+            label,
+            decided: None,
+        };
+        self.way(alloc, subject, draft, way)
+    }
+
+    fn way(
+        &mut self,
+        alloc: Global,
+        subject: &Subject,
+        draft: &mut Draft,
+        way: Way,
+    ) -> Result<(), AllocError> {
+        let Some(to) = target_of(subject.scene.function, way.label) else {
+            return Ok(());
+        };
+        if to.number() == 0 {
+            return Ok(());
+        }
+        let scene = &subject.scene;
+        self.knowledge
+            .enter(alloc, scene, subject.ground, way.from, to, way.decided)?;
+        if let Some(listed) = self.lines_after(alloc, subject, draft, to)? {
+            draft.set(to, listed);
+            draft.wake(to)?;
+        }
+        Ok(())
+    }
+
+    /// The lines of a block after one more way to it, if they change.
+    fn lines_after(
+        &mut self,
+        alloc: Global,
+        subject: &Subject,
+        draft: &Draft,
+        to: BlockId,
+    ) -> Result<Option<Listed>, AllocError> {
+        match draft.lines(to) {
+            Some(listed) => weakened(
+                alloc,
+                subject.ground,
+                &mut self.knowledge,
+                subject.lengths,
+                listed,
+            ),
+            None => {
+                let lines = self.first_lines_at(alloc, subject, to)?;
+                Ok(Some(lines))
+            }
+        }
+    }
+
+    fn first_lines_at(
+        &mut self,
+        alloc: Global,
+        subject: &Subject,
+        to: BlockId,
+    ) -> Result<Listed, AllocError> {
+        first_lines(
+            alloc,
+            subject.scene,
+            subject.ground,
+            &self.knowledge.way,
+            to,
+            &self.names,
+        )
+    }
+}
+
+fn decided_by(condition: &Operand, taken: bool) -> Option<(ValueId, bool)> {
+    match condition {
+        Operand::Local(value) => Some((*value, taken)),
+        _ => None,
+    }
+}

@@ -1,0 +1,195 @@
+//! Which values and slots are read at a block or after it, before they are written again.
+use crate::buckets::Buckets;
+use crate::rows::{put, row_or};
+use crate::scan::Scan;
+use ir_ast::{Block, End, Function, ValueId};
+use std::alloc::{AllocError, Global};
+use types::target_of;
+
+/// The ways back from the blocks that read a value or slot.
+#[derive(Drop)]
+struct Roads {
+    predecessors: Buckets,
+    /// The blocks that read each.
+    reads: Buckets,
+    /// The blocks that write each.
+    ends: Buckets,
+}
+
+/// The way back from the blocks that read one value or slot.
+#[derive(Drop)]
+struct Climb {
+    /// The last name that was climbed from that is written in each block.
+    ended: Vec<Option<usize>>,
+    /// The last one that is wanted at each block.
+    seen: Vec<Option<usize>>,
+    todo: Vec<u32>,
+    wanted: Vec<(usize, u32)>,
+}
+
+/// For each block the numbers of what is wanted where it begins, in their order.
+pub fn wanted_of(
+    alloc: Global,
+    function: &Function,
+    scan: &Scan<'_>,
+) -> Result<Buckets, AllocError> {
+    let roads = Roads::of(alloc, function, scan)?;
+    let Ok(mut climb) = Climb::new(alloc, function.blocks.len()) else {
+        drop(roads);
+        return Err(AllocError);
+    };
+    let wanted = match climb.go(&roads, scan) {
+        Ok(()) => Buckets::of(alloc, &climb.wanted, function.blocks.len()),
+        Err(refused) => Err(refused),
+    };
+    drop(climb);
+    drop(roads);
+    wanted
+}
+
+impl Roads {
+    fn of(alloc: Global, function: &Function, scan: &Scan<'_>) -> Result<Roads, AllocError> {
+        let predecessors = predecessors_of(alloc, function)?;
+        let Ok(reads) = Buckets::of(alloc, &scan.read, scan.count()) else {
+            drop(predecessors);
+            return Err(AllocError);
+        };
+        let Ok(ends) = Buckets::of(alloc, &scan.ended, scan.count()) else {
+            drop(predecessors);
+            drop(reads);
+            return Err(AllocError);
+        };
+        Ok(Roads {
+            predecessors,
+            reads,
+            ends,
+        })
+    }
+}
+
+impl Climb {
+    fn new(alloc: Global, blocks: usize) -> Result<Climb, AllocError> {
+        let ended = vec![in alloc; None; blocks]?;
+        let Ok(seen) = vec![in alloc; None; blocks] else {
+            drop(ended);
+            return Err(AllocError);
+        };
+        Ok(Climb {
+            ended,
+            seen,
+            todo: Vec::new(alloc),
+            wanted: Vec::new(alloc),
+        })
+    }
+
+    fn go(&mut self, roads: &Roads, scan: &Scan<'_>) -> Result<(), AllocError> {
+        let Ok(count) = u32::try_from(scan.count()) else {
+            return Err(AllocError);
+        };
+        for number in 0..count {
+            self.from(roads, scan, number)?;
+        }
+        Ok(())
+    }
+
+    fn from(&mut self, roads: &Roads, scan: &Scan<'_>, number: u32) -> Result<(), AllocError> {
+        let name = number as usize;
+        for block in roads.ends.group(name) {
+            put(&mut self.ended, *block as usize, Some(name));
+        }
+        self.todo.clear();
+        for block in roads.reads.group(name) {
+            self.todo.push(*block)?;
+        }
+        for at in 0..usize::MAX {
+            let Some(block) = self.todo.get(at).copied() else {
+                break;
+            };
+            self.reach(roads, scan, number, block)?;
+        }
+        Ok(())
+    }
+
+    fn reach(
+        &mut self,
+        roads: &Roads,
+        scan: &Scan<'_>,
+        number: u32,
+        block: u32,
+    ) -> Result<(), AllocError> {
+        let name = number as usize;
+        let at = block as usize;
+        if row_or(&self.seen, at, Some(name)) == Some(name) {
+            return Ok(());
+        }
+        put(&mut self.seen, at, Some(name));
+        self.wanted.push((at, number))?;
+        if row_or(&scan.phis, name, None) == Some(block) {
+            return Ok(());
+        }
+        for from in roads.predecessors.group(at) {
+            if row_or(&self.ended, *from as usize, None) != Some(name) {
+                self.todo.push(*from)?;
+            }
+        }
+        Ok(())
+    }
+}
+
+/// The blocks from which each block is entered.
+fn predecessors_of(alloc: Global, function: &Function) -> Result<Buckets, AllocError> {
+    let pairs = edges_of(alloc, function)?;
+    let predecessors = Buckets::of(alloc, &pairs, function.blocks.len());
+    drop(pairs);
+    predecessors
+}
+
+/// Each block with one from which it is entered.
+fn edges_of(alloc: Global, function: &Function) -> Result<Vec<(usize, u32)>, AllocError> {
+    let mut pairs = Vec::new(alloc);
+    let mut from = 0u32;
+    for block in function.blocks.as_slice() {
+        note_edges(&mut pairs, function, from, block)?;
+        from = from.saturating_add(1);
+    }
+    Ok(pairs)
+}
+
+fn note_edges(
+    pairs: &mut Vec<(usize, u32)>,
+    function: &Function,
+    from: u32,
+    block: &Block,
+) -> Result<(), AllocError> {
+    match &block.end {
+        End::Jump(target) => note_edge(pairs, function, from, *target),
+        End::Branch { taken, other, .. } => {
+            note_edge(pairs, function, from, *taken)?;
+            note_edge(pairs, function, from, *other)
+        }
+        End::Switch {
+            otherwise,
+            cases,
+            ..
+        } => {
+            note_edge(pairs, function, from, *otherwise)?;
+            for case in cases.as_slice() {
+                note_edge(pairs, function, from, case.target)?;
+            }
+            Ok(())
+        }
+        End::Unreachable | End::ReturnVoid | End::Return(_) => Ok(()),
+    }
+}
+
+fn note_edge(
+    pairs: &mut Vec<(usize, u32)>,
+    function: &Function,
+    from: u32,
+    target: ValueId,
+) -> Result<(), AllocError> {
+    if let Some(to) = target_of(function, target) {
+        pairs.push((to.number() as usize, from))?;
+    }
+    Ok(())
+}
