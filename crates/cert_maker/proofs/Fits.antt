@@ -1,21 +1,22 @@
 -- The plain certificates of a module fit it.
-use Rattle.std.proofs.Common.{◌≡◌, List, [], ◌∷◌, None, Bool, true, ◌&&◌, length, map, refl, ap₂}
-use Rattle.std.specs.Prelude.{◌==◌, replicate}
+use Rattle.std.proofs.Common.{◌≡◌, ◌∙◌, List, [], ◌∷◌, None, true, ◌&&◌, length, map, refl, ap, ap₂}
+use Rattle.std.specs.Prelude.{◌==◌}
 use Rattle.std.specs.List.{list_all, zip}
 use Rattle.std.proofs.lemmas.Bool.{eq-eqb}
-use Rattle.std.proofs.lemmas.List.{length-map, length-replicate}
+use Rattle.std.proofs.lemmas.List.{length-map}
 use Rattle.ir_ast.specs.declared.block.Block.{Block}
 use Rattle.ir_ast.specs.declared.function.Function.{Function}
 use Rattle.ir_ast.specs.declared.function.Parameter.{Parameter}
 use Rattle.ir_ast.specs.declared.module.Module.{Module}
-use Rattle.certs.specs.Fits.{entry_is_empty, fits, lines_fit, parameter_fits, section_fits}
+use Rattle.certs.specs.Fits.{blocks_fit, entry_is_empty, fits, lines_fit, parameter_fits, parameters_fit, section_fits}
+use Rattle.certs.specs.declared.section.Line.{Line}
 use Rattle.cert_maker.specs.Plain.{plain, plain_section}
 
 -- a list that is made of another one is as long
 as_long : {A B : Type 0} (f : A → B) (xs : List A) → (length (map f xs) == length xs) ≡ true
 as_long f xs = eq-eqb _ _ (length-map xs f)
 
-promises_fit : (m : Module) (f : Function) (parameters : List Parameter) → list_all (λ p. parameter_fits m f p.0 p.1) (zip parameters (replicate (length parameters) None)) ≡ true
+promises_fit : (m : Module) (f : Function) (parameters : List Parameter) → list_all (λ p. parameter_fits m f p.0 p.1) (zip parameters (map (λ _. None) parameters)) ≡ true
 promises_fit m f [] = refl
 promises_fit m f (p ∷ parameters) = promises_fit m f parameters
 
@@ -27,17 +28,22 @@ entry_fits : (blocks : List Block) → entry_is_empty (map (λ _. []) blocks) �
 entry_fits [] = refl
 entry_fits (b ∷ blocks) = refl
 
-both : (a b : Bool) → a ≡ true → b ≡ true → a && b ≡ true
-both a b h k = ap₂ (λ a b. a && b) h k
+parameters_fit_plain : (m : Module) (f : Function) → parameters_fit m f (map (λ _. None) f.parameters) ≡ true
+parameters_fit_plain m f = ap₂ (λ a b. a && b) (as_long (λ _. None) f.parameters) (promises_fit m f f.parameters)
+
+blocks_fit_plain : (m : Module) (f : Function) → blocks_fit m f (map (λ _. []) f.blocks) ≡ true
+blocks_fit_plain m f =
+    let blocks : List (List Line) = map (λ _. []) f.blocks in
+    ap (λ a. a && entry_is_empty blocks && list_all (lines_fit m f) blocks) (as_long (λ _. []) f.blocks)
+    ∙ ap (λ a. true && a && list_all (lines_fit m f) blocks) (entry_fits f.blocks)
+    ∙ ap (λ a. true && true && a) (each_block_fits m f f.blocks)
 
 plain_section_fits : (m : Module) (f : Function) → section_fits m f (plain_section f) ≡ true
-plain_section_fits m f =
-    both _ _ (both _ _ (eq-eqb _ _ (length-replicate (length f.parameters) None)) (promises_fit m f f.parameters))
-    (both _ _ (as_long _ f.blocks) (both _ _ (entry_fits f.blocks) (each_block_fits m f f.blocks)))
+plain_section_fits m f = ap₂ (λ a b. a && true && b) (parameters_fit_plain m f) (blocks_fit_plain m f)
 
 each_section_fits : (m : Module) (functions : List Function) → list_all (λ p. section_fits m p.0 p.1) (zip functions (map plain_section functions)) ≡ true
 each_section_fits m [] = refl
-each_section_fits m (f ∷ functions) = both _ _ (plain_section_fits m f) (each_section_fits m functions)
+each_section_fits m (f ∷ functions) = ap₂ (λ a b. a && b) (plain_section_fits m f) (each_section_fits m functions)
 
 pub plain_fits : (m : Module) → fits m (plain m) ≡ true
-plain_fits m = both _ _ (as_long plain_section m.functions) (each_section_fits m m.functions)
+plain_fits m = ap₂ (λ a b. a && b) (as_long plain_section m.functions) (each_section_fits m m.functions)

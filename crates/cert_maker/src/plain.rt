@@ -1,10 +1,10 @@
 //! The plain certificates of a module: they say the least.
-ghost use Rattle.std.specs.Prelude.{◌≡◌, [], None, map, replicate, true, IfOk};
+ghost use Rattle.std.specs.Prelude.{◌≡◌, [], None, map, true, IfOk};
 ghost use Rattle.certs.specs.Fits.{fits};
 ghost use Rattle.cert_maker.specs.Plain.{plain, plain_section};
 
 use certs::{Certs, Line, Mark, Promise, Section};
-use ir_ast::{Block, Function, Module};
+use ir_ast::{Block, Function, Module, Parameter};
 use items::Items;
 use std::alloc::{AllocError, Global};
 
@@ -31,7 +31,7 @@ fn plain_sections(alloc: Global, functions: &[Function]) -> Result<Items<Section
 fn plain_section(alloc: Global, function: &Function) -> Result<Section, AllocError>
     ensures { IfOk result (λ section. section ≡ plain_section function.now) }
 {
-    let parameters = no_promises(alloc, function.parameters.len())?;
+    let parameters = no_promises(alloc, function.parameters.as_slice())?;
     let blocks = no_lines(alloc, function.blocks.as_slice())?;
     Ok(Section {
         mark: Mark::May,
@@ -41,18 +41,28 @@ fn plain_section(alloc: Global, function: &Function) -> Result<Section, AllocErr
     })
 }
 
-fn no_promises(alloc: Global, count: usize) -> Result<Items<Option<Promise>>, AllocError>
-    ensures { IfOk result (λ promises. promises ≡ replicate count None) }
+fn no_promises(
+    alloc: Global,
+    parameters: &[Parameter],
+) -> Result<Items<Option<Promise>>, AllocError>
+    ensures { IfOk result (λ promises. promises ≡ map (λ _. None) parameters.now) }
 {
-    repeated(alloc, None, count)
+    one_for_each(alloc, parameters, None)
 }
 
-/// An element as often as `count` says.
-fn repeated<T: Copy>(alloc: Global, element: T, count: usize) -> Result<Items<T>, AllocError>
-    ensures { IfOk result (λ elements. elements ≡ replicate count element) }
+/// The same element for each parameter.
+fn one_for_each<T: Copy + Drop>(
+    alloc: Global,
+    parameters: &[Parameter],
+    element: T,
+) -> Result<Items<T>, AllocError>
+    ensures { IfOk result (λ elements. elements ≡ map (λ _. element) parameters.now) }
 {
-    let elements = vec![in alloc; element; count]?;
-    Ok(Items::from_vec(elements))
+    let mut elements = Items::new(alloc);
+    for _parameter in parameters {
+        elements.push(element)?;
+    }
+    Ok(elements)
 }
 
 fn no_lines(alloc: Global, blocks: &[Block]) -> Result<Items<Items<Line>>, AllocError>
