@@ -23,7 +23,7 @@ use Rattle.mutators.specs.Faults.{HasNoRunFault, IsRunFault}
 use Rattle.mutators.specs.Reports.{IsReport}
 use Rattle.mutators.specs.declared.report.RunReport.{RunReport}
 use Rattle.commands.specs.Asked.{Asked, check, make, replay, soak, run}
-use Rattle.commands.specs.Report.{Answer, IsTold, line_of, no, no_answer, no_memory, of_layout_fault, yes}
+use Rattle.commands.specs.Report.{Answer, IsTold, line_of, made_text, no, no_answer, no_memory, of_layout_fault, yes}
 use Rattle.commands.specs.Runs.{of_outcome, of_setup_fault, of_soak}
 use Rattle.commands.specs.RunReport.{of_report}
 use Rattle.commands.specs.Files.{HasModule, HasCerts, HasProgram, HasTrace, IsNoModule, IsNoTrace, IsUncertified, IsUntraced, of_unread}
@@ -73,7 +73,7 @@ pub data OfCertified (Certs : Module → List Section → Said → Type 0) (modu
 -- what is said of a module for which certificates are made: some that fit it and with which it is accepted; that there are none, as the
 -- plain ones are refused, with some and their first refusal if that was asked for; the fault of the layouts; or that memory was refused
 pub data OfMade (why : Bool) (m : Module) : Said → Type 0 where
-  made : (certs : List Section) → fits m certs ≡ true → IsAccepted m certs → OfMade why m (OnOutput (record { text = cert_text certs m; status = 0 }))
+  made : (certs : List Section) → fits m certs ≡ true → IsAccepted m certs → OfMade why m (OnOutput (made_text (cert_text certs m)))
   none_made : (IsAccepted m (plain m) → ⊥) → OfMade why m (OnOutput no_answer)
   none_made_why : (certs : List Section) (refusal : Refusal) → why ≡ true → (IsAccepted m (plain m) → ⊥) → IsFirstRefusal m certs refusal
       → OfMade why m (OnBoth no_answer (no m (line_of certs m refusal.func refusal.detail) refusal).text)

@@ -132,6 +132,10 @@ no m line refusal = record {
 
 -- ---- the maker
 
+-- the text of certificates that are made
+abbrev pub made_text : (text : List ℕ) → Answer
+made_text text = record { text = text; status = 0 }
+
 -- no certificates are made
 abbrev pub no_answer : Answer
 no_answer = record { text = codes "no answer" ++ 10 ∷ []; status = 1 }

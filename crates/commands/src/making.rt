@@ -8,7 +8,7 @@ ghost use Rattle.cert_maker.specs.Plain.{plain};
 ghost use Rattle.cert_maker.specs.declared.made.MakeFault.TheVariants as fault;
 ghost use Rattle.commands.specs.Commands.{OfMade, OfMake, Says};
 ghost use Rattle.commands.specs.Files as spec;
-ghost use Rattle.commands.specs.Report.{IsTold, no_answer};
+ghost use Rattle.commands.specs.Report.{IsTold, made_text, no_answer};
 
 use crate::files::module_in;
 use crate::outcomes::unread;
@@ -35,12 +35,17 @@ fn print_made<O: Write, E: Write>(
     ensures { IfOk result (Says (OfMade why accepted.now.program.of_module) (O.contents out.old) (O.contents out.new) (E.contents err.old) (E.contents err.new)) }
 {
     match print_cert(alloc, accepted.certs(), accepted.program().module()) {
-        Ok(text) => {
-            out.write_all(&text)?;
-            Ok(STATUS_YES)
-        }
+        Ok(text) => print_text(out, text.as_slice()),
         Err(_) => crate::faults::memory(err),
     }
+}
+
+/// Prints the text of certificates.
+fn print_text<O: Write>(out: &mut O, text: &[u8]) -> io::Result<u8>
+    ensures { IfOk result (λ status. IsTold (O.contents out.old) (O.contents out.new) status (made_text text.now)) }
+{
+    out.write_all(text)?;
+    Ok(STATUS_YES)
 }
 
 /// No certificates are made: `no answer`.

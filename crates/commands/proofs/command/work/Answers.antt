@@ -3,6 +3,9 @@ use Rattle.commands.proofs.command.work.Goals as goal
 pub returns-in-Check : goal.returns-in-Check
 returns-in-Check g c = rw c.in-Check.is c.check_files.ensures
 
+pub returns-in-Make : goal.returns-in-Make
+returns-in-Make g c = rw c.in-Make.is c.make_file.ensures
+
 pub returns-in-Replay : goal.returns-in-Replay
 returns-in-Replay g c = rw c.in-Replay.is c.replay_files.ensures
 
