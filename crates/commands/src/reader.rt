@@ -169,8 +169,8 @@ fn dgc_command<'a>(alloc: Global) -> Result<Command<'a>, AllocError>
     command.subcommand(run)
 }
 
-/// The path that was given under this name.
-fn path_given<'a>(given: &ArgMatches<'a>, name: &str) -> Option<&'a str>
+/// The text that was given under this name.
+fn text_given<'a>(given: &ArgMatches<'a>, name: &str) -> Option<&'a str>
     ensures { option_map (λ path. path.now) result ≡ first_of name.now (rows_of (found_of given.now)) }
 {
     given.get_str(name)
@@ -229,7 +229,7 @@ fn check_line<'a>(given: &ArgMatches<'a>) -> Option<Line<'a>>
 fn flag_given(given: &ArgMatches<'_>, name: &str) -> bool
     ensures { result ≡ flag_of name.now (rows_of (found_of given.now)) }
 {
-    match given.get_str(name) {
+    match text_given(given, name) {
         Some(text) => text == "true",
         None => false,
     }
@@ -239,7 +239,7 @@ fn flag_given(given: &ArgMatches<'_>, name: &str) -> bool
 fn make_line<'a>(given: &ArgMatches<'a>) -> Option<Line<'a>>
     ensures { option_map asked_by result ≡ make_of (rows_of (found_of given.now)) }
 {
-    let Some(module_path) = path_given(given, "MODULE") else {
+    let Some(module_path) = text_given(given, "MODULE") else {
         return None;
     };
     let why = flag_given(given, "why");
@@ -287,7 +287,7 @@ fn run_line<'a>(given: &ArgMatches<'a>) -> Option<Line<'a>>
     let Some((module_path, certificate_path)) = paths_given(given, "CERT") else {
         return None;
     };
-    let Some(trace_path) = path_given(given, "TRACE") else {
+    let Some(trace_path) = text_given(given, "TRACE") else {
         return None;
     };
     let Some(turns) = number_given(given, "turns") else {
