@@ -1,0 +1,15 @@
+pub mod Types
+pub mod Slots
+pub mod Offsets
+pub mod Operands
+pub mod Signature
+pub mod Places
+pub mod Casts
+pub mod Elements
+pub mod Calls
+pub mod Rules
+pub mod Standing
+pub mod Ways
+pub mod Seen
+pub mod Scenes
+pub mod Kept
