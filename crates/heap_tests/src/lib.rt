@@ -177,7 +177,7 @@ pub fn take_four(
     [a, b, c, d]
 }
 
-/// Whether so many next turns of the collector find the only thread at its first stage.
+/// Whether this number of next turns of the collector each find the only thread at its first stage.
 pub fn are_looks(heap: &Heap<'_>, sweeper: &mut Sweeper<'_>, turns: u32) -> bool
     requires { IsSweeperOf heap.now sweeper.old }
     ensures { IsSweeperOf heap.now sweeper.new }
