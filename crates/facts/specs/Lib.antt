@@ -1,4 +1,5 @@
 pub mod Facts
+pub mod Contents
 pub mod Lines
 pub mod Sheets
 pub mod Values

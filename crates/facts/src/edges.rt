@@ -22,16 +22,17 @@ impl Facts {
     pub fn after_phis(&mut self, entries: &[Entry]) -> Result<(), AllocError>
         ensures { OnOk result (self.new ≡ after_phis entries.now self.old) }
     {
-        self.drop_fresh_all(entries);
+        self.drop_fresh_all(entries)?;
         self.enter_phis(entries)
     }
 
-    fn drop_fresh_all(&mut self, entries: &[Entry])
-        ensures { self.new ≡ drop_fresh_all entries.now self.old }
+    fn drop_fresh_all(&mut self, entries: &[Entry]) -> Result<(), AllocError>
+        ensures { OnOk result (self.new ≡ drop_fresh_all entries.now self.old) }
     {
         for entry in entries {
-            self.drop_fresh_of(entry.known);
+            self.drop_fresh_of(entry.known)?;
         }
+        Ok(())
     }
 
     fn enter_phis(&mut self, entries: &[Entry]) -> Result<(), AllocError>

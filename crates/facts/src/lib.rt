@@ -2,6 +2,7 @@
 #![tactic(auto)]
 
 mod class_id;
+mod contents;
 mod edges;
 mod facts;
 mod known;

@@ -36,6 +36,21 @@ impl Model for Sheet {
     ghost invariant = { λ sheet. OnlyMarked sheet.marked.items sheet.rows.items × OnlyCurrent sheet.current.items sheet.rows.items };
 }
 
+impl Clone for Sheet {
+    ghost is_clone = { λ sheet copy. copy ≡ sheet };
+
+    fn clone(&self) -> Result<Sheet, AllocError> {
+        let rows = Vec::from_slice(*self.rows.allocator(), &self.rows)?;
+        let marked = Vec::from_slice(*self.marked.allocator(), &self.marked)?;
+        let current = Vec::from_slice(*self.current.allocator(), &self.current)?;
+        Ok(Sheet {
+            rows,
+            marked,
+            current,
+        })
+    }
+}
+
 impl Sheet {
     /// `count` blank rows.
     pub fn new(alloc: Global, count: usize) -> Result<Self, AllocError>

@@ -35,6 +35,17 @@ impl Model for Values {
     ghost invariant = { λ values. OnlyUsers values.uses.items values.sheet };
 }
 
+impl Clone for Values {
+    ghost is_clone = { λ values copy. copy ≡ values };
+
+    fn clone(&self) -> Result<Values, AllocError> {
+        let sheet = self.sheet.clone()?;
+        let added = Vec::from_slice(*self.added.allocator(), &self.added)?;
+        let uses = Vec::from_slice(*self.uses.allocator(), &self.uses)?;
+        Ok(Values { sheet, added, uses })
+    }
+}
+
 impl Values {
     /// Nothing is known of `count` values.
     pub fn new(alloc: Global, count: usize) -> Result<Self, AllocError>
