@@ -2,6 +2,7 @@ pub mod Facts
 pub mod Contents
 pub mod Lines
 pub mod Sheets
+pub mod Numbered
 pub mod Values
 pub mod Uses
 pub mod Statements

@@ -4,6 +4,7 @@ ghost use Rattle.facts.specs.Facts.{slot_at, nothing_known, forget, set_slot, en
 ghost use Rattle.facts.specs.Contents.{set_of};
 
 use crate::class_id::ClassId;
+use crate::kept::KeptFacts;
 use crate::known::{Known, SlotFact};
 use crate::rows;
 use crate::values::Values;
@@ -67,6 +68,27 @@ impl Contents {
     {
         self.values.set_from(alloc, &other.values)?;
         self.slots.copy_from_slice(&other.slots);
+        Ok(())
+    }
+
+    /// What is known, in as much room as it fills.
+    pub fn keep(&self, alloc: Global) -> Result<KeptFacts, AllocError>
+        ensures { IfOk result (λ kept. kept ≡ set_of self.now) }
+    {
+        let values = self.values.keep(alloc)?;
+        let slots = Vec::from_slice(alloc, &self.slots)?;
+        Ok(KeptFacts { values, slots })
+    }
+
+    /// What was kept of as many values and slots, in place of what is known here.
+    pub fn open(&mut self, alloc: Global, kept: &KeptFacts) -> Result<(), AllocError>
+        requires values { length self.old.values.values ≡ length kept.now.values }
+        requires slots { length self.old.slots.items ≡ length kept.now.slots }
+        ensures ok { OnOk result (set_of self.new ≡ kept.now) }
+        ensures err { OnErr result (set_of self.new ≡ set_of self.old) }
+    {
+        self.values.open(alloc, &kept.values)?;
+        self.slots.copy_from_slice(&kept.slots);
         Ok(())
     }
 

@@ -1,9 +1,10 @@
-ghost use Rattle.std.specs.Prelude.{◌≡◌, length, map, slice_set, IfOk, OnOk, OnErr};
+ghost use Rattle.std.specs.Prelude.{◌≡◌, ◌==◌, ◌&&◌, length, map, slice_set, IfOk, OnOk, OnErr};
 ghost use Rattle.facts.specs.Facts.{FactSet, known_at, slot_at, class_at, test_at, nothing_known, forget, define, define_new, define_test, set_known, add_class, set_class, drop_fresh, drop_fresh_of, learn_nonnull, set_slot, clear_slot, end_slot, root_slot, hold, store_slot, load_held, load_slot, make_stale, slot_nonnull};
 ghost use Rattle.facts.specs.Lines.{join, move, covers};
 
 use crate::class_id::ClassId;
 use crate::contents::Contents;
+use crate::kept::KeptFacts;
 use crate::known::{Class, Known, SlotFact, Test};
 use crate::rows;
 use ir_ast::ValueId;
@@ -93,7 +94,7 @@ impl Facts {
     {
         let values = other.contents.values.count();
         let slots = other.contents.slots.len();
-        if self.contents.values.count() == values && self.contents.slots.len() == slots {
+        if self.has(values, slots) {
             Rc::make_mut(&mut self.contents)?.copy(alloc, &other.contents)
         } else {
             let mut fresh = Contents::new(alloc, values, slots)?;
@@ -101,6 +102,37 @@ impl Facts {
             self.contents = Rc::new(alloc, fresh)?;
             Ok(())
         }
+    }
+
+    /// What is known, to be kept.
+    pub fn keep(&self, alloc: Global) -> Result<KeptFacts, AllocError>
+        ensures { IfOk result (λ kept. kept ≡ self.now) }
+    {
+        self.contents.keep(alloc)
+    }
+
+    /// What was kept, in place of what is known here.
+    pub fn open(&mut self, alloc: Global, kept: &KeptFacts) -> Result<(), AllocError>
+        ensures ok { OnOk result (self.new ≡ kept.now) }
+        ensures err { OnErr result (self.new ≡ self.old) }
+    {
+        let values = kept.values.count();
+        let slots = kept.slots.len();
+        if self.has(values, slots) {
+            Rc::make_mut(&mut self.contents)?.open(alloc, kept)
+        } else {
+            let mut fresh = Contents::new(alloc, values, slots)?;
+            fresh.open(alloc, kept)?;
+            self.contents = Rc::new(alloc, fresh)?;
+            Ok(())
+        }
+    }
+
+    /// Whether there are rows for this number of values and slots.
+    fn has(&self, values: usize, slots: usize) -> bool
+        ensures { result ≡ ((length self.now.values == values) && (length self.now.slots == slots)) }
+    {
+        self.contents.values.count() == values && self.contents.slots.len() == slots
     }
 
     /// Each statement that names a value ends.
