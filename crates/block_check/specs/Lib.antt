@@ -1,3 +1,4 @@
+pub mod Rows
 pub mod Subject
 pub mod Tables
 pub mod Decided

@@ -119,7 +119,7 @@ impl Values {
     }
 
     /// What is known, in as much room as it fills.
-    pub fn keep(&self, alloc: Global) -> Result<KeptValues, AllocError>
+    pub(crate) fn keep(&self, alloc: Global) -> Result<KeptValues, AllocError>
         ensures { IfOk result (λ kept. kept ≡ self.now) }
     {
         let sheet = self.sheet.keep(alloc)?;
@@ -129,7 +129,7 @@ impl Values {
     }
 
     /// What was kept of as many values, in place of what is known here.
-    pub fn open(&mut self, alloc: Global, kept: &KeptValues) -> Result<(), AllocError>
+    pub(crate) fn open(&mut self, alloc: Global, kept: &KeptValues) -> Result<(), AllocError>
         requires { length self.old.values ≡ length kept.now.values }
         ensures ok { OnOk result (self.new ≡ kept.now) }
         ensures err { OnErr result (self.new ≡ self.old) }
