@@ -1,4 +1,5 @@
 mod Leads
+mod Given
 mod NotedEntries
 mod Operands
 mod PhiSteps

@@ -3,6 +3,7 @@ pub mod Subject
 pub mod Tables
 pub mod Decided
 pub mod Predecessors
+pub mod Shown
 pub mod PhiOperands
 pub mod Entries
 pub mod Walk

@@ -28,6 +28,15 @@ impl Model for KeptSheet {
     ghost invariant = { λ kept. OnlyCurrent kept.current.items (among_blank kept.count kept.rows.items) };
 }
 
+impl KeptSheet {
+    /// How many rows there are.
+    pub fn len(&self) -> usize
+        ensures { result ≡ length self.now }
+    {
+        self.count
+    }
+}
+
 /// What is known of values and classes.
 #[derive(Drop)]
 pub(crate) struct KeptValues {
@@ -41,7 +50,7 @@ impl KeptValues {
     pub fn count(&self) -> usize
         ensures { result ≡ length self.now.values }
     {
-        self.sheet.count
+        self.sheet.len()
     }
 }
 
