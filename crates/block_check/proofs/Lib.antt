@@ -1,5 +1,5 @@
 mod Leads
-mod Given
+mod GivenLists
 mod NotedEntries
 mod Operands
 mod PhiSteps

@@ -11,4 +11,4 @@ mod Classes
 mod Stale
 mod Shows
 mod Slots
-mod Numbered
+mod KeptRows

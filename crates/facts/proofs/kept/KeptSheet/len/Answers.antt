@@ -1,5 +1,5 @@
 use Rattle.std.proofs.Common.{◌∙◌, ap, length, sym}
-use Rattle.facts.proofs.Numbered.{length_among}
+use Rattle.facts.proofs.KeptRows.{length_among}
 use Rattle.facts.proofs.kept.KeptSheet.len.Goals as goal
 
 pub returns : goal.returns

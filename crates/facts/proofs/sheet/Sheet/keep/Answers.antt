@@ -2,7 +2,7 @@ use Rattle.std.proofs.Common.{◌≡◌, ◌∙◌, ap, arith, length, map, sym,
 use Rattle.facts.specs.declared.row.Row.{Row}
 use Rattle.facts.specs.Numbered.{numbered_at, among_blank}
 use Rattle.facts.specs.Sheets.{OnlyCurrent}
-use Rattle.facts.proofs.Numbered.{kept_all}
+use Rattle.facts.proofs.KeptRows.{kept_all}
 use Rattle.facts.proofs.sheet.Sheet.keep.Goals as goal
 
 module _ (c : goal.After-len) where

@@ -3,7 +3,7 @@ use Rattle.facts.specs.declared.numbered.Numbered.{Numbered}
 use Rattle.facts.specs.declared.row.Row.{Row}
 use Rattle.facts.specs.Numbered.{number_of, written, among_blank}
 use Rattle.facts.specs.Sheets.{OnlyMarked, OnlyCurrent, blank, each, copied}
-use Rattle.facts.proofs.Numbered.{length_among, written_marked}
+use Rattle.facts.proofs.KeptRows.{length_among, written_marked}
 use Rattle.facts.proofs.Sheets.{wiped_all}
 use Rattle.facts.proofs.sheet.Sheet.open.Goals as goal
 use Rattle.facts.proofs.sheet.Sheet.open.Goals.{After-drop-self-inside-2}
