@@ -223,7 +223,8 @@ impl Facts {
 
     /// A gcroot names a slot.
     pub fn root_slot(&mut self, s: SlotId) -> Result<(), AllocError>
-        ensures { OnOk result (self.new ≡ root_slot s self.old) }
+        ensures ok { OnOk result (self.new ≡ root_slot s self.old) }
+        ensures err { OnErr result (self.new ≡ self.old) }
     {
         self.set_slot(
             s,
@@ -237,7 +238,8 @@ impl Facts {
 
     /// A slot holds what is known of a value.
     pub fn store_slot(&mut self, s: SlotId, known: Known) -> Result<(), AllocError>
-        ensures { OnOk result (self.new ≡ store_slot s known self.old) }
+        ensures ok { OnOk result (self.new ≡ store_slot s known self.old) }
+        ensures err { OnErr result (self.new ≡ self.old) }
     {
         match known {
             Known::Cell { class, .. } => self.hold(s, class),
@@ -301,7 +303,8 @@ impl Facts {
 
     /// A class is not null where this holds.
     pub(crate) fn learn_nonnull(&mut self, c: ClassId, nonnull: bool) -> Result<(), AllocError>
-        ensures { OnOk result (self.new ≡ learn_nonnull c nonnull self.old) }
+        ensures ok { OnOk result (self.new ≡ learn_nonnull c nonnull self.old) }
+        ensures err { OnErr result (self.new ≡ self.old) }
     {
         let class = self.class(c);
         let nonnull = class.nonnull || nonnull;
@@ -348,7 +351,8 @@ impl Facts {
     }
 
     fn set_test(&mut self, v: ValueId, test: Option<Test>) -> Result<(), AllocError>
-        ensures { OnOk result (self.new ≡ record self.old { tests = slice_set self.old.tests v test }) }
+        ensures ok { OnOk result (self.new ≡ record self.old { tests = slice_set self.old.tests v test }) }
+        ensures err { OnErr result (self.new ≡ self.old) }
     {
         Rc::make_mut(&mut self.contents)?.values.set_test(v, test)
     }
@@ -362,7 +366,8 @@ impl Facts {
     }
 
     fn hold(&mut self, s: SlotId, c: ClassId) -> Result<(), AllocError>
-        ensures { OnOk result (self.new ≡ hold s c self.old) }
+        ensures ok { OnOk result (self.new ≡ hold s c self.old) }
+        ensures err { OnErr result (self.new ≡ self.old) }
     {
         let slot = self.slot(s);
         let nonnull = self.class(c).nonnull;
