@@ -23,7 +23,7 @@ given_here s count block facts e = got_from (given_at s) 0 count block facts e �
 pub given_of_rows : (program : LaidOut) (certs : List Section) (func : ℕ) (rows : List FactSet) → AreRowsOf program certs func rows → AreGivenOf program certs func rows
 given_of_rows program certs func rows h = pick (slice_get program.of_module.functions func) h where
   pick : (f : Option Function) → AreRowsIn program certs (slice_get certs func) f rows → AreGivenIn program certs (slice_get certs func) f rows
-  pick None h = h
+  pick None h = tt
   pick (Some f) h = subst (λ (l : List FactSet). AreGiven (scene_of program certs f (slice_get certs func)) l) (sym h) (given_here (scene_of program certs f (slice_get certs func)) _)
 
 -- where nothing was found before nothing is wrong
@@ -34,8 +34,16 @@ given_none s block facts e = absurd cc
 pub given_there : (program : LaidOut) (certs : List Section) (func : ℕ) (f : Function) (rows : List FactSet) → slice_get program.of_module.functions func ≡ Some f → AreGivenOf program certs func rows → AreGiven (scene_of program certs f (slice_get certs func)) rows
 given_there program certs func f rows e h = subst (λ (found : Option Function). AreGivenIn program certs (slice_get certs func) found rows) e h
 
-pub nothing_there : (program : LaidOut) (certs : List Section) (func : ℕ) (f : Function) → slice_get program.of_module.functions func ≡ Some f → AreGivenOf program certs func []
-nothing_there program certs func f e = subst (λ (found : Option Function). AreGivenIn program certs (slice_get certs func) found []) (sym e) (given_none (scene_of program certs f (slice_get certs func)))
+pub nothing_there : (program : LaidOut) (certs : List Section) (func : ℕ) → AreGivenOf program certs func []
+nothing_there program certs func = pick (slice_get program.of_module.functions func) where
+  pick : (found : Option Function) → AreGivenIn program certs (slice_get certs func) found []
+  pick None = tt
+  pick (Some f) = given_none (scene_of program certs f (slice_get certs func))
+
+-- as the definitions see the function, with its slots
+pub given_seen : (program : LaidOut) (certs : List Section) (func : ℕ) (f : Function) (slots : SlotTable) (rows : List FactSet) → slots ≡ slots_of program.of_module f → AreGiven (scene_of program certs f (slice_get certs func)) rows
+    → AreGiven (record { program = program; certs = certs; function = f; slots = slots; section = slice_get certs func }) rows
+given_seen program certs func f slots rows e h = subst (λ (s : SlotTable). AreGiven (record { program = program; certs = certs; function = f; slots = s; section = slice_get certs func }) rows) (sym e) h
 
 -- what is found of all its blocks is so of the function of the program
 pub rows_there : (program : LaidOut) (certs : List Section) (func : ℕ) (f : Function) (slots : SlotTable) (rows : List FactSet) → slice_get program.of_module.functions func ≡ Some f → slots ≡ slots_of program.of_module f

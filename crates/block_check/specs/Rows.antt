@@ -31,7 +31,7 @@ AreRowsOf program certs func rows = AreRowsIn program certs (slice_get certs fun
 
 -- these are what the first blocks of a function begin with, if it exists
 abbrev pub AreGivenIn : LaidOut → (certs : List Section) → Option Section → Option Function → List FactSet → Type 0
-AreGivenIn program certs section None rows = ⊥
+AreGivenIn program certs section None rows = Unit {0}
 AreGivenIn program certs section (Some f) rows = AreGiven (scene_of program certs f section) rows
 
 -- these are what the first blocks of a function of the program begin with
