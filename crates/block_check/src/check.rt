@@ -5,7 +5,7 @@ ghost use Rattle.block_check.specs.Rows.{AreRowsOf, AreGivenOf};
 ghost use Rattle.block_check.specs.Subject.{IsReady};
 ghost use Rattle.block_rules.specs.Functions.{blocks_in, AreBlocksCertified, IsFunctionCertified, IsFirstInFunction, IsFunctionFault};
 
-use crate::given_rows::Rows;
+use crate::kept_rows::Rows;
 use crate::subject::{Subject, function_of};
 use crate::tables::Tables;
 use crate::walk::Walk;

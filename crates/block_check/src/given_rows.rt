@@ -5,6 +5,7 @@ ghost use Rattle.block_check.specs.Rows.{given_first, AreRowsOf};
 ghost use Rattle.block_check.specs.Subject.{seen, IsReady};
 
 use crate::given::begin_block;
+use crate::kept_rows::Rows;
 use crate::subject::{Subject, function_of};
 use crate::tables::Tables;
 use block_rules::Scene;
@@ -13,30 +14,6 @@ use facts::{Facts, KeptFacts};
 use ir_ast::{BlockId, FuncId};
 use layout::Program;
 use std::alloc::{AllocError, Global};
-use std::marker::Model;
-
-/// What each block of a function begins with.
-#[derive(Drop)]
-pub struct Rows {
-    blocks: Vec<KeptFacts>,
-}
-
-impl Model for Rows {
-    ghost use Rattle.std.specs.Prelude.{List};
-    ghost use Rattle.facts.specs.Facts.{FactSet};
-
-    ghost Value = { List FactSet };
-
-    ghost view = { λ rows. rows.blocks.items };
-}
-
-impl Rows {
-    pub(crate) fn blocks(&self) -> &[KeptFacts]
-        ensures { result.now ≡ self.now }
-    {
-        &self.blocks
-    }
-}
 
 /// What each block of a function begins with, for `check_rows`. It is found in time linear in the function.
 pub fn rows(

@@ -7,6 +7,7 @@ mod check;
 mod entries;
 mod given;
 mod given_rows;
+mod kept_rows;
 mod phi_operands;
 mod phis;
 mod predecessors;
@@ -17,4 +18,5 @@ mod ways;
 
 pub use block_rules::{BlockFault, Breach, Detail, Refusal, Rule};
 pub use check::{check_block, check_function, check_rows};
-pub use given_rows::{Rows, rows};
+pub use given_rows::rows;
+pub use kept_rows::Rows;
