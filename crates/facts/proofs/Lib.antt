@@ -12,3 +12,5 @@ mod Stale
 mod Shows
 mod Slots
 mod KeptRows
+mod Leading
+mod Listed

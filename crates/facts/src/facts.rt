@@ -1,6 +1,6 @@
-ghost use Rattle.std.specs.Prelude.{◌≡◌, ◌==◌, ◌&&◌, length, map, slice_set, IfOk, OnOk, OnErr};
+ghost use Rattle.std.specs.Prelude.{◌≡◌, ◌==◌, ◌&&◌, length, slice_set, IfOk, OnOk, OnErr};
 ghost use Rattle.facts.specs.Facts.{FactSet, known_at, slot_at, class_at, test_at, nothing_known, forget, define, define_new, define_test, set_known, add_class, set_class, drop_fresh, drop_fresh_of, learn_nonnull, set_slot, clear_slot, end_slot, root_slot, hold, store_slot, load_held, load_slot, make_stale, slot_nonnull};
-ghost use Rattle.facts.specs.Lines.{join, move, covers};
+ghost use Rattle.facts.specs.Lines.{covers};
 
 use crate::class_id::ClassId;
 use crate::contents::Contents;
@@ -293,6 +293,23 @@ impl Facts {
         Ok(())
     }
 
+    /// What is known of the value with a number.
+    pub(crate) fn known_at(&self, at: usize) -> Known
+        ensures { result ≡ known_at self.now.values at }
+    {
+        self.contents.values.known_at(at)
+    }
+
+    /// This is known of the value with a number besides.
+    pub(crate) fn set_known_at(&mut self, at: usize, known: Known) -> Result<(), AllocError>
+        ensures ok { OnOk result (self.new ≡ set_known at known self.old) }
+        ensures err { OnErr result (self.new ≡ self.old) }
+    {
+        Rc::make_mut(&mut self.contents)?
+            .values
+            .set_known_at(at, known)
+    }
+
     /// This is known of a value besides.
     pub(crate) fn set_known(&mut self, v: ValueId, known: Known) -> Result<(), AllocError>
         ensures ok { OnOk result (self.new ≡ set_known v known self.old) }
@@ -357,14 +374,6 @@ impl Facts {
         Rc::make_mut(&mut self.contents)?.values.set_test(v, test)
     }
 
-    fn move_class(&mut self, from: ClassId, to: ClassId) -> Result<(), AllocError>
-        ensures { OnOk result (self.new ≡ record self.old { values = map (move from to) self.old.values }) }
-    {
-        Rc::make_mut(&mut self.contents)?
-            .values
-            .move_class(from, to)
-    }
-
     fn hold(&mut self, s: SlotId, c: ClassId) -> Result<(), AllocError>
         ensures ok { OnOk result (self.new ≡ hold s c self.old) }
         ensures err { OnErr result (self.new ≡ self.old) }
@@ -386,22 +395,6 @@ impl Facts {
         ensures { result ≡ slot_nonnull self.now.classes slot }
     {
         rows::slot_nonnull(&self.contents.values, slot)
-    }
-
-    /// Two classes are one.
-    pub(crate) fn join(&mut self, from: ClassId, to: ClassId) -> Result<(), AllocError>
-        ensures { OnOk result (self.new ≡ join from to self.old) }
-    {
-        let one = self.class(from);
-        let other = self.class(to);
-        self.move_class(from, to)?;
-        self.set_class(
-            to,
-            Class {
-                nonnull: one.nonnull || other.nonnull,
-                fresh: one.fresh || other.fresh,
-            },
-        )
     }
 
     /// Whether all that is of a class here is listed there as of another.

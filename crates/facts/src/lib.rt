@@ -15,6 +15,7 @@ pub mod rows;
 mod sheet;
 mod shown;
 mod sweeps;
+mod ties;
 mod uses;
 mod values;
 

@@ -1,7 +1,7 @@
 //! What the lines of a block give where it begins.
 ghost use Rattle.std.specs.Prelude.{◌≡◌, length, map, OnOk};
 ghost use Rattle.facts.specs.Facts.{nothing_known, set_known};
-ghost use Rattle.facts.specs.Lines.{is_stale, is_fresh, list_value, list_slot, list_line, list_lines, move, join, join_known, join_values, tie_value, tie_fact, tie_line, tie_lines, hold_known, hold_value, hold_line, hold_lines, facts_of_lines, promised_below, promised_nonnull, promised_layout, receive_reference, receive};
+ghost use Rattle.facts.specs.Lines.{is_stale, is_fresh, list_value, list_slot, list_line, list_lines, hold_known, hold_value, hold_line, hold_lines, facts_of_lines, promised_below, promised_nonnull, promised_layout, receive_reference, receive};
 
 use crate::class_id::ClassId;
 use crate::facts::Facts;
@@ -131,64 +131,6 @@ impl Facts {
                 },
             ),
             None => Ok(()),
-        }
-    }
-
-    fn tie_lines(&mut self, lines: &[Line]) -> Result<(), AllocError>
-        ensures { OnOk result (self.new ≡ tie_lines lines.now self.old) }
-    {
-        for line in lines {
-            self.tie_line(*line)?;
-        }
-        Ok(())
-    }
-
-    fn tie_line(&mut self, line: Line) -> Result<(), AllocError>
-        ensures { OnOk result (self.new ≡ tie_line line self.old) }
-    {
-        match line {
-            Line::Value { value, fact } => self.tie_fact(value, fact),
-            Line::Slot { .. } => Ok(()),
-        }
-    }
-
-    fn tie_fact(&mut self, v: ValueId, fact: Fact) -> Result<(), AllocError>
-        ensures { OnOk result (self.new ≡ tie_fact v fact self.old) }
-    {
-        match fact {
-            Fact::Reference { same, .. } => self.tie_value(v, same),
-            _ => Ok(()),
-        }
-    }
-
-    fn tie_value(&mut self, v: ValueId, same: Option<ValueId>) -> Result<(), AllocError>
-        ensures { OnOk result (self.new ≡ tie_value v same self.old) }
-    {
-        match same {
-            Some(w) => {
-                let known = self.known(v);
-                let other = self.known(w);
-                self.join_values(known, other)
-            }
-            None => Ok(()),
-        }
-    }
-
-    fn join_values(&mut self, known: Known, other: Known) -> Result<(), AllocError>
-        ensures { OnOk result (self.new ≡ join_values known other self.old) }
-    {
-        match known {
-            Known::Cell { class, .. } => self.join_known(class, other),
-            _ => Ok(()),
-        }
-    }
-
-    fn join_known(&mut self, from: ClassId, other: Known) -> Result<(), AllocError>
-        ensures { OnOk result (self.new ≡ join_known from other self.old) }
-    {
-        match other {
-            Known::Cell { class, .. } => self.join(from, class),
-            _ => Ok(()),
         }
     }
 

@@ -1,7 +1,7 @@
 ghost use Rattle.std.specs.Prelude.{◌≡◌, ◌<◌, ℕ, true, false, ◌∷◌, [], ◌++◌, map, length, slice_set, IfOk, OnOk, OnErr};
 ghost use Rattle.std.specs.List.{list_any, list_all, enumerate_from, zip};
 ghost use Rattle.facts.specs.Facts.{known_at, class_at, test_at, is_of, is_on, values_without, tests_without, stale_of, stale_class};
-ghost use Rattle.facts.specs.Lines.{move, covers_value};
+ghost use Rattle.facts.specs.Lines.{covers_value};
 ghost use Rattle.facts.specs.Sheets.{tests};
 ghost use Rattle.facts.specs.Uses.{IsUser, OnlyUsers, SayTheSame};
 ghost use Rattle.facts.specs.Values.{no_values};
@@ -72,6 +72,13 @@ impl Values {
         ensures { result ≡ known_at self.now.values v }
     {
         self.sheet.row(v.number() as usize).known
+    }
+
+    /// What is known of the value with a number.
+    pub(crate) fn known_at(&self, at: usize) -> Known
+        ensures { result ≡ known_at self.now.values at }
+    {
+        self.sheet.row(at).known
     }
 
     /// The comparison that gave a value.
@@ -147,7 +154,14 @@ impl Values {
         ensures ok { OnOk result (self.new ≡ record self.old { values = slice_set self.old.values v known }) }
         ensures err { OnErr result (self.new ≡ self.old) }
     {
-        let at = v.number() as usize;
+        self.set_known_at(v.number() as usize, known)
+    }
+
+    /// This is known of the value with a number besides.
+    pub(crate) fn set_known_at(&mut self, at: usize, known: Known) -> Result<(), AllocError>
+        ensures ok { OnOk result (self.new ≡ record self.old { values = slice_set self.old.values at known }) }
+        ensures err { OnErr result (self.new ≡ self.old) }
+    {
         use_base(&mut self.sheet, &mut self.uses, at, &known)?;
         let row = self.sheet.row(at);
         self.sheet.set(at, Row { known, ..row })?;
@@ -226,15 +240,6 @@ impl Values {
         } else {
             set_added(&mut self.added, at - own, class);
         }
-    }
-
-    /// The references of one class are of another.
-    pub fn move_class(&mut self, from: ClassId, to: ClassId) -> Result<(), AllocError>
-        ensures ok { OnOk result (self.new ≡ record self.old { values = map (move from to) self.old.values }) }
-        ensures err { OnErr result (self.new ≡ self.old) }
-    {
-        self.sheet.move_class(from, to)?;
-        Ok(())
     }
 
     /// Each reference is stale, and of the class that its value has for itself.

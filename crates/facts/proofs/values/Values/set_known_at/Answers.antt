@@ -7,7 +7,7 @@ use Rattle.facts.specs.Values.{ValueFacts, facts_of_rows}
 use Rattle.facts.specs.Uses.{IsUser, OnlyUsers}
 use Rattle.facts.proofs.Says.{on_err, known_row_facts}
 use Rattle.facts.proofs.Users.{known_users}
-use Rattle.facts.proofs.values.Values.set_known.Goals as goal
+use Rattle.facts.proofs.values.Values.set_known_at.Goals as goal
 
 pub invariant_of-self : goal.invariant_of-self
 invariant_of-self c = c.use_base.ensures.users c.self.invariant
@@ -28,16 +28,15 @@ module _ (c : goal.In_ok-set) where
   abbrev uses : List Use
   uses = c.use_base.new.uses.items
 
-  written : c.set.new.self ≡ slice_set between c.args.v (record (row_at between c.args.v) { known = c.args.known })
-  written = c.in_ok-set.ensures.ok ∙ ap (λ (row : Row). slice_set between c.number-at.result (record row { known = c.args.known })) c.row-row.ensures
-      ∙ ap (λ (at : ℕ). slice_set between at (record (row_at between at) { known = c.args.known })) c.number-at.ensures
+  written : c.set.new.self ≡ slice_set between c.args.at (record (row_at between c.args.at) { known = c.args.known })
+  written = c.in_ok-set.ensures.ok ∙ ap (λ (row : Row). slice_set between c.args.at (record row { known = c.args.known })) c.row-row.ensures
 
-  noted : (w : ℕ) → is_on w c.args.known ≡ true → w < length between → IsUser uses between c.args.v w
-  noted w e lt = subst (λ (user : ℕ). IsUser uses between user w) c.number-at.ensures (c.in_ok-use_base.ensures.noted w e lt)
+  noted : (w : ℕ) → is_on w c.args.known ≡ true → w < length between → IsUser uses between c.args.at w
+  noted w e lt = c.in_ok-use_base.ensures.noted w e lt
 
 pub invariant_of-self-2 : goal.invariant_of-self-2
-invariant_of-self-2 c = subst (λ (rows : List Row). OnlyUsers (uses c) rows) (sym (written c)) (known_users (uses c) (between c) c.args.v (c.use_base.ensures.users c.self.invariant) c.args.known (noted c))
+invariant_of-self-2 c = subst (λ (rows : List Row). OnlyUsers (uses c) rows) (sym (written c)) (known_users (uses c) (between c) c.args.at (c.use_base.ensures.users c.self.invariant) c.args.known (noted c))
 
 pub returns-clause-ok : goal.returns-clause-ok
-returns-clause-ok c = ap (λ (rows : List Row). facts_of_rows rows c.self.inside.added.items) (written c) ∙ known_row_facts (between c) c.self.inside.added.items c.args.v c.args.known
-    ∙ ap (λ (f : ValueFacts). record f { values = slice_set f.values c.args.v c.args.known }) (c.use_base.ensures.same c.self.inside.added.items ∙ c.self.view_is)
+returns-clause-ok c = ap (λ (rows : List Row). facts_of_rows rows c.self.inside.added.items) (written c) ∙ known_row_facts (between c) c.self.inside.added.items c.args.at c.args.known
+    ∙ ap (λ (f : ValueFacts). record f { values = slice_set f.values c.args.at c.args.known }) (c.use_base.ensures.same c.self.inside.added.items ∙ c.self.view_is)

@@ -1,6 +1,0 @@
-use Rattle.std.proofs.Common.{◌≡◌, drop}
-use Rattle.facts.specs.Lines.{tie_lines}
-use Rattle.facts.proofs.facts.Facts.tie_lines.Given as goal
-
-abbrev pub invariant-loop-line : goal.invariant-loop-line
-invariant-loop-line l = tie_lines l.fn.lines l.initial.self ≡ tie_lines (drop l.line-index l.fn.lines) l.self
