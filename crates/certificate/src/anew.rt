@@ -1,5 +1,5 @@
 //! The section of one function, read anew.
-ghost use Rattle.std.specs.Prelude.{◌≡◌, ◌≢◌, IfOk, IfErr, Ok, Err};
+ghost use Rattle.std.specs.Prelude.{◌≡◌, ◌≢◌, ◌∷◌, [], None, IfOk, IfErr, Ok, Err};
 ghost use Rattle.std.specs.Option.{option_copied};
 ghost use Rattle.certificate.specs.Anew as form;
 ghost use Rattle.certificate.specs.Anew.{start_anew, IsSection, IsSectionFault};
@@ -15,11 +15,11 @@ use crate::fault::CertFault;
 use crate::input::{Found, Input};
 use crate::mistake::Mistake;
 use crate::naming::{Naming, function_of_word};
-use crate::progress::Progress;
+use crate::progress::{Kept, Progress};
 use crate::reader::{placed, section_of};
 use certs::Section;
 use ir_ast::{FuncId, Function, Module};
-use std::alloc::Global;
+use std::alloc::{AllocError, Global};
 
 /// Whether a word names this function.
 fn is_function(function: FuncId, naming: Naming) -> bool
@@ -56,7 +56,7 @@ fn own_section(
     module: &Module,
     function: Option<&Function>,
 ) -> Result<(), Found>
-    ensures { Reads ((form.own_section «module».now (option_copied function)).read input.old) result input.new }
+    ensures { Reads ((form.own_section «module».now (option_copied function.entry)).read input.old) result input.new }
 {
     match function {
         None => Err(Found::Wrong(Mistake::UnknownName(input.left()))),
@@ -98,6 +98,15 @@ fn file_anew(
     finished_anew(alloc, input, function)
 }
 
+/// The one function has no section.
+fn no_section(alloc: Global) -> Result<Vec<Option<Kept>>, AllocError>
+    ensures { IfOk result (λ sections. sections.items ≡ None ∷ []) }
+{
+    let mut sections = Vec::new(alloc);
+    sections.push(None)?;
+    Ok(sections)
+}
+
 fn section_of_text(
     alloc: Global,
     bytes: &[u8],
@@ -106,9 +115,7 @@ fn section_of_text(
 ) -> Result<Section, Found>
     ensures { Gives Memory result (value_of ((form.file_anew «module».now function).read (start_anew bytes.now))) }
 {
-    let mut sections = Vec::new(alloc);
-    sections.push(None)?;
-    let mut input = Input::new(bytes, Progress::new(alloc, sections));
+    let mut input = Input::new(bytes, Progress::new(alloc, no_section(alloc)?));
     file_anew(alloc, &mut input, module, function)
 }
 

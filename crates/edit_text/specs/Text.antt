@@ -9,7 +9,7 @@ use Rattle.name_text.specs.Numbers.{is_nil}
 use Rattle.name_text.specs.Places.{place}
 use Rattle.edit_text.specs.Forms.{Form, expect, expect_takes, part, name, line_end, gap, text}
 use Rattle.edit_text.specs.declared.edit.Edit.{Edit}
-use Rattle.edit_text.specs.declared.edit.Edit.TheVariants as edit
+use Rattle.edit_text.specs.declared.edit.Edit.TheVariants as kinds
 use Rattle.edit_text.specs.declared.found.Found.{Found}
 use Rattle.edit_text.specs.declared.found.Found.TheVariants.{Syntax, Memory}
 use Rattle.edit_text.specs.declared.part.Part.{Part}
@@ -19,9 +19,9 @@ use Rattle.certificate.specs.declared.fault.CertFault.TheVariants as fault
 
 -- an edit after its first line
 unfoldable pub edit_of : Part → (named : Text) → Form Edit
-edit_of Code named = text >>= λ code. pure (edit.Code named code)
-edit_of Cert named = text >>= λ section. pure (edit.Cert named section)
-edit_of Both named = text >>= λ code. text >>= λ section. pure (edit.Both named code section)
+edit_of Code named = text >>= λ code. pure (kinds.Code named code)
+edit_of Cert named = text >>= λ section. pure (kinds.Cert named section)
+edit_of Both named = text >>= λ code. text >>= λ section. pure (kinds.Both named code section)
 
 -- an edit after its first word, and what may stand between it and the next one
 abbrev pub edit_behind : Form Edit
