@@ -1,8 +1,7 @@
 -- The words and lines of edits.
-use Rattle.std.specs.Prelude.{◌≡◌, ℕ, ◌-◌, ◌<◌, ◌≤◌, Bool, true, false, not, if◌then◌else◌, List, [], length, take, codes, Option, Some, None, Result}
-use Rattle.std.proofs.Common.{arith}
+use Rattle.std.specs.Prelude.{◌≡◌, ℕ, ◌-◌, ◌<◌, Bool, true, false, not, if◌then◌else◌, length, take, codes, Option, Some, None, Result}
 use Rattle.std.specs.Str.{bytes_eq}
-use Rattle.grammar.specs.Grammar.{Grammar, pure, ◌>>=◌, ◌>>◌, step, checked, look, refuse}
+use Rattle.grammar.specs.Grammar.{Grammar, pure, ◌>>◌, step, checked, look, refuse}
 use Rattle.grammar.specs.Many.{many}
 use Rattle.grammar.specs.Outcome as outcome
 use Rattle.grammar.specs.Outcome.{Outcome}

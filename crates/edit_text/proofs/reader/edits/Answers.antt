@@ -1,4 +1,4 @@
-use Rattle.std.proofs.Common.{◌≡◌, ℕ, ◌+◌, ◌-◌, ◌∙◌, suc, Bool, true, false, List, [], ◌∷◌, ◌++◌, Ok, Err, refl, sym, rules, arith, ap}
+use Rattle.std.proofs.Common.{◌+◌, ◌-◌, ◌∙◌, List, sym, rules, arith, ap}
 use Rattle.std.proofs.lemmas.Grind.{common_steps}
 use Rattle.grammar.specs.Many.{many_from}
 use Rattle.grammar.specs.Turns.{one_more, no_more}

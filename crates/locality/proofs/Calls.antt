@@ -1,0 +1,172 @@
+-- What is asked of a call of a function that is known, and what is known after it, does not depend on functions.
+use Rattle.std.specs.List.{list_all, zip}
+use Rattle.std.specs.Prelude.{Bool, List, None, Option, Some, false, if◌then◌else◌, length, not, refl, ℕ, ◌&&◌, ◌==◌, ◌||◌, ◌∷◌, ◌≡◌}
+use Rattle.block_rules.specs.Calls.{after_defined, all_available, all_current, all_taken, all_values, alloc_conditions, defined_conditions, drop_arguments, holds_reference, is_taken, is_unrooted, is_written_with, may_root, no_slots, number_layouts, numbers_layout, read_call_conditions, receive_result, refused_conditions, root_conditions, safepoint_conditions, takes_address, takes_slot, write_call_conditions}
+use Rattle.block_rules.specs.Operands.{is_null, known_fits, known_of, slot_named}
+use Rattle.block_rules.specs.Promises.{callee_mark, given_by, promised_in, promises_in, show_promises}
+use Rattle.block_rules.specs.Signature.{callable, callable_declare, is_argument_of, is_declared_as, is_of_type, is_runtime_type, is_written_as, signature_of}
+use Rattle.block_rules.specs.TypeKinds.{is_any_reference, is_bits, is_reference, is_void}
+use Rattle.block_rules.specs.declared.callee.Callee.TheVariants.{NoFunction, OfRuntime}
+use Rattle.block_rules.specs.declared.rule.Rule.TheVariants.{K1, K10, K12, K13, K17, K18, K2, K3, K9}
+use Rattle.block_rules.specs.declared.signature.RuntimeType.{RuntimeType}
+use Rattle.block_rules.specs.declared.signature.RuntimeType.TheVariants.{Number, Pointer, PointerToPointer, Void}
+use Rattle.block_rules.specs.declared.standing.Standing.{Standing}
+use Rattle.certs.specs.declared.section.Promise.{Promise}
+use Rattle.facts.specs.Facts.{FactSet, slot_at}
+use Rattle.facts.specs.Lines.{receive}
+use Rattle.ir_ast.specs.declared.argument.Argument.{Argument}
+use Rattle.ir_ast.specs.declared.function.Function.{Function}
+use Rattle.ir_ast.specs.declared.items_of_module.Declare.{Declare}
+use Rattle.ir_ast.specs.declared.module.Module.{Module}
+use Rattle.ir_ast.specs.declared.operand.Operand.{Operand}
+use Rattle.ir_ast.specs.declared.operand.Operand.TheVariants.{Constant as Written}
+use Rattle.ir_ast.specs.declared.runtime.Runtime.{Runtime}
+use Rattle.ir_ast.specs.declared.runtime.Runtime.TheVariants.{Alloc, GcRead, GcRoot, GcWrite, Safepoint}
+use Rattle.layout.specs.Layouts.{LaidOut}
+use Rattle.safepoints.specs.Marks.{after_mark, is_may, marks_agree}
+use Rattle.shadow_stack.specs.Slots.{SlotTable, held_type}
+use Rattle.locality.proofs.Operands.{is_typed_same, is_value_same, kind_of_same, place_kind_same}
+use Rattle.locality.proofs.Places.{read_conditions_same, write_conditions_same}
+use Rattle.locality.specs.Local.{laid_with, with_functions}
+
+is_runtime_type_by : (m : Module) (fs : List Function) (written : ℕ) (x2 : RuntimeType) → is_runtime_type (with_functions m fs) written x2 ≡ is_runtime_type m written x2
+is_runtime_type_by m fs written Void = λ along. is_void (kind_of_same m fs along written)
+is_runtime_type_by m fs written Number = λ along. is_bits 32 (kind_of_same m fs along written)
+is_runtime_type_by m fs written Pointer = λ along. is_any_reference (kind_of_same m fs along written)
+is_runtime_type_by m fs written PointerToPointer = λ along. is_any_reference (place_kind_same m fs along written)
+
+pub is_runtime_type_same : (m : Module) (fs : List Function) → is_runtime_type (with_functions m fs) ≡ is_runtime_type m
+is_runtime_type_same m fs = λ along written x2. is_runtime_type_by m fs written x2 along
+
+is_of_type_by : (m : Module) (fs : List Function) (x2 : ℕ × RuntimeType) → is_of_type (with_functions m fs) x2 ≡ is_of_type m x2
+is_of_type_by m fs (written, type) = λ along. is_runtime_type_same m fs along written type
+
+pub is_of_type_same : (m : Module) (fs : List Function) → is_of_type (with_functions m fs) ≡ is_of_type m
+is_of_type_same m fs = λ along x2. is_of_type_by m fs x2 along
+
+is_argument_of_by : (m : Module) (fs : List Function) (x2 : Argument × RuntimeType) → is_argument_of (with_functions m fs) x2 ≡ is_argument_of m x2
+is_argument_of_by m fs (argument, type) = λ along. is_runtime_type_same m fs along argument.written type
+
+pub is_argument_of_same : (m : Module) (fs : List Function) → is_argument_of (with_functions m fs) ≡ is_argument_of m
+is_argument_of_same m fs = λ along x2. is_argument_of_by m fs x2 along
+
+pub is_declared_as_same : (m : Module) (fs : List Function) → is_declared_as (with_functions m fs) ≡ is_declared_as m
+is_declared_as_same m fs = λ along declared runtime. let signature = signature_of runtime in
+    is_runtime_type_same m fs along declared.returned signature.returned
+    && ((length declared.parameters == length signature.parameters) && list_all (is_of_type_same m fs along) (zip declared.parameters signature.parameters))
+
+pub is_written_as_same : (m : Module) (fs : List Function) → is_written_as (with_functions m fs) ≡ is_written_as m
+is_written_as_same m fs = λ along returned arguments runtime. let signature = signature_of runtime in
+    is_runtime_type_same m fs along returned signature.returned && list_all (is_argument_of_same m fs along) (zip arguments signature.parameters)
+
+callable_by : (m : Module) (fs : List Function) (arguments : ℕ) (x2 : Declare) (x3 : Option Runtime) → callable (with_functions m fs) arguments x2 x3 ≡ callable m arguments x2 x3
+callable_by m fs arguments declared None = refl
+callable_by m fs arguments declared (Some runtime) = λ along. if is_declared_as_same m fs along declared runtime && (arguments == length (signature_of runtime).parameters) then OfRuntime runtime else NoFunction (Some runtime)
+
+pub callable_same : (m : Module) (fs : List Function) → callable (with_functions m fs) ≡ callable m
+callable_same m fs = λ along arguments x2 x3. callable_by m fs arguments x2 x3 along
+
+callable_declare_by : (m : Module) (fs : List Function) (arguments : ℕ) (x2 : Option Declare) → callable_declare (with_functions m fs) arguments x2 ≡ callable_declare m arguments x2
+callable_declare_by m fs arguments None = refl
+callable_declare_by m fs arguments (Some declared) = λ along. callable_same m fs along arguments declared declared.runtime
+
+pub callable_declare_same : (m : Module) (fs : List Function) → callable_declare (with_functions m fs) ≡ callable_declare m
+callable_declare_same m fs = λ along arguments x2. callable_declare_by m fs arguments x2 along
+
+pub all_values_same : (m : Module) (fs : List Function) → all_values (with_functions m fs) ≡ all_values m
+all_values_same m fs = λ along f facts arguments. list_all (λ argument. is_value_same m fs along f facts argument.written argument.operand) arguments
+
+holds_reference_by : (m : Module) (fs : List Function) (held : Option ℕ) → holds_reference (with_functions m fs) held ≡ holds_reference m held
+holds_reference_by m fs None = refl
+holds_reference_by m fs (Some held) = λ along. is_reference (kind_of_same m fs along held)
+
+pub holds_reference_same : (m : Module) (fs : List Function) → holds_reference (with_functions m fs) ≡ holds_reference m
+holds_reference_same m fs = λ along held. holds_reference_by m fs held along
+
+is_unrooted_by : (m : Module) (fs : List Function) (x2 : SlotTable) (x3 : FactSet) (slot : Option ℕ) → is_unrooted (with_functions m fs) x2 x3 slot ≡ is_unrooted m x2 x3 slot
+is_unrooted_by m fs slots facts None = refl
+is_unrooted_by m fs slots facts (Some s) = λ along. holds_reference_same m fs along (held_type slots s) && not (slot_at facts.slots s).rooted
+
+pub is_unrooted_same : (m : Module) (fs : List Function) → is_unrooted (with_functions m fs) ≡ is_unrooted m
+is_unrooted_same m fs = λ along x2 x3 slot. is_unrooted_by m fs x2 x3 slot along
+
+may_root_by : (m : Module) (fs : List Function) (x2 : SlotTable) (x3 : FactSet) (in_head : Bool) (x4 : List Argument) → may_root (with_functions m fs) x2 x3 in_head x4 ≡ may_root m x2 x3 in_head x4
+may_root_by m fs slots facts in_head (place ∷ metadata ∷ []) = λ along. in_head && is_null metadata.operand && is_unrooted_same m fs along slots facts (slot_named slots place.operand)
+may_root_by m fs slots facts in_head _ = refl
+
+pub may_root_same : (m : Module) (fs : List Function) → may_root (with_functions m fs) ≡ may_root m
+may_root_same m fs = λ along x2 x3 in_head x4. may_root_by m fs x2 x3 in_head x4 along
+
+numbers_layout_by : (m : Module) (fs : List Function) (x2 : Operand) → numbers_layout (with_functions m fs) x2 ≡ numbers_layout m x2
+numbers_layout_by m fs (Written c) = refl
+numbers_layout_by m fs _ = refl
+
+pub numbers_layout_same : (m : Module) (fs : List Function) → numbers_layout (with_functions m fs) ≡ numbers_layout m
+numbers_layout_same m fs = λ along x2. numbers_layout_by m fs x2 along
+
+pub number_layouts_same : (m : Module) (fs : List Function) → number_layouts (with_functions m fs) ≡ number_layouts m
+number_layouts_same m fs = λ along arguments. list_all (λ argument. numbers_layout_same m fs along argument.operand) arguments
+
+pub root_conditions_same : (m : Module) (fs : List Function) → root_conditions (with_functions m fs) ≡ root_conditions m
+root_conditions_same m fs = λ along f slots here facts returned arguments. (K1, all_available slots facts arguments)
+    ∷ (K2, all_values_same m fs along f facts arguments && is_written_as_same m fs along returned arguments GcRoot)
+    ∷ (K3, all_current facts arguments)
+    ∷ (K9, may_root_same m fs along slots facts here.in_head arguments)
+    ∷ (K12, here.collected) ∷ []
+
+pub alloc_conditions_same : (m : Module) (fs : List Function) → alloc_conditions (with_functions m fs) ≡ alloc_conditions m
+alloc_conditions_same m fs = λ along f slots here facts returned arguments. (K1, all_available slots facts arguments)
+    ∷ (K2, all_values_same m fs along f facts arguments && is_written_as_same m fs along returned arguments Alloc && number_layouts_same m fs along arguments)
+    ∷ (K12, here.collected) ∷ []
+
+pub safepoint_conditions_same : (m : Module) (fs : List Function) → safepoint_conditions (with_functions m fs) ≡ safepoint_conditions m
+safepoint_conditions_same m fs = λ along here returned arguments. (K2, is_written_as_same m fs along returned arguments Safepoint)
+    ∷ (K12, here.collected)
+    ∷ (K17, is_may here.mark) ∷ []
+
+pub defined_conditions_same : (m : Module) (fs : List Function) → defined_conditions (with_functions m fs) ≡ defined_conditions m
+defined_conditions_same m fs = λ along f slots here facts returned arguments called section. (K1, all_available slots facts arguments)
+    ∷ (K2, all_values_same m fs along f facts arguments && is_written_with returned arguments called)
+    ∷ (K3, all_current facts arguments)
+    ∷ (K10, no_slots slots arguments)
+    ∷ (K12, here.collected)
+    ∷ (K13, show_promises facts arguments (promises_in section))
+    ∷ (K17, marks_agree here.mark (callee_mark section)) ∷ []
+
+pub is_taken_same : (m : Module) (fs : List Function) → is_taken (with_functions m fs) ≡ is_taken m
+is_taken_same m fs = λ along f facts named argument. is_typed_same m fs along f argument.written argument.operand && (takes_address named || known_fits (kind_of_same m fs along argument.written) (known_of facts argument.operand))
+
+pub all_taken_same : (m : Module) (fs : List Function) → all_taken (with_functions m fs) ≡ all_taken m
+all_taken_same m fs = λ along f facts named arguments. list_all (is_taken_same m fs along f facts named) arguments
+
+pub refused_conditions_same : (m : Module) (fs : List Function) → refused_conditions (with_functions m fs) ≡ refused_conditions m
+refused_conditions_same m fs = λ along f slots here facts named arguments. (K1, all_available slots facts arguments)
+    ∷ (K2, all_taken_same m fs along f facts named arguments)
+    ∷ (K3, all_current facts arguments)
+    ∷ (K10, takes_slot named || no_slots slots arguments)
+    ∷ (K12, here.collected)
+    ∷ (K18, false) ∷ []
+
+read_call_conditions_by : (p : LaidOut) (fs : List Function) (x2 : Function) (x3 : SlotTable) (x4 : Standing) (x5 : FactSet) (returned : ℕ) (x6 : List Argument) → read_call_conditions (laid_with p fs) x2 x3 x4 x5 returned x6 ≡ read_call_conditions p x2 x3 x4 x5 returned x6
+read_call_conditions_by p fs f slots here facts returned (object ∷ place ∷ []) = λ along. read_conditions_same p fs along f slots here facts returned object place
+read_call_conditions_by p fs f slots here facts returned arguments = λ along. refused_conditions_same p.of_module fs along f slots here facts (Some GcRead) arguments
+
+pub read_call_conditions_same : (p : LaidOut) (fs : List Function) → read_call_conditions (laid_with p fs) ≡ read_call_conditions p
+read_call_conditions_same p fs = λ along x2 x3 x4 x5 returned x6. read_call_conditions_by p fs x2 x3 x4 x5 returned x6 along
+
+write_call_conditions_by : (p : LaidOut) (fs : List Function) (x2 : Function) (x3 : SlotTable) (x4 : Standing) (x5 : FactSet) (returned : ℕ) (x6 : List Argument) → write_call_conditions (laid_with p fs) x2 x3 x4 x5 returned x6 ≡ write_call_conditions p x2 x3 x4 x5 returned x6
+write_call_conditions_by p fs f slots here facts returned (value ∷ object ∷ place ∷ []) = λ along. write_conditions_same p fs along f slots here facts returned value object place
+write_call_conditions_by p fs f slots here facts returned arguments = λ along. refused_conditions_same p.of_module fs along f slots here facts (Some GcWrite) arguments
+
+pub write_call_conditions_same : (p : LaidOut) (fs : List Function) → write_call_conditions (laid_with p fs) ≡ write_call_conditions p
+write_call_conditions_same p fs = λ along x2 x3 x4 x5 returned x6. write_call_conditions_by p fs x2 x3 x4 x5 returned x6 along
+
+receive_result_by : (m : Module) (fs : List Function) (result : Option ℕ) (returned : ℕ) (x2 : Option Promise) (x3 : FactSet) → receive_result (with_functions m fs) result returned x2 x3 ≡ receive_result m result returned x2 x3
+receive_result_by m fs None returned promise facts = refl
+receive_result_by m fs (Some v) returned promise facts = λ along. receive v (given_by (kind_of_same m fs along returned)) promise facts
+
+pub receive_result_same : (m : Module) (fs : List Function) → receive_result (with_functions m fs) ≡ receive_result m
+receive_result_same m fs = λ along result returned x2 x3. receive_result_by m fs result returned x2 x3 along
+
+pub after_defined_same : (m : Module) (fs : List Function) → after_defined (with_functions m fs) ≡ after_defined m
+after_defined_same m fs = λ along result returned arguments section facts. receive_result_same m fs along result returned (promised_in section) (after_mark (callee_mark section) (drop_arguments arguments facts))

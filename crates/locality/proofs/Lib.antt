@@ -1,0 +1,11 @@
+pub mod Types
+pub mod Slots
+pub mod Offsets
+pub mod Operands
+pub mod Places
+pub mod Casts
+pub mod Elements
+pub mod Calls
+pub mod Rules
+pub mod Standing
+pub mod Ways
