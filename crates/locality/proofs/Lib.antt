@@ -9,3 +9,6 @@ pub mod Calls
 pub mod Rules
 pub mod Standing
 pub mod Ways
+pub mod Seen
+pub mod Scenes
+pub mod Kept

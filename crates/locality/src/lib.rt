@@ -1,2 +1,10 @@
-//! What is asked of one function does not depend on the bodies of the others: this crate has no code.
+//! What is asked of one function depends on its own text, on its certificate, and on what it sees of the functions that it calls.
 #![tactic(auto)]
+ghost use Rattle.locality.specs.Laws.{StayCertified, StayRefused};
+
+/// Among other functions and other certificates the answer to a function stays what it is, where its own text and certificate
+/// are the same, and the functions that it calls look the same to it. The module's tables and layouts have to be the same.
+pub fn locality_law()
+    ensures certified { StayCertified }
+    ensures refused { StayRefused }
+{}
