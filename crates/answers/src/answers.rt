@@ -1,0 +1,60 @@
+//! The answers to functions.
+ghost use Rattle.std.specs.Prelude.{◌≡◌, ◌<◌, length, IfOk};
+ghost use Rattle.answers.specs.Answers as spec;
+ghost use Rattle.answers.specs.Answers.{AreAnswers, IsAnswer};
+
+use block_check::check_function;
+use block_rules::{BlockFault, Refusal};
+use certs::Certs;
+use ir_ast::FuncId;
+use items::Items;
+use layout::Program;
+use std::alloc::{AllocError, Global};
+
+/// The first refusal in a function, if it is not certified.
+pub fn answer_to(
+    alloc: Global,
+    program: &Program,
+    certs: &Certs,
+    func: FuncId,
+) -> Result<Option<Refusal>, AllocError>
+    requires { func < length program.now.of_module.functions }
+    ensures { IfOk result (IsAnswer program.now certs.now func) }
+{
+    match check_function(alloc, program, certs, func) {
+        Ok(()) => Ok(None),
+        Err(BlockFault::Refused(refusal)) => Ok(Some(refusal)),
+        Err(BlockFault::Memory) => Err(AllocError),
+    }
+}
+
+/// The answers to all functions of a program.
+pub fn answers_to(
+    alloc: Global,
+    program: &Program,
+    certs: &Certs,
+) -> Result<Items<Option<Refusal>>, AllocError>
+    ensures { IfOk result (AreAnswers program.now certs.now) }
+{
+    // No memory holds more functions than there are numbers for them.
+    let Ok(count) = u32::try_from(program.module().functions.len()) else {
+        return Err(AllocError);
+    };
+    let mut answers = Items::new(alloc);
+    for number in 0..count {
+        answers.push(answer_to(alloc, program, certs, FuncId::new(number))?)?;
+    }
+    Ok(answers)
+}
+
+/// The first refusal in the order of the functions.
+pub fn first_refusal(answers: &[Option<Refusal>]) -> Option<Refusal>
+    ensures { result ≡ spec.first_refusal answers.now }
+{
+    for answer in answers {
+        if let Some(refusal) = answer {
+            return Some(*refusal);
+        }
+    }
+    None
+}
