@@ -29,26 +29,26 @@ use Rattle.locality.proofs.Operands.{is_typed_same, is_value_same, kind_of_same,
 use Rattle.locality.proofs.Places.{read_conditions_same, write_conditions_same}
 use Rattle.locality.specs.Local.{laid_with, with_functions}
 
-is_runtime_type_by : (m : Module) (fs : List Function) (written : ℕ) (x2 : RuntimeType) → is_runtime_type (with_functions m fs) written x2 ≡ is_runtime_type m written x2
+is_runtime_type_by : (m : Module) (fs : List Function) (written : ℕ) (type : RuntimeType) → is_runtime_type (with_functions m fs) written type ≡ is_runtime_type m written type
 is_runtime_type_by m fs written Void = λ along. is_void (kind_of_same m fs along written)
 is_runtime_type_by m fs written Number = λ along. is_bits 32 (kind_of_same m fs along written)
 is_runtime_type_by m fs written Pointer = λ along. is_any_reference (kind_of_same m fs along written)
 is_runtime_type_by m fs written PointerToPointer = λ along. is_any_reference (place_kind_same m fs along written)
 
 pub is_runtime_type_same : (m : Module) (fs : List Function) → is_runtime_type (with_functions m fs) ≡ is_runtime_type m
-is_runtime_type_same m fs = λ along written x2. is_runtime_type_by m fs written x2 along
+is_runtime_type_same m fs = λ along written type. is_runtime_type_by m fs written type along
 
-is_of_type_by : (m : Module) (fs : List Function) (x2 : ℕ × RuntimeType) → is_of_type (with_functions m fs) x2 ≡ is_of_type m x2
+is_of_type_by : (m : Module) (fs : List Function) (x : ℕ × RuntimeType) → is_of_type (with_functions m fs) x ≡ is_of_type m x
 is_of_type_by m fs (written, type) = λ along. is_runtime_type_same m fs along written type
 
 pub is_of_type_same : (m : Module) (fs : List Function) → is_of_type (with_functions m fs) ≡ is_of_type m
-is_of_type_same m fs = λ along x2. is_of_type_by m fs x2 along
+is_of_type_same m fs = λ along x. is_of_type_by m fs x along
 
-is_argument_of_by : (m : Module) (fs : List Function) (x2 : Argument × RuntimeType) → is_argument_of (with_functions m fs) x2 ≡ is_argument_of m x2
+is_argument_of_by : (m : Module) (fs : List Function) (x : Argument × RuntimeType) → is_argument_of (with_functions m fs) x ≡ is_argument_of m x
 is_argument_of_by m fs (argument, type) = λ along. is_runtime_type_same m fs along argument.written type
 
 pub is_argument_of_same : (m : Module) (fs : List Function) → is_argument_of (with_functions m fs) ≡ is_argument_of m
-is_argument_of_same m fs = λ along x2. is_argument_of_by m fs x2 along
+is_argument_of_same m fs = λ along x. is_argument_of_by m fs x along
 
 pub is_declared_as_same : (m : Module) (fs : List Function) → is_declared_as (with_functions m fs) ≡ is_declared_as m
 is_declared_as_same m fs = λ along declared runtime. let signature = signature_of runtime in
@@ -59,19 +59,19 @@ pub is_written_as_same : (m : Module) (fs : List Function) → is_written_as (wi
 is_written_as_same m fs = λ along returned arguments runtime. let signature = signature_of runtime in
     is_runtime_type_same m fs along returned signature.returned && list_all (is_argument_of_same m fs along) (zip arguments signature.parameters)
 
-callable_by : (m : Module) (fs : List Function) (arguments : ℕ) (x2 : Declare) (x3 : Option Runtime) → callable (with_functions m fs) arguments x2 x3 ≡ callable m arguments x2 x3
+callable_by : (m : Module) (fs : List Function) (arguments : ℕ) (declared : Declare) (runtime : Option Runtime) → callable (with_functions m fs) arguments declared runtime ≡ callable m arguments declared runtime
 callable_by m fs arguments declared None = refl
 callable_by m fs arguments declared (Some runtime) = λ along. if is_declared_as_same m fs along declared runtime && (arguments == length (signature_of runtime).parameters) then OfRuntime runtime else NoFunction (Some runtime)
 
 pub callable_same : (m : Module) (fs : List Function) → callable (with_functions m fs) ≡ callable m
-callable_same m fs = λ along arguments x2 x3. callable_by m fs arguments x2 x3 along
+callable_same m fs = λ along arguments declared runtime. callable_by m fs arguments declared runtime along
 
-callable_declare_by : (m : Module) (fs : List Function) (arguments : ℕ) (x2 : Option Declare) → callable_declare (with_functions m fs) arguments x2 ≡ callable_declare m arguments x2
+callable_declare_by : (m : Module) (fs : List Function) (arguments : ℕ) (declared : Option Declare) → callable_declare (with_functions m fs) arguments declared ≡ callable_declare m arguments declared
 callable_declare_by m fs arguments None = refl
 callable_declare_by m fs arguments (Some declared) = λ along. callable_same m fs along arguments declared declared.runtime
 
 pub callable_declare_same : (m : Module) (fs : List Function) → callable_declare (with_functions m fs) ≡ callable_declare m
-callable_declare_same m fs = λ along arguments x2. callable_declare_by m fs arguments x2 along
+callable_declare_same m fs = λ along arguments declared. callable_declare_by m fs arguments declared along
 
 pub all_values_same : (m : Module) (fs : List Function) → all_values (with_functions m fs) ≡ all_values m
 all_values_same m fs = λ along f facts arguments. list_all (λ argument. is_value_same m fs along f facts argument.written argument.operand) arguments
@@ -83,26 +83,26 @@ holds_reference_by m fs (Some held) = λ along. is_reference (kind_of_same m fs 
 pub holds_reference_same : (m : Module) (fs : List Function) → holds_reference (with_functions m fs) ≡ holds_reference m
 holds_reference_same m fs = λ along held. holds_reference_by m fs held along
 
-is_unrooted_by : (m : Module) (fs : List Function) (x2 : SlotTable) (x3 : FactSet) (slot : Option ℕ) → is_unrooted (with_functions m fs) x2 x3 slot ≡ is_unrooted m x2 x3 slot
+is_unrooted_by : (m : Module) (fs : List Function) (slots : SlotTable) (facts : FactSet) (slot : Option ℕ) → is_unrooted (with_functions m fs) slots facts slot ≡ is_unrooted m slots facts slot
 is_unrooted_by m fs slots facts None = refl
 is_unrooted_by m fs slots facts (Some s) = λ along. holds_reference_same m fs along (held_type slots s) && not (slot_at facts.slots s).rooted
 
 pub is_unrooted_same : (m : Module) (fs : List Function) → is_unrooted (with_functions m fs) ≡ is_unrooted m
-is_unrooted_same m fs = λ along x2 x3 slot. is_unrooted_by m fs x2 x3 slot along
+is_unrooted_same m fs = λ along slots facts slot. is_unrooted_by m fs slots facts slot along
 
-may_root_by : (m : Module) (fs : List Function) (x2 : SlotTable) (x3 : FactSet) (in_head : Bool) (x4 : List Argument) → may_root (with_functions m fs) x2 x3 in_head x4 ≡ may_root m x2 x3 in_head x4
+may_root_by : (m : Module) (fs : List Function) (slots : SlotTable) (facts : FactSet) (in_head : Bool) (arguments : List Argument) → may_root (with_functions m fs) slots facts in_head arguments ≡ may_root m slots facts in_head arguments
 may_root_by m fs slots facts in_head (place ∷ metadata ∷ []) = λ along. in_head && is_null metadata.operand && is_unrooted_same m fs along slots facts (slot_named slots place.operand)
 may_root_by m fs slots facts in_head _ = refl
 
 pub may_root_same : (m : Module) (fs : List Function) → may_root (with_functions m fs) ≡ may_root m
-may_root_same m fs = λ along x2 x3 in_head x4. may_root_by m fs x2 x3 in_head x4 along
+may_root_same m fs = λ along slots facts in_head arguments. may_root_by m fs slots facts in_head arguments along
 
-numbers_layout_by : (m : Module) (fs : List Function) (x2 : Operand) → numbers_layout (with_functions m fs) x2 ≡ numbers_layout m x2
+numbers_layout_by : (m : Module) (fs : List Function) (operand : Operand) → numbers_layout (with_functions m fs) operand ≡ numbers_layout m operand
 numbers_layout_by m fs (Written c) = refl
 numbers_layout_by m fs _ = refl
 
 pub numbers_layout_same : (m : Module) (fs : List Function) → numbers_layout (with_functions m fs) ≡ numbers_layout m
-numbers_layout_same m fs = λ along x2. numbers_layout_by m fs x2 along
+numbers_layout_same m fs = λ along operand. numbers_layout_by m fs operand along
 
 pub number_layouts_same : (m : Module) (fs : List Function) → number_layouts (with_functions m fs) ≡ number_layouts m
 number_layouts_same m fs = λ along arguments. list_all (λ argument. numbers_layout_same m fs along argument.operand) arguments
@@ -147,26 +147,26 @@ refused_conditions_same m fs = λ along f slots here facts named arguments. (K1,
     ∷ (K12, here.collected)
     ∷ (K18, false) ∷ []
 
-read_call_conditions_by : (p : LaidOut) (fs : List Function) (x2 : Function) (x3 : SlotTable) (x4 : Standing) (x5 : FactSet) (returned : ℕ) (x6 : List Argument) → read_call_conditions (laid_with p fs) x2 x3 x4 x5 returned x6 ≡ read_call_conditions p x2 x3 x4 x5 returned x6
+read_call_conditions_by : (p : LaidOut) (fs : List Function) (f : Function) (slots : SlotTable) (here : Standing) (facts : FactSet) (returned : ℕ) (arguments : List Argument) → read_call_conditions (laid_with p fs) f slots here facts returned arguments ≡ read_call_conditions p f slots here facts returned arguments
 read_call_conditions_by p fs f slots here facts returned (object ∷ place ∷ []) = λ along. read_conditions_same p fs along f slots here facts returned object place
 read_call_conditions_by p fs f slots here facts returned arguments = λ along. refused_conditions_same p.of_module fs along f slots here facts (Some GcRead) arguments
 
 pub read_call_conditions_same : (p : LaidOut) (fs : List Function) → read_call_conditions (laid_with p fs) ≡ read_call_conditions p
-read_call_conditions_same p fs = λ along x2 x3 x4 x5 returned x6. read_call_conditions_by p fs x2 x3 x4 x5 returned x6 along
+read_call_conditions_same p fs = λ along f slots here facts returned arguments. read_call_conditions_by p fs f slots here facts returned arguments along
 
-write_call_conditions_by : (p : LaidOut) (fs : List Function) (x2 : Function) (x3 : SlotTable) (x4 : Standing) (x5 : FactSet) (returned : ℕ) (x6 : List Argument) → write_call_conditions (laid_with p fs) x2 x3 x4 x5 returned x6 ≡ write_call_conditions p x2 x3 x4 x5 returned x6
+write_call_conditions_by : (p : LaidOut) (fs : List Function) (f : Function) (slots : SlotTable) (here : Standing) (facts : FactSet) (returned : ℕ) (arguments : List Argument) → write_call_conditions (laid_with p fs) f slots here facts returned arguments ≡ write_call_conditions p f slots here facts returned arguments
 write_call_conditions_by p fs f slots here facts returned (value ∷ object ∷ place ∷ []) = λ along. write_conditions_same p fs along f slots here facts returned value object place
 write_call_conditions_by p fs f slots here facts returned arguments = λ along. refused_conditions_same p.of_module fs along f slots here facts (Some GcWrite) arguments
 
 pub write_call_conditions_same : (p : LaidOut) (fs : List Function) → write_call_conditions (laid_with p fs) ≡ write_call_conditions p
-write_call_conditions_same p fs = λ along x2 x3 x4 x5 returned x6. write_call_conditions_by p fs x2 x3 x4 x5 returned x6 along
+write_call_conditions_same p fs = λ along f slots here facts returned arguments. write_call_conditions_by p fs f slots here facts returned arguments along
 
-receive_result_by : (m : Module) (fs : List Function) (result : Option ℕ) (returned : ℕ) (x2 : Option Promise) (x3 : FactSet) → receive_result (with_functions m fs) result returned x2 x3 ≡ receive_result m result returned x2 x3
+receive_result_by : (m : Module) (fs : List Function) (result : Option ℕ) (returned : ℕ) (promise : Option Promise) (facts : FactSet) → receive_result (with_functions m fs) result returned promise facts ≡ receive_result m result returned promise facts
 receive_result_by m fs None returned promise facts = refl
 receive_result_by m fs (Some v) returned promise facts = λ along. receive v (given_by (kind_of_same m fs along returned)) promise facts
 
 pub receive_result_same : (m : Module) (fs : List Function) → receive_result (with_functions m fs) ≡ receive_result m
-receive_result_same m fs = λ along result returned x2 x3. receive_result_by m fs result returned x2 x3 along
+receive_result_same m fs = λ along result returned promise facts. receive_result_by m fs result returned promise facts along
 
 pub after_defined_same : (m : Module) (fs : List Function) → after_defined (with_functions m fs) ≡ after_defined m
 after_defined_same m fs = λ along result returned arguments section facts. receive_result_same m fs along result returned (promised_in section) (after_mark (callee_mark section) (drop_arguments arguments facts))

@@ -24,12 +24,12 @@ pub casts_null_same : (m : Module) (fs : List Function) → casts_null (with_fun
 casts_null_same m fs = λ along from to. (may_be_reference (kind_of_same m fs along from) && may_be_reference (kind_of_same m fs along to))
     || (may_be_reference (place_kind_same m fs along from) && may_be_reference (place_kind_same m fs along to))
 
-casts_constant_by : (m : Module) (fs : List Function) (from : ℕ) (to : ℕ) (x2 : Constant) → casts_constant (with_functions m fs) from to x2 ≡ casts_constant m from to x2
+casts_constant_by : (m : Module) (fs : List Function) (from : ℕ) (to : ℕ) (constant : Constant) → casts_constant (with_functions m fs) from to constant ≡ casts_constant m from to constant
 casts_constant_by m fs from to NullWritten = λ along. casts_null_same m fs along from to
 casts_constant_by m fs from to _ = refl
 
 pub casts_constant_same : (m : Module) (fs : List Function) → casts_constant (with_functions m fs) ≡ casts_constant m
-casts_constant_same m fs = λ along from to x2. casts_constant_by m fs from to x2 along
+casts_constant_same m fs = λ along from to constant. casts_constant_by m fs from to constant along
 
 casts_held_by : (m : Module) (fs : List Function) (to : ℕ) (held : Option ℕ) → casts_held (with_functions m fs) to held ≡ casts_held m to held
 casts_held_by m fs to None = refl
@@ -38,24 +38,24 @@ casts_held_by m fs to (Some held) = λ along. casts_slot (kind_of_same m fs alon
 pub casts_held_same : (m : Module) (fs : List Function) → casts_held (with_functions m fs) ≡ casts_held m
 casts_held_same m fs = λ along to held. casts_held_by m fs to held along
 
-casts_base_by : (p : LaidOut) (fs : List Function) (to : ℕ) (x2 : WordSet) (base : Known) → casts_base (laid_with p fs) to x2 base ≡ casts_base p to x2 base
+casts_base_by : (p : LaidOut) (fs : List Function) (to : ℕ) (words : WordSet) (base : Known) → casts_base (laid_with p fs) to words base ≡ casts_base p to words base
 casts_base_by p fs to words (Cell class layout stale) = λ along. casts_words p.layouts layout words (place_kind_same p.of_module fs along to)
 casts_base_by p fs to words _ = refl
 
 pub casts_base_same : (p : LaidOut) (fs : List Function) → casts_base (laid_with p fs) ≡ casts_base p
-casts_base_same p fs = λ along to x2 base. casts_base_by p fs to x2 base along
+casts_base_same p fs = λ along to words base. casts_base_by p fs to words base along
 
 pub casts_global_same : (m : Module) (fs : List Function) → casts_global (with_functions m fs) ≡ casts_global m
 casts_global_same m fs = λ along to symbol. casts_to (layout_of_word (global_word m symbol)) (place_kind_same m fs along to)
 
-casts_operand_by : (m : Module) (fs : List Function) (x2 : Operand) → casts_operand (with_functions m fs) x2 ≡ casts_operand m x2
+casts_operand_by : (m : Module) (fs : List Function) (operand : Operand) → casts_operand (with_functions m fs) operand ≡ casts_operand m operand
 casts_operand_by m fs (CastGlobal from symbol to) = λ along. (from == to) || casts_global_same m fs along to symbol
 casts_operand_by m fs _ = refl
 
 pub casts_operand_same : (m : Module) (fs : List Function) → casts_operand (with_functions m fs) ≡ casts_operand m
-casts_operand_same m fs = λ along x2. casts_operand_by m fs x2 along
+casts_operand_same m fs = λ along operand. casts_operand_by m fs operand along
 
-casts_known_by : (p : LaidOut) (fs : List Function) (x2 : FactSet) (to : ℕ) (x3 : Known) → casts_known (laid_with p fs) x2 to x3 ≡ casts_known p x2 to x3
+casts_known_by : (p : LaidOut) (fs : List Function) (facts : FactSet) (to : ℕ) (known : Known) → casts_known (laid_with p fs) facts to known ≡ casts_known p facts to known
 casts_known_by p fs facts to Nothing = refl
 casts_known_by p fs facts to (Number bits below) = refl
 casts_known_by p fs facts to (Cell class layout stale) = λ along. fits_layout layout (kind_of_same p.of_module fs along to)
@@ -64,38 +64,38 @@ casts_known_by p fs facts to (Address base words) = λ along. casts_base_same p 
 casts_known_by p fs facts to (GlobalAddress symbol) = λ along. casts_global_same p.of_module fs along to symbol
 
 pub casts_known_same : (p : LaidOut) (fs : List Function) → casts_known (laid_with p fs) ≡ casts_known p
-casts_known_same p fs = λ along x2 to x3. casts_known_by p fs x2 to x3 along
+casts_known_same p fs = λ along facts to known. casts_known_by p fs facts to known along
 
-casts_local_by : (p : LaidOut) (fs : List Function) (x2 : SlotTable) (x3 : FactSet) (to : ℕ) (x4 : Known) (slot : Option ℕ) → casts_local (laid_with p fs) x2 x3 to x4 slot ≡ casts_local p x2 x3 to x4 slot
+casts_local_by : (p : LaidOut) (fs : List Function) (slots : SlotTable) (facts : FactSet) (to : ℕ) (known : Known) (slot : Option ℕ) → casts_local (laid_with p fs) slots facts to known slot ≡ casts_local p slots facts to known slot
 casts_local_by p fs slots facts to known None = λ along. casts_known_same p fs along facts to known
 casts_local_by p fs slots facts to known (Some s) = λ along. casts_held_same p.of_module fs along to (held_type slots s)
 
 pub casts_local_same : (p : LaidOut) (fs : List Function) → casts_local (laid_with p fs) ≡ casts_local p
-casts_local_same p fs = λ along x2 x3 to x4 slot. casts_local_by p fs x2 x3 to x4 slot along
+casts_local_same p fs = λ along slots facts to known slot. casts_local_by p fs slots facts to known slot along
 
-casts_other_by : (p : LaidOut) (fs : List Function) (x2 : SlotTable) (x3 : FactSet) (from : ℕ) (to : ℕ) (x4 : Operand) → casts_other (laid_with p fs) x2 x3 from to x4 ≡ casts_other p x2 x3 from to x4
+casts_other_by : (p : LaidOut) (fs : List Function) (slots : SlotTable) (facts : FactSet) (from : ℕ) (to : ℕ) (operand : Operand) → casts_other (laid_with p fs) slots facts from to operand ≡ casts_other p slots facts from to operand
 casts_other_by p fs slots facts from to (Written c) = λ along. casts_constant_same p.of_module fs along from to c
 casts_other_by p fs slots facts from to (Local v) = λ along. casts_local_same p fs along slots facts to (known_at facts.values v) (slot_of slots v)
 casts_other_by p fs slots facts from to operand = λ along. casts_known_same p fs along facts to (known_of facts operand)
 
 pub casts_other_same : (p : LaidOut) (fs : List Function) → casts_other (laid_with p fs) ≡ casts_other p
-casts_other_same p fs = λ along x2 x3 from to x4. casts_other_by p fs x2 x3 from to x4 along
+casts_other_same p fs = λ along slots facts from to operand. casts_other_by p fs slots facts from to operand along
 
 pub may_cast_same : (p : LaidOut) (fs : List Function) → may_cast (laid_with p fs) ≡ may_cast p
 may_cast_same p fs = λ along slots facts from to operand. (from == to) || casts_other_same p fs along slots facts from to operand
 
-cast_constant_by : (m : Module) (fs : List Function) (v : ℕ) (from : ℕ) (to : ℕ) (x2 : Constant) (x3 : FactSet) → cast_constant (with_functions m fs) v from to x2 x3 ≡ cast_constant m v from to x2 x3
+cast_constant_by : (m : Module) (fs : List Function) (v : ℕ) (from : ℕ) (to : ℕ) (constant : Constant) (facts : FactSet) → cast_constant (with_functions m fs) v from to constant facts ≡ cast_constant m v from to constant facts
 cast_constant_by m fs v from to (Numeral n) facts = λ along. cast_number v n (kind_of_same m fs along to) facts
 cast_constant_by m fs v from to (Truth b) facts = refl
 cast_constant_by m fs v from to NullWritten facts = λ along. define_held v (layout_of_null (kind_of_same m fs along from) (kind_of_same m fs along to)) false facts
 
 pub cast_constant_same : (m : Module) (fs : List Function) → cast_constant (with_functions m fs) ≡ cast_constant m
-cast_constant_same m fs = λ along v from to x2 x3. cast_constant_by m fs v from to x2 x3 along
+cast_constant_same m fs = λ along v from to constant facts. cast_constant_by m fs v from to constant facts along
 
-after_cast_by : (m : Module) (fs : List Function) (x2 : SlotTable) (v : ℕ) (from : ℕ) (to : ℕ) (x3 : Operand) (x4 : FactSet) → after_cast (with_functions m fs) x2 v from to x3 x4 ≡ after_cast m x2 v from to x3 x4
+after_cast_by : (m : Module) (fs : List Function) (slots : SlotTable) (v : ℕ) (from : ℕ) (to : ℕ) (operand : Operand) (facts : FactSet) → after_cast (with_functions m fs) slots v from to operand facts ≡ after_cast m slots v from to operand facts
 after_cast_by m fs slots v from to (Written c) facts = λ along. cast_constant_same m fs along v from to c facts
 after_cast_by m fs slots v from to (Local u) facts = refl
 after_cast_by m fs slots v from to operand facts = refl
 
 pub after_cast_same : (m : Module) (fs : List Function) → after_cast (with_functions m fs) ≡ after_cast m
-after_cast_same m fs = λ along x2 v from to x3 x4. after_cast_by m fs x2 v from to x3 x4 along
+after_cast_same m fs = λ along slots v from to operand facts. after_cast_by m fs slots v from to operand facts along

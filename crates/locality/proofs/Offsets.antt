@@ -12,13 +12,13 @@ use Rattle.locality.specs.Local.{laid_with}
 pub size_of_same : (program : LaidOut) (fs : List Function) → size_of (laid_with program fs) ≡ size_of program
 size_of_same program fs = refl
 
-words_before_by : (program : LaidOut) (fs : List Function) (x2 : Option IrType) (n : ℕ) → words_before (laid_with program fs) x2 n ≡ words_before program x2 n
+words_before_by : (program : LaidOut) (fs : List Function) (type : Option IrType) (n : ℕ) → words_before (laid_with program fs) type n ≡ words_before program type n
 words_before_by program fs (Some (Struct first rest)) zero = refl
 words_before_by program fs (Some (Struct first rest)) (suc n) = λ along. sum_of (size_of_same program fs along first) (words_before_by program fs (slice_get program.of_module.types rest) n along)
 words_before_by program fs _ n = refl
 
 pub words_before_same : (program : LaidOut) (fs : List Function) → words_before (laid_with program fs) ≡ words_before program
-words_before_same program fs = λ along x2 n. words_before_by program fs x2 n along
+words_before_same program fs = λ along type n. words_before_by program fs type n along
 
 pub field_offset_same : (program : LaidOut) (fs : List Function) → field_offset (laid_with program fs) ≡ field_offset program
 field_offset_same program fs = λ along written n. words_before_same program fs along (type_at_same program.of_module fs along (written_out_same program.of_module fs along written (slice_get program.of_module.types written))) n
@@ -30,12 +30,12 @@ to_field_by_by program fs written (Some n) = λ along. to_field (field_offset_sa
 pub to_field_by_same : (program : LaidOut) (fs : List Function) → to_field_by (laid_with program fs) ≡ to_field_by program
 to_field_by_same program fs = λ along written number. to_field_by_by program fs written number along
 
-step_into_by : (program : LaidOut) (fs : List Function) (written : ℕ) (x2 : Option IrType) (x3 : Argument) → step_into (laid_with program fs) written x2 x3 ≡ step_into program written x2 x3
+step_into_by : (program : LaidOut) (fs : List Function) (written : ℕ) (type : Option IrType) (index : Argument) → step_into (laid_with program fs) written type index ≡ step_into program written type index
 step_into_by program fs written (Some (Array length part)) index = λ along. to_elements length part (size_of_same program fs along part)
 step_into_by program fs written _ index = λ along. to_field_by_same program fs along written (index_number_same program.of_module fs along index)
 
 pub step_into_same : (program : LaidOut) (fs : List Function) → step_into (laid_with program fs) ≡ step_into program
-step_into_same program fs = λ along written x2 x3. step_into_by program fs written x2 x3 along
+step_into_same program fs = λ along written type index. step_into_by program fs written type index along
 
 pub step_of_same : (program : LaidOut) (fs : List Function) → step_of (laid_with program fs) ≡ step_of program
 step_of_same program fs = λ along written index. step_into_same program fs along written (slice_get program.of_module.types written) index

@@ -11,7 +11,7 @@ use Rattle.ir_ast.specs.declared.operand.Operand.TheVariants.{CastGlobal, Consta
 use Rattle.locality.proofs.Types.{has_type_same, pointee_same, points_to_global_same, struct_named_same}
 use Rattle.locality.specs.Local.{with_functions}
 
-pointer_to_by : (m : Module) (fs : List Function) (x2 : IrType) → pointer_to (with_functions m fs) x2 ≡ pointer_to m x2
+pointer_to_by : (m : Module) (fs : List Function) (type : IrType) → pointer_to (with_functions m fs) type ≡ pointer_to m type
 pointer_to_by m fs Void = refl
 pointer_to_by m fs (Integer bits) = refl
 pointer_to_by m fs (Pointer t) = refl
@@ -21,16 +21,16 @@ pointer_to_by m fs (Struct first rest) = refl
 pointer_to_by m fs (Named name) = λ along. struct_pointer (struct_named_same m fs along name)
 
 pub pointer_to_same : (m : Module) (fs : List Function) → pointer_to (with_functions m fs) ≡ pointer_to m
-pointer_to_same m fs = λ along x2. pointer_to_by m fs x2 along
+pointer_to_same m fs = λ along type. pointer_to_by m fs type along
 
-pointer_kind_by : (m : Module) (fs : List Function) (x2 : Option IrType) → pointer_kind (with_functions m fs) x2 ≡ pointer_kind m x2
+pointer_kind_by : (m : Module) (fs : List Function) (type : Option IrType) → pointer_kind (with_functions m fs) type ≡ pointer_kind m type
 pointer_kind_by m fs None = refl
 pointer_kind_by m fs (Some type) = λ along. pointer_to_same m fs along type
 
 pub pointer_kind_same : (m : Module) (fs : List Function) → pointer_kind (with_functions m fs) ≡ pointer_kind m
-pointer_kind_same m fs = λ along x2. pointer_kind_by m fs x2 along
+pointer_kind_same m fs = λ along type. pointer_kind_by m fs type along
 
-kind_of_type_by : (m : Module) (fs : List Function) (x2 : IrType) → kind_of_type (with_functions m fs) x2 ≡ kind_of_type m x2
+kind_of_type_by : (m : Module) (fs : List Function) (type : IrType) → kind_of_type (with_functions m fs) type ≡ kind_of_type m type
 kind_of_type_by m fs Void = refl
 kind_of_type_by m fs (Integer bits) = refl
 kind_of_type_by m fs (Pointer t) = λ along. pointer_kind_same m fs along (slice_get m.types t)
@@ -40,14 +40,14 @@ kind_of_type_by m fs (Struct first rest) = refl
 kind_of_type_by m fs (Named name) = refl
 
 pub kind_of_type_same : (m : Module) (fs : List Function) → kind_of_type (with_functions m fs) ≡ kind_of_type m
-kind_of_type_same m fs = λ along x2. kind_of_type_by m fs x2 along
+kind_of_type_same m fs = λ along type. kind_of_type_by m fs type along
 
-kind_in_by : (m : Module) (fs : List Function) (x2 : Option IrType) → kind_in (with_functions m fs) x2 ≡ kind_in m x2
+kind_in_by : (m : Module) (fs : List Function) (type : Option IrType) → kind_in (with_functions m fs) type ≡ kind_in m type
 kind_in_by m fs None = refl
 kind_in_by m fs (Some type) = λ along. kind_of_type_same m fs along type
 
 pub kind_in_same : (m : Module) (fs : List Function) → kind_in (with_functions m fs) ≡ kind_in m
-kind_in_same m fs = λ along x2. kind_in_by m fs x2 along
+kind_in_same m fs = λ along type. kind_in_by m fs type along
 
 pub kind_of_same : (m : Module) (fs : List Function) → kind_of (with_functions m fs) ≡ kind_of m
 kind_of_same m fs = λ along written. kind_in_same m fs along (slice_get m.types written)
@@ -62,14 +62,14 @@ kind_at_same m fs = λ along part. kind_at_by m fs part along
 pub place_kind_same : (m : Module) (fs : List Function) → place_kind (with_functions m fs) ≡ place_kind m
 place_kind_same m fs = λ along written. kind_at_same m fs along (pointee_same m fs along written)
 
-is_typed_by : (m : Module) (fs : List Function) (x2 : Function) (written : ℕ) (x3 : Operand) → is_typed (with_functions m fs) x2 written x3 ≡ is_typed m x2 written x3
+is_typed_by : (m : Module) (fs : List Function) (f : Function) (written : ℕ) (operand : Operand) → is_typed (with_functions m fs) f written operand ≡ is_typed m f written operand
 is_typed_by m fs f written (Written c) = λ along. constant_fits c (kind_of_same m fs along written)
 is_typed_by m fs f written (Local v) = λ along. has_type_same m fs along f written v
 is_typed_by m fs f written (Global symbol) = λ along. points_to_global_same m fs along written symbol
 is_typed_by m fs f written (CastGlobal from symbol to) = λ along. (written == to) && points_to_global_same m fs along from symbol
 
 pub is_typed_same : (m : Module) (fs : List Function) → is_typed (with_functions m fs) ≡ is_typed m
-is_typed_same m fs = λ along x2 written x3. is_typed_by m fs x2 written x3 along
+is_typed_same m fs = λ along f written operand. is_typed_by m fs f written operand along
 
 pub is_value_same : (m : Module) (fs : List Function) → is_value (with_functions m fs) ≡ is_value m
 is_value_same m fs = λ along f facts written operand. is_typed_same m fs along f written operand && known_fits (kind_of_same m fs along written) (known_of facts operand)

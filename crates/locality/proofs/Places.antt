@@ -38,106 +38,106 @@ moves_by m fs written (Some held) = λ along. moves_kind (written == held) (kind
 pub moves_same : (m : Module) (fs : List Function) → moves (with_functions m fs) ≡ moves m
 moves_same m fs = λ along written held. moves_by m fs written held along
 
-loads_base_by : (p : LaidOut) (fs : List Function) (x2 : TypeKind) (x3 : WordSet) (base : Known) → loads_base (laid_with p fs) x2 x3 base ≡ loads_base p x2 x3 base
+loads_base_by : (p : LaidOut) (fs : List Function) (kind : TypeKind) (words : WordSet) (base : Known) → loads_base (laid_with p fs) kind words base ≡ loads_base p kind words base
 loads_base_by p fs kind words (Cell class layout stale) = refl
 loads_base_by p fs kind words _ = refl
 
 pub loads_base_same : (p : LaidOut) (fs : List Function) → loads_base (laid_with p fs) ≡ loads_base p
-loads_base_same p fs = λ along x2 x3 base. loads_base_by p fs x2 x3 base along
+loads_base_same p fs = λ along kind words base. loads_base_by p fs kind words base along
 
-loads_known_by : (p : LaidOut) (fs : List Function) (x2 : FactSet) (x3 : TypeKind) (x4 : Known) → loads_known (laid_with p fs) x2 x3 x4 ≡ loads_known p x2 x3 x4
+loads_known_by : (p : LaidOut) (fs : List Function) (facts : FactSet) (kind : TypeKind) (known : Known) → loads_known (laid_with p fs) facts kind known ≡ loads_known p facts kind known
 loads_known_by p fs facts kind Nothing = refl
 loads_known_by p fs facts kind (Address base words) = λ along. loads_base_same p fs along kind words (known_at facts.values base)
 loads_known_by p fs facts kind (GlobalAddress symbol) = refl
 loads_known_by p fs facts kind _ = refl
 
 pub loads_known_same : (p : LaidOut) (fs : List Function) → loads_known (laid_with p fs) ≡ loads_known p
-loads_known_same p fs = λ along x2 x3 x4. loads_known_by p fs x2 x3 x4 along
+loads_known_same p fs = λ along facts kind known. loads_known_by p fs facts kind known along
 
-loads_local_by : (p : LaidOut) (fs : List Function) (x2 : SlotTable) (x3 : FactSet) (x4 : Known) (loaded : ℕ) (slot : Option ℕ) → loads_local (laid_with p fs) x2 x3 x4 loaded slot ≡ loads_local p x2 x3 x4 loaded slot
+loads_local_by : (p : LaidOut) (fs : List Function) (slots : SlotTable) (facts : FactSet) (known : Known) (loaded : ℕ) (slot : Option ℕ) → loads_local (laid_with p fs) slots facts known loaded slot ≡ loads_local p slots facts known loaded slot
 loads_local_by p fs slots facts known loaded None = λ along. loads_known_same p fs along facts (kind_of_same p.of_module fs along loaded) known
 loads_local_by p fs slots facts known loaded (Some s) = λ along. loads_slot_same p.of_module fs along loaded (held_type slots s)
 
 pub loads_local_same : (p : LaidOut) (fs : List Function) → loads_local (laid_with p fs) ≡ loads_local p
-loads_local_same p fs = λ along x2 x3 x4 loaded slot. loads_local_by p fs x2 x3 x4 loaded slot along
+loads_local_same p fs = λ along slots facts known loaded slot. loads_local_by p fs slots facts known loaded slot along
 
-may_load_by : (p : LaidOut) (fs : List Function) (x2 : SlotTable) (x3 : FactSet) (loaded : ℕ) (place : Operand) → may_load (laid_with p fs) x2 x3 loaded place ≡ may_load p x2 x3 loaded place
+may_load_by : (p : LaidOut) (fs : List Function) (slots : SlotTable) (facts : FactSet) (loaded : ℕ) (place : Operand) → may_load (laid_with p fs) slots facts loaded place ≡ may_load p slots facts loaded place
 may_load_by p fs slots facts loaded (Written c) = refl
 may_load_by p fs slots facts loaded (Local v) = λ along. loads_local_same p fs along slots facts (known_at facts.values v) loaded (slot_of slots v)
 may_load_by p fs slots facts loaded place = λ along. loads_known_same p fs along facts (kind_of_same p.of_module fs along loaded) (known_of facts place)
 
 pub may_load_same : (p : LaidOut) (fs : List Function) → may_load (laid_with p fs) ≡ may_load p
-may_load_same p fs = λ along x2 x3 loaded place. may_load_by p fs x2 x3 loaded place along
+may_load_same p fs = λ along slots facts loaded place. may_load_by p fs slots facts loaded place along
 
-stores_base_by : (p : LaidOut) (fs : List Function) (x2 : TypeKind) (value : Known) (x3 : WordSet) (base : Known) → stores_base (laid_with p fs) x2 value x3 base ≡ stores_base p x2 value x3 base
+stores_base_by : (p : LaidOut) (fs : List Function) (kind : TypeKind) (value : Known) (words : WordSet) (base : Known) → stores_base (laid_with p fs) kind value words base ≡ stores_base p kind value words base
 stores_base_by p fs kind value words (Cell class layout stale) = refl
 stores_base_by p fs kind value words _ = refl
 
 pub stores_base_same : (p : LaidOut) (fs : List Function) → stores_base (laid_with p fs) ≡ stores_base p
-stores_base_same p fs = λ along x2 value x3 base. stores_base_by p fs x2 value x3 base along
+stores_base_same p fs = λ along kind value words base. stores_base_by p fs kind value words base along
 
-stores_known_by : (p : LaidOut) (fs : List Function) (x2 : FactSet) (x3 : TypeKind) (value : Known) (place : Known) → stores_known (laid_with p fs) x2 x3 value place ≡ stores_known p x2 x3 value place
+stores_known_by : (p : LaidOut) (fs : List Function) (facts : FactSet) (kind : TypeKind) (value : Known) (place : Known) → stores_known (laid_with p fs) facts kind value place ≡ stores_known p facts kind value place
 stores_known_by p fs facts kind value Nothing = refl
 stores_known_by p fs facts kind value (Address base words) = λ along. stores_base_same p fs along kind value words (known_at facts.values base)
 stores_known_by p fs facts kind value (GlobalAddress symbol) = refl
 stores_known_by p fs facts kind value _ = refl
 
 pub stores_known_same : (p : LaidOut) (fs : List Function) → stores_known (laid_with p fs) ≡ stores_known p
-stores_known_same p fs = λ along x2 x3 value place. stores_known_by p fs x2 x3 value place along
+stores_known_same p fs = λ along facts kind value place. stores_known_by p fs facts kind value place along
 
-fits_held_by : (m : Module) (fs : List Function) (x2 : Known) (held : Option ℕ) → fits_held (with_functions m fs) x2 held ≡ fits_held m x2 held
+fits_held_by : (m : Module) (fs : List Function) (value : Known) (held : Option ℕ) → fits_held (with_functions m fs) value held ≡ fits_held m value held
 fits_held_by m fs value None = refl
 fits_held_by m fs value (Some held) = λ along. known_fits (kind_of_same m fs along held) value
 
 pub fits_held_same : (m : Module) (fs : List Function) → fits_held (with_functions m fs) ≡ fits_held m
-fits_held_same m fs = λ along x2 held. fits_held_by m fs x2 held along
+fits_held_same m fs = λ along value held. fits_held_by m fs value held along
 
 pub stores_slot_same : (m : Module) (fs : List Function) → stores_slot (with_functions m fs) ≡ stores_slot m
 stores_slot_same m fs = λ along slots stored value s. moves_same m fs along stored (held_type slots s) && fits_held_same m fs along value (held_type slots s)
 
-stores_local_by : (p : LaidOut) (fs : List Function) (x2 : SlotTable) (x3 : FactSet) (x4 : Known) (stored : ℕ) (value : Known) (slot : Option ℕ) → stores_local (laid_with p fs) x2 x3 x4 stored value slot ≡ stores_local p x2 x3 x4 stored value slot
+stores_local_by : (p : LaidOut) (fs : List Function) (slots : SlotTable) (facts : FactSet) (place : Known) (stored : ℕ) (value : Known) (slot : Option ℕ) → stores_local (laid_with p fs) slots facts place stored value slot ≡ stores_local p slots facts place stored value slot
 stores_local_by p fs slots facts place stored value None = λ along. stores_known_same p fs along facts (kind_of_same p.of_module fs along stored) value place
 stores_local_by p fs slots facts place stored value (Some s) = λ along. stores_slot_same p.of_module fs along slots stored value s
 
 pub stores_local_same : (p : LaidOut) (fs : List Function) → stores_local (laid_with p fs) ≡ stores_local p
-stores_local_same p fs = λ along x2 x3 x4 stored value slot. stores_local_by p fs x2 x3 x4 stored value slot along
+stores_local_same p fs = λ along slots facts place stored value slot. stores_local_by p fs slots facts place stored value slot along
 
-may_store_by : (p : LaidOut) (fs : List Function) (x2 : SlotTable) (x3 : FactSet) (stored : ℕ) (value : Known) (place : Operand) → may_store (laid_with p fs) x2 x3 stored value place ≡ may_store p x2 x3 stored value place
+may_store_by : (p : LaidOut) (fs : List Function) (slots : SlotTable) (facts : FactSet) (stored : ℕ) (value : Known) (place : Operand) → may_store (laid_with p fs) slots facts stored value place ≡ may_store p slots facts stored value place
 may_store_by p fs slots facts stored value (Written c) = λ along. is_null_constant c && is_word (kind_of_same p.of_module fs along stored)
 may_store_by p fs slots facts stored value (Local v) = λ along. stores_local_same p fs along slots facts (known_at facts.values v) stored value (slot_of slots v)
 may_store_by p fs slots facts stored value place = λ along. stores_known_same p fs along facts (kind_of_same p.of_module fs along stored) value (known_of facts place)
 
 pub may_store_same : (p : LaidOut) (fs : List Function) → may_store (laid_with p fs) ≡ may_store p
-may_store_same p fs = λ along x2 x3 stored value place. may_store_by p fs x2 x3 stored value place along
+may_store_same p fs = λ along slots facts stored value place. may_store_by p fs slots facts stored value place along
 
-load_held_type_by : (m : Module) (fs : List Function) (v : ℕ) (s : ℕ) (held : Option ℕ) (x2 : FactSet) → load_held_type (with_functions m fs) v s held x2 ≡ load_held_type m v s held x2
+load_held_type_by : (m : Module) (fs : List Function) (v : ℕ) (s : ℕ) (held : Option ℕ) (facts : FactSet) → load_held_type (with_functions m fs) v s held facts ≡ load_held_type m v s held facts
 load_held_type_by m fs v s None facts = refl
 load_held_type_by m fs v s (Some held) facts = λ along. load_kind v s (kind_of_same m fs along held) facts
 
 pub load_held_type_same : (m : Module) (fs : List Function) → load_held_type (with_functions m fs) ≡ load_held_type m
-load_held_type_same m fs = λ along v s held x2. load_held_type_by m fs v s held x2 along
+load_held_type_same m fs = λ along v s held facts. load_held_type_by m fs v s held facts along
 
-load_base_by : (p : LaidOut) (fs : List Function) (v : ℕ) (x2 : TypeKind) (x3 : WordSet) (base : Known) (x4 : FactSet) → load_base (laid_with p fs) v x2 x3 base x4 ≡ load_base p v x2 x3 base x4
+load_base_by : (p : LaidOut) (fs : List Function) (v : ℕ) (kind : TypeKind) (words : WordSet) (base : Known) (facts : FactSet) → load_base (laid_with p fs) v kind words base facts ≡ load_base p v kind words base facts
 load_base_by p fs v kind words (Cell class layout stale) facts = refl
 load_base_by p fs v kind words _ facts = refl
 
 pub load_base_same : (p : LaidOut) (fs : List Function) → load_base (laid_with p fs) ≡ load_base p
-load_base_same p fs = λ along v x2 x3 base x4. load_base_by p fs v x2 x3 base x4 along
+load_base_same p fs = λ along v kind words base facts. load_base_by p fs v kind words base facts along
 
-load_known_by : (p : LaidOut) (fs : List Function) (v : ℕ) (x2 : TypeKind) (x3 : Known) (x4 : FactSet) → load_known (laid_with p fs) v x2 x3 x4 ≡ load_known p v x2 x3 x4
+load_known_by : (p : LaidOut) (fs : List Function) (v : ℕ) (kind : TypeKind) (known : Known) (facts : FactSet) → load_known (laid_with p fs) v kind known facts ≡ load_known p v kind known facts
 load_known_by p fs v kind (Address base words) facts = λ along. load_base_same p fs along v kind words (known_at facts.values base) facts
 load_known_by p fs v kind (GlobalAddress symbol) facts = refl
 load_known_by p fs v kind _ facts = refl
 
 pub load_known_same : (p : LaidOut) (fs : List Function) → load_known (laid_with p fs) ≡ load_known p
-load_known_same p fs = λ along v x2 x3 x4. load_known_by p fs v x2 x3 x4 along
+load_known_same p fs = λ along v kind known facts. load_known_by p fs v kind known facts along
 
-load_place_by : (p : LaidOut) (fs : List Function) (x2 : SlotTable) (v : ℕ) (loaded : ℕ) (x3 : Operand) (slot : Option ℕ) (x4 : FactSet) → load_place (laid_with p fs) x2 v loaded x3 slot x4 ≡ load_place p x2 v loaded x3 slot x4
+load_place_by : (p : LaidOut) (fs : List Function) (slots : SlotTable) (v : ℕ) (loaded : ℕ) (place : Operand) (slot : Option ℕ) (facts : FactSet) → load_place (laid_with p fs) slots v loaded place slot facts ≡ load_place p slots v loaded place slot facts
 load_place_by p fs slots v loaded place None facts = λ along. load_known_same p fs along v (kind_of_same p.of_module fs along loaded) (known_of facts place) facts
 load_place_by p fs slots v loaded place (Some s) facts = λ along. load_held_type_same p.of_module fs along v s (held_type slots s) facts
 
 pub load_place_same : (p : LaidOut) (fs : List Function) → load_place (laid_with p fs) ≡ load_place p
-load_place_same p fs = λ along x2 v loaded x3 slot x4. load_place_by p fs x2 v loaded x3 slot x4 along
+load_place_same p fs = λ along slots v loaded place slot facts. load_place_by p fs slots v loaded place slot facts along
 
 pub after_load_same : (p : LaidOut) (fs : List Function) → after_load (laid_with p fs) ≡ after_load p
 after_load_same p fs = λ along slots v loaded place facts. load_place_same p fs along slots v loaded place (slot_named slots place) facts
@@ -163,19 +163,19 @@ read_conditions_same p fs = λ along f slots here facts returned object place. (
     ∷ (K12, here.collected)
     ∷ (K19, casts_operand_same p.of_module fs along place.operand) ∷ []
 
-after_read_by : (p : LaidOut) (fs : List Function) (v : ℕ) (x2 : List Argument) (x3 : FactSet) → after_read (laid_with p fs) v x2 x3 ≡ after_read p v x2 x3
+after_read_by : (p : LaidOut) (fs : List Function) (v : ℕ) (arguments : List Argument) (facts : FactSet) → after_read (laid_with p fs) v arguments facts ≡ after_read p v arguments facts
 after_read_by p fs v (object ∷ place ∷ []) facts = λ along. load_known_same p fs along v AnyReference (known_of facts place.operand) facts
 after_read_by p fs v _ facts = refl
 
 pub after_read_same : (p : LaidOut) (fs : List Function) → after_read (laid_with p fs) ≡ after_read p
-after_read_same p fs = λ along v x2 x3. after_read_by p fs v x2 x3 along
+after_read_same p fs = λ along v arguments facts. after_read_by p fs v arguments facts along
 
-after_read_call_by : (p : LaidOut) (fs : List Function) (result : Option ℕ) (x2 : List Argument) (x3 : FactSet) → after_read_call (laid_with p fs) result x2 x3 ≡ after_read_call p result x2 x3
+after_read_call_by : (p : LaidOut) (fs : List Function) (result : Option ℕ) (arguments : List Argument) (facts : FactSet) → after_read_call (laid_with p fs) result arguments facts ≡ after_read_call p result arguments facts
 after_read_call_by p fs None arguments facts = refl
 after_read_call_by p fs (Some v) arguments facts = λ along. after_read_same p fs along v arguments facts
 
 pub after_read_call_same : (p : LaidOut) (fs : List Function) → after_read_call (laid_with p fs) ≡ after_read_call p
-after_read_call_same p fs = λ along result x2 x3. after_read_call_by p fs result x2 x3 along
+after_read_call_same p fs = λ along result arguments facts. after_read_call_by p fs result arguments facts along
 
 pub may_write_same : (p : LaidOut) (fs : List Function) → may_write (laid_with p fs) ≡ may_write p
 may_write_same p fs = λ along slots facts value place. is_some (slot_named slots place) || stores_known_same p fs along facts AnyReference (known_of facts value) (known_of facts place)

@@ -34,13 +34,13 @@ use Rattle.ir_ast.specs.declared.op.Op.TheVariants as op
 pub may_hold_same : (m : Module) (fs : List Function) → may_hold (with_functions m fs) ≡ may_hold m
 may_hold_same m fs = λ along slots result held. is_integer (kind_of_same m fs along held) || gives_root slots result
 
-may_come_in_by : (m : Module) (fs : List Function) (x2 : Function) (x3 : SlotTable) (written : ℕ) (x4 : Operand) → may_come_in (with_functions m fs) x2 x3 written x4 ≡ may_come_in m x2 x3 written x4
+may_come_in_by : (m : Module) (fs : List Function) (f : Function) (slots : SlotTable) (written : ℕ) (operand : Operand) → may_come_in (with_functions m fs) f slots written operand ≡ may_come_in m f slots written operand
 may_come_in_by m fs f slots written (Written c) = λ along. constant_fits c (kind_of_same m fs along written)
 may_come_in_by m fs f slots written (Local v) = refl
 may_come_in_by m fs f slots written _ = refl
 
 pub may_come_in_same : (m : Module) (fs : List Function) → may_come_in (with_functions m fs) ≡ may_come_in m
-may_come_in_same m fs = λ along x2 x3 written x4. may_come_in_by m fs x2 x3 written x4 along
+may_come_in_same m fs = λ along f slots written operand. may_come_in_by m fs f slots written operand along
 
 pub all_come_in_same : (m : Module) (fs : List Function) → all_come_in (with_functions m fs) ≡ all_come_in m
 all_come_in_same m fs = λ along f slots written incoming. list_all (λ entry. may_come_in_same m fs along f slots written entry.operand) incoming
@@ -54,7 +54,7 @@ are_cases_same m fs = λ along f written cases. list_all (is_case_same m fs alon
 pub is_condition_same : (m : Module) (fs : List Function) → is_condition (with_functions m fs) ≡ is_condition m
 is_condition_same m fs = λ along f facts written condition. is_bits 1 (kind_of_same m fs along written) && is_value_same m fs along f facts written condition
 
-number_conditions_by : (p : LaidOut) (fs : List Function) (x2 : Function) (x3 : SlotTable) (x4 : Standing) (x5 : FactSet) (x6 : NumberOp) → number_conditions (laid_with p fs) x2 x3 x4 x5 x6 ≡ number_conditions p x2 x3 x4 x5 x6
+number_conditions_by : (p : LaidOut) (fs : List Function) (f : Function) (slots : SlotTable) (here : Standing) (facts : FactSet) (x : NumberOp) → number_conditions (laid_with p fs) f slots here facts x ≡ number_conditions p f slots here facts x
 number_conditions_by p fs f slots here facts (number.Arithmetic kind written first second) = λ along. (K1, is_available slots facts first && is_available slots facts second)
     ∷ (K2, is_value_same p.of_module fs along f facts written first && is_value_same p.of_module fs along f facts written second && is_integer (kind_of_same p.of_module fs along written) && is_no_slot slots first && is_no_slot slots second)
     ∷ (K12, here.collected) ∷ []
@@ -68,9 +68,9 @@ number_conditions_by p fs f slots here facts (number.Compare kind written first 
     ∷ (K12, here.collected) ∷ []
 
 pub number_conditions_same : (p : LaidOut) (fs : List Function) → number_conditions (laid_with p fs) ≡ number_conditions p
-number_conditions_same p fs = λ along x2 x3 x4 x5 x6. number_conditions_by p fs x2 x3 x4 x5 x6 along
+number_conditions_same p fs = λ along f slots here facts x. number_conditions_by p fs f slots here facts x along
 
-memory_conditions_by : (p : LaidOut) (fs : List Function) (x2 : Function) (x3 : SlotTable) (x4 : Standing) (x5 : FactSet) (result : Option ℕ) (x6 : MemoryOp) → memory_conditions (laid_with p fs) x2 x3 x4 x5 result x6 ≡ memory_conditions p x2 x3 x4 x5 result x6
+memory_conditions_by : (p : LaidOut) (fs : List Function) (f : Function) (slots : SlotTable) (here : Standing) (facts : FactSet) (result : Option ℕ) (x : MemoryOp) → memory_conditions (laid_with p fs) f slots here facts result x ≡ memory_conditions p f slots here facts result x
 memory_conditions_by p fs f slots here facts result (memory.Alloca held) = λ along. (K8, may_hold_same p.of_module fs along slots result held) ∷ (K11, here.in_entry) ∷ (K12, here.collected) ∷ []
 memory_conditions_by p fs f slots here facts result (memory.Load loaded place_type place) = λ along. (K1, is_available slots facts place)
     ∷ (K2, is_typed_same p.of_module fs along f place_type place && may_load_same p fs along slots facts loaded place)
@@ -88,7 +88,7 @@ memory_conditions_by p fs f slots here facts result (memory.Store stored value p
     ∷ (K19, casts_operand_same p.of_module fs along place) ∷ []
 
 pub memory_conditions_same : (p : LaidOut) (fs : List Function) → memory_conditions (laid_with p fs) ≡ memory_conditions p
-memory_conditions_same p fs = λ along x2 x3 x4 x5 result x6. memory_conditions_by p fs x2 x3 x4 x5 result x6 along
+memory_conditions_same p fs = λ along f slots here facts result x. memory_conditions_by p fs f slots here facts result x along
 
 pub element_conditions_same : (p : LaidOut) (fs : List Function) → element_conditions (laid_with p fs) ≡ element_conditions p
 element_conditions_same p fs = λ along f slots here facts x. (K1, is_available slots facts x.base && list_all (λ index. is_available slots facts index.operand) x.indices)
@@ -126,7 +126,7 @@ choice_conditions_same p fs = λ along f slots here facts x. (K1, is_available s
 pub phi_conditions_same : (m : Module) (fs : List Function) → phi_conditions (with_functions m fs) ≡ phi_conditions m
 phi_conditions_same m fs = λ along f slots here phi. (K2, may_choose (kind_of_same m fs along phi.written) && all_come_in_same m fs along f slots phi.written phi.incoming) ∷ (K12, here.collected) ∷ []
 
-end_conditions_by : (p : LaidOut) (fs : List Function) (x2 : Function) (x3 : SlotTable) (x4 : Standing) (x5 : FactSet) (x6 : End) → end_conditions (laid_with p fs) x2 x3 x4 x5 x6 ≡ end_conditions p x2 x3 x4 x5 x6
+end_conditions_by : (p : LaidOut) (fs : List Function) (f : Function) (slots : SlotTable) (here : Standing) (facts : FactSet) (x : End) → end_conditions (laid_with p fs) f slots here facts x ≡ end_conditions p f slots here facts x
 end_conditions_by p fs f slots here facts (end.Jump target) = refl
 end_conditions_by p fs f slots here facts (end.Branch condition_type condition taken other) = λ along. (K1, is_available slots facts condition)
     ∷ (K2, is_condition_same p.of_module fs along f facts condition_type condition && names_target f taken && names_target f other && is_no_slot slots condition)
@@ -144,26 +144,26 @@ end_conditions_by p fs f slots here facts (end.Return argument) = λ along. (K1,
     ∷ (K14, keeps_promise facts here.promised argument.operand) ∷ []
 
 pub end_conditions_same : (p : LaidOut) (fs : List Function) → end_conditions (laid_with p fs) ≡ end_conditions p
-end_conditions_same p fs = λ along x2 x3 x4 x5 x6. end_conditions_by p fs x2 x3 x4 x5 x6 along
+end_conditions_same p fs = λ along f slots here facts x. end_conditions_by p fs f slots here facts x along
 
-after_number_by : (m : Module) (fs : List Function) (v : ℕ) (x2 : NumberOp) (x3 : FactSet) → after_number (with_functions m fs) v x2 x3 ≡ after_number m v x2 x3
+after_number_by : (m : Module) (fs : List Function) (v : ℕ) (x : NumberOp) (facts : FactSet) → after_number (with_functions m fs) v x facts ≡ after_number m v x facts
 after_number_by m fs v (number.Arithmetic kind written first second) facts = λ along. define_number v (kind_of_same m fs along written) (arithmetic_below kind first second) facts
 after_number_by m fs v (number.Resize kind from operand to) facts = λ along. define_number v (kind_of_same m fs along to) (resized_below kind (below_of facts operand)) facts
 after_number_by m fs v (number.Compare kind written first second) facts = refl
 
 pub after_number_same : (m : Module) (fs : List Function) → after_number (with_functions m fs) ≡ after_number m
-after_number_same m fs = λ along v x2 x3. after_number_by m fs v x2 x3 along
+after_number_same m fs = λ along v x facts. after_number_by m fs v x facts along
 
-after_memory_by : (p : LaidOut) (fs : List Function) (x2 : SlotTable) (result : Option ℕ) (x3 : MemoryOp) (x4 : FactSet) → after_memory (laid_with p fs) x2 result x3 x4 ≡ after_memory p x2 result x3 x4
+after_memory_by : (p : LaidOut) (fs : List Function) (slots : SlotTable) (result : Option ℕ) (x : MemoryOp) (facts : FactSet) → after_memory (laid_with p fs) slots result x facts ≡ after_memory p slots result x facts
 after_memory_by p fs slots result (memory.Store stored value place_type place) facts = refl
 after_memory_by p fs slots (Some v) (memory.Alloca held) facts = refl
 after_memory_by p fs slots (Some v) (memory.Load loaded place_type place) facts = λ along. after_load_same p fs along slots v loaded place facts
 after_memory_by p fs slots None _ facts = refl
 
 pub after_memory_same : (p : LaidOut) (fs : List Function) → after_memory (laid_with p fs) ≡ after_memory p
-after_memory_same p fs = λ along x2 result x3 x4. after_memory_by p fs x2 result x3 x4 along
+after_memory_same p fs = λ along slots result x facts. after_memory_by p fs slots result x facts along
 
-after_named_by : (p : LaidOut) (fs : List Function) (x2 : SlotTable) (v : ℕ) (x3 : Op) (x4 : FactSet) → after_named (laid_with p fs) x2 v x3 x4 ≡ after_named p x2 v x3 x4
+after_named_by : (p : LaidOut) (fs : List Function) (slots : SlotTable) (v : ℕ) (x : Op) (facts : FactSet) → after_named (laid_with p fs) slots v x facts ≡ after_named p slots v x facts
 after_named_by p fs slots v (op.Number x) facts = λ along. after_number_same p.of_module fs along v x facts
 after_named_by p fs slots v (op.Element x) facts = λ along. after_element_same p fs along v x.source x.base x.indices facts
 after_named_by p fs slots v (op.Cast x) facts = λ along. after_cast_same p.of_module fs along slots v x.from x.to x.operand facts
@@ -171,4 +171,4 @@ after_named_by p fs slots v (op.Choice x) facts = λ along. after_select v (kind
 after_named_by p fs slots v _ facts = refl
 
 pub after_named_same : (p : LaidOut) (fs : List Function) → after_named (laid_with p fs) ≡ after_named p
-after_named_same p fs = λ along x2 v x3 x4. after_named_by p fs x2 v x3 x4 along
+after_named_same p fs = λ along slots v x facts. after_named_by p fs slots v x facts along

@@ -10,40 +10,40 @@ use Rattle.shadow_stack.specs.Slots.{draft_of, is_among, is_reference_held, name
 use Rattle.locality.proofs.Types.{referenced_layout_same, runtime_called_same}
 use Rattle.locality.specs.Local.{with_functions}
 
-is_reference_held_by : (m : Module) (fs : List Function) (x2 : Option ℕ) → is_reference_held (with_functions m fs) x2 ≡ is_reference_held m x2
+is_reference_held_by : (m : Module) (fs : List Function) (number : Option ℕ) → is_reference_held (with_functions m fs) number ≡ is_reference_held m number
 is_reference_held_by m fs None = refl
 is_reference_held_by m fs (Some held) = λ along. is_some (referenced_layout_same m fs along held)
 
 pub is_reference_held_same : (m : Module) (fs : List Function) → is_reference_held (with_functions m fs) ≡ is_reference_held m
-is_reference_held_same m fs = λ along x2. is_reference_held_by m fs x2 along
+is_reference_held_same m fs = λ along number. is_reference_held_by m fs number along
 
-slot_rooted_by_by : (m : Module) (fs : List Function) (x2 : List (Option ℕ)) (x3 : Op) → slot_rooted_by (with_functions m fs) x2 x3 ≡ slot_rooted_by m x2 x3
+slot_rooted_by_by : (m : Module) (fs : List Function) (names : List (Option ℕ)) (x : Op) → slot_rooted_by (with_functions m fs) names x ≡ slot_rooted_by m names x
 slot_rooted_by_by m fs names (Call x) = λ along. slot_rooted names x.arguments (runtime_called_same m fs along x.callee)
 slot_rooted_by_by m fs names _ = refl
 
 pub slot_rooted_by_same : (m : Module) (fs : List Function) → slot_rooted_by (with_functions m fs) ≡ slot_rooted_by m
-slot_rooted_by_same m fs = λ along x2 x3. slot_rooted_by_by m fs x2 x3 along
+slot_rooted_by_same m fs = λ along names x. slot_rooted_by_by m fs names x along
 
-with_root_by : (m : Module) (fs : List Function) (held : List ℕ) (x2 : Option ℕ) (roots : List ℕ) → with_root (with_functions m fs) held x2 roots ≡ with_root m held x2 roots
+with_root_by : (m : Module) (fs : List Function) (held : List ℕ) (number : Option ℕ) (roots : List ℕ) → with_root (with_functions m fs) held number roots ≡ with_root m held number roots
 with_root_by m fs held None roots = refl
 with_root_by m fs held (Some slot) roots = λ along. if is_reference_held_same m fs along (slice_get held slot) then (if is_among roots slot then roots else roots ++ slot ∷ []) else roots
 
 pub with_root_same : (m : Module) (fs : List Function) → with_root (with_functions m fs) ≡ with_root m
-with_root_same m fs = λ along held x2 roots. with_root_by m fs held x2 roots along
+with_root_same m fs = λ along held number roots. with_root_by m fs held number roots along
 
-with_roots_by : (m : Module) (fs : List Function) (names : List (Option ℕ)) (held : List ℕ) (x2 : List Instr) (roots : List ℕ) → with_roots (with_functions m fs) names held x2 roots ≡ with_roots m names held x2 roots
+with_roots_by : (m : Module) (fs : List Function) (names : List (Option ℕ)) (held : List ℕ) (instrs : List Instr) (roots : List ℕ) → with_roots (with_functions m fs) names held instrs roots ≡ with_roots m names held instrs roots
 with_roots_by m fs names held [] roots = refl
 with_roots_by m fs names held (instr ∷ instrs) roots = λ along. with_roots_by m fs names held instrs (with_root_same m fs along held (slot_rooted_by_same m fs along names instr.op) roots) along
 
 pub with_roots_same : (m : Module) (fs : List Function) → with_roots (with_functions m fs) ≡ with_roots m
-with_roots_same m fs = λ along names held x2 roots. with_roots_by m fs names held x2 roots along
+with_roots_same m fs = λ along names held instrs roots. with_roots_by m fs names held instrs roots along
 
-with_roots_of_by : (m : Module) (fs : List Function) (names : List (Option ℕ)) (held : List ℕ) (x2 : List Block) (roots : List ℕ) → with_roots_of (with_functions m fs) names held x2 roots ≡ with_roots_of m names held x2 roots
+with_roots_of_by : (m : Module) (fs : List Function) (names : List (Option ℕ)) (held : List ℕ) (blocks : List Block) (roots : List ℕ) → with_roots_of (with_functions m fs) names held blocks roots ≡ with_roots_of m names held blocks roots
 with_roots_of_by m fs names held [] roots = refl
 with_roots_of_by m fs names held (block ∷ blocks) roots = λ along. with_roots_of_by m fs names held blocks (with_roots_same m fs along names held block.body roots) along
 
 pub with_roots_of_same : (m : Module) (fs : List Function) → with_roots_of (with_functions m fs) ≡ with_roots_of m
-with_roots_of_same m fs = λ along names held x2 roots. with_roots_of_by m fs names held x2 roots along
+with_roots_of_same m fs = λ along names held blocks roots. with_roots_of_by m fs names held blocks roots along
 
 pub slots_of_same : (m : Module) (fs : List Function) → slots_of (with_functions m fs) ≡ slots_of m
 slots_of_same m fs = λ along f. let draft = draft_of f in

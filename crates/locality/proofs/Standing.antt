@@ -16,44 +16,44 @@ use Rattle.locality.specs.Local.{with_functions}
 use Rattle.ir_ast.specs.declared.memory.MemoryOp.TheVariants as memory
 use Rattle.ir_ast.specs.declared.op.Op.TheVariants as op
 
-is_of_head_by : (m : Module) (fs : List Function) (x2 : Function) (x3 : SlotTable) (x4 : Op) → is_of_head (with_functions m fs) x2 x3 x4 ≡ is_of_head m x2 x3 x4
+is_of_head_by : (m : Module) (fs : List Function) (f : Function) (slots : SlotTable) (x : Op) → is_of_head (with_functions m fs) f slots x ≡ is_of_head m f slots x
 is_of_head_by m fs f slots (op.Memory x) = refl
 is_of_head_by m fs f slots (op.Cast x) = refl
 is_of_head_by m fs f slots (op.Call x) = λ along. is_gcroot (runtime_called_same m fs along x.callee)
 is_of_head_by m fs f slots _ = refl
 
 pub is_of_head_same : (m : Module) (fs : List Function) → is_of_head (with_functions m fs) ≡ is_of_head m
-is_of_head_same m fs = λ along x2 x3 x4. is_of_head_by m fs x2 x3 x4 along
+is_of_head_same m fs = λ along f slots x. is_of_head_by m fs f slots x along
 
 pub is_head_instruction_same : (m : Module) (fs : List Function) → is_head_instruction (with_functions m fs) ≡ is_head_instruction m
 is_head_instruction_same m fs = λ along f slots instr. is_of_head_same m fs along f slots instr.op
 
-head_of_by : (m : Module) (fs : List Function) (x2 : Function) (x3 : SlotTable) (x4 : List Phi) (x5 : List Instr) → head_of (with_functions m fs) x2 x3 x4 x5 ≡ head_of m x2 x3 x4 x5
+head_of_by : (m : Module) (fs : List Function) (f : Function) (slots : SlotTable) (phis : List Phi) (body : List Instr) → head_of (with_functions m fs) f slots phis body ≡ head_of m f slots phis body
 head_of_by m fs f slots [] body = λ along. length (take_while (is_head_instruction_same m fs along f slots) body)
 head_of_by m fs f slots (phi ∷ phis) body = refl
 
 pub head_of_same : (m : Module) (fs : List Function) → head_of (with_functions m fs) ≡ head_of m
-head_of_same m fs = λ along x2 x3 x4 x5. head_of_by m fs x2 x3 x4 x5 along
+head_of_same m fs = λ along f slots phis body. head_of_by m fs f slots phis body along
 
 pub is_collected_type_same : (m : Module) (fs : List Function) → is_collected_type (with_functions m fs) ≡ is_collected_type m
 is_collected_type_same m fs = λ along written. may_be_reference (kind_of_same m fs along written)
 
-memory_moves_by : (m : Module) (fs : List Function) (x2 : MemoryOp) → memory_moves (with_functions m fs) x2 ≡ memory_moves m x2
+memory_moves_by : (m : Module) (fs : List Function) (x : MemoryOp) → memory_moves (with_functions m fs) x ≡ memory_moves m x
 memory_moves_by m fs (memory.Alloca held) = refl
 memory_moves_by m fs (memory.Load loaded place_type place) = λ along. is_collected_type_same m fs along loaded
 memory_moves_by m fs (memory.Store stored value place_type place) = λ along. is_collected_type_same m fs along stored
 
 pub memory_moves_same : (m : Module) (fs : List Function) → memory_moves (with_functions m fs) ≡ memory_moves m
-memory_moves_same m fs = λ along x2. memory_moves_by m fs x2 along
+memory_moves_same m fs = λ along x. memory_moves_by m fs x along
 
-moves_reference_by : (m : Module) (fs : List Function) (x2 : Op) → moves_reference (with_functions m fs) x2 ≡ moves_reference m x2
+moves_reference_by : (m : Module) (fs : List Function) (x : Op) → moves_reference (with_functions m fs) x ≡ moves_reference m x
 moves_reference_by m fs (op.Memory x) = λ along. memory_moves_same m fs along x
 moves_reference_by m fs (op.Choice x) = λ along. is_collected_type_same m fs along x.written
 moves_reference_by m fs (op.Call x) = λ along. is_collected_type_same m fs along x.returned || list_any (λ argument. is_collected_type_same m fs along argument.written) x.arguments
 moves_reference_by m fs _ = refl
 
 pub moves_reference_same : (m : Module) (fs : List Function) → moves_reference (with_functions m fs) ≡ moves_reference m
-moves_reference_same m fs = λ along x2. moves_reference_by m fs x2 along
+moves_reference_same m fs = λ along x. moves_reference_by m fs x along
 
 pub instruction_moves_same : (m : Module) (fs : List Function) → instruction_moves (with_functions m fs) ≡ instruction_moves m
 instruction_moves_same m fs = λ along instr. moves_reference_same m fs along instr.op

@@ -14,13 +14,13 @@ use Rattle.types.specs.ValueTypes.{target_of}
 use Rattle.locality.proofs.Operands.{kind_of_same}
 use Rattle.locality.specs.Local.{scene_with, with_functions}
 
-parameters_given_by : (m : Module) (fs : List Function) (x2 : List Parameter) (x3 : List (Option Promise)) → parameters_given (with_functions m fs) x2 x3 ≡ parameters_given m x2 x3
+parameters_given_by : (m : Module) (fs : List Function) (parameters : List Parameter) (promises : List (Option Promise)) → parameters_given (with_functions m fs) parameters promises ≡ parameters_given m parameters promises
 parameters_given_by m fs [] promises = refl
 parameters_given_by m fs (parameter ∷ parameters) [] = λ along. (parameter.value, given_by (kind_of_same m fs along parameter.written), None) ∷ parameters_given_by m fs parameters [] along
 parameters_given_by m fs (parameter ∷ parameters) (promise ∷ promises) = λ along. (parameter.value, given_by (kind_of_same m fs along parameter.written), promise) ∷ parameters_given_by m fs parameters promises along
 
 pub parameters_given_same : (m : Module) (fs : List Function) → parameters_given (with_functions m fs) ≡ parameters_given m
-parameters_given_same m fs = λ along x2 x3. parameters_given_by m fs x2 x3 along
+parameters_given_same m fs = λ along parameters promises. parameters_given_by m fs parameters promises along
 
 pub entry_facts_same : (s : Scene) (fs : List Function) (others : List Section) → entry_facts (scene_with s fs others) ≡ entry_facts s
 entry_facts_same s fs others = λ along. facts_of_parameters (length s.function.locals) (length s.slots.held) (parameters_given_same s.program.of_module fs along s.function.parameters (promises_in s.section))
@@ -43,16 +43,16 @@ entered_same s fs others = λ along from to facts. after_phis (comes_in_same s.p
 pub unshown_line_same : (s : Scene) (fs : List Function) (others : List Section) → unshown_line (scene_with s fs others) ≡ unshown_line s
 unshown_line_same s fs others = λ along block facts. position (λ line. not (shows_line s.slots facts (line_facts_same s fs others along block) line)) (lines_in s.section block)
 
-unshown_at_by : (s : Scene) (fs : List Function) (others : List Section) (from : ℕ) (x2 : FactSet) (to : Option ℕ) → unshown_at (scene_with s fs others) from x2 to ≡ unshown_at s from x2 to
+unshown_at_by : (s : Scene) (fs : List Function) (others : List Section) (from : ℕ) (facts : FactSet) (to : Option ℕ) → unshown_at (scene_with s fs others) from facts to ≡ unshown_at s from facts to
 unshown_at_by s fs others from facts None = refl
 unshown_at_by s fs others from facts (Some to) = λ along. elim (unshown_line_same s fs others along to (entered_same s fs others along from to facts)) [ None ↦ None | Some line ↦ Some (record { target = to; line = line }) ]
 
 pub unshown_at_same : (s : Scene) (fs : List Function) (others : List Section) → unshown_at (scene_with s fs others) ≡ unshown_at s
-unshown_at_same s fs others = λ along from x2 to. unshown_at_by s fs others from x2 to along
+unshown_at_same s fs others = λ along from facts to. unshown_at_by s fs others from facts to along
 
-unshown_on_by : (s : Scene) (fs : List Function) (others : List Section) (from : ℕ) (x2 : FactSet) (x3 : List Way) → unshown_on (scene_with s fs others) from x2 x3 ≡ unshown_on s from x2 x3
+unshown_on_by : (s : Scene) (fs : List Function) (others : List Section) (from : ℕ) (facts : FactSet) (ways : List Way) → unshown_on (scene_with s fs others) from facts ways ≡ unshown_on s from facts ways
 unshown_on_by s fs others from facts [] = refl
 unshown_on_by s fs others from facts (way ∷ ways) = λ along. elim (unshown_at_same s fs others along from (decided_facts way.decided facts) (target_of s.function way.target)) [ None ↦ unshown_on_by s fs others from facts ways along | Some detail ↦ Some detail ]
 
 pub unshown_on_same : (s : Scene) (fs : List Function) (others : List Section) → unshown_on (scene_with s fs others) ≡ unshown_on s
-unshown_on_same s fs others = λ along from x2 x3. unshown_on_by s fs others from x2 x3 along
+unshown_on_same s fs others = λ along from facts ways. unshown_on_by s fs others from facts ways along
