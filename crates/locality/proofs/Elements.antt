@@ -1,6 +1,6 @@
 -- What is asked of a getelementptr, and what is known after it, does not depend on functions.
 use Rattle.std.specs.List.{list_all}
-use Rattle.std.specs.Prelude.{List, None, Option, Some, if◌then◌else◌, is_some, length, refl, slice_get, ℕ, ◌&&◌, ◌∷◌, ◌≡◌}
+use Rattle.std.specs.Prelude.{List, None, Option, Some, [], if◌then◌else◌, is_some, length, refl, slice_get, ℕ, ◌&&◌, ◌∷◌, ◌≡◌}
 use Rattle.block_rules.specs.Elements.{after_element, are_indices, array_stride, base_layout, counted_words, define_words, element_part, element_words, is_index, is_zero, leads_from, leads_into, may_lead, part_led, part_reached, start_of, stays_at_first, stays_in, step_part, step_stride, strode, words_behind}
 use Rattle.block_rules.specs.Operands.{number_of}
 use Rattle.block_rules.specs.TypeKinds.{is_integer}

@@ -2,6 +2,7 @@ pub mod Types
 pub mod Slots
 pub mod Offsets
 pub mod Operands
+pub mod Signature
 pub mod Places
 pub mod Casts
 pub mod Elements

@@ -1,5 +1,5 @@
 -- What is asked of loads and stores, and what is known after them, does not depend on functions.
-use Rattle.std.specs.Prelude.{List, None, Option, Some, is_some, not, refl, ℕ, ◌&&◌, ◌==◌, ◌||◌, ◌∷◌, ◌≡◌}
+use Rattle.std.specs.Prelude.{List, None, Option, Some, [], is_some, not, refl, ℕ, ◌&&◌, ◌==◌, ◌||◌, ◌∷◌, ◌≡◌}
 use Rattle.block_rules.specs.Barriers.{after_read, after_read_call, is_own_place, is_read, is_write, may_read, may_write, names_object, needs_no_barrier, read_conditions, write_conditions}
 use Rattle.block_rules.specs.Operands.{is_available, is_based, is_current, is_no_slot, is_null_constant, known_fits, known_of, slot_named}
 use Rattle.block_rules.specs.Places.{after_load, fits_held, load_base, load_held_type, load_kind, load_known, load_place, loads_base, loads_kind, loads_known, loads_local, loads_slot, may_load, may_store, moves, moves_kind, stores_base, stores_known, stores_local, stores_slot}
@@ -19,9 +19,9 @@ use Rattle.ir_ast.specs.declared.runtime.Runtime.TheVariants.{GcRead, GcWrite}
 use Rattle.layout.specs.Layouts.{LaidOut}
 use Rattle.pools.specs.declared.word_set.WordSet.{WordSet}
 use Rattle.shadow_stack.specs.Slots.{SlotTable, held_type, slot_of}
-use Rattle.locality.proofs.Calls.{is_written_as_same}
 use Rattle.locality.proofs.Casts.{casts_operand_same}
 use Rattle.locality.proofs.Operands.{is_typed_same, is_value_same, kind_of_same}
+use Rattle.locality.proofs.Signature.{is_written_as_same}
 use Rattle.locality.specs.Local.{laid_with, with_functions}
 
 loads_slot_by : (m : Module) (fs : List Function) (written : ℕ) (held : Option ℕ) → loads_slot (with_functions m fs) written held ≡ loads_slot m written held

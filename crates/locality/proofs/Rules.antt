@@ -1,6 +1,6 @@
 -- The conditions of instructions that are no calls, and what is known after them, do not depend on functions.
 use Rattle.std.specs.List.{list_all}
-use Rattle.std.specs.Prelude.{List, None, Option, Some, refl, ℕ, ◌&&◌, ◌==◌, ◌||◌, ◌∷◌, ◌≡◌}
+use Rattle.std.specs.Prelude.{List, None, Option, Some, [], refl, ℕ, ◌&&◌, ◌==◌, ◌||◌, ◌∷◌, ◌≡◌}
 use Rattle.block_rules.specs.Calls.{no_slots}
 use Rattle.block_rules.specs.Elements.{may_be_base}
 use Rattle.block_rules.specs.Integers.{after_select, arithmetic_below, below_of, define_number, known_layout, may_choose, may_compare, may_resize, one_layout, resized_below}

@@ -26,7 +26,8 @@ use Rattle.block_rules.specs.RuntimeNames.{runtime_named}
 use Rattle.block_rules.specs.Signature.{signature_of, is_declared_as, callable, callable_declare, callable_function, callable_sort}
 use Rattle.block_rules.specs.Calls.{all_available, all_current, no_slots, is_written_for, is_written_with, defined_conditions, call_conditions, drop_arguments, after_call}
 use Rattle.locality.specs.Local.{with_functions, laid_with, types_of, Interface, function_of_sort, IfThere, LooksSame}
-use Rattle.locality.proofs.Calls.{callable_declare_same, all_values_same, root_conditions_same, alloc_conditions_same, safepoint_conditions_same, read_call_conditions_same, write_call_conditions_same, refused_conditions_same, receive_result_same}
+use Rattle.locality.proofs.Signature.{callable_declare_same}
+use Rattle.locality.proofs.Calls.{all_values_same, root_conditions_same, alloc_conditions_same, safepoint_conditions_same, read_call_conditions_same, write_call_conditions_same, refused_conditions_same, receive_result_same}
 use Rattle.locality.proofs.Places.{after_read_call_same}
 
 -- ---- types

@@ -1,5 +1,5 @@
 -- The slots of a function do not depend on other functions.
-use Rattle.std.specs.Prelude.{List, None, Option, Some, if◌then◌else◌, is_some, refl, slice_get, ℕ, ◌++◌, ◌∷◌, ◌≡◌}
+use Rattle.std.specs.Prelude.{List, None, Option, Some, [], if◌then◌else◌, is_some, refl, slice_get, ℕ, ◌++◌, ◌∷◌, ◌≡◌}
 use Rattle.ir_ast.specs.declared.block.Block.{Block}
 use Rattle.ir_ast.specs.declared.function.Function.{Function}
 use Rattle.ir_ast.specs.declared.instr.Instr.{Instr}

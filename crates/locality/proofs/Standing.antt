@@ -1,6 +1,6 @@
 -- Where an instruction stands does not depend on functions.
 use Rattle.std.specs.List.{list_any, take_while}
-use Rattle.std.specs.Prelude.{List, false, length, nat_lt, not, refl, true, ◌==◌, ◌||◌, ◌∷◌, ◌≡◌}
+use Rattle.std.specs.Prelude.{List, [], false, length, nat_lt, not, refl, true, ◌==◌, ◌||◌, ◌∷◌, ◌≡◌}
 use Rattle.block_rules.specs.Standing.{begins_collected, block_moves, body_of, function_moves, head_in, head_of, instruction_moves, is_collected_type, is_gcroot, is_head_instruction, is_of_head, is_shadow_stack, keeps_shadow_stack, memory_moves, moves_reference, phi_moves, phis_of, standing}
 use Rattle.block_rules.specs.TypeKinds.{may_be_reference}
 use Rattle.ir_ast.specs.declared.choices.Phi.{Phi}
@@ -83,3 +83,4 @@ standing_same m fs = λ along f slots promised mark block place. record {
   collected = not (place == 0) || begins_collected_same m fs along f block;
   promised = promised;
   mark = mark;
+}

@@ -1,5 +1,5 @@
 -- What types are, and what has a type, does not depend on functions.
-use Rattle.std.specs.Prelude.{List, None, Option, Some, refl, slice_get, suc, zero, ℕ, ◌∷◌, ◌≡◌}
+use Rattle.std.specs.Prelude.{List, None, Option, Some, [], refl, slice_get, suc, zero, ℕ, ◌∷◌, ◌≡◌}
 use Rattle.ir_ast.specs.declared.argument.Argument.{Argument}
 use Rattle.ir_ast.specs.declared.function.Function.{Function}
 use Rattle.ir_ast.specs.declared.function.LocalSort.{LocalSort}

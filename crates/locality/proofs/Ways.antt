@@ -1,5 +1,5 @@
 -- What a block begins with, and which lines of its targets are not shown, does not depend on functions.
-use Rattle.std.specs.Prelude.{List, None, Option, Some, false, length, map, not, position, refl, true, ℕ, ◌==◌, ◌∷◌, ◌≡◌}
+use Rattle.std.specs.Prelude.{List, None, Option, Some, [], false, length, map, not, position, refl, true, ℕ, ◌==◌, ◌∷◌, ◌≡◌}
 use Rattle.block_rules.specs.Promises.{given_by, promises_in}
 use Rattle.block_rules.specs.Standing.{phis_of}
 use Rattle.block_rules.specs.Ways.{Scene, Way, comes_in, decided_facts, entered, entry_facts, given_at, known_comes_in, line_facts, lines_in, operand_from, parameters_given, phi_comes_in, unshown_at, unshown_line, unshown_on, ways}
