@@ -21,7 +21,7 @@ use Rattle.block_rules.specs.Promises.{promised_in, own_mark}
 use Rattle.block_rules.specs.Rules.{op_conditions, after_op}
 use Rattle.block_rules.specs.Signature.{callable_sort}
 use Rattle.block_rules.specs.Calls.{call_conditions, after_call}
-use Rattle.block_rules.specs.Ways.{Scene, ways, are_entries}
+use Rattle.block_rules.specs.Ways.{Scene, ways, are_entries, given_at}
 use Rattle.block_rules.specs.Certified.{stands, breach_by, breach_of, phi_breach, breach, end_breach, PhisPass, Passes, Follows, EndPasses, phi_count, end_place, IsCertified, BreaksAt, AtPhi, InBody, AtEnd}
 use Rattle.locality.specs.Local.{laid_with, scene_with, called_by, IfThere, LooksSame}
 use Rattle.locality.proofs.Rules.{number_conditions_same, memory_conditions_same, element_conditions_same, cast_conditions_same, choice_conditions_same, phi_conditions_same, end_conditions_same, after_memory_same, after_named_same}

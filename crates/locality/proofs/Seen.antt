@@ -66,7 +66,7 @@ callee_is : (m : Module) (callee arguments number : ℕ) (f : Option Function) �
 callee_is m callee arguments number None = refl
 callee_is m callee arguments number (Some f) =
     ap (λ n. if (arguments == n) && is_none (runtime_named (slice_get m.symbols callee)) then OfModule number else NoFunction (runtime_named (slice_get m.symbols callee)))
-    (sym (length-map (λ (parameter : Parameter). parameter.written) f.parameters))
+    (sym (length-map f.parameters (λ (parameter : Parameter). parameter.written)))
 
 -- ---- callees
 
