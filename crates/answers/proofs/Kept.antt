@@ -1,6 +1,5 @@
 -- The answers that are kept are answers after the edit.
 use Rattle.std.proofs.Common.{◌≡◌, ◌≢◌, ◌==◌, ℕ, Bool, true, false, List, [], ◌∷◌, slice_get, Option, Some, None, refl, ap, sym, subst, ◌∙◌, eqb-true, eq-eqb}
-use Rattle.std.specs.List.{list_any}
 use Rattle.lemmas.specs.Bools.{or_neither}
 use Rattle.ir_ast.specs.declared.block.Block.{Block}
 use Rattle.ir_ast.specs.declared.function.Function.{Function}
@@ -15,7 +14,7 @@ use Rattle.block_rules.specs.declared.block_fault.Refusal.{Refusal}
 use Rattle.locality.specs.Local.{with_functions, laid_with, interface_of, called_by, IfThere, OfEachCalled, LooksSame, SameScope}
 use Rattle.locality.specs.Laws.{StayCertified, StayRefused}
 use Rattle.answers.specs.Answers.{IsAnswer}
-use Rattle.answers.specs.Edited.{is_number, instruction_calls, calls, calls_replaced, is_touched_by, is_touched, IsAgain, IsEdited}
+use Rattle.answers.specs.Edited.{is_number, instruction_calls, block_calls, calls, calls_replaced, is_touched_by, is_touched, IsAgain, IsEdited}
 use Rattle.answers.specs.declared.again.Callers.{Callers}
 use Rattle.answers.specs.declared.again.Callers.TheVariants.{SeeChange, SeeNone}
 use Rattle.answers.proofs.Lists.{none_pass, none_passes_at, all_so}
@@ -46,7 +45,7 @@ module _ (p : LaidOut) (certs : List Section) (q : LaidOut) (others : List Secti
   called_looks None e = tt
   called_looks (Some n) e = others_same n (λ h. let t = eq-eqb n replaced h in cc)
 
-  body_looks : (f : Function) (block : Option Block) → ((b : Block) → block ≡ Some b → list_any (instruction_calls q.of_module replaced) b.body ≡ false) → OfEachCalled p.of_module Same (block_body block)
+  body_looks : (f : Function) (block : Option Block) → ((b : Block) → block ≡ Some b → block_calls q.of_module replaced b ≡ false) → OfEachCalled p.of_module Same (block_body block)
   body_looks f None none = tt
   body_looks f (Some b) none =
       all_so (λ instr. instruction_calls q.of_module replaced instr ≡ false) (λ instr. IfThere Same (called_by p.of_module instr.op)) b.body
@@ -56,7 +55,7 @@ module _ (p : LaidOut) (certs : List Section) (q : LaidOut) (others : List Secti
   -- where a function does not call the replaced one, all that it calls looks the same
   looks_by : (f : Function) → calls q.of_module replaced f ≡ false → (block : ℕ) → OfEachCalled p.of_module Same (body_of f block)
   looks_by f none block =
-      body_looks f (slice_get f.blocks block) (λ b at. none_passes_at (λ (b : Block). list_any (instruction_calls q.of_module replaced) b.body) f.blocks block b none at)
+      body_looks f (slice_get f.blocks block) (λ b at. none_passes_at (block_calls q.of_module replaced) f.blocks block b none at)
 
 all_look : (m : Module) (P : ℕ → Type 0) (xs : List Instr) → ((n : ℕ) → P n) → OfEachCalled m P xs
 all_look m P [] each = tt

@@ -1,6 +1,7 @@
 -- A program in which one function is replaced, or its certificate.
 use Rattle.std.specs.Prelude.{◌≡◌, ◌≢◌, ◌==◌, ◌||◌, ℕ, Bool, true, false, List, slice_get, Option, Some, None}
 use Rattle.std.specs.List.{list_any}
+use Rattle.ir_ast.specs.declared.block.Block.{Block}
 use Rattle.ir_ast.specs.declared.function.Function.{Function}
 use Rattle.ir_ast.specs.declared.instr.Instr.{Instr}
 use Rattle.ir_ast.specs.declared.module.Module.{Module}
@@ -23,9 +24,13 @@ is_number n (Some other) = other == n
 abbrev pub instruction_calls : Module → (called : ℕ) → Instr → Bool
 instruction_calls m called instr = is_number called (called_by m instr.op)
 
+-- a block does
+abbrev pub block_calls : Module → (called : ℕ) → Block → Bool
+block_calls m called block = list_any (instruction_calls m called) block.body
+
 -- a function calls this one
 abbrev pub calls : Module → (called : ℕ) → Function → Bool
-calls m called f = list_any (λ block. list_any (instruction_calls m called) block.body) f.blocks
+calls m called f = list_any (block_calls m called) f.blocks
 
 -- ---- what is checked again
 
