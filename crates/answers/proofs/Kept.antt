@@ -1,5 +1,5 @@
 -- The answers that are kept are answers after the edit.
-use Rattle.std.proofs.Common.{◌≡◌, ◌≢◌, ◌==◌, ℕ, Bool, true, false, List, [], ◌∷◌, slice_get, Option, Some, None, refl, ap, sym, subst, ◌∙◌, eqb-true, eq-eqb}
+use Rattle.std.proofs.Common.{◌≡◌, ◌≢◌, ◌==◌, ℕ, Bool, true, false, List, [], ◌∷◌, slice_get, Option, Some, None, refl, ap, sym, subst, ◌∙◌, eqb-true, eq-eqb, ◌+◌, ◌++◌, zero, suc, length, arith}
 use Rattle.lemmas.specs.Bools.{or_neither}
 use Rattle.ir_ast.specs.declared.block.Block.{Block}
 use Rattle.ir_ast.specs.declared.function.Function.{Function}
@@ -13,11 +13,12 @@ use Rattle.block_rules.specs.Standing.{block_body, body_of}
 use Rattle.block_rules.specs.declared.block_fault.Refusal.{Refusal}
 use Rattle.locality.specs.Local.{with_functions, laid_with, interface_of, called_by, IfThere, OfEachCalled, LooksSame, SameScope}
 use Rattle.locality.specs.Laws.{StayCertified, StayRefused}
-use Rattle.answers.specs.Answers.{IsAnswer}
-use Rattle.answers.specs.Edited.{is_number, instruction_calls, block_calls, calls, calls_replaced, is_touched_by, is_touched, IsAgain, IsEdited}
+use Rattle.answers.specs.Answers.{IsAnswer, AreAnswers, AreAnswersSoFar}
+use Rattle.answers.specs.Edited.{is_number, instruction_calls, block_calls, calls, calls_replaced, is_touched_by, is_touched, IsAgain, AreAgainSoFar, IsEdited}
 use Rattle.answers.specs.declared.again.Callers.{Callers}
 use Rattle.answers.specs.declared.again.Callers.TheVariants.{SeeChange, SeeNone}
-use Rattle.answers.proofs.Lists.{none_pass, none_passes_at, all_so}
+use Rattle.std.proofs.lemmas.List.{length-append}
+use Rattle.answers.proofs.Lists.{one_more, none_pass, none_passes_at, all_so}
 
 -- what an operation calls does not depend on functions
 called_same : (m : Module) (fs : List Function) (x : Op) → called_by (with_functions m fs) x ≡ called_by m x
@@ -106,3 +107,41 @@ answer_after certified refused p certs q others replaced callers edit func old n
     by : (b : Bool) → is_touched q.of_module replaced callers func ≡ b → IsAgain q others b func old new → IsAnswer q others func new
     by true e h = h
     by false e h = subst (IsAnswer q others func) (sym h) (stays certified refused p certs q others func edit.tables (scope p certs q others replaced callers edit func e) old before)
+
+-- lists of one length have elements at the same places
+stands_too : {A : Type 0} (xs ys : List A) (n : ℕ) (y : A) → length ys ≡ length xs → slice_get ys n ≡ Some y → (x : A) × (slice_get xs n ≡ Some x)
+stands_too xs [] n y e at = absurd cc
+stands_too [] (z ∷ ys) n y e at = absurd (omega (arith, e))
+stands_too (x ∷ xs) (z ∷ ys) zero y e at = (x, refl)
+stands_too (x ∷ xs) (z ∷ ys) (suc n) y e at = stands_too xs ys n y (omega (arith, e)) at
+
+-- so are all answers
+pub all_after : StayCertified → StayRefused → (p : LaidOut) (certs : List Section) (q : LaidOut) (others : List Section) (replaced : ℕ) (callers : Callers) → IsEdited p certs q others replaced callers → (before after : List (Option Refusal))
+    → AreAnswers p certs before → length after ≡ length before → length before ≡ length q.of_module.functions → AreAgainSoFar q others replaced callers before after → AreAnswers q others after
+all_after certified refused p certs q others replaced callers edit before after are same count again = record {
+  one_each = same ∙ count;
+  each = λ func answer at.
+      let old = stands_too before after func answer same at in
+      answer_after certified refused p certs q others replaced callers edit func old.0 answer (are.each func old.0 old.1) (again func old.0 answer old.1 at);
+}
+
+-- ---- one answer more
+
+-- where the list of answers grows by one, so far so good
+pub answers_more : (program : LaidOut) (certs : List Section) (answers more : List (Option Refusal)) (n : ℕ) (answer : Option Refusal) → more ≡ answers ++ answer ∷ [] → length answers ≡ n → AreAnswersSoFar program certs answers
+    → IsAnswer program certs n answer → (length more ≡ n + 1) × AreAnswersSoFar program certs more
+answers_more program certs answers more n answer grown count so_far here =
+    let last : IsAnswer program certs (length answers) answer = subst (λ k. IsAnswer program certs k answer) (sym count) here in
+    let longer = length-append answers (answer ∷ []) in
+    (ap length grown ∙ omega (arith, longer, count), subst (AreAnswersSoFar program certs) (sym grown) (one_more (IsAnswer program certs) answers answer so_far last))
+
+pub again_more : (program : LaidOut) (certs : List Section) (replaced : ℕ) (callers : Callers) (before answers more : List (Option Refusal)) (n : ℕ) (old answer : Option Refusal) → more ≡ answers ++ answer ∷ [] → length answers ≡ n
+    → AreAgainSoFar program certs replaced callers before answers → slice_get before n ≡ Some old → IsAgain program certs (is_touched program.of_module replaced callers n) n old answer
+    → (length more ≡ n + 1) × AreAgainSoFar program certs replaced callers before more
+again_more program certs replaced callers before answers more n old answer grown count so_far at here =
+    let Again = λ (func : ℕ) (new : Option Refusal). (was : Option Refusal) → slice_get before func ≡ Some was → IsAgain program certs (is_touched program.of_module replaced callers func) func was new in
+    let last : Again (length answers) answer = subst (λ k. Again k answer) (sym count) (λ was is. let same : old ≡ was = cc in subst (λ x. IsAgain program certs (is_touched program.of_module replaced callers n) n x answer) same here) in
+    let longer = length-append answers (answer ∷ []) in (
+      ap length grown ∙ omega (arith, longer, count),
+      λ func was new is found. one_more Again answers answer (λ k x h w i. so_far k w x i h) last func new (subst (λ xs. slice_get xs func ≡ Some new) grown found) was is,
+    )

@@ -61,6 +61,7 @@ fn answer_again(
 
 /// The answers after one function or its certificate was replaced, from the answers before: only the function is checked again,
 /// and its callers where they see a change.
+#[tactic(auto, using(crate::proofs::Kept::again_more))]
 pub fn answers_again(
     alloc: Global,
     program: &Program,

@@ -29,6 +29,7 @@ pub fn answer_to(
 }
 
 /// The answers to all functions of a program.
+#[tactic(auto, using(crate::proofs::Kept::answers_more))]
 pub fn answers_to(
     alloc: Global,
     program: &Program,
@@ -42,7 +43,8 @@ pub fn answers_to(
     };
     let mut answers = Items::new(alloc);
     for number in 0..count {
-        answers.push(answer_to(alloc, program, certs, FuncId::new(number))?)?;
+        let answer = answer_to(alloc, program, certs, FuncId::new(number))?;
+        answers.push(answer)?;
     }
     Ok(answers)
 }
