@@ -145,3 +145,7 @@ again_more program certs replaced callers before answers more n old answer grown
       ap length grown ∙ omega (arith, longer, count),
       λ func was new is found. one_more Again answers answer (λ k x h w i. so_far k w x i h) last func new (subst (λ xs. slice_get xs func ≡ Some new) grown found) was is,
     )
+
+-- these are all of them
+pub all_answers : (program : LaidOut) (certs : List Section) (answers : List (Option Refusal)) (n : ℕ) → (length answers ≡ n) × AreAnswersSoFar program certs answers → n ≡ length program.of_module.functions → AreAnswers program certs answers
+all_answers program certs answers n h count = record { one_each = h.0 ∙ count; each = h.1 }

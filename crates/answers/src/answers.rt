@@ -1,7 +1,7 @@
 //! The answers to functions.
-ghost use Rattle.std.specs.Prelude.{◌≡◌, ◌<◌, length, IfOk};
+ghost use Rattle.std.specs.Prelude.{◌≡◌, ◌<◌, ◌≤◌, [], length, IfOk, OnOk};
 ghost use Rattle.answers.specs.Answers as spec;
-ghost use Rattle.answers.specs.Answers.{AreAnswers, IsAnswer};
+ghost use Rattle.answers.specs.Answers.{AreAnswers, AreAnswersSoFar, IsAnswer};
 
 use block_check::check_function;
 use block_rules::{BlockFault, Refusal};
@@ -28,8 +28,28 @@ pub fn answer_to(
     }
 }
 
-/// The answers to all functions of a program.
+/// Puts the answers to the first `count` functions into an empty list.
 #[tactic(auto, using(crate::proofs::Kept::answers_more))]
+fn put_answers(
+    alloc: Global,
+    program: &Program,
+    certs: &Certs,
+    count: u32,
+    answers: &mut Items<Option<Refusal>>,
+) -> Result<(), AllocError>
+    requires within { count ≤ length program.now.of_module.functions }
+    requires empty { answers.old ≡ [] }
+    ensures { OnOk result ((length answers.new ≡ count) × AreAnswersSoFar program.now certs.now answers.new) }
+{
+    for number in 0..count {
+        let answer = [answer_to(alloc, program, certs, FuncId::new(number))?];
+        answers.push(answer[0])?;
+    }
+    Ok(())
+}
+
+/// The answers to all functions of a program.
+#[tactic(auto, using(crate::proofs::Kept::all_answers))]
 pub fn answers_to(
     alloc: Global,
     program: &Program,
@@ -42,10 +62,7 @@ pub fn answers_to(
         return Err(AllocError);
     };
     let mut answers = Items::new(alloc);
-    for number in 0..count {
-        let answer = answer_to(alloc, program, certs, FuncId::new(number))?;
-        answers.push(answer)?;
-    }
+    put_answers(alloc, program, certs, count, &mut answers)?;
     Ok(answers)
 }
 
