@@ -31,7 +31,8 @@ fn block_calls(module: &Module, called: FuncId, block: &Block) -> bool
     ensures { result ≡ spec.block_calls «module».now called block.now }
 {
     let body = block.body.as_slice();
-    body.iter().any(|instr| instruction_calls(module, called, instr))
+    body.iter()
+        .any(|instr| instruction_calls(module, called, instr))
 }
 
 /// Whether a function calls this one.
@@ -39,5 +40,7 @@ pub fn calls(module: &Module, called: FuncId, function: &Function) -> bool
     ensures { result ≡ spec.calls «module».now called function.now }
 {
     let blocks = function.blocks.as_slice();
-    blocks.iter().any(|block| block_calls(module, called, block))
+    blocks
+        .iter()
+        .any(|block| block_calls(module, called, block))
 }

@@ -91,7 +91,12 @@ fn file_anew(
 {
     input.expect(b"function")?;
     own_name(alloc, input, module, function)?;
-    own_section(alloc, input, module, module.functions.get(function.number() as usize))?;
+    own_section(
+        alloc,
+        input,
+        module,
+        module.functions.get(function.number() as usize),
+    )?;
     if !input.ended() {
         return Err(Found::Syntax(input.left()));
     }

@@ -88,12 +88,7 @@ fn text(alloc: Global, input: &mut Input<'_>) -> Result<Items<u8>, Found>
 
 /// An edit after its first line.
 #[tactic(auto, unfolding(crate::specs::Text::edit_of))]
-fn edit_of(
-    alloc: Global,
-    input: &mut Input<'_>,
-    part: Part,
-    name: Items<u8>,
-) -> Result<Edit, Found>
+fn edit_of(alloc: Global, input: &mut Input<'_>, part: Part, name: Items<u8>) -> Result<Edit, Found>
     ensures { Reads ((text.edit_of part name).read input.old) result input.new }
 {
     match part {

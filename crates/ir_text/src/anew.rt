@@ -13,8 +13,7 @@ use crate::late::late_fault;
 use crate::read_fault::ReadFault;
 use crate::reader::located;
 use ir_ast::{FuncId, Function, Names, SymbolSort, Types};
-use ir_forms::{Cursor, Fault, Table};
-use ir_forms::Input;
+use ir_forms::{Cursor, Fault, Input, Table};
 use ir_tokens::{Kind, Lexed, Position, TEXT_LIMIT, read_tokens};
 use items::Items;
 use pools::LayoutId;
@@ -102,12 +101,7 @@ fn ends(input: &mut Input<'_>) -> Result<(), Fault>
 
 /// A text of one function with this number and this name.
 #[tactic(auto, unfolding(crate::specs::Anew::anew))]
-fn anew(
-    alloc: Global,
-    input: &mut Input<'_>,
-    func: FuncId,
-    name: &[u8],
-) -> Result<(), Fault>
+fn anew(alloc: Global, input: &mut Input<'_>, func: FuncId, name: &[u8]) -> Result<(), Fault>
     ensures { Reads ((spec.anew func name.now).read input.old) result input.new }
 {
     let head = named_head(alloc, input, func, name)?;

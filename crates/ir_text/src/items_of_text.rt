@@ -316,11 +316,7 @@ fn definition(alloc: Global, input: &mut Input<'_>) -> Result<(), Fault>
 }
 
 /// The body after a head.
-pub fn body_behind(
-    alloc: Global,
-    input: &mut Input<'_>,
-    head: FunctionHead,
-) -> Result<(), Fault>
+pub fn body_behind(alloc: Global, input: &mut Input<'_>, head: FunctionHead) -> Result<(), Fault>
     ensures { Reads ((form.body_behind head).read input.old) result input.new }
 {
     open_body(input)?;

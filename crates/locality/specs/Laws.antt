@@ -11,10 +11,10 @@ use Rattle.locality.specs.Local.{laid_with, SameScope}
 abbrev pub StayCertified : Type 0
 StayCertified =
     (p : LaidOut) (certs : List Section) (fs : List Function) (others : List Section) (func : ℕ) → SameScope p certs fs others func
-        → IsFunctionCertified p certs func → IsFunctionCertified (laid_with p fs) others func
+    → IsFunctionCertified p certs func → IsFunctionCertified (laid_with p fs) others func
 
 -- so does the first refusal of a function
 abbrev pub StayRefused : Type 0
 StayRefused =
     (p : LaidOut) (certs : List Section) (fs : List Function) (others : List Section) (func : ℕ) (refusal : Refusal) → SameScope p certs fs others func
-        → IsFirstInFunction p certs func (blocks_in p func) refusal → IsFirstInFunction (laid_with p fs) others func (blocks_in (laid_with p fs) func) refusal
+    → IsFirstInFunction p certs func (blocks_in p func) refusal → IsFirstInFunction (laid_with p fs) others func (blocks_in (laid_with p fs) func) refusal

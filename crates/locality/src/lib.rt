@@ -1,5 +1,6 @@
 //! What is asked of one function depends on its own text, on its certificate, and on what it sees of the functions that it calls.
 #![tactic(auto)]
+
 ghost use Rattle.locality.specs.Laws.{StayCertified, StayRefused};
 
 /// Among other functions and other certificates the answer to a function stays what it is, where its own text and certificate
