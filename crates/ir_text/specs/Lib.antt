@@ -6,3 +6,4 @@ pub mod ItemsOfText
 pub mod Late
 pub mod Read
 pub mod Anew
+pub mod Replaced

@@ -9,9 +9,11 @@ mod lines;
 mod parameters;
 mod read_fault;
 mod reader;
+mod replaced;
 mod starts;
 
 pub use anew::{Replacement, Tables, read_function};
 pub use ir_print::print;
 pub use read_fault::ReadFault;
 pub use reader::read;
+pub use replaced::{copy_tables, replace};
