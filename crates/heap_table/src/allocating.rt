@@ -50,6 +50,7 @@ impl<'a> Heap<'a> {
         0
     }
 
+    #[inline(always)]
     fn tries(&self, me: &Mutator, layout: LayoutId) -> Tries
         requires token { IsOf self.now me.now }
         requires layout { layout < length me.now.setup.pools }
@@ -66,6 +67,7 @@ impl<'a> Heap<'a> {
     }
 
     /// Tries to take a free cell, once.
+    #[inline(always)]
     fn try_claim(&self, me: &mut Mutator, cell: u32) -> bool
         requires token { IsOf self.now me.old }
         requires running { stage_of me.old.log ≢ done }
