@@ -1,0 +1,13 @@
+%Row = type { [4 x i64] }
+define i64 @f(%Row* %a, i64 %i) gc "shadow-stack" {
+entry:
+  %c = icmp ult i64 %i, 3
+  br i1 %c, label %in, label %out
+in:
+  %w = add i64 %i, 1
+  %p = getelementptr %Row, %Row* %a, i64 0, i32 0, i64 %w
+  %v = load i64, i64* %p
+  ret i64 %v
+out:
+  ret i64 0
+}
