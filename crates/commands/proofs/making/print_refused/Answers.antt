@@ -10,7 +10,7 @@ returns-in_ok-refused-in-Ok g c =
     let m = c.args.of_module.now in
     let tried = c.args.tried.now in
     let old = g.E.Write.contents c.args.err.now in
-    let new = g.E.Write.contents c.refused.new.err in
+    let new = g.E.Write.contents c.refused.new.out in
     let told = subst (λ line. Appends old new (no m line tried.refusal).text) (c.as_slice.ensures.value ∙ c.in-Ok.ensures) c.in_ok-refused-in-Ok.ensures.1 in
     (OnBoth no_answer _, none_made_why tried.certs tried.refusal c.requires.asked c.requires.plain c.requires.refused, (c.in_ok-status-in-Ok.ensures, told))
 
