@@ -1,5 +1,4 @@
 //! A row: a command line, the folder of its files, and what it has to print.
-ghost use Rattle.std.specs.Prelude.{◌≡◌, length, true};
 ghost use Rattle.commands.specs.Asked.{asked_by, HasWorkers};
 
 use crate::failure::Failure;
@@ -55,9 +54,7 @@ impl Row {
     }
 
     /// Whether it checks a module and a certificate, with no options.
-    pub fn is_plain_check(&self) -> bool
-        ensures { result ≡ true → length self.now.words.items ≡ 4 }
-    {
+    pub fn is_plain_check(&self) -> bool {
         self.words.len() == 4 && self.words[1].as_str() == "check"
     }
 
@@ -99,11 +96,12 @@ impl Row {
     pub fn checked_as_made(
         &self,
         rt: &(impl Runtime + AllocGlobal + Threads + Sync),
-    ) -> Result<Printed, Failure>
-        requires { length self.now.words.items ≡ 4 }
-    {
+    ) -> Result<Printed, Failure> {
         let alloc = rt.alloc();
-        let module_path = self.words[2].as_str();
+        let Some(module_path) = self.words.get(2) else {
+            return Err(Failure::Outside);
+        };
+        let module_path = module_path.as_str();
         let made = self.done(
             rt,
             &Line::Make {
