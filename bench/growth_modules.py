@@ -36,6 +36,13 @@ def ring(n):
     return lines(n, lambda i: f"%T{i} = type {{ [{i + 1} x %T{n}] }}") + f"%T{n} = type {{ %T{n} }}\n", "cert 1\n"
 
 
+@kind("structs between two rings", says="error Y1")
+def between_rings(n):
+    """Structs that a struct holds which holds itself, and that hold another one that does: the texts are refused."""
+    held = ", ".join(f"%T{i}" for i in range(n))
+    return lines(n, lambda i: f"%T{i} = type {{ %B }}") + f"%A = type {{ %A, {held} }}\n%B = type {{ %B }}\n", "cert 1\n"
+
+
 @kind("fields")
 def fields(n):
     """The fields of one struct; all but the last have no word."""

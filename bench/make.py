@@ -1,11 +1,13 @@
 #!/usr/bin/env python3
 """Counts for how many functions `dgc make` makes a certificate.
 
-    make.py DGC [--clang PROGRAM] [--opt PROGRAM] [--keep FOLDER] [--all]
+    make.py DGC [--clang PROGRAM] [--opt PROGRAM] [--level=-O0:PASSES ..] [--keep FOLDER] [--all]
 
 - Each function of the C programs in bench/programs is compiled at several levels, and made into gcroot code by gcroot.py, with
   what it calls. Prints for each level how many modules are read, for how many of them a certificate is made, and by which rule
-  the others are refused. With --all it prints the refusal of each.
+  the others are refused. Then it prints why they are: refusals.py finds the instructions that are refused with every
+  certificate. A module for which none is made has to have one, and a module for which one is made must have none. With --all it
+  prints the refusal of each module, and such an instruction. With --level it takes these levels of clang and passes of opt.
 - The module of each worked example that `check` accepts (crates/dgc_tests/data), and modules of generate.py: a certificate
   has to be made for each.
 Each certificate that is made has to be accepted by `dgc check`. Ends with status 1 where something is not as it has to be.
@@ -19,13 +21,14 @@ import subprocess
 import sys
 import tempfile
 
-from gcroot import modules
+from gcroot import functions_of, modules
+from refusals import refused_always
 
 HERE = os.path.dirname(os.path.abspath(__file__))
 ROWS = os.path.join(HERE, "..", "crates", "dgc_tests", "data", "rows")
 FLAGS = ["-S", "-emit-llvm", "-w", "-fno-builtin", "-fno-vectorize", "-fno-slp-vectorize", "-fno-unroll-loops", "-fno-exceptions",
          "-fno-discard-value-names", "-Xclang", "-disable-O0-optnone"]
-LEVELS = [("-O0", "instnamer"), ("-O0", "mem2reg,jump-threading,instnamer"), ("-O1", "instnamer"), ("-O2", "instnamer")]
+LEVELS = ["-O0:", "-O0:mem2reg,jump-threading", "-O1:", "-O2:"]
 
 
 def run(*words, text=None):
@@ -66,20 +69,48 @@ def compiled(options, path, level, passes):
     return run(options.opt, "-S", f"-passes={passes}", text=text).stdout
 
 
+def why_none(maker, name, module, answer):
+    """Why a module has no certificate: the rule and the reason of the first instruction that is refused with every one."""
+    if answer != "made" and answer[0] != "K":
+        return None
+    always = next(refused_always(module, functions_of(module)), None)
+    if answer == "made" and always:
+        maker.wrong.append(f"{name}: made, though refused with every certificate: {always}")
+    if answer != "made" and not always:
+        maker.wrong.append(f"{name}: none made, and no instruction is refused with every certificate")
+    return always
+
+
+def tried(options, maker, level):
+    """What came of each module of a level, and why there is no certificate."""
+    flag, passes = level.split(":", 1)
+    passes = ",".join(passes.split(",") * bool(passes) + ["instnamer"])
+    for path in sorted(glob.glob(f"{HERE}/programs/*.c")):
+        for function, module in modules(compiled(options, path, flag, passes)):
+            name = f"{function}{flag}.{options.level.index(level)}"
+            answer, line = maker.made(name, module)
+            always = why_none(maker, name, module, answer)
+            if options.all and answer != "made":
+                print(f"  {function}: {line}" + (f"; with every certificate: @{always[0]} %{always[1]} {always[2]} {always[3]} {always[4]}" if always else ""))
+            yield answer, always and f"{always[3]} {always[4]}"
+
+
 def corpus(options, maker):
-    """A line for each level."""
+    """A line for each level, and then one for each reason."""
     print(f"{'level':40} functions  read  made  others")
-    for level, passes in LEVELS:
+    reasons = collections.defaultdict(lambda: [0] * len(options.level))
+    for at, level in enumerate(options.level):
         told = collections.Counter()
-        for path in sorted(glob.glob(f"{HERE}/programs/*.c")):
-            for name, module in modules(compiled(options, path, level, passes)):
-                answer, line = maker.made(f"{name}{level}{passes.count(',')}", module)
-                told[answer] += 1
-                if options.all and answer != "made":
-                    print(f"  {name}: {line}")
+        for answer, reason in tried(options, maker, level):
+            told[answer] += 1
+            if reason:
+                reasons[reason][at] += 1
         count, unread = sum(told.values()), sum(number for answer, number in told.items() if answer[0] in "LYe")
         others = ", ".join(f"{answer} {number}" for answer, number in sorted(told.items()) if answer != "made")
-        print(f"{level + ' ' + passes.replace('instnamer', '').rstrip(','):40} {count:9} {count - unread:5} {told['made']:5}  {others}", flush=True)
+        print(f"{level.replace(':', ' '):40} {count:9} {count - unread:5} {told['made']:5}  {others}", flush=True)
+    print("\nrefused with every certificate, at the levels in this order")
+    for reason, counts in sorted(reasons.items(), key=lambda row: -sum(row[1])):
+        print(f"{reason:60}" + "".join(f"{number:5}" for number in counts))
 
 
 def accepted_rows():
@@ -116,9 +147,11 @@ def main():
     options.add_argument("dgc")
     options.add_argument("--clang", default="clang")
     options.add_argument("--opt", default="opt")
+    options.add_argument("--level", action="append")
     options.add_argument("--keep")
     options.add_argument("--all", action="store_true")
     options = options.parse_args()
+    options.level = options.level or LEVELS
     with tempfile.TemporaryDirectory() as folder:
         if options.keep:
             os.makedirs(options.keep, exist_ok=True)

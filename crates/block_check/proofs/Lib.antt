@@ -1,4 +1,6 @@
 mod Leads
+mod GivenLists
+mod Undecided
 mod NotedEntries
 mod Operands
 mod PhiSteps

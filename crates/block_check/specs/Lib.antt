@@ -1,7 +1,9 @@
+pub mod Rows
 pub mod Subject
 pub mod Tables
 pub mod Decided
 pub mod Predecessors
+pub mod Shown
 pub mod PhiOperands
 pub mod Entries
 pub mod Walk

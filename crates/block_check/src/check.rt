@@ -1,17 +1,19 @@
-ghost use Rattle.std.specs.Prelude.{◌≡◌, ◌<◌, ◌⊎◌, length, slice_get, Err, Some, IsOkUnless, MatchOption, MatchResult};
+ghost use Rattle.std.specs.Prelude.{◌≡◌, ◌<◌, ◌⊎◌, length, Err, IsOkUnless, MatchOption, MatchResult};
 ghost use Rattle.block_rules.specs.Certified.{BlockCertified, FirstRefusal, IfRefused};
 ghost use Rattle.block_rules.specs.declared.block_fault.BlockFault.TheVariants.{Refused, Memory};
+ghost use Rattle.block_check.specs.Rows.{AreRowsOf, AreGivenOf};
 ghost use Rattle.block_check.specs.Subject.{IsReady};
 ghost use Rattle.block_rules.specs.Functions.{blocks_in, AreBlocksCertified, IsFunctionCertified, IsFirstInFunction, IsFunctionFault};
 
-use crate::subject::Subject;
+use crate::kept_rows::Rows;
+use crate::subject::{Subject, function_of};
 use crate::tables::Tables;
 use crate::walk::Walk;
 use crate::ways::Rooms;
 use block_rules::{BlockFault, Refusal, Scene};
 use certs::Certs;
-use facts::Facts;
-use ir_ast::{BlockId, FuncId, Function, Module};
+use facts::{Facts, KeptFacts};
+use ir_ast::{BlockId, FuncId};
 use layout::Program;
 use std::alloc::Global;
 
@@ -28,7 +30,25 @@ pub fn check_block(
     ensures certified { BlockCertified program.now certs.now func block → IsOkUnless result Memory }
     ensures refused { (refusal : Refusal) → FirstRefusal program.now certs.now func block refusal → (result ≡ Err (Refused refusal)) ⊎ (result ≡ Err Memory) }
 {
-    answer_block(alloc, program, certs, func, block)
+    answer_block(alloc, program, certs, &[], func, block)
+}
+
+/// The same, where it was found before what the blocks of the function begin with.
+pub fn check_rows(
+    alloc: Global,
+    program: &Program,
+    certs: &Certs,
+    rows: &Rows,
+    func: FuncId,
+    block: BlockId,
+) -> Result<(), BlockFault>
+    requires func { func < length program.now.of_module.functions }
+    requires rows { AreRowsOf program.now certs.now func rows.now }
+    ensures answer { MatchResult result (λ _. BlockCertified program.now certs.now func block) (λ fault. IfRefused fault (FirstRefusal program.now certs.now func block)) }
+    ensures certified { BlockCertified program.now certs.now func block → IsOkUnless result Memory }
+    ensures refused { (refusal : Refusal) → FirstRefusal program.now certs.now func block refusal → (result ≡ Err (Refused refusal)) ⊎ (result ≡ Err Memory) }
+{
+    answer_block(alloc, program, certs, rows.blocks(), func, block)
 }
 
 /// Whether each block of a function obeys the rules; the first instruction in text order that breaks one is refused.
@@ -50,10 +70,12 @@ fn answer_block(
     alloc: Global,
     program: &Program,
     certs: &Certs,
+    rows: &[KeptFacts],
     func: FuncId,
     block: BlockId,
 ) -> Result<(), BlockFault>
-    requires { func < length program.now.of_module.functions }
+    requires func { func < length program.now.of_module.functions }
+    requires rows { AreGivenOf program.now certs.now func rows.now }
     ensures { MatchResult result (λ _. BlockCertified program.now certs.now func block) (λ fault. IfRefused fault (FirstRefusal program.now certs.now func block)) }
 {
     let function = function_of(program.module(), func);
@@ -64,7 +86,7 @@ fn answer_block(
         function,
         slots: &tables.slots,
     };
-    let answer = answer_alone(alloc, &tables.subject(scene, func), block);
+    let answer = answer_alone(alloc, &tables.subject(scene, func, rows), block);
     drop(tables);
     answer
 }
@@ -105,7 +127,7 @@ fn answer_function(
         function,
         slots: &tables.slots,
     };
-    let answer = answer_blocks(alloc, &tables.subject(scene, func), count);
+    let answer = answer_blocks(alloc, &tables.subject(scene, func, &[]), count);
     drop(tables);
     answer
 }
@@ -126,13 +148,6 @@ fn answer_blocks(alloc: Global, subject: &Subject, count: u32) -> Result<(), Blo
         Some(fault) => Err(fault),
         None => Ok(()),
     }
-}
-
-fn function_of(module: &Module, func: FuncId) -> &Function
-    requires { func < length «module».now.functions }
-    ensures { slice_get «module».now.functions func ≡ Some result.now }
-{
-    &module.functions.as_slice()[func.number() as usize]
 }
 
 /// The first fault in the first `count` blocks, in text order.

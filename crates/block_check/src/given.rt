@@ -21,6 +21,22 @@ pub fn begin_block(
     requires { IsReady subject.now }
     ensures { OnOk result (facts.new ≡ given_at (seen subject.now) block) }
 {
+    match subject.kept(block) {
+        Some(kept) => facts.open(alloc, kept),
+        None => find_given(alloc, subject, facts, block),
+    }
+}
+
+/// What a block begins with is found anew.
+fn find_given(
+    alloc: Global,
+    subject: &Subject,
+    facts: &mut Facts,
+    block: BlockId,
+) -> Result<(), AllocError>
+    requires { IsReady subject.now }
+    ensures { OnOk result (facts.new ≡ given_at (seen subject.now) block) }
+{
     if block.number() == 0 {
         facts.set_from(alloc, subject.blank)?;
         receive_parameters(
@@ -30,12 +46,28 @@ pub fn begin_block(
             subject.promises(),
         )
     } else {
-        begin_lines(alloc, subject, facts, block)
+        list_lines(alloc, subject, facts, block)
     }
 }
 
-/// What the lines of a block say, in place of what is known.
+/// What the lines of a block say, in place of what is known: a block other than the entry begins with it.
 pub fn begin_lines(
+    alloc: Global,
+    subject: &Subject,
+    facts: &mut Facts,
+    block: BlockId,
+) -> Result<(), AllocError>
+    requires { IsReady subject.now }
+    ensures { OnOk result (facts.new ≡ line_facts (seen subject.now) block) }
+{
+    if block.number() == 0 {
+        list_lines(alloc, subject, facts, block)
+    } else {
+        begin_block(alloc, subject, facts, block)
+    }
+}
+
+fn list_lines(
     alloc: Global,
     subject: &Subject,
     facts: &mut Facts,

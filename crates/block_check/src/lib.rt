@@ -6,6 +6,8 @@ mod breach;
 mod check;
 mod entries;
 mod given;
+mod given_rows;
+mod kept_rows;
 mod phi_operands;
 mod phis;
 mod predecessors;
@@ -15,4 +17,6 @@ mod walk;
 mod ways;
 
 pub use block_rules::{BlockFault, Breach, Detail, Refusal, Rule};
-pub use check::{check_block, check_function};
+pub use check::{check_block, check_function, check_rows};
+pub use given_rows::rows;
+pub use kept_rows::Rows;

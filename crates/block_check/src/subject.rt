@@ -1,4 +1,4 @@
-ghost use Rattle.std.specs.Prelude.{◌≡◌, slice_get};
+ghost use Rattle.std.specs.Prelude.{◌≡◌, ◌<◌, length, slice_get, Some};
 ghost use Rattle.std.specs.Option.{option_copied};
 ghost use Rattle.block_rules.specs.Standing.{phis_of, body_of, end_of};
 ghost use Rattle.block_rules.specs.Promises.{promises_in, promised_in, own_mark};
@@ -9,8 +9,8 @@ use crate::phi_operands::PhiOperands;
 use crate::predecessors::Predecessors;
 use block_rules::Scene;
 use certs::{Line, Mark, Promise};
-use facts::Facts;
-use ir_ast::{BlockId, End, FuncId, Function, Instr, Operand, Phi};
+use facts::{Facts, KeptFacts};
+use ir_ast::{BlockId, End, FuncId, Function, Instr, Module, Operand, Phi};
 
 /// The function that is checked, with what is found of it once.
 #[derive(Clone, Copy)]
@@ -22,6 +22,8 @@ pub struct Subject<'a> {
     pub predecessors: &'a Predecessors,
     /// What comes in to the phis of each block.
     pub operands: &'a [PhiOperands],
+    /// What the first blocks begin with, as far as it was found before.
+    pub rows: &'a [KeptFacts],
 }
 
 impl<'a> Subject<'a> {
@@ -46,6 +48,13 @@ impl<'a> Subject<'a> {
             Some(operands) => operands.operand_from(place, from),
             None => None,
         }
+    }
+
+    /// What a block begins with, if it was found before.
+    pub fn kept(&self, block: BlockId) -> Option<&'a KeptFacts>
+        ensures { option_copied result ≡ slice_get self.now.rows.now block }
+    {
+        self.rows.get(block.number() as usize)
     }
 
     /// What is promised of each parameter.
@@ -77,6 +86,14 @@ impl<'a> Subject<'a> {
             None => Mark::None,
         }
     }
+}
+
+/// A function of a module.
+pub fn function_of(module: &Module, func: FuncId) -> &Function
+    requires { func < length «module».now.functions }
+    ensures { slice_get «module».now.functions func ≡ Some result.now }
+{
+    &module.functions.as_slice()[func.number() as usize]
 }
 
 /// The phis of a block; a block that does not exist has none.

@@ -1,4 +1,6 @@
 ghost use Rattle.std.specs.Prelude.{◌≡◌, Some, slice_get, IfOk};
+ghost use Rattle.block_rules.specs.Certified.{scene_of};
+ghost use Rattle.block_check.specs.Rows.{AreGiven};
 ghost use Rattle.block_check.specs.Tables.{IsOf};
 ghost use Rattle.block_check.specs.Subject.{IsReady};
 
@@ -6,7 +8,7 @@ use crate::phi_operands::{PhiOperands, operands_of};
 use crate::predecessors::Predecessors;
 use crate::subject::Subject;
 use block_rules::Scene;
-use facts::Facts;
+use facts::{Facts, KeptFacts};
 use ir_ast::{FuncId, Function, Module};
 use shadow_stack::Slots;
 use std::alloc::{AllocError, Global};
@@ -36,11 +38,17 @@ impl Tables {
         })
     }
 
-    /// The function as it is checked.
-    pub fn subject<'a>(&'a self, scene: Scene<'a>, func: FuncId) -> Subject<'a>
+    /// The function as it is checked. What its first blocks begin with may have been found before.
+    pub fn subject<'a>(
+        &'a self,
+        scene: Scene<'a>,
+        func: FuncId,
+        rows: &'a [KeptFacts],
+    ) -> Subject<'a>
         requires of { IsOf scene.program.now.of_module scene.function.now self.now }
         requires slots { scene.slots.now ≡ self.now.slots }
         requires there { slice_get scene.program.now.of_module.functions func ≡ Some scene.function.now }
+        requires rows { AreGiven (scene_of scene.program.now scene.certs.now scene.function.now (slice_get scene.certs.now func)) rows.now }
         ensures ready { IsReady result }
         ensures func { result.func ≡ func }
         ensures program { result.scene.program.now ≡ scene.entry.program.now }
@@ -52,6 +60,7 @@ impl Tables {
             blank: &self.blank,
             predecessors: &self.predecessors,
             operands: self.operands.as_slice(),
+            rows,
         }
     }
 }

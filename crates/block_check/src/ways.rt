@@ -6,10 +6,12 @@ ghost use Rattle.types.specs.ValueTypes.{target_of};
 ghost use Rattle.block_rules.specs.Ways.{open_way, branch_ways, ways, decided_facts, entered, line_facts, unshown_line, unshown_at, unshown_on};
 ghost use Rattle.block_check.specs.Subject.{seen, IsReady};
 ghost use Rattle.block_check.specs.Decided.{decided_by};
+ghost use Rattle.block_check.specs.Shown.{AreShown};
 
+use crate::block_set::BlockSet;
 use crate::given::begin_lines;
 use crate::phis::note_entries;
-use crate::subject::Subject;
+use crate::subject::{Subject, phis_of};
 use block_rules::Detail;
 use certs::Line;
 use facts::{Entry, Facts};
@@ -113,12 +115,48 @@ impl Rooms {
         requires { IsReady subject.now }
         ensures { IfOk result (λ found. found ≡ unshown_on (seen subject.now) exit.now.block exit.now.facts.now (map (λ case. open_way case.target) cases.now)) }
     {
+        let mut shown = BlockSet::new(alloc);
         for case in cases {
-            if let Some(detail) = self.unshown_at(alloc, subject, exit, case.target, None)? {
+            if let Some(detail) = self.unshown_anew(
+                alloc,
+                subject,
+                exit,
+                &mut shown,
+                case.target,
+            )? {
                 return Ok(Some(detail));
             }
         }
         Ok(None)
+    }
+
+    /// The same on an edge that no value decides; the lines of these targets are known to be shown.
+    fn unshown_anew(
+        &mut self,
+        alloc: Global,
+        subject: &Subject,
+        exit: &Exit,
+        shown: &mut BlockSet,
+        target: ValueId,
+    ) -> Result<Option<Detail>, AllocError>
+        requires ready { IsReady subject.now }
+        requires shown { AreShown (seen subject.now) exit.now.block exit.now.facts.now shown.old }
+        ensures found { IfOk result (λ found. found ≡ unshown_at (seen subject.now) exit.now.block exit.now.facts.now (target_of subject.now.scene.function.now target)) }
+        ensures shown { OnOk result (AreShown (seen subject.now) exit.now.block exit.now.facts.now shown.new) }
+    {
+        let Some(to) = target_of(subject.scene.function, target) else {
+            return Ok(None);
+        };
+        if shown.has(to) {
+            return Ok(None);
+        }
+        match self.unshown_in(alloc, subject, exit, None, to)? {
+            Some(detail) => Ok(Some(detail)),
+            None => {
+                shown.add(to)?;
+                Ok(None)
+            }
+        }
     }
 
     /// The first line of the target that is not shown on one edge.
@@ -153,25 +191,40 @@ impl Rooms {
         if subject.lines(to).is_empty() {
             return Ok(None);
         }
-        self.enter(alloc, subject, exit, decided, to)?;
         begin_lines(alloc, subject, &mut self.there, to)?;
-        match self.unshown_line(subject, to) {
+        match self.unshown_entered(alloc, subject, exit, decided, to)? {
             Some(line) => Ok(Some(Detail { target: to, line })),
             None => Ok(None),
         }
     }
 
-    /// The first line of the target that what is known on the edge does not show.
-    fn unshown_line(&self, subject: &Subject, to: BlockId) -> Option<usize>
-        requires { self.now.there ≡ line_facts (seen subject.now) to }
-        ensures { result ≡ unshown_line (seen subject.now) to self.now.way }
+    /// The first line of the target that is not shown. Where nothing is decided and no phi takes anything, it is
+    /// known on the edge what is known at the end of the block.
+    fn unshown_entered(
+        &mut self,
+        alloc: Global,
+        subject: &Subject,
+        exit: &Exit,
+        decided: Option<(ValueId, bool)>,
+        to: BlockId,
+    ) -> Result<Option<usize>, AllocError>
+        requires ready { IsReady subject.now }
+        requires there { self.old.there ≡ line_facts (seen subject.now) to }
+        ensures { IfOk result (λ found. found ≡ unshown_line (seen subject.now) to (entered (seen subject.now) exit.now.block to (decided_facts decided exit.now.facts.now))) }
     {
-        unshown_among(
-            subject.scene.slots,
-            &self.way,
-            &self.there,
-            subject.lines(to),
-        )
+        if decided.is_none() && phis_of(subject.scene.function, to).is_empty() {
+            return Ok(self.unshown_line(subject, exit.facts, to));
+        }
+        self.enter(alloc, subject, exit, decided, to)?;
+        Ok(self.unshown_line(subject, &self.way, to))
+    }
+
+    /// The first line of the target that these facts do not show.
+    fn unshown_line(&self, subject: &Subject, facts: &Facts, to: BlockId) -> Option<usize>
+        requires { self.now.there ≡ line_facts (seen subject.now) to }
+        ensures { result ≡ unshown_line (seen subject.now) to facts.now }
+    {
+        unshown_among(subject.scene.slots, facts, &self.there, subject.lines(to))
     }
 
     /// What is known after the phis of the target.
@@ -184,7 +237,8 @@ impl Rooms {
         to: BlockId,
     ) -> Result<(), AllocError>
         requires { IsReady subject.now }
-        ensures { OnOk result (self.new.way ≡ entered (seen subject.now) exit.now.block to (decided_facts decided exit.now.facts.now)) }
+        ensures way { OnOk result (self.new.way ≡ entered (seen subject.now) exit.now.block to (decided_facts decided exit.now.facts.now)) }
+        ensures there { self.new.there ≡ self.old.there }
     {
         self.way.set_from(alloc, exit.facts)?;
         learn(&mut self.way, decided)?;

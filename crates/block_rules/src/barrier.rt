@@ -264,10 +264,11 @@ pub fn write_refusal(
 }
 
 /// Goes on to the facts after a call of gcwrite.
-pub fn after_write(facts: &mut Facts, arguments: &[Argument])
-    ensures { facts.new ≡ after_write arguments.now facts.old }
+pub fn after_write(facts: &mut Facts, arguments: &[Argument]) -> Result<(), AllocError>
+    ensures { OnOk result (facts.new ≡ after_write arguments.now facts.old) }
 {
-    if let [value, ..] = arguments {
-        publish(facts, &value.operand);
+    match arguments {
+        [value, ..] => publish(facts, &value.operand),
+        [] => Ok(()),
     }
 }

@@ -415,13 +415,14 @@ fn after_alloc_call(
 }
 
 /// The classes of what a callee is given are fresh no more.
-fn drop_arguments(facts: &mut Facts, arguments: &[Argument])
-    ensures { facts.new ≡ drop_arguments arguments.now facts.old }
+fn drop_arguments(facts: &mut Facts, arguments: &[Argument]) -> Result<(), AllocError>
+    ensures { OnOk result (facts.new ≡ drop_arguments arguments.now facts.old) }
 {
     for argument in arguments {
         let known = known_of(facts, &argument.operand);
-        facts.drop_fresh_of(known);
+        facts.drop_fresh_of(known)?;
     }
+    Ok(())
 }
 
 fn receive_result(
@@ -449,8 +450,8 @@ fn after_defined(
 ) -> Result<(), AllocError>
     ensures { OnOk result (facts.new ≡ after_defined «module».now defined returned arguments.now (option_copied section.entry) facts.old) }
 {
-    drop_arguments(facts, arguments);
-    safepoints::after_call(facts, callee_mark(section));
+    drop_arguments(facts, arguments)?;
+    safepoints::after_call(facts, callee_mark(section))?;
     receive_result(module, facts, defined, returned, promised_in(section))
 }
 
@@ -468,15 +469,9 @@ pub fn after_call(
     match callee {
         Callee::OfRuntime(Runtime::Alloc) => after_alloc_call(facts, defined, arguments),
         Callee::OfRuntime(Runtime::GcRoot) => after_root_call(scene.slots, facts, arguments),
-        Callee::OfRuntime(Runtime::Safepoint) => {
-            safepoints::after_call(facts, Mark::May);
-            Ok(())
-        }
+        Callee::OfRuntime(Runtime::Safepoint) => safepoints::after_call(facts, Mark::May),
         Callee::OfRuntime(Runtime::GcRead) => after_read_call(scene, facts, defined, arguments),
-        Callee::OfRuntime(Runtime::GcWrite) => {
-            after_write(facts, arguments);
-            Ok(())
-        }
+        Callee::OfRuntime(Runtime::GcWrite) => after_write(facts, arguments),
         Callee::OfModule(called) => {
             let section = scene.certs.section(*called);
             after_defined(scene.module(), facts, defined, returned, arguments, section)

@@ -82,8 +82,8 @@ fn choose_reference(
     let chosen_nonnull = is_nonnull(facts, chosen);
     let other_nonnull = is_nonnull(facts, other);
     let layout = chosen_layout(kind, chosen, other);
-    facts.drop_fresh_of(*chosen);
-    facts.drop_fresh_of(*other);
+    facts.drop_fresh_of(*chosen)?;
+    facts.drop_fresh_of(*other)?;
     define_held(facts, v, layout, chosen_nonnull && other_nonnull)
 }
 

@@ -158,12 +158,10 @@ pub fn after_memory(
         (MemoryOp::Store { value, place, .. }, _) => {
             after_store(facts, value, slot_named(scene.slots, place))
         }
-        (MemoryOp::Alloca(_), Some(v)) => {
-            if let Some(s) = scene.slots.slot_of(v) {
-                facts.end_slot(s);
-            }
-            Ok(())
-        }
+        (MemoryOp::Alloca(_), Some(v)) => match scene.slots.slot_of(v) {
+            Some(s) => facts.end_slot(s),
+            None => Ok(()),
+        },
         (MemoryOp::Load { loaded, place, .. }, Some(v)) => {
             after_load(scene, facts, v, *loaded, place)
         }

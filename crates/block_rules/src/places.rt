@@ -465,11 +465,12 @@ pub fn after_load(
 }
 
 /// What is stored goes where others may find it.
-pub fn publish(facts: &mut Facts, value: &Operand)
-    ensures { facts.new ≡ drop_fresh_of (known_of facts.old value.now) facts.old }
+pub fn publish(facts: &mut Facts, value: &Operand) -> Result<(), AllocError>
+    ensures { OnOk result (facts.new ≡ drop_fresh_of (known_of facts.old value.now) facts.old) }
 {
-    if let Operand::Local(v) = value {
-        barriers::after_store(facts, *v);
+    match value {
+        Operand::Local(v) => barriers::after_store(facts, *v),
+        _ => Ok(()),
     }
 }
 
@@ -486,9 +487,6 @@ pub fn after_store(
             let known = known_of(facts, value);
             facts.store_slot(s, known)
         }
-        None => {
-            publish(facts, value);
-            Ok(())
-        }
+        None => publish(facts, value),
     }
 }

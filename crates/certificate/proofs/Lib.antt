@@ -11,3 +11,4 @@ pub mod PrintedLines
 pub mod PrintedPromises
 pub mod PrintedBlocks
 pub mod PrintedCerts
+pub mod AnewFits

@@ -546,9 +546,11 @@ kept_fits m p = kept_by p.0 p.1
 abbrev Fine : Module → Input → Type 0
 Fine m i = (length i.read.sections ≡ length m.functions) × (list_all (kept_fits m) (zip m.functions i.read.sections) ≡ true)
 
-section_of_is : (m : Module) (function : ℕ) (f : Function) (i : Input) (u : Unit {0}) (o : Input) → slice_get m.functions function ≡ Some f → (text.section_of m function f).says i u o → Fine m i → Fine m o
+-- the section that is read fits, and is kept at this place
+pub section_read : (m : Module) (place : ℕ) (f : Function) (i : Input) (u : Unit {0}) (o : Input) → (text.section_of m place f).says i u o
+    → (k : Kept) × (section_fits m f k.section ≡ true) × (slice_set i.read.sections place (Some k) ≡ o.read.sections)
 unfolding text.section_of with_section
-section_of_is m function f i u o at h fine =
+section_read m place f i u o h =
     let mark = h.0 in
     let b = h.3 in
     let c = b.3 in
@@ -558,13 +560,15 @@ section_of_is m function f i u o at h fine =
     let body = body_is m f b.1 c.0 c.1 c.2 in
     let last = still_expect (codes "end") c.1 d.0 d.1 d.2 ∙ still_line_end d.1 e.0 e.1 e.2 in
     let between : Between m f e.1.read.draft = subst (λ (x : Input). Between m f x.read.draft) last body.0 in
-    let here = section_fits_between m f mark c.0 e.1.read.draft between body.1 in
     let same : i.read.sections ≡ e.1.read.sections = ap (λ (x : Input). x.read.sections) first ∙ body.2 ∙ ap (λ (x : Input). x.read.sections) last in
-    let new : Option Kept = Some (kept mark c.0 e.1.read.draft) in
-    let put : Fine m (noted (with_section function mark c.0) e.1) =
-    subst (λ x. (length (slice_set x function new) ≡ length m.functions) × (list_all (kept_fits m) (zip m.functions (slice_set x function new)) ≡ true)) same
-    (length-set i.read.sections function new ∙ fine.0, all_set_zip (kept_fits m) m.functions i.read.sections function f new at fine.1 here) in
-    subst (Fine m) e.3.1 put
+    let k : Kept = kept mark c.0 e.1.read.draft in
+    (k, section_fits_between m f mark c.0 e.1.read.draft between body.1, ap (λ x. slice_set x place (Some k)) same ∙ ap (λ (x : Input). x.read.sections) e.3.1)
+
+section_of_is : (m : Module) (function : ℕ) (f : Function) (i : Input) (u : Unit {0}) (o : Input) → slice_get m.functions function ≡ Some f → (text.section_of m function f).says i u o → Fine m i → Fine m o
+section_of_is m function f i u o at h fine =
+    let read = section_read m function f i u o h in
+    subst (λ x. (length x ≡ length m.functions) × (list_all (kept_fits m) (zip m.functions x) ≡ true)) read.2
+    (length-set i.read.sections function (Some read.0) ∙ fine.0, all_set_zip (kept_fits m) m.functions i.read.sections function f (Some read.0) at fine.1 read.1)
 
 still_new_function : (m : Module) → Still (new_function m)
 unfolding new_function

@@ -10,3 +10,5 @@ pub mod Text
 pub mod Print
 pub mod Named
 pub mod Laws
+pub mod Anew
+pub mod Replaced

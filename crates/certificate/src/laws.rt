@@ -1,9 +1,10 @@
 //! What is read fits, and what is printed is read again.
-ghost use Rattle.certificate.specs.Laws.{AreFitting, ArePrintedAgain};
+ghost use Rattle.certificate.specs.Laws.{AreFitting, ArePrintedAgain, StayFitting};
 
 /// Certificates that are read fit their module. What is printed of certificates that fit is a text of them, where each of
-/// the module's names is found as what it names.
+/// the module's names is found as what it names. Certificates fit after one section is replaced, if all others fitted.
 pub fn cert_law()
     ensures fit { AreFitting }
     ensures printed { ArePrintedAgain }
+    ensures replaced { StayFitting }
 {}

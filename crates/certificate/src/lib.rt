@@ -1,6 +1,7 @@
 //! Certificates as text: the reader, the printer, and why what is printed is read as them again.
 #![tactic(auto)]
 
+mod anew;
 mod draft;
 mod facts;
 mod fault;
@@ -15,10 +16,13 @@ mod print_sections;
 mod progress;
 mod promises;
 mod reader;
+mod replaced;
 
+pub use anew::read_section;
 pub use certs::{Age, Certs, Fact, Family, Line, Mark, Promise, Section};
 pub use fault::CertFault;
 pub use laws::cert_law;
 pub use print::print_line;
-pub use print_sections::print_cert;
+pub use print_sections::{print_cert, print_section};
 pub use reader::read_cert;
+pub use replaced::replace_section;

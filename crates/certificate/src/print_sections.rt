@@ -210,6 +210,20 @@ fn put_sections(
     Ok(())
 }
 
+/// The text of one section, with this code of its function.
+pub fn print_section(
+    alloc: Global,
+    section: &Section,
+    module: &Module,
+    function: &Function,
+) -> Result<Vec<u8>, AllocError>
+    ensures { IfOk result (λ text. text.items ≡ spec.section_text «module».now function.now section.now) }
+{
+    let mut out = Vec::new(alloc);
+    put_section(alloc, &mut out, module, function, section)?;
+    Ok(out)
+}
+
 /// The text of certificates: sections in the module's order, parameters and blocks in their function's, lines as they
 /// were given.
 pub fn print_cert(alloc: Global, certs: &Certs, module: &Module) -> Result<Vec<u8>, AllocError>

@@ -237,7 +237,7 @@ fn body(
 
 /// A section after its function's name.
 #[tactic(auto, unfolding(crate::specs::Text::section_of))]
-fn section_of(
+pub fn section_of(
     alloc: Global,
     input: &mut Input<'_>,
     module: &Module,
@@ -382,7 +382,7 @@ fn sections_of(alloc: Global, bytes: &[u8], module: &Module) -> Result<Items<Sec
 }
 
 /// The fault with its line and column.
-fn placed(bytes: &[u8], found: Found) -> CertFault
+pub fn placed(bytes: &[u8], found: Found) -> CertFault
     ensures { result ≡ text.placed bytes.now found }
 {
     match found {

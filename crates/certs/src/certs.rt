@@ -1,4 +1,4 @@
-ghost use Rattle.std.specs.Prelude.{◌≡◌, slice_get};
+ghost use Rattle.std.specs.Prelude.{◌≡◌, ◌<◌, Some, length, slice_get, slice_set};
 ghost use Rattle.std.specs.Option.{option_copied};
 ghost use Rattle.certs.specs.Certs.{mark_of};
 ghost use Rattle.certs.specs.Fits as spec;
@@ -52,6 +52,15 @@ impl Certs {
     {
         let section = self.section(function)?;
         Some(section.mark)
+    }
+
+    /// Puts another certificate in the place of this function's, and gives that one back.
+    pub fn replace(&mut self, function: FuncId, section: Section) -> Section
+        requires { function < length self.old }
+        ensures given_back { slice_get self.old function ≡ Some result }
+        ensures new { self.new ≡ slice_set self.old function section }
+    {
+        self.sections.replace(function.number() as usize, section)
     }
 
     /// Whether these are certificates of this module. It takes no memory: of each block the lines are compared with one

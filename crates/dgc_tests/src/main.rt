@@ -8,6 +8,8 @@
 #![tactic(auto)]
 
 #[cfg(test)]
+mod anew_tests;
+#[cfg(test)]
 mod collector_tests;
 #[cfg(test)]
 mod command_tests;
@@ -28,6 +30,8 @@ mod replaying_tests;
 mod row;
 #[cfg(test)]
 mod running_tests;
+#[cfg(test)]
+mod section_tests;
 #[cfg(test)]
 mod texts;
 #[cfg(test)]

@@ -32,7 +32,7 @@ fn two_workers_check_at_the_same_time(rt: HostRuntime) {
 }
 
 /// The status and the output of a check of these files by this number of workers, if the standard error has nothing.
-fn checked(
+pub(crate) fn checked(
     rt: &(impl Threads + Sync),
     alloc: Global,
     workers: &str,

@@ -106,5 +106,6 @@ between from to = take (left from - left to) from
 abbrev pub text_from : (from : Text) → Form Text
 text_from from = lines >> step (between from) past_line past_line_falls
 
+-- the lines before the next `.`, and the line of the `.` itself; what is read are the bytes of the lines
 unfoldable pub text : Form Text
 text = look (λ bytes. bytes) text_from

@@ -92,12 +92,22 @@ fn edit_of(alloc: Global, input: &mut Input<'_>, part: Part, name: Items<u8>) ->
     ensures { Reads ((text.edit_of part name).read input.old) result input.new }
 {
     match part {
-        Part::Code => Ok(Edit::Code(name, text(alloc, input)?)),
-        Part::Cert => Ok(Edit::Cert(name, text(alloc, input)?)),
+        Part::Code => {
+            let code = text(alloc, input)?;
+            Ok(Edit::Code { name, code })
+        }
+        Part::Cert => {
+            let section = text(alloc, input)?;
+            Ok(Edit::Cert { name, section })
+        }
         Part::Both => {
             let code = text(alloc, input)?;
             let section = text(alloc, input)?;
-            Ok(Edit::Both(name, code, section))
+            Ok(Edit::Both {
+                name,
+                code,
+                section,
+            })
         }
     }
 }

@@ -11,3 +11,4 @@ mod Classes
 mod Stale
 mod Shows
 mod Slots
+mod KeptRows

@@ -1,6 +1,8 @@
 pub mod Facts
+pub mod Contents
 pub mod Lines
 pub mod Sheets
+pub mod Numbered
 pub mod Values
 pub mod Uses
 pub mod Statements

@@ -1,5 +1,5 @@
 //! What an edge adds: what the comparison that decides it says, and what the phis take.
-ghost use Rattle.std.specs.Prelude.{◌≡◌, IfOk, OnOk};
+ghost use Rattle.std.specs.Prelude.{◌≡◌, OnOk, OnErr};
 ghost use Rattle.facts.specs.Facts.{below_both, known_below, learn_below, learn_known_nonnull, learn_up_to, learn_null_test, learn_number_test, learn_constant_test, learn_test, drop_fresh_all, enter_phi, enter_phis, after_phis};
 
 use crate::facts::Facts;
@@ -10,7 +10,8 @@ use std::alloc::AllocError;
 impl Facts {
     /// What the edge shows where this comparison decides it: `taken` where it is true.
     pub fn learn_test(&mut self, test: Option<Test>, taken: bool) -> Result<(), AllocError>
-        ensures { OnOk result (self.new ≡ learn_test test taken self.old) }
+        ensures ok { OnOk result (self.new ≡ learn_test test taken self.old) }
+        ensures err { OnErr result (self.new ≡ self.old) }
     {
         match test {
             Some(test) => { self.learn_constant_test(test.tested, test.constant, test.kind, taken) }
@@ -22,16 +23,17 @@ impl Facts {
     pub fn after_phis(&mut self, entries: &[Entry]) -> Result<(), AllocError>
         ensures { OnOk result (self.new ≡ after_phis entries.now self.old) }
     {
-        self.drop_fresh_all(entries);
+        self.drop_fresh_all(entries)?;
         self.enter_phis(entries)
     }
 
-    fn drop_fresh_all(&mut self, entries: &[Entry])
-        ensures { self.new ≡ drop_fresh_all entries.now self.old }
+    fn drop_fresh_all(&mut self, entries: &[Entry]) -> Result<(), AllocError>
+        ensures { OnOk result (self.new ≡ drop_fresh_all entries.now self.old) }
     {
         for entry in entries {
-            self.drop_fresh_of(entry.known);
+            self.drop_fresh_of(entry.known)?;
         }
+        Ok(())
     }
 
     fn enter_phis(&mut self, entries: &[Entry]) -> Result<(), AllocError>
@@ -79,7 +81,8 @@ impl Facts {
         kind: Comparison,
         taken: bool,
     ) -> Result<(), AllocError>
-        ensures { OnOk result (self.new ≡ learn_constant_test v constant kind taken self.old) }
+        ensures ok { OnOk result (self.new ≡ learn_constant_test v constant kind taken self.old) }
+        ensures err { OnErr result (self.new ≡ self.old) }
     {
         match constant {
             Constant::Number(n) => self.learn_number_test(v, n, kind, taken),
@@ -94,7 +97,8 @@ impl Facts {
         kind: Comparison,
         taken: bool,
     ) -> Result<(), AllocError>
-        ensures { OnOk result (self.new ≡ learn_null_test v kind taken self.old) }
+        ensures ok { OnOk result (self.new ≡ learn_null_test v kind taken self.old) }
+        ensures err { OnErr result (self.new ≡ self.old) }
     {
         match (kind, taken) {
             (Comparison::Equal, false) | (Comparison::NotEqual, true) => {
@@ -112,7 +116,8 @@ impl Facts {
         kind: Comparison,
         taken: bool,
     ) -> Result<(), AllocError>
-        ensures { OnOk result (self.new ≡ learn_number_test v n kind taken self.old) }
+        ensures ok { OnOk result (self.new ≡ learn_number_test v n kind taken self.old) }
+        ensures err { OnErr result (self.new ≡ self.old) }
     {
         match (kind, taken) {
             (Comparison::UnsignedLess, true) | (Comparison::UnsignedGreaterOrEqual, false) => {
@@ -127,7 +132,8 @@ impl Facts {
     }
 
     fn learn_known_nonnull(&mut self, known: Known) -> Result<(), AllocError>
-        ensures { OnOk result (self.new ≡ learn_known_nonnull known self.old) }
+        ensures ok { OnOk result (self.new ≡ learn_known_nonnull known self.old) }
+        ensures err { OnErr result (self.new ≡ self.old) }
     {
         match known {
             Known::Cell { class, .. } => self.learn_nonnull(class, true),
@@ -136,7 +142,8 @@ impl Facts {
     }
 
     fn learn_up_to(&mut self, v: ValueId, n: u64) -> Result<(), AllocError>
-        ensures { OnOk result (self.new ≡ learn_up_to v n self.old) }
+        ensures ok { OnOk result (self.new ≡ learn_up_to v n self.old) }
+        ensures err { OnErr result (self.new ≡ self.old) }
     {
         if n < u64::MAX {
             self.learn_below(v, n + 1)
@@ -146,7 +153,8 @@ impl Facts {
     }
 
     fn learn_below(&mut self, v: ValueId, n: u64) -> Result<(), AllocError>
-        ensures { OnOk result (self.new ≡ learn_below v n self.old) }
+        ensures ok { OnOk result (self.new ≡ learn_below v n self.old) }
+        ensures err { OnErr result (self.new ≡ self.old) }
     {
         let known = known_below(n, self.known(v));
         self.set_known(v, known)

@@ -1,30 +1,33 @@
-ghost use Rattle.std.specs.Prelude.{◌≡◌, length, IfOk, OnOk, OnErr};
-ghost use Rattle.facts.specs.Facts.{FactSet, known_at, slot_at, class_at, test_at, nothing_known, forget, define, define_new, define_test, set_known, add_class, set_class, drop_fresh, drop_fresh_of, learn_nonnull, set_slot, clear_slot, end_slot, root_slot, hold, store_slot, load_held, load_slot, make_stale, slots_of_class, slot_nonnull};
-ghost use Rattle.facts.specs.Lines.{join, covers};
+ghost use Rattle.std.specs.Prelude.{◌≡◌, ◌==◌, ◌&&◌, length, map, slice_set, IfOk, OnOk, OnErr};
+ghost use Rattle.facts.specs.Facts.{FactSet, known_at, slot_at, class_at, test_at, nothing_known, forget, define, define_new, define_test, set_known, add_class, set_class, drop_fresh, drop_fresh_of, learn_nonnull, set_slot, clear_slot, end_slot, root_slot, hold, store_slot, load_held, load_slot, make_stale, slot_nonnull};
+ghost use Rattle.facts.specs.Lines.{join, move, covers};
 
 use crate::class_id::ClassId;
+use crate::contents::Contents;
+use crate::kept::KeptFacts;
 use crate::known::{Class, Known, SlotFact, Test};
 use crate::rows;
-use crate::values::Values;
 use ir_ast::ValueId;
 use pools::LayoutId;
 use shadow_stack::SlotId;
 use std::alloc::{AllocError, Global};
 use std::marker::Model;
+use std::rc::Rc;
 
 /// What is known at a place of a function. A value names its class, and what is known of a class is kept there once.
+/// Sharers stand on one list of rows, until one of them is written: that one gets rows of its own first.
 #[derive(Drop)]
 pub struct Facts {
-    values: Values,
-    slots: Vec<SlotFact>,
+    contents: Rc<Contents>,
 }
 
 impl Model for Facts {
     ghost use Rattle.facts.specs.Facts.{FactSet};
+    ghost use Rattle.facts.specs.Contents.{set_of};
 
     ghost Value = { FactSet };
 
-    ghost view = { λ facts. record { values = facts.values.values; slots = facts.slots.items; classes = facts.values.classes; tests = facts.values.tests } };
+    ghost view = { λ facts. set_of facts.contents.value };
 }
 
 impl Facts {
@@ -32,40 +35,47 @@ impl Facts {
     pub fn new(alloc: Global, values: usize, slots: usize) -> Result<Self, AllocError>
         ensures { IfOk result (λ facts. facts ≡ nothing_known values slots) }
     {
-        let values = Values::new(alloc, values)?;
-        let slots = rows::open_slots(alloc, slots)?;
-        Ok(Facts { values, slots })
+        let contents = Contents::new(alloc, values, slots)?;
+        Ok(Facts {
+            contents: Rc::new(alloc, contents)?,
+        })
+    }
+
+    /// The same facts, which stay as they are when these are written, and the other way round.
+    pub fn share(&self) -> Result<Facts, AllocError>
+        ensures { IfOk result (λ facts. facts ≡ self.now) }
+    {
+        Ok(Facts {
+            contents: self.contents.clone()?,
+        })
     }
 
     /// What is known of a value.
     pub fn known(&self, v: ValueId) -> Known
         ensures { result ≡ known_at self.now.values v }
     {
-        self.values.known(v)
+        self.contents.values.known(v)
     }
 
     /// What is known of a slot.
     pub fn slot(&self, s: SlotId) -> SlotFact
         ensures { result ≡ slot_at self.now.slots s }
     {
-        match self.slots.get(s.number()) {
-            Some(slot) => *slot,
-            None => SlotFact::open(),
-        }
+        self.contents.slot(s)
     }
 
     /// What is known of a class.
     pub fn class(&self, c: ClassId) -> Class
         ensures { result ≡ class_at self.now.classes c }
     {
-        self.values.class(c)
+        self.contents.values.class(c)
     }
 
     /// The comparison that gave a value.
     pub fn test(&self, v: ValueId) -> Option<Test>
         ensures { result ≡ test_at self.now.tests v }
     {
-        self.values.test(v)
+        self.contents.values.test(v)
     }
 
     /// Nothing is known any more.
@@ -73,8 +83,7 @@ impl Facts {
         ensures ok { OnOk result (self.new ≡ nothing_known (length self.old.values) (length self.old.slots)) }
         ensures err { OnErr result (self.new ≡ self.old) }
     {
-        self.values.clear();
-        rows::open_each(&mut self.slots);
+        Rc::make_mut(&mut self.contents)?.clear();
         Ok(())
     }
 
@@ -83,46 +92,63 @@ impl Facts {
         ensures ok { OnOk result (self.new ≡ other.now) }
         ensures err { OnErr result (self.new ≡ self.old) }
     {
-        let values = other.values.count();
-        let slots = other.slots.len();
-        if self.values.count() == values && self.slots.len() == slots {
-            self.copy(alloc, other)
+        let values = other.contents.values.count();
+        let slots = other.contents.slots.len();
+        if self.has(values, slots) {
+            Rc::make_mut(&mut self.contents)?.copy(alloc, &other.contents)
         } else {
-            let mut fresh = Facts::new(alloc, values, slots)?;
-            fresh.copy(alloc, other)?;
-            *self = fresh;
+            let mut fresh = Contents::new(alloc, values, slots)?;
+            fresh.copy(alloc, &other.contents)?;
+            self.contents = Rc::new(alloc, fresh)?;
             Ok(())
         }
     }
 
-    /// What is known elsewhere of as many values and slots.
-    fn copy(&mut self, alloc: Global, other: &Facts) -> Result<(), AllocError>
-        requires values { length self.old.values ≡ length other.now.values }
-        requires slots { length self.old.slots ≡ length other.now.slots }
-        ensures ok { OnOk result (self.new ≡ other.now) }
+    /// What is known, to be kept.
+    pub fn keep(&self, alloc: Global) -> Result<KeptFacts, AllocError>
+        ensures { IfOk result (λ kept. kept ≡ self.now) }
+    {
+        self.contents.keep(alloc)
+    }
+
+    /// What was kept, in place of what is known here.
+    pub fn open(&mut self, alloc: Global, kept: &KeptFacts) -> Result<(), AllocError>
+        ensures ok { OnOk result (self.new ≡ kept.now) }
         ensures err { OnErr result (self.new ≡ self.old) }
     {
-        self.values.set_from(alloc, &other.values)?;
-        self.slots.copy_from_slice(&other.slots);
-        Ok(())
+        let values = kept.values.count();
+        let slots = kept.slots.len();
+        if self.has(values, slots) {
+            Rc::make_mut(&mut self.contents)?.open(alloc, kept)
+        } else {
+            let mut fresh = Contents::new(alloc, values, slots)?;
+            fresh.open(alloc, kept)?;
+            self.contents = Rc::new(alloc, fresh)?;
+            Ok(())
+        }
+    }
+
+    /// Whether there are rows for this number of values and slots.
+    fn has(&self, values: usize, slots: usize) -> bool
+        ensures { result ≡ ((length self.now.values == values) && (length self.now.slots == slots)) }
+    {
+        self.contents.values.count() == values && self.contents.slots.len() == slots
     }
 
     /// Each statement that names a value ends.
-    pub fn forget(&mut self, v: ValueId)
-        ensures { self.new ≡ forget v self.old }
+    pub fn forget(&mut self, v: ValueId) -> Result<(), AllocError>
+        ensures ok { OnOk result (self.new ≡ forget v self.old) }
+        ensures err { OnErr result (self.new ≡ self.old) }
     {
-        let known = self.known(v);
-        self.values.forget(v);
-        if let Known::Cell { class, .. } = known {
-            self.let_go(class);
-        }
+        Rc::make_mut(&mut self.contents)?.forget(v);
+        Ok(())
     }
 
     /// This is known of a value, and no more.
     pub fn define(&mut self, v: ValueId, known: Known) -> Result<(), AllocError>
         ensures { OnOk result (self.new ≡ define v known self.old) }
     {
-        self.forget(v);
+        self.forget(v)?;
         self.set_known(v, known)
     }
 
@@ -156,46 +182,49 @@ impl Facts {
             below: None,
         };
         self.define(v, truth)?;
-        self.values.set_test(v, rows::off_test(v, Some(test)))
+        self.set_test(v, rows::off_test(v, Some(test)))
     }
 
     /// What is stored goes where others may find it: its class is fresh no more.
-    pub fn drop_fresh_of(&mut self, known: Known)
-        ensures { self.new ≡ drop_fresh_of known self.old }
+    pub fn drop_fresh_of(&mut self, known: Known) -> Result<(), AllocError>
+        ensures ok { OnOk result (self.new ≡ drop_fresh_of known self.old) }
+        ensures err { OnErr result (self.new ≡ self.old) }
     {
-        if let Known::Cell { class, .. } = known {
-            self.drop_fresh(class);
+        match known {
+            Known::Cell { class, .. } => self.drop_fresh(class),
+            _ => Ok(()),
         }
     }
 
     /// Of what a slot holds nothing is known.
-    pub fn clear_slot(&mut self, s: SlotId)
-        ensures { self.new ≡ clear_slot s self.old }
+    pub fn clear_slot(&mut self, s: SlotId) -> Result<(), AllocError>
+        ensures ok { OnOk result (self.new ≡ clear_slot s self.old) }
+        ensures err { OnErr result (self.new ≡ self.old) }
     {
         let slot = self.slot(s);
-        self.put_slot(
+        self.set_slot(
             s,
             SlotFact {
                 nonnull: false,
                 holds: None,
                 ..slot
             },
-        );
+        )
     }
 
     /// What was known of a slot ends, and it may go on to hold it.
-    pub fn end_slot(&mut self, s: SlotId)
-        ensures { self.new ≡ end_slot s self.old }
+    pub fn end_slot(&mut self, s: SlotId) -> Result<(), AllocError>
+        ensures ok { OnOk result (self.new ≡ end_slot s self.old) }
+        ensures err { OnErr result (self.new ≡ self.old) }
     {
-        if let Some(c) = self.slot(s).holds {
-            self.drop_fresh(c);
-        }
-        self.clear_slot(s);
+        Rc::make_mut(&mut self.contents)?.end_slot(s);
+        Ok(())
     }
 
     /// A gcroot names a slot.
     pub fn root_slot(&mut self, s: SlotId) -> Result<(), AllocError>
-        ensures { OnOk result (self.new ≡ root_slot s self.old) }
+        ensures ok { OnOk result (self.new ≡ root_slot s self.old) }
+        ensures err { OnErr result (self.new ≡ self.old) }
     {
         self.set_slot(
             s,
@@ -209,14 +238,12 @@ impl Facts {
 
     /// A slot holds what is known of a value.
     pub fn store_slot(&mut self, s: SlotId, known: Known) -> Result<(), AllocError>
-        ensures { OnOk result (self.new ≡ store_slot s known self.old) }
+        ensures ok { OnOk result (self.new ≡ store_slot s known self.old) }
+        ensures err { OnErr result (self.new ≡ self.old) }
     {
         match known {
             Known::Cell { class, .. } => self.hold(s, class),
-            _ => {
-                self.clear_slot(s);
-                Ok(())
-            }
+            _ => self.clear_slot(s),
         }
     }
 
@@ -224,7 +251,7 @@ impl Facts {
     pub fn load_slot(&mut self, v: ValueId, s: SlotId, layout: LayoutId) -> Result<(), AllocError>
         ensures { OnOk result (self.new ≡ load_slot v s layout self.old) }
     {
-        self.forget(v);
+        self.forget(v)?;
         let SlotFact { nonnull, holds, .. } = self.slot(s);
         match holds {
             Some(class) => {
@@ -258,11 +285,12 @@ impl Facts {
     }
 
     /// A safepoint: each reference is stale, and the slots hold what nobody else is known to name.
-    pub fn make_stale(&mut self)
-        ensures { self.new ≡ make_stale self.old }
+    pub fn make_stale(&mut self) -> Result<(), AllocError>
+        ensures ok { OnOk result (self.new ≡ make_stale self.old) }
+        ensures err { OnErr result (self.new ≡ self.old) }
     {
-        rows::end_holds(&mut self.slots, &self.values);
-        self.values.make_stale();
+        Rc::make_mut(&mut self.contents)?.make_stale();
+        Ok(())
     }
 
     /// This is known of a value besides.
@@ -270,12 +298,13 @@ impl Facts {
         ensures ok { OnOk result (self.new ≡ set_known v known self.old) }
         ensures err { OnErr result (self.new ≡ self.old) }
     {
-        self.values.set_known(v, known)
+        Rc::make_mut(&mut self.contents)?.values.set_known(v, known)
     }
 
     /// A class is not null where this holds.
     pub(crate) fn learn_nonnull(&mut self, c: ClassId, nonnull: bool) -> Result<(), AllocError>
-        ensures { OnOk result (self.new ≡ learn_nonnull c nonnull self.old) }
+        ensures ok { OnOk result (self.new ≡ learn_nonnull c nonnull self.old) }
+        ensures err { OnErr result (self.new ≡ self.old) }
     {
         let class = self.class(c);
         let nonnull = class.nonnull || nonnull;
@@ -283,10 +312,12 @@ impl Facts {
     }
 
     /// A class is fresh no more.
-    pub(crate) fn drop_fresh(&mut self, c: ClassId)
-        ensures { self.new ≡ drop_fresh c self.old }
+    pub(crate) fn drop_fresh(&mut self, c: ClassId) -> Result<(), AllocError>
+        ensures ok { OnOk result (self.new ≡ drop_fresh c self.old) }
+        ensures err { OnErr result (self.new ≡ self.old) }
     {
-        self.values.drop_fresh(c);
+        Rc::make_mut(&mut self.contents)?.values.drop_fresh(c);
+        Ok(())
     }
 
     /// A class more.
@@ -294,40 +325,49 @@ impl Facts {
         ensures ok { OnOk result (self.new ≡ add_class class self.old) }
         ensures err { OnErr result (self.new ≡ self.old) }
     {
-        self.values.add_class(class)
+        Rc::make_mut(&mut self.contents)?.values.add_class(class)
     }
 
     /// The number of the class that is made next.
     pub(crate) fn next_class(&self) -> ClassId
         ensures { result ≡ length self.now.classes }
     {
-        self.values.next_class()
+        self.contents.values.next_class()
     }
 
     pub(crate) fn set_class(&mut self, c: ClassId, class: Class) -> Result<(), AllocError>
-        ensures { OnOk result (self.new ≡ set_class c class self.old) }
+        ensures ok { OnOk result (self.new ≡ set_class c class self.old) }
+        ensures err { OnErr result (self.new ≡ self.old) }
     {
-        self.values.set_class(c, class)
+        Rc::make_mut(&mut self.contents)?.values.set_class(c, class)
     }
 
     pub(crate) fn set_slot(&mut self, s: SlotId, slot: SlotFact) -> Result<(), AllocError>
-        ensures { OnOk result (self.new ≡ set_slot s slot self.old) }
+        ensures ok { OnOk result (self.new ≡ set_slot s slot self.old) }
+        ensures err { OnErr result (self.new ≡ self.old) }
     {
-        self.put_slot(s, slot);
+        Rc::make_mut(&mut self.contents)?.set_slot(s, slot);
         Ok(())
     }
 
-    fn put_slot(&mut self, s: SlotId, slot: SlotFact)
-        ensures { self.new ≡ set_slot s slot self.old }
+    fn set_test(&mut self, v: ValueId, test: Option<Test>) -> Result<(), AllocError>
+        ensures ok { OnOk result (self.new ≡ record self.old { tests = slice_set self.old.tests v test }) }
+        ensures err { OnErr result (self.new ≡ self.old) }
     {
-        let at = s.number();
-        if at < self.slots.len() {
-            self.slots[at] = slot;
-        }
+        Rc::make_mut(&mut self.contents)?.values.set_test(v, test)
+    }
+
+    fn move_class(&mut self, from: ClassId, to: ClassId) -> Result<(), AllocError>
+        ensures { OnOk result (self.new ≡ record self.old { values = map (move from to) self.old.values }) }
+    {
+        Rc::make_mut(&mut self.contents)?
+            .values
+            .move_class(from, to)
     }
 
     fn hold(&mut self, s: SlotId, c: ClassId) -> Result<(), AllocError>
-        ensures { OnOk result (self.new ≡ hold s c self.old) }
+        ensures ok { OnOk result (self.new ≡ hold s c self.old) }
+        ensures err { OnErr result (self.new ≡ self.old) }
     {
         let slot = self.slot(s);
         let nonnull = self.class(c).nonnull;
@@ -341,24 +381,11 @@ impl Facts {
         )
     }
 
-    /// The slots hold the class of a value that was forgotten on only while another value is of it.
-    fn let_go(&mut self, c: ClassId)
-        ensures { self.new ≡ record self.old { slots = slots_of_class c self.old.values self.old.classes self.old.slots } }
-    {
-        if !rows::any_holds(&self.slots, c) {
-            return;
-        }
-        if !self.values.any_of(c) {
-            let nonnull = self.class(c).nonnull;
-            rows::let_go_each(&mut self.slots, c, nonnull);
-        }
-    }
-
     /// Whether what a slot with this fact holds is not null.
     pub fn slot_nonnull(&self, slot: SlotFact) -> bool
         ensures { result ≡ slot_nonnull self.now.classes slot }
     {
-        rows::slot_nonnull(&self.values, slot)
+        rows::slot_nonnull(&self.contents.values, slot)
     }
 
     /// Two classes are one.
@@ -367,7 +394,7 @@ impl Facts {
     {
         let one = self.class(from);
         let other = self.class(to);
-        self.values.move_class(from, to)?;
+        self.move_class(from, to)?;
         self.set_class(
             to,
             Class {
@@ -381,7 +408,8 @@ impl Facts {
     pub(crate) fn covers(&self, there: &Facts, c: ClassId, d: ClassId) -> bool
         ensures { result ≡ covers self.now there.now c d }
     {
-        self.values.covers(&there.values, c, d)
-            && rows::covers_slots(&self.slots, &there.slots, c, d)
+        let (here, there) = (&self.contents, &there.contents);
+        here.values.covers(&there.values, c, d)
+            && rows::covers_slots(&here.slots, &there.slots, c, d)
     }
 }

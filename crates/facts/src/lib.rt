@@ -2,11 +2,14 @@
 #![tactic(auto)]
 
 mod class_id;
+mod contents;
 mod edges;
 mod facts;
+mod kept;
 mod known;
 mod laws;
 mod lines;
+mod numbered;
 mod row;
 pub mod rows;
 mod sheet;
@@ -17,6 +20,7 @@ mod values;
 
 pub use class_id::ClassId;
 pub use facts::Facts;
+pub use kept::KeptFacts;
 pub use known::{Class, Entry, Given, Known, SlotFact, Test};
 pub use laws::{forget_law, learn_law, publish_law, safepoint_law, show_law};
 pub use values::Values;

@@ -7,7 +7,9 @@ ghost use Rattle.facts.specs.Sheets.{row_at, blank, EachRow, changed, known_of, 
 ghost use Rattle.facts.specs.Uses.{OnlyUsers};
 
 use crate::class_id::ClassId;
+use crate::kept::KeptSheet;
 use crate::known::Class;
+use crate::numbered::{number_rows, numbers_of, write_rows};
 use crate::row::Row;
 use crate::sweeps::{self, Change};
 use crate::uses::Use;
@@ -34,6 +36,21 @@ impl Model for Sheet {
     ghost view = { λ sheet. sheet.rows.items };
 
     ghost invariant = { λ sheet. OnlyMarked sheet.marked.items sheet.rows.items × OnlyCurrent sheet.current.items sheet.rows.items };
+}
+
+impl Clone for Sheet {
+    ghost is_clone = { λ sheet copy. copy ≡ sheet };
+
+    fn clone(&self) -> Result<Sheet, AllocError> {
+        let rows = Vec::from_slice(*self.rows.allocator(), &self.rows)?;
+        let marked = Vec::from_slice(*self.marked.allocator(), &self.marked)?;
+        let current = Vec::from_slice(*self.current.allocator(), &self.current)?;
+        Ok(Sheet {
+            rows,
+            marked,
+            current,
+        })
+    }
 }
 
 impl Sheet {
@@ -115,6 +132,34 @@ impl Sheet {
         let current = Vec::from_slice(alloc, &other.current)?;
         sweeps::copy(&mut self.rows, &self.marked, &[]);
         sweeps::copy(&mut self.rows, &marked, &other.rows);
+        self.marked = marked;
+        self.current = current;
+        Ok(())
+    }
+
+    /// The filled rows, with their numbers.
+    pub fn keep(&self, alloc: Global) -> Result<KeptSheet, AllocError>
+        ensures { IfOk result (λ kept. kept ≡ self.now) }
+    {
+        let rows = number_rows(alloc, &self.rows, &self.marked)?;
+        let current = Vec::from_slice(alloc, &self.current)?;
+        Ok(KeptSheet {
+            count: self.rows.len(),
+            rows,
+            current,
+        })
+    }
+
+    /// The rows are those of a sheet of the same length that was kept.
+    pub fn open(&mut self, alloc: Global, kept: &KeptSheet) -> Result<(), AllocError>
+        requires { length self.old ≡ length kept.now }
+        ensures ok { OnOk result (self.new ≡ kept.now) }
+        ensures err { OnErr result (self.new ≡ self.old) }
+    {
+        let marked = numbers_of(alloc, &kept.rows)?;
+        let current = Vec::from_slice(alloc, &kept.current)?;
+        sweeps::copy(&mut self.rows, &self.marked, &[]);
+        write_rows(&mut self.rows, &kept.rows);
         self.marked = marked;
         self.current = current;
         Ok(())

@@ -7,6 +7,7 @@ ghost use Rattle.facts.specs.Uses.{IsUser, OnlyUsers, SayTheSame};
 ghost use Rattle.facts.specs.Values.{no_values};
 
 use crate::class_id::ClassId;
+use crate::kept::KeptValues;
 use crate::known::{Class, Known, Test};
 use crate::row::Row;
 use crate::rows;
@@ -33,6 +34,17 @@ impl Model for Values {
     ghost view = { λ values. facts_of_rows values.sheet values.added.items };
 
     ghost invariant = { λ values. OnlyUsers values.uses.items values.sheet };
+}
+
+impl Clone for Values {
+    ghost is_clone = { λ values copy. copy ≡ values };
+
+    fn clone(&self) -> Result<Values, AllocError> {
+        let sheet = self.sheet.clone()?;
+        let added = Vec::from_slice(*self.added.allocator(), &self.added)?;
+        let uses = Vec::from_slice(*self.uses.allocator(), &self.uses)?;
+        Ok(Values { sheet, added, uses })
+    }
 }
 
 impl Values {
@@ -101,6 +113,30 @@ impl Values {
         let added = Vec::from_slice(alloc, &other.added)?;
         let uses = Vec::from_slice(alloc, &other.uses)?;
         self.sheet.set_from(alloc, &other.sheet)?;
+        self.added = added;
+        self.uses = uses;
+        Ok(())
+    }
+
+    /// What is known, in as much room as it fills.
+    pub(crate) fn keep(&self, alloc: Global) -> Result<KeptValues, AllocError>
+        ensures { IfOk result (λ kept. kept ≡ self.now) }
+    {
+        let sheet = self.sheet.keep(alloc)?;
+        let added = Vec::from_slice(alloc, &self.added)?;
+        let uses = Vec::from_slice(alloc, &self.uses)?;
+        Ok(KeptValues { sheet, added, uses })
+    }
+
+    /// What was kept of as many values, in place of what is known here.
+    pub(crate) fn open(&mut self, alloc: Global, kept: &KeptValues) -> Result<(), AllocError>
+        requires { length self.old.values ≡ length kept.now.values }
+        ensures ok { OnOk result (self.new ≡ kept.now) }
+        ensures err { OnErr result (self.new ≡ self.old) }
+    {
+        let added = Vec::from_slice(alloc, &kept.added)?;
+        let uses = Vec::from_slice(alloc, &kept.uses)?;
+        self.sheet.open(alloc, &kept.sheet)?;
         self.added = added;
         self.uses = uses;
         Ok(())

@@ -24,6 +24,7 @@ impl<'a> Heap<'a> {
     /// the cell that the thread won last up to the pool's end, and then from the pool's first cell up. A cell is claimed white at
     /// the sync stages and black otherwise, as in Doligez and Gonthier (POPL 1994). The claim by one compare-exchange of the
     /// colour, without lists of free cells, is this project's own.
+    #[inline(always)]
     pub fn alloc(&self, me: &mut Mutator, layout: LayoutId) -> u32
         requires token { MayCall self.now me.old }
         requires layout { layout < length me.old.setup.pools }
@@ -50,6 +51,7 @@ impl<'a> Heap<'a> {
         0
     }
 
+    #[inline(always)]
     fn tries(&self, me: &Mutator, layout: LayoutId) -> Tries
         requires token { IsOf self.now me.now }
         requires layout { layout < length me.now.setup.pools }
@@ -66,6 +68,7 @@ impl<'a> Heap<'a> {
     }
 
     /// Tries to take a free cell, once.
+    #[inline(always)]
     fn try_claim(&self, me: &mut Mutator, cell: u32) -> bool
         requires token { IsOf self.now me.old }
         requires running { stage_of me.old.log ≢ done }

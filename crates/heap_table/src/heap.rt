@@ -52,6 +52,7 @@ impl<'a> Heap<'a> {
     }
 
     /// One step of a thread that leaves its stage. Returns what the word held before; of a store, what was stored.
+    #[inline(always)]
     pub(crate) fn step<M: Makes, X: Copy>(&self, me: &mut Mutator, ask: Ask, about: X) -> u64
         requires token { IsOf self.now me.old }
         requires next { IsNext me.old.setup me.old.thread me.old.log M.step ask }
@@ -66,6 +67,7 @@ impl<'a> Heap<'a> {
     }
 
     /// One step of a thread that stores a stage as its own.
+    #[inline(always)]
     pub(crate) fn store_stage<M: Makes, X: Copy>(&self, me: &mut Mutator, stage: u64, about: X)
         requires token { IsOf self.now me.old }
         requires next { StoresStage me.old.setup me.old.thread me.old.log (M.step stage) stage }
@@ -86,7 +88,7 @@ impl<'a> Heap<'a> {
         requires { (found ≡ 0) ⊎ (found < cells self.now.setup) }
         ensures { result ≡ found }
     {
-        let _cells = self.pools.cells();
+        self.few_cells();
         found as u32
     }
 }

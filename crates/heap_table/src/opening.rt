@@ -61,11 +61,14 @@ fn of_token(token: Token, thread: usize, hints: Items<u32>) -> Mutator
     }
 }
 
+/// How many hints there is room for at least. They fill two cache lines of most processors, so no two threads write theirs to one.
+const ROOM_FOR_HINTS: usize = 32;
+
 /// For each layout, that tries begin at its pool's first cell.
 fn no_hints(alloc: Global, layouts: usize) -> Result<Items<u32>, AllocError> {
-    let mut hints = Items::new(alloc);
+    let mut hints = Vec::with_capacity(alloc, layouts.max(ROOM_FOR_HINTS))?;
     for _ in 0..layouts {
         hints.push(0)?;
     }
-    Ok(hints)
+    Ok(Items::from_vec(hints))
 }

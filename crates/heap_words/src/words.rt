@@ -38,6 +38,7 @@ impl<'a> Words<'a> {
 
     /// Makes one operation on one word, as a step of the token's actor. Returns what the word held before; of a store, what was
     /// stored. The caller picks the step, and `about` is what that pick may speak of.
+    #[inline(always)]
     pub fn perform<J: Told, X: Copy>(&self, token: &mut Token, ask: Ask, about: X) -> u64
         requires token { IsOf self.now token.old }
         requires place { HasPlace self.now.setup (place_of ask) }
@@ -56,6 +57,7 @@ impl<'a> Words<'a> {
         }
     }
 
+    #[inline(always)]
     fn load<J: Told>(&self, token: &mut Token, place: Place) -> u64
         requires token { IsOf self.now token.old }
         requires place { HasPlace self.now.setup place }
@@ -67,6 +69,7 @@ impl<'a> Words<'a> {
         self.table.shared.load::<Logs<J>>(&mut token.seat, at)
     }
 
+    #[inline(always)]
     fn store<J: Told>(&self, token: &mut Token, place: Place, value: u64) -> u64
         requires token { IsOf self.now token.old }
         requires place { HasPlace self.now.setup place }
@@ -81,6 +84,7 @@ impl<'a> Words<'a> {
         value
     }
 
+    #[inline(always)]
     fn fetch_max<J: Told>(&self, token: &mut Token, place: Place, value: u64) -> u64
         requires token { IsOf self.now token.old }
         requires place { HasPlace self.now.setup place }
@@ -94,6 +98,7 @@ impl<'a> Words<'a> {
             .fetch_max::<Logs<J>>(&mut token.seat, at, value)
     }
 
+    #[inline(always)]
     fn compare_exchange<J: Told>(&self, token: &mut Token, place: Place, old: u64, new: u64) -> u64
         requires token { IsOf self.now token.old }
         requires place { HasPlace self.now.setup place }
@@ -108,6 +113,7 @@ impl<'a> Words<'a> {
     }
 
     /// Where a word lies in the table.
+    #[inline(always)]
     fn index(&self, place: Place) -> usize
         requires { HasPlace self.now.setup place }
         ensures place { result ≡ index self.now.setup place }
@@ -118,6 +124,7 @@ impl<'a> Words<'a> {
 }
 
 /// Where a word lies in the table, by where each cell begins. The plan is for the contract alone.
+#[inline(always)]
 pub(crate) fn index_of(_plan: &Plan<'_>, starts: &Vec<usize>, place: Place) -> usize
     requires starts { AreStarts _plan.now starts.now.items }
     requires small { size _plan.now < 2 ^ 63 }

@@ -19,7 +19,7 @@ use Rattle.ir_forms.specs.declared.decorating.Spot.TheVariants as spot
 use Rattle.ir_forms.specs.declared.numbers.TwoOperands.{TwoOperands}
 use Rattle.ir_forms.specs.declared.lists.IndexList.{IndexList}
 use Rattle.ir_print_law.specs.Definitions.{defined_structs}
-use Rattle.ir_print_law.specs.Printable.{IsArgument, IsOperand, ArePair, IsCondition, IsPlaceType}
+use Rattle.ir_print_law.specs.Parts.{IsArgument, IsOperand, ArePair, IsCondition, IsPlaceType}
 use Rattle.ir_print_law.specs.Shapes.{Shape, Integer, Pointer, Array, Empty, Struct, Named, IsWritten, bits_of_shape}
 use Rattle.ir_print_law.proofs.Forms.{Keeps, Same, all, each_with}
 use Rattle.ir_print_law.proofs.Decorations.{decorations_pass, separator_passes}

@@ -19,8 +19,8 @@ use Rattle.ir_forms.specs.Decorations.{either}
 use Rattle.ir_forms.specs.Lists as lists
 use Rattle.ir_print.specs.Operands.{operand_text, argument_text}
 use Rattle.ir_print.specs.Standing.{Stands, IsSeam, AreBlanks}
-use Rattle.ir_print_law.specs.Again.{AreAlike, IsArgumentAgain}
-use Rattle.ir_print_law.specs.Printable.{IsArgument}
+use Rattle.ir_print_law.specs.PartsAgain.{AreAlike, IsArgumentAgain}
+use Rattle.ir_print_law.specs.Parts.{IsArgument}
 use Rattle.ir_print_law.proofs.State.{Invariant, Ready, Reads, Any}
 use Rattle.ir_print_law.proofs.Shown.{shown, IsTypeRead}
 use Rattle.ir_print_law.proofs.Steps.{so, looked, given, sign_reads, unlike, grows_itself, grows_further, later_before}

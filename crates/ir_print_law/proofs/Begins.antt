@@ -3,11 +3,7 @@ use Rattle.std.proofs.Common.{◌≡◌, true, false, List, [], ◌∷◌, ◌++
 use Rattle.std.specs.Prelude.{codes}
 use Rattle.ir_ast.specs.declared.ends.End.{End}
 use Rattle.ir_ast.specs.declared.ends.End.TheVariants as end
-use Rattle.ir_ast.specs.declared.memory.MemoryOp.TheVariants as memory
 use Rattle.ir_ast.specs.declared.module.Module.{Module}
-use Rattle.ir_ast.specs.declared.numbers.Arithmetic.TheVariants as arithmetic
-use Rattle.ir_ast.specs.declared.numbers.NumberOp.TheVariants as number
-use Rattle.ir_ast.specs.declared.numbers.Resize.TheVariants as resize
 use Rattle.ir_ast.specs.declared.op.Op.{Op}
 use Rattle.ir_ast.specs.declared.op.Op.TheVariants as op
 use Rattle.ir_tokens.specs.declared.token.Kind.{Kind}
@@ -17,7 +13,6 @@ use Rattle.ir_tokens.specs.Keywords.{word_kind, keywords}
 use Rattle.ir_forms.specs.Cursor.{kind, same_kind}
 use Rattle.ir_forms.specs.Place.{Place}
 use Rattle.ir_forms.specs.Ends as ends
-use Rattle.ir_print.specs.Elements.{element_word}
 use Rattle.ir_print.specs.Ends.{end_text}
 use Rattle.ir_print.specs.Instructions.{op_text}
 use Rattle.ir_print.specs.Names.{key_text}
@@ -27,6 +22,12 @@ use Rattle.ir_print_law.proofs.NamesRead.{digits_text, name_key_text}
 use Rattle.ir_print_law.proofs.Words.{word_comes, local_comes, local_number_comes}
 use Rattle.ir_print_law.specs.Printable.{gives_value}
 use Rattle.ir_print_law.proofs.OpNeeds.{begins_body_line}
+use Rattle.ir_print_law.proofs.NumbersAgain.{number_no_phi}
+use Rattle.ir_print_law.proofs.MemoryAgain.{memory_no_phi, plain_memory_kind}
+use Rattle.ir_print_law.proofs.ElementsAgain.{element_no_phi}
+use Rattle.ir_print_law.proofs.CastsAgain.{cast_no_phi}
+use Rattle.ir_print_law.proofs.ChoicesAgain.{choice_no_phi}
+use Rattle.ir_print_law.proofs.CallsAgain.{call_no_phi, plain_call_kind}
 
 -- a value's name begins a line
 abbrev pub IsLocalKind : Kind → Type 0
@@ -42,11 +43,8 @@ local_kind place gap key rest (inr named) blanks seam at =
 -- an operation without a value
 pub plain_kind : (m : Module) (locals : List Text) (x : Op) (place : Place) (rest : Text) → gives_value m x ≡ false → Stands place (10 ∷ 32 ∷ 32 ∷ (op_text m locals x ++ rest))
     → (kind place ≡ k.Store) ⊎ (kind place ≡ k.Call)
-unfolding class_of word_kind keywords
-plain_kind m locals (op.Memory (memory.Store stored value place_type at_place)) place rest gives at = inl (word_comes place (10 ∷ 32 ∷ 32 ∷ []) (codes "store") _ refl refl refl at).0
-plain_kind m locals (op.Call x) place rest gives at = inr (word_comes place (10 ∷ 32 ∷ 32 ∷ []) (codes "call") _ refl refl refl at).0
-plain_kind m locals (op.Memory (memory.Alloca held)) place rest gives at = absurd cc
-plain_kind m locals (op.Memory (memory.Load loaded place_type x)) place rest gives at = absurd cc
+plain_kind m locals (op.Memory x) place rest gives at = inl (plain_memory_kind m locals x place rest gives at)
+plain_kind m locals (op.Call x) place rest gives at = inr (plain_call_kind m locals x place rest at)
 plain_kind m locals (op.Number x) place rest gives at = absurd cc
 plain_kind m locals (op.Element x) place rest gives at = absurd cc
 plain_kind m locals (op.Cast x) place rest gives at = absurd cc
@@ -54,24 +52,12 @@ plain_kind m locals (op.Choice x) place rest gives at = absurd cc
 
 -- an operation with a value, whose word is not that of a phi
 pub value_word : (m : Module) (locals : List Text) (x : Op) (place : Place) (rest : Text) → gives_value m x ≡ true → Stands place (32 ∷ (op_text m locals x ++ 10 ∷ rest)) → same_kind (kind place) k.Phi ≡ false
-unfolding class_of word_kind keywords same_kind element_word
-value_word m locals (op.Number (number.Arithmetic arithmetic.Add t a b)) place rest gives at = ap (λ (x : Kind). same_kind x k.Phi) (word_comes place (32 ∷ []) (codes "add") _ refl refl refl at).0
-value_word m locals (op.Number (number.Arithmetic arithmetic.Sub t a b)) place rest gives at = ap (λ (x : Kind). same_kind x k.Phi) (word_comes place (32 ∷ []) (codes "sub") _ refl refl refl at).0
-value_word m locals (op.Number (number.Arithmetic arithmetic.Mul t a b)) place rest gives at = ap (λ (x : Kind). same_kind x k.Phi) (word_comes place (32 ∷ []) (codes "mul") _ refl refl refl at).0
-value_word m locals (op.Number (number.Arithmetic arithmetic.And t a b)) place rest gives at = ap (λ (x : Kind). same_kind x k.Phi) (word_comes place (32 ∷ []) (codes "and") _ refl refl refl at).0
-value_word m locals (op.Number (number.Arithmetic arithmetic.Or t a b)) place rest gives at = ap (λ (x : Kind). same_kind x k.Phi) (word_comes place (32 ∷ []) (codes "or") _ refl refl refl at).0
-value_word m locals (op.Number (number.Arithmetic arithmetic.Xor t a b)) place rest gives at = ap (λ (x : Kind). same_kind x k.Phi) (word_comes place (32 ∷ []) (codes "xor") _ refl refl refl at).0
-value_word m locals (op.Number (number.Resize resize.ZeroExtend from a to)) place rest gives at = ap (λ (x : Kind). same_kind x k.Phi) (word_comes place (32 ∷ []) (codes "zext") _ refl refl refl at).0
-value_word m locals (op.Number (number.Resize resize.SignExtend from a to)) place rest gives at = ap (λ (x : Kind). same_kind x k.Phi) (word_comes place (32 ∷ []) (codes "sext") _ refl refl refl at).0
-value_word m locals (op.Number (number.Resize resize.Truncate from a to)) place rest gives at = ap (λ (x : Kind). same_kind x k.Phi) (word_comes place (32 ∷ []) (codes "trunc") _ refl refl refl at).0
-value_word m locals (op.Number (number.Compare c t a b)) place rest gives at = ap (λ (x : Kind). same_kind x k.Phi) (word_comes place (32 ∷ []) (codes "icmp") _ refl refl refl at).0
-value_word m locals (op.Memory (memory.Alloca held)) place rest gives at = ap (λ (x : Kind). same_kind x k.Phi) (word_comes place (32 ∷ []) (codes "alloca") _ refl refl refl at).0
-value_word m locals (op.Memory (memory.Load loaded place_type x)) place rest gives at = ap (λ (x : Kind). same_kind x k.Phi) (word_comes place (32 ∷ []) (codes "load") _ refl refl refl at).0
-value_word m locals (op.Memory (memory.Store stored value place_type x)) place rest gives at = absurd cc
-value_word m locals (op.Element x) place rest gives at = ap (λ (x : Kind). same_kind x k.Phi) (word_comes place (32 ∷ []) (codes "getelementptr") _ refl refl refl at).0
-value_word m locals (op.Cast x) place rest gives at = ap (λ (x : Kind). same_kind x k.Phi) (word_comes place (32 ∷ []) (codes "bitcast") _ refl refl refl at).0
-value_word m locals (op.Choice x) place rest gives at = ap (λ (x : Kind). same_kind x k.Phi) (word_comes place (32 ∷ []) (codes "select") _ refl refl refl at).0
-value_word m locals (op.Call x) place rest gives at = ap (λ (x : Kind). same_kind x k.Phi) (word_comes place (32 ∷ []) (codes "call") _ refl refl refl at).0
+value_word m locals (op.Number x) place rest gives at = number_no_phi m locals x place rest at
+value_word m locals (op.Memory x) place rest gives at = memory_no_phi m locals x place rest gives at
+value_word m locals (op.Element x) place rest gives at = element_no_phi m locals x place rest at
+value_word m locals (op.Cast x) place rest gives at = cast_no_phi m locals x place rest at
+value_word m locals (op.Choice x) place rest gives at = choice_no_phi m locals x place rest at
+value_word m locals (op.Call x) place rest gives at = call_no_phi m locals x place rest at
 
 -- the end of a block
 pub end_kind : (m : Module) (locals : List Text) (x : End) (place : Place) (rest : Text) → Stands place (10 ∷ 32 ∷ 32 ∷ (end_text m locals x ++ 10 ∷ rest)) → ends.ends_block (kind place) ≡ true

@@ -19,7 +19,8 @@ use Rattle.ir_print.specs.Standing.{Stands}
 use Rattle.ir_print_law.proofs.Words.{sign_comes, seen}
 use Rattle.ir_print_law.specs.Definitions.{block_keys, value_keys_of}
 use Rattle.ir_print_law.specs.Printable.{IsBlock}
-use Rattle.ir_print_law.specs.Again.{AreAlike, IsBlockAgain}
+use Rattle.ir_print_law.specs.PartsAgain.{AreAlike}
+use Rattle.ir_print_law.specs.Again.{IsBlockAgain}
 use Rattle.ir_print_law.proofs.State.{Ready, IsLater}
 use Rattle.ir_print_law.proofs.Steps.{unlike}
 use Rattle.ir_print_law.proofs.BlockLines.{HasKeys, block_lines, block_is, block_goes}

@@ -26,10 +26,11 @@ use Rattle.ir_print_law.specs.Readings.{IsKey}
 use Rattle.ir_print.specs.Standing.{Stands}
 use Rattle.ir_print_law.specs.Definitions.{result_keys}
 use Rattle.ir_print_law.specs.Printable.{IsInstr}
-use Rattle.ir_print_law.specs.Again.{AreAlike, IsInstrAgain}
+use Rattle.ir_print_law.specs.PartsAgain.{AreAlike}
+use Rattle.ir_print_law.specs.Again.{IsInstrAgain}
 use Rattle.ir_print_law.proofs.State.{Ready}
 use Rattle.ir_print_law.proofs.Begins.{plain_kind, end_kind, value_word, ends_begins}
-use Rattle.ir_print_law.proofs.CallsAgain.{plain}
+use Rattle.ir_print_law.proofs.OpsAgain.{plain}
 use Rattle.ir_print_law.proofs.Parts.{IsLaterAgain}
 use Rattle.ir_print_law.proofs.PhiLines.{BeginsNoPhi, local_passed, other_word, no_local, seam_line}
 use Rattle.ir_print_law.proofs.Words.{sign_comes}

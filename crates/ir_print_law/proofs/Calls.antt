@@ -16,7 +16,9 @@ use Rattle.ir_forms.specs.declared.decorating.Spot.TheVariants as spot
 use Rattle.ir_forms.specs.declared.input.Input.{Input}
 use Rattle.ir_print.specs.Names.{name_at}
 use Rattle.ir_print_law.specs.Definitions.{functions_of}
-use Rattle.ir_print_law.specs.Printable.{IsCall, IsReturned, gives_value, is_void}
+use Rattle.ir_print_law.specs.Parts.{IsReturned}
+use Rattle.ir_print_law.specs.Calls.{IsCall}
+use Rattle.ir_print_law.specs.Printable.{gives_value, is_void}
 use Rattle.ir_print_law.specs.Shapes.{IsIn, Shape, Integer, Pointer, Array, Empty, Struct, Named, HasShape}
 use Rattle.ir_print_law.proofs.Arguments.{arguments_keep}
 use Rattle.ir_print_law.proofs.Decorations.{decorations_pass}

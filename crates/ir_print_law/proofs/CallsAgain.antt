@@ -1,5 +1,5 @@
 -- Printed calls are read as these calls again.
-use Rattle.std.proofs.Common.{◌≡◌, ℕ, ◌+◌, true, false, List, [], ◌∷◌, ◌++◌, slice_get, None, Some, refl, ap, subst, arith, append_assoc, inl, inr}
+use Rattle.std.proofs.Common.{◌≡◌, ℕ, ◌+◌, true, false, List, [], ◌∷◌, ◌++◌, slice_get, Some, refl, ap, subst, arith, append_assoc, inl, inr, Option, sym, ◌∙◌}
 use Rattle.std.specs.Prelude.{codes}
 use Rattle.grammar.specs.Grammar.{pure, look, ◌>>=◌, ◌>>◌}
 use Rattle.ir_ast.specs.declared.calls.Call.{Call}
@@ -8,54 +8,62 @@ use Rattle.ir_ast.specs.declared.function.LocalSort.TheVariants as local
 use Rattle.ir_ast.specs.declared.ir_type.IrType.TheVariants as type
 use Rattle.ir_ast.specs.declared.module.Module.{Module}
 use Rattle.ir_ast.specs.declared.argument.Argument.{Argument}
-use Rattle.ir_ast.specs.declared.op.Op.{Op}
 use Rattle.ir_ast.specs.declared.op.Op.TheVariants as op
 use Rattle.ir_tokens.specs.declared.token.Kind.TheVariants as k
 use Rattle.ir_tokens.specs.Bytes.{Text, class_of}
 use Rattle.ir_tokens.specs.Keywords.{word_kind, keywords}
-use Rattle.ir_forms.specs.Cursor.{kind}
+use Rattle.ir_forms.specs.Cursor.{kind, begins_line, same_kind}
 use Rattle.ir_forms.specs.declared.input.Input.{Input}
 use Rattle.ir_forms.specs.declared.written.WrittenType.{WrittenType}
 use Rattle.ir_forms.specs.Input.{Form, advanced, skip, expect}
-use Rattle.ir_forms.specs.Names.{set_type}
+use Rattle.ir_forms.specs.Names.{set_type, callee, with_symbol_use}
 use Rattle.ir_forms.specs.Written as w
 use Rattle.ir_forms.specs.Lists as lists
-use Rattle.ir_print.specs.Operands.{argument_text}
+use Rattle.ir_print.specs.Operands.{argument_text, listed}
 use Rattle.ir_print.specs.Calls.{call_text}
-use Rattle.ir_print.specs.Standing.{AreBlanks}
-use Rattle.ir_print.specs.Types.{type_text, type_within, type_by}
-use Rattle.ir_print_law.specs.Again.{IsResultAgain, IsCallAgain, IsInstrAgain}
-use Rattle.ir_print_law.specs.Printable.{IsScalar, IsArgument}
+use Rattle.ir_print.specs.Standing.{AreBlanks, Stands}
+use Rattle.ir_print.specs.Types.{type_text}
+use Rattle.ir_print_law.specs.PartsAgain.{IsResultAgain, IsArgumentAgain}
+use Rattle.ir_print_law.specs.Calls.{IsCallAgain, IsCall}
+use Rattle.ir_print_law.specs.Parts.{IsScalar, IsArgument, IsVoid, IsReturned}
 use Rattle.ir_print_law.specs.Shapes.{IsIn, Shape}
 use Rattle.ir_print_law.proofs.Tables.{stays}
 use Rattle.ir_print_law.proofs.State.{Invariant, Ready, IsLater, Reads}
 use Rattle.ir_print_law.proofs.Shown.{shown, IsTypeRead}
-use Rattle.ir_print_law.proofs.Steps.{looked, given, sign_reads, word_skipped, word_seen, intern_reads, grows_itself, later_before}
+use Rattle.ir_print_law.proofs.Steps.{looked, given, sign_reads, word_skipped, word_seen, intern_reads, later_before}
 use Rattle.ir_print_law.proofs.WholeTypes.{type_begins}
-use Rattle.ir_print_law.proofs.PrintedTypes.{type_shown, read_again, scalar_reads}
+use Rattle.ir_print_law.proofs.PrintedTypes.{type_shown, read_again, scalar_reads, void_shown}
 use Rattle.ir_print_law.proofs.Parts.{IsLaterAgain, OpAgain, Sets}
 use Rattle.ir_print_law.proofs.Setting.{on, said_on, set_reads}
 use Rattle.std.specs.List.{AllByRecursion}
-use Rattle.ir_forms.specs.Cursor.{begins_line}
 use Rattle.ir_forms.specs.Decorations.{decorations, begins_decoration}
 use Rattle.ir_forms.specs.Calls as calls
 use Rattle.ir_forms.specs.declared.decorating.Spot.TheVariants as spot
-use Rattle.ir_forms.specs.Names.{callee, with_symbol_use}
 use Rattle.ir_ast.specs.Names.{number_of}
 use Rattle.name_text.specs.Names.{name_text}
 use Rattle.name_text.specs.declared.blank.Blank.TheVariants as blank
 use Rattle.ir_print.specs.Names.{name_at, global_text}
-use Rattle.ir_print.specs.Operands.{listed}
 use Rattle.ir_print_law.proofs.NamesRead.{callees_are_read}
-use Rattle.ir_print_law.proofs.Words.{global_comes}
-use Rattle.ir_print_law.specs.Printable.{IsVoid}
+use Rattle.ir_print_law.proofs.Words.{global_comes, word_comes}
 use Rattle.ir_print_law.specs.Definitions.{functions_of}
 use Rattle.ir_print_law.proofs.OperandsAgain.{ends_global, symbol_ready, symbol_grows, symbol_few, symbol_there, sign_less}
-use Rattle.ir_ast.specs.declared.instr.Instr.{Instr}
-use Rattle.ir_forms.specs.Decorations.{trail_of}
 use Rattle.ir_forms.specs.Ops.{as_op}
-use Rattle.ir_print_law.proofs.ListsAgain.{no_comma_seen, trailing_said}
 use Rattle.ir_print_law.proofs.ArgumentsAgain.{EndsLine, undecorated_line, undecorated_type, decorations_said, AllArgumentsAgain, arguments_read}
+use Rattle.ir_print.specs.Instructions.{op_text}
+use Rattle.ir_tokens.specs.declared.token.Kind.{Kind}
+use Rattle.ir_forms.specs.Place.{Place}
+use Rattle.ir_print_law.specs.Printable.{gives_value, is_void}
+use Rattle.lemmas.specs.Bools.{not_true, not_false}
+use Rattle.ir_ast.specs.declared.ir_type.IrType.{IrType}
+use Rattle.ir_forms.specs.declared.site.Site.{Site}
+use Rattle.ir_forms.specs.Instructions as whole
+use Rattle.ir_print_law.proofs.OpsAgain.{op_reads, by_word, PlainAgain, unnamed_reads, plain_by_word}
+use Rattle.ir_print_law.proofs.SameParts.{same3, listed_same, result_same, global_same, argument_same}
+use Rattle.ir_print_law.proofs.LongerTypes.{with_types, returned_again, argument_again}
+use Rattle.ir_print_law.specs.Definitions.{defined_functions}
+use Rattle.ir_print_law.proofs.Tables.{Begins}
+use Rattle.ir_print_law.proofs.Known.{all_so}
+use Rattle.ir_print_law.specs.Definitions.{declared_functions}
 
 -- a call of these texts
 abbrev call_by : (returned callee arguments : Text) → Text
@@ -65,22 +73,13 @@ call_by returned callee arguments = codes "call " ++ returned ++ 32 ∷ callee +
 call_front : (returned callee arguments rest : Text) → call_by returned callee arguments ++ rest ≡ codes "call" ++ (32 ∷ (returned ++ (32 ∷ (callee ++ (40 ∷ (arguments ++ 41 ∷ rest))))))
 call_front returned callee arguments rest = simp append_assoc
 
--- how `void` is printed
-pub void_shown : (n : Module) (t : ℕ) → slice_get n.types t ≡ Some type.Void → type_text n t ≡ codes "void"
-unfolding type_within
-void_shown n t e = ap (type_by (type_within 63 n) n) e
+void_there : (x : Option IrType) → is_void x ≡ true → x ≡ Some type.Void
+void_there (Some type.Void) e = refl
+void_there _ e = absurd cc
 
 -- a call is this one again, in each module later on
 abbrev pub CallAgain : Module → (locals : List Text) → Call → Call → Input → Type 0
 CallAgain m locals = IsLaterAgain (λ n others. IsCallAgain m n locals others)
-
--- an instruction without a value
-abbrev pub plain : Op → Instr
-plain x = record { result = None; op = x }
-
--- an instruction without a value does this again, in each module later on
-abbrev pub PlainAgain : Module → (locals : List Text) → Op → Instr → Input → Type 0
-PlainAgain m locals x = IsLaterAgain (λ n others. IsInstrAgain m n locals others) (plain x)
 
 module _ {m : Module} {f : Function} (v : Invariant m f) where
   -- `@f(T V, ..)`
@@ -134,12 +133,6 @@ module _ {m : Module} {f : Function} (v : Invariant m f) where
       round_form : ℕ → Form Call
       round_form fn = expect k.OpenRound >> arguments_form fn
 
-  -- an instruction without a value
-  pub unnamed_reads : (x y : Op) (i : Input) (rest : Text) (s : ℕ) → EndsLine rest → OpAgain m f.locals x y i → Ready v s i rest → Reads v s (calls.unnamed y) i rest (PlainAgain m f.locals x)
-  unnamed_reads x y i rest s ends again ready =
-      let said = trailing_said (trail_of y) i (no_comma_seen i (ends.1 i ready.stands)) in
-      (record { result = None; op = y }, i, (y, i, (tt, i, said, (refl, refl)), (refl, refl)), ready, grows_itself i, λ n others later. (tt, again n others later))
-
   -- `call void @f(T V, ..)`
   pub void_call_reads : (x : Call) (i : Input) (gap rest : Text) (s : ℕ) → IsVoid m x.returned → IsIn (functions_of m) (name_at m.symbols x.callee) → AllByRecursion (IsArgument m f) x.arguments
       → EndsLine rest → AreBlanks gap → Ready v s i (gap ++ (call_text m f.locals x ++ rest))
@@ -166,7 +159,15 @@ module _ {m : Module} {f : Function} (v : Invariant m f) where
       (λ n q ready h is_there. call_behind_reads x n q rest s there own
       (λ later_module others later. inl (is_void, stays q.types later_module.types n type.Void later.types is_there)) ends ready))
       (λ y q ready h again. given v (op.Call y) q rest s (OpAgain m f.locals (op.Call x)) ready again))
-      (λ y q ready h again. unnamed_reads (op.Call x) y q rest s ends again ready))))
+      (λ y q ready h again. unnamed_reads v (op.Call x) y q rest s ends again ready))))
+
+  -- one without a value, where an instruction is read
+  pub plain_call_reads : (site : Site) (x : Call) (i : Input) (gap rest : Text) (s : ℕ) → AreBlanks gap → IsCall m f x → gives_value m (op.Call x) ≡ false → EndsLine rest
+      → Ready v s i (gap ++ (op_text m f.locals (op.Call x) ++ rest)) → Reads v s (whole.instruction site) i rest (PlainAgain m f.locals (op.Call x))
+  unfolding word_kind keywords class_of
+  plain_call_reads site x i gap rest s blanks own gives ends ready =
+      plain_by_word v site (op.Call x) (codes "call") _ i gap rest s blanks refl refl ready
+      (void_call_reads x i gap rest s (void_there (slice_get m.types x.returned) (not_false (is_void (slice_get m.types x.returned)) gives)) own.1 own.2 ends blanks ready)
 
 module _ {m : Module} {f : Function} (v u : Invariant m f) where
   -- `call T @f(T V, ..)`, whose value has a name
@@ -202,3 +203,45 @@ module _ {m : Module} {f : Function} (v u : Invariant m f) where
 
       typed_form : Form Call
       typed_form = decorations spot.Result >> calls.typed_call value
+
+  -- what follows `%v =`
+  pub named_call_reads : (site : Site) (value : ℕ) (x : Call) (i : Input) (gap rest : Text) (s : ℕ) → AreBlanks gap → IsCall m f x → gives_value m (op.Call x) ≡ true → Sets v u value → EndsLine rest
+      → Ready v s i (gap ++ (op_text m f.locals (op.Call x) ++ rest)) → Reads u s (whole.named_op site value) i rest (OpAgain m f.locals (op.Call x))
+  unfolding word_kind keywords class_of
+  named_call_reads site value x i gap rest s blanks own gives sets ends ready = by own.0 where
+    by : IsReturned m x.returned → Reads u s (whole.named_op site value) i rest (OpAgain m f.locals (op.Call x))
+    by (inl void) = absurd (let e : is_void (slice_get m.types x.returned) ≡ true = ap is_void void in let both = sym e ∙ not_true (is_void (slice_get m.types x.returned)) gives in cc)
+    by (inr scalar) =
+        by_word v u site value (op.Call x) (codes "call") _ i gap rest s blanks refl refl ready
+        (op_reads u op.Call (calls.call value) (λ n others. IsCallAgain m n f.locals others) x (op.Call x) i rest s (λ y o again. again)
+        (call_reads scalar.0 value x i gap rest s scalar.1 own.1 own.2 sets ends blanks ready))
+
+-- ---- its word
+
+-- its word is not that of a phi
+pub call_no_phi : (m : Module) (locals : List Text) (x : Call) (place : Place) (rest : Text) → Stands place (32 ∷ (call_text m locals x ++ 10 ∷ rest)) → same_kind (kind place) k.Phi ≡ false
+unfolding class_of word_kind keywords same_kind
+call_no_phi m locals x place rest at = ap (λ (x : Kind). same_kind x k.Phi) (word_comes place (32 ∷ []) (codes "call") _ refl refl refl at).0
+
+-- one without a value begins with the word of a call too
+pub plain_call_kind : (m : Module) (locals : List Text) (x : Call) (place : Place) (rest : Text) → Stands place (10 ∷ 32 ∷ 32 ∷ (call_text m locals x ++ rest)) → kind place ≡ k.Call
+unfolding class_of word_kind keywords
+plain_call_kind m locals x place rest at = (word_comes place (10 ∷ 32 ∷ 32 ∷ []) (codes "call") _ refl refl refl at).0
+
+-- ---- its text
+
+module _ (m n : Module) (locals others : List Text) where
+  -- one call, one text
+  pub call_same : (x y : Call) → IsCallAgain m n locals others x y → call_text m locals x ≡ call_text n others y
+  call_same x y h =
+      same3 (λ a b c. codes "call " ++ a ++ 32 ∷ b ++ 40 ∷ c ++ 41 ∷ []) (result_same m n x.returned y.returned h.0) (global_same m n x.callee y.callee h.1)
+      (listed_same (IsArgumentAgain m n locals others) (argument_text m locals) (argument_text n others) x.arguments y.arguments (argument_same m n locals others) h.2)
+
+-- a call is printable where the module has more types, too
+pub call_longer : (m : Module) (types : List IrType) (fs : List Function) (more : Begins m.types types) (same : defined_functions (with_types m types fs) ≡ defined_functions m) (f : Function)
+    → (x : Call) → IsCall m f x → IsCall (with_types m types fs) f x
+call_longer m types fs more same f x h = (
+  returned_again m types fs more same f x.returned h.0,
+  subst (λ (names : List Text). IsIn (declared_functions m ++ names) (name_at m.symbols x.callee)) (sym same) h.1,
+  all_so (IsArgument m f) (IsArgument (with_types m types fs) f) x.arguments (argument_again m types fs more same f) h.2,
+)

@@ -5,7 +5,7 @@ use Rattle.ir_ast.specs.declared.function.LocalSort.TheVariants as local
 use Rattle.ir_ast.specs.declared.module.Module.{Module}
 use Rattle.ir_tokens.specs.declared.token.Kind.TheVariants as k
 use Rattle.ir_forms.specs.Casts.{bitcast}
-use Rattle.ir_print_law.specs.Printable.{IsCast}
+use Rattle.ir_print_law.specs.Casts.{IsCast}
 use Rattle.ir_print_law.proofs.Arguments.{typed_keeps}
 use Rattle.ir_print_law.proofs.Passes.{skip_passes, expect_passes}
 use Rattle.ir_print_law.proofs.Reading.{Naming}

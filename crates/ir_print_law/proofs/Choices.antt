@@ -18,7 +18,8 @@ use Rattle.ir_forms.specs.declared.decorating.Trail.TheVariants as trail
 use Rattle.ir_forms.specs.declared.input.Input.{Input}
 use Rattle.ir_forms.specs.declared.uses.Wanted.TheVariants as wants
 use Rattle.ir_print_law.specs.Definitions.{defined_structs}
-use Rattle.ir_print_law.specs.Printable.{IsChoice, IsIncoming, IsPhi}
+use Rattle.ir_print_law.specs.Choices.{IsChoice}
+use Rattle.ir_print_law.specs.Printable.{IsIncoming, IsPhi}
 use Rattle.ir_print_law.proofs.Arguments.{bits_written, typed_pair_keeps, condition_keeps}
 use Rattle.ir_print_law.proofs.Decorations.{trailing_passes}
 use Rattle.ir_print_law.proofs.Forms.{Keeps, Same, Any, each_with}

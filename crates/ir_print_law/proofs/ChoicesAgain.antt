@@ -1,5 +1,5 @@
 -- Printed selects are read as these selects again.
-use Rattle.std.proofs.Common.{◌≡◌, ℕ, ◌+◌, false, List, [], ◌∷◌, ◌++◌, refl, subst, arith, append_assoc}
+use Rattle.std.proofs.Common.{◌≡◌, ℕ, ◌+◌, false, List, [], ◌∷◌, ◌++◌, refl, subst, arith, append_assoc, ap}
 use Rattle.std.specs.Prelude.{codes}
 use Rattle.grammar.specs.Grammar.{pure, ◌>>=◌, ◌>>◌}
 use Rattle.ir_ast.specs.declared.argument.Argument.{Argument}
@@ -23,9 +23,9 @@ use Rattle.ir_forms.specs.Written as w
 use Rattle.ir_print.specs.Choices.{choice_text}
 use Rattle.ir_print.specs.Operands.{operand_text, typed_text}
 use Rattle.ir_print.specs.Parts.{typed}
-use Rattle.ir_print.specs.Standing.{IsSeam, AreBlanks}
-use Rattle.ir_print_law.specs.Again.{IsChoiceAgain}
-use Rattle.ir_print_law.specs.Printable.{ArePair, IsChoice}
+use Rattle.ir_print.specs.Standing.{IsSeam, AreBlanks, Stands}
+use Rattle.ir_print_law.specs.Choices.{IsChoiceAgain, IsChoice}
+use Rattle.ir_print_law.specs.Parts.{ArePair}
 use Rattle.ir_print_law.proofs.State.{Invariant, Ready, Reads, Any}
 use Rattle.ir_print_law.proofs.Shown.{shown, IsTypeRead, read_stays}
 use Rattle.ir_print_law.proofs.Steps.{given, sign_reads, word_skipped, grows_further, later_before}
@@ -33,8 +33,23 @@ use Rattle.ir_print_law.proofs.PrintedTypes.{type_shown, read_again, scalar_read
 use Rattle.ir_print_law.proofs.OperandsAgain.{OperandAgain, ends_operand}
 use Rattle.ir_print_law.proofs.AgainTypes.{again_reads}
 use Rattle.ir_print_law.proofs.NumbersAgain.{condition_reads}
-use Rattle.ir_print_law.proofs.Parts.{ends_again, IsLaterAgain, ArgumentAgain, PairAgain, Sets, operand_at}
+use Rattle.ir_print_law.proofs.Parts.{ends_again, IsLaterAgain, ArgumentAgain, PairAgain, Sets, operand_at, OpAgain}
 use Rattle.ir_print_law.proofs.Setting.{on, set_reads}
+use Rattle.ir_ast.specs.declared.op.Op.TheVariants as op
+use Rattle.ir_print.specs.Instructions.{op_text}
+use Rattle.ir_tokens.specs.declared.token.Kind.{Kind}
+use Rattle.ir_forms.specs.Cursor.{kind, same_kind}
+use Rattle.ir_forms.specs.Place.{Place}
+use Rattle.ir_print_law.proofs.Words.{word_comes}
+use Rattle.ir_forms.specs.declared.site.Site.{Site}
+use Rattle.ir_forms.specs.Instructions as whole
+use Rattle.ir_print_law.proofs.ArgumentsAgain.{EndsLine}
+use Rattle.ir_print_law.proofs.OpsAgain.{op_reads, by_word}
+use Rattle.ir_print_law.proofs.SameParts.{same3, typed_same}
+use Rattle.ir_print_law.proofs.LongerTypes.{with_types, condition_again, pair_again}
+use Rattle.ir_ast.specs.declared.ir_type.IrType.{IrType}
+use Rattle.ir_print_law.specs.Definitions.{defined_functions}
+use Rattle.ir_print_law.proofs.Tables.{Begins}
 
 -- a select is this one again, in each module later on
 abbrev pub ChoiceAgain : Module → (locals : List Text) → Choice → Choice → Input → Type 0
@@ -137,3 +152,33 @@ module _ {m : Module} {f : Function} (v u : Invariant m f) where
 
       condition_form : Form Choice
       condition_form = numbers.condition >>= comma_form
+
+  -- what follows `%v =`
+  pub named_choice_reads : (site : Site) (value : ℕ) (x : Choice) (i : Input) (gap rest : Text) (s : ℕ) → AreBlanks gap → IsChoice m f x → Sets v u value → EndsLine rest
+      → Ready v s i (gap ++ (op_text m f.locals (op.Choice x) ++ rest)) → Reads u s (whole.named_op site value) i rest (OpAgain m f.locals (op.Choice x))
+  unfolding word_kind keywords class_of
+  named_choice_reads site value x i gap rest s blanks own sets ends ready =
+      by_word v u site value (op.Choice x) (codes "select") _ i gap rest s blanks refl refl ready
+      (op_reads u op.Choice (choices.select value) (λ n others. IsChoiceAgain m n f.locals others) x (op.Choice x) i rest s (λ y o again. again)
+      (select_reads value x i gap rest s own sets blanks ends.0 ready))
+
+-- ---- its word
+
+-- its word is not that of a phi
+pub choice_no_phi : (m : Module) (locals : List Text) (x : Choice) (place : Place) (rest : Text) → Stands place (32 ∷ (choice_text m locals x ++ 10 ∷ rest)) → same_kind (kind place) k.Phi ≡ false
+unfolding class_of word_kind keywords same_kind
+choice_no_phi m locals x place rest at = ap (λ (x : Kind). same_kind x k.Phi) (word_comes place (32 ∷ []) (codes "select") _ refl refl refl at).0
+
+-- ---- its text
+
+module _ (m n : Module) (locals others : List Text) where
+  -- one select, one text
+  pub choice_same : (x y : Choice) → IsChoiceAgain m n locals others x y → choice_text m locals x ≡ choice_text n others y
+  choice_same x y h =
+      same3 (λ k l o. codes "select " ++ k ++ codes ", " ++ l ++ codes ", " ++ o) (typed_same m n locals others x.condition_type y.condition_type x.condition y.condition h.0 h.1)
+      (typed_same m n locals others x.written y.written x.chosen y.chosen h.2.0 h.2.1) (typed_same m n locals others x.written y.written x.other y.other h.2.0 h.2.2)
+
+-- a select is printable where the module has more types, too
+pub choice_longer : (m : Module) (types : List IrType) (fs : List Function) (more : Begins m.types types) (same : defined_functions (with_types m types fs) ≡ defined_functions m) (f : Function)
+    → (x : Choice) → IsChoice m f x → IsChoice (with_types m types fs) f x
+choice_longer m types fs more same f x h = (condition_again m types fs more same f x.condition_type x.condition h.0, pair_again m types fs more same f x.written x.chosen x.other h.1)

@@ -29,7 +29,8 @@ use Rattle.ir_print_law.proofs.Words.{word_comes}
 use Rattle.ir_print_law.specs.Definitions.{AreNew, defined_globals}
 use Rattle.ir_print_law.specs.Printable.{IsFunction, IsDeclare, IsPrintable, IsSymbol}
 use Rattle.ir_print_law.specs.Shapes.{IsIn}
-use Rattle.ir_print_law.specs.Again.{AreAlike, IsDeclareAgain, IsFunctionAgain}
+use Rattle.ir_print_law.specs.PartsAgain.{AreAlike}
+use Rattle.ir_print_law.specs.Again.{IsDeclareAgain, IsFunctionAgain}
 use Rattle.ir_print_law.proofs.State.{Ready, IsLater}
 use Rattle.ir_print_law.proofs.Steps.{unlike}
 use Rattle.ir_print_law.proofs.WholeFunctionEnds.{nobody, Reaches, reaches_further, widens_reaches, IsModuleLater}

@@ -24,7 +24,7 @@ use Rattle.ir_print.specs.Types.{type_text}
 use Rattle.ir_print_law.proofs.Words.{comma_comes, close_round_comes, seen}
 use Rattle.ir_print_law.specs.Printable.{IsAnyType}
 use Rattle.ir_print_law.proofs.Tables.{begins_itself}
-use Rattle.ir_print_law.specs.Again.{AreAlike, IsTypeAgain}
+use Rattle.ir_print_law.specs.PartsAgain.{AreAlike, IsTypeAgain}
 use Rattle.ir_print_law.proofs.State.{Ready, IsLater}
 use Rattle.ir_print_law.proofs.Shown.{shape_stays}
 use Rattle.ir_print_law.proofs.Steps.{unlike}

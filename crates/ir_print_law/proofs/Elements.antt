@@ -7,7 +7,7 @@ use Rattle.ir_tokens.specs.declared.token.Kind.TheVariants as k
 use Rattle.ir_forms.specs.declared.input.Input.{Input}
 use Rattle.ir_forms.specs.declared.site.Site.{Site}
 use Rattle.ir_forms.specs.Elements.{source, element}
-use Rattle.ir_print_law.specs.Printable.{IsElement}
+use Rattle.ir_print_law.specs.Elements.{IsElement}
 use Rattle.ir_print_law.proofs.Arguments.{place_keeps, indices_keep}
 use Rattle.ir_print_law.proofs.Decorations.{optional_passes}
 use Rattle.ir_print_law.proofs.Forms.{Keeps, Same}

@@ -11,7 +11,7 @@ use Rattle.ir_ast.specs.declared.module.Module.{Module}
 use Rattle.ir_tokens.specs.declared.token.Kind.TheVariants as k
 use Rattle.ir_tokens.specs.Bytes.{Text, class_of}
 use Rattle.ir_tokens.specs.Keywords.{word_kind, keywords}
-use Rattle.ir_forms.specs.Cursor.{kind}
+use Rattle.ir_forms.specs.Cursor.{kind, same_kind}
 use Rattle.ir_forms.specs.declared.input.Input.{Input}
 use Rattle.ir_forms.specs.declared.site.Site.{Site}
 use Rattle.ir_forms.specs.declared.written.WrittenType.{WrittenType}
@@ -25,11 +25,11 @@ use Rattle.ir_forms.specs.Names.{set_element}
 use Rattle.ir_forms.specs.Written as w
 use Rattle.ir_print.specs.Elements.{index_text, element_word, element_text}
 use Rattle.ir_print.specs.Operands.{operand_text, argument_text}
-use Rattle.ir_print.specs.Parts.{typed}
+use Rattle.ir_print.specs.Parts.{typed, placed_text}
 use Rattle.ir_print.specs.Standing.{Stands, IsSeam, AreBlanks}
 use Rattle.ir_print.specs.Types.{type_text}
-use Rattle.ir_print_law.specs.Again.{IsElementAgain}
-use Rattle.ir_print_law.specs.Printable.{IsArgument, IsElement}
+use Rattle.ir_print_law.specs.Elements.{IsElementAgain, IsElement}
+use Rattle.ir_print_law.specs.Parts.{IsArgument}
 use Rattle.ir_print_law.proofs.State.{Invariant, Ready, Grows, Reads}
 use Rattle.ir_print_law.proofs.Shown.{shown, IsTypeRead, read_stays}
 use Rattle.ir_print_law.proofs.Steps.{sign_reads, sign_kind, word_skipped, unlike, grows_itself, grows_further, later_before}
@@ -38,8 +38,23 @@ use Rattle.ir_print_law.proofs.PrintedTypes.{type_shown, read_again, any_type_re
 use Rattle.ir_print_law.proofs.ArgumentsAgain.{EndsLine, AllArgumentsAgain}
 use Rattle.ir_print_law.proofs.ListsAgain.{no_metadata, list_ends, list_goes_on}
 use Rattle.ir_print_law.proofs.MemoryAgain.{optional_said, place_reads}
-use Rattle.ir_print_law.proofs.Parts.{ends_comma, IsLaterAgain, ArgumentAgain, Sets, typed_reads}
+use Rattle.ir_print_law.proofs.Parts.{ends_comma, IsLaterAgain, ArgumentAgain, Sets, typed_reads, OpAgain}
 use Rattle.ir_print_law.proofs.Setting.{on, said_on, set_reads}
+use Rattle.ir_ast.specs.declared.op.Op.TheVariants as op
+use Rattle.ir_print.specs.Instructions.{op_text}
+use Rattle.ir_print_law.specs.PartsAgain.{IsArgumentAgain}
+use Rattle.ir_tokens.specs.declared.token.Kind.{Kind}
+use Rattle.ir_forms.specs.Place.{Place}
+use Rattle.ir_print_law.proofs.Words.{word_comes}
+use Rattle.ir_forms.specs.Instructions as whole
+use Rattle.ir_print_law.proofs.OpsAgain.{op_reads, by_word}
+use Rattle.ir_print_law.proofs.SameParts.{same2, lines_same, argument_same, placed_same}
+use Rattle.ir_print_law.proofs.LongerTypes.{with_types, type_again, place_again, operand_again, argument_again}
+use Rattle.ir_ast.specs.declared.ir_type.IrType.{IrType}
+use Rattle.ir_print_law.specs.Definitions.{defined_functions}
+use Rattle.ir_print_law.proofs.Tables.{Begins}
+use Rattle.ir_print_law.proofs.Known.{all_so}
+use Rattle.std.proofs.Common.{None}
 
 -- a getelementptr is this one again, in each module later on
 abbrev pub ElementAgain : Module → (locals : List Text) → Element → Element → Input → Type 0
@@ -171,3 +186,46 @@ module _ {m : Module} {f : Function} (v u : Invariant m f) where
 
       source_form : Form Element
       source_form = elements.source >>= comma_form
+
+  -- what follows `%v =`
+  pub named_element_reads : (site : Site) (value : ℕ) (x : Element) (i : Input) (gap rest : Text) (s : ℕ) → AreBlanks gap → IsElement m f x → Sets v u value → EndsLine rest
+      → Ready v s i (gap ++ (op_text m f.locals (op.Element x) ++ rest)) → Reads u s (whole.named_op site value) i rest (OpAgain m f.locals (op.Element x))
+  unfolding word_kind keywords class_of element_word
+  named_element_reads site value x i gap rest s blanks own sets ends ready =
+      let placed = placed_text m f.locals x.source (typed x.base_type x.base) in
+      by_word v u site value (op.Element x) (codes "getelementptr") (32 ∷ ((placed_text m f.locals x.source (typed x.base_type x.base) ++ flat_map (index_text m f.locals) x.indices) ++ rest)) i gap rest s blanks refl refl
+      (subst (λ (y : Text). Ready v s i (gap ++ y)) (ap (λ (y : Text). y ++ rest) (append_assoc (codes "getelementptr ") placed (flat_map (index_text m f.locals) x.indices))) ready)
+      (op_reads u op.Element (elements.element site value) (λ n others. IsElementAgain m n f.locals others) x (op.Element x) i rest s (λ y o again. again)
+      (element_reads site value x i gap rest s own sets ends blanks ready))
+
+-- ---- its word
+
+-- its word is not that of a phi
+pub element_no_phi : (m : Module) (locals : List Text) (x : Element) (place : Place) (rest : Text) → Stands place (32 ∷ (element_text m locals x ++ 10 ∷ rest)) → same_kind (kind place) k.Phi ≡ false
+unfolding class_of word_kind keywords same_kind element_word
+element_no_phi m locals x place rest at = ap (λ (x : Kind). same_kind x k.Phi) (word_comes place (32 ∷ []) (codes "getelementptr") _ refl refl refl at).0
+
+-- ---- its text
+
+module _ (m n : Module) (locals others : List Text) where
+  -- one index, one text
+  index_same : (x y : Argument) → IsArgumentAgain m n locals others x y → index_text m locals x ≡ index_text n others y
+  index_same x y h = ap (λ (t : Text). codes ", " ++ t) (argument_same m n locals others x y h)
+
+  -- one getelementptr, one text
+  pub element_same : (x y : Element) → IsElementAgain m n locals others x y → element_text m locals x ≡ element_text n others y
+  element_same x y h =
+      same2 (λ a b. element_word ++ a ++ b) (placed_same m n locals others x.source y.source (typed x.base_type x.base) (typed y.base_type y.base) h.0 (h.1, h.2))
+      (lines_same (IsArgumentAgain m n locals others) (index_text m locals) (index_text n others) x.indices y.indices index_same h.3)
+
+-- a getelementptr is printable where the module has more types, too
+pub element_longer : (m : Module) (types : List IrType) (fs : List Function) (more : Begins m.types types) (same : defined_functions (with_types m types fs) ≡ defined_functions m) (f : Function)
+    → (x : Element) → IsElement m f x → IsElement (with_types m types fs) f x
+element_longer m types fs more same f x h = (
+  h.0,
+  type_again m types fs more same h.0 x.source h.1,
+  place_again m types fs more same h.0 x.source x.base_type h.2,
+  operand_again m types fs more same f None x.base h.3,
+  h.4,
+  all_so (IsArgument m f) (IsArgument (with_types m types fs) f) x.indices (argument_again m types fs more same f) h.5,
+)

@@ -13,7 +13,8 @@ use Rattle.ir_forms.specs.Cursor.{kind, sees}
 use Rattle.ir_forms.specs.declared.input.Input.{Input}
 use Rattle.ir_forms.specs.declared.written.WrittenType.{WrittenType}
 use Rattle.ir_forms.specs.Input.{Form, skip}
-use Rattle.ir_print_law.specs.Printable.{IsTarget, IsEnd}
+use Rattle.ir_print_law.specs.Parts.{IsTarget}
+use Rattle.ir_print_law.specs.Printable.{IsEnd, AreCases}
 use Rattle.ir_print_law.proofs.Forms.{Keeps, Same, each_with}
 use Rattle.ir_print_law.proofs.Passes.{skip_passes, expect_passes}
 use Rattle.ir_print_law.proofs.Reading.{Within}
@@ -26,7 +27,6 @@ use Rattle.ir_forms.specs.declared.decorating.Trail.TheVariants as trail
 use Rattle.ir_forms.specs.declared.ends.Cases.{Cases}
 use Rattle.ir_print.specs.Fits.{FitsType}
 use Rattle.ir_print_law.specs.Definitions.{defined_structs}
-use Rattle.ir_print_law.specs.Printable.{AreCases}
 use Rattle.ir_print_law.specs.Shapes.{bits_of_shape}
 use Rattle.ir_print_law.proofs.Arguments.{operand_at, bits_written, typed_keeps, condition_keeps}
 use Rattle.ir_print_law.proofs.Decorations.{trailing_passes}

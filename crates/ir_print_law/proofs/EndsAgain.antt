@@ -28,7 +28,7 @@ use Rattle.ir_print.specs.Ends.{case_text, target_text, end_text}
 use Rattle.ir_print.specs.Parts.{typed}
 use Rattle.ir_print.specs.Standing.{Stands, IsSeam, AreBlanks}
 use Rattle.ir_print.specs.Types.{type_text}
-use Rattle.ir_print_law.specs.Printable.{IsType, IsArgument, IsCondition}
+use Rattle.ir_print_law.specs.Parts.{IsType, IsArgument, IsCondition, IsTarget}
 use Rattle.ir_print_law.specs.Shapes.{Shape, Integer, bits_of_shape}
 use Rattle.ir_print_law.proofs.State.{Invariant, Ready, Grows, Reads}
 use Rattle.ir_print_law.proofs.Shown.{shown, IsTypeRead, read_stays, bits_read}
@@ -44,7 +44,8 @@ use Rattle.ir_forms.specs.ManyWith.{Follows}
 use Rattle.ir_print.specs.Names.{name_at}
 use Rattle.ir_print_law.proofs.Words.{seen}
 use Rattle.ir_print_law.proofs.Steps.{sign_kind, said_then}
-use Rattle.ir_print_law.specs.Again.{AreAlike, IsCaseAgain, IsEndAgain}
+use Rattle.ir_print_law.specs.PartsAgain.{AreAlike}
+use Rattle.ir_print_law.specs.Again.{IsCaseAgain, IsEndAgain}
 use Rattle.ir_ast.specs.declared.ends.Case.{Case}
 use Rattle.ir_forms.specs.Ends as ends
 use Rattle.ir_forms.specs.CaseValues.{value_of, is_among, with_value}
@@ -53,7 +54,7 @@ use Rattle.ir_print.specs.Fits.{FitsType}
 use Rattle.ir_print.specs.Names.{local_text}
 use Rattle.ir_print.specs.Operands.{constant_text}
 use Rattle.ir_print_law.proofs.Constants.{constant_is_read}
-use Rattle.ir_print_law.specs.Printable.{IsTarget, AreCases, IsEnd}
+use Rattle.ir_print_law.specs.Printable.{AreCases, IsEnd}
 use Rattle.ir_forms.specs.Names.{target}
 use Rattle.ir_print_law.proofs.Steps.{grows_advanced, passed, shorter}
 use Rattle.ir_print_law.proofs.OperandsAgain.{constant_by_shape}

@@ -33,7 +33,8 @@ use Rattle.ir_print_law.specs.Definitions.{AreDefined, defined_keys, parameter_k
 use Rattle.ir_print_law.specs.Printable.{IsFunction}
 use Rattle.ir_print_law.specs.Shapes.{IsIn}
 use Rattle.ir_print_law.proofs.Tables.{Begins, stays, begins_further}
-use Rattle.ir_print_law.specs.Again.{AreAlike, IsResultAgain, IsParameterAgain, IsFunctionAgain}
+use Rattle.ir_print_law.specs.PartsAgain.{AreAlike, IsResultAgain}
+use Rattle.ir_print_law.specs.Again.{IsParameterAgain, IsFunctionAgain}
 use Rattle.ir_print_law.proofs.State.{Ready, IsLater}
 use Rattle.ir_print_law.proofs.Steps.{word_skipped, word_seen, sign_reads}
 use Rattle.ir_print_law.proofs.BlockLines.{HasKeys}

@@ -21,7 +21,8 @@ use Rattle.ir_text.specs.ItemsOfText.{collector_name, collector, head_end, open_
 use Rattle.ir_text.specs.Parameters.{parameters}
 use Rattle.name_text.specs.Readings.{AreBytes}
 use Rattle.ir_print_law.specs.FunctionNames.{HasNames}
-use Rattle.ir_print_law.specs.Printable.{IsVoid, IsPassed, IsCollector, IsFunction}
+use Rattle.ir_print_law.specs.Parts.{IsVoid}
+use Rattle.ir_print_law.specs.Printable.{IsPassed, IsCollector, IsFunction}
 use Rattle.ir_print_law.proofs.Blocks.{with_blocks, with_parameters, blocks_keep, parameters_keep}
 use Rattle.ir_print_law.proofs.Decorations.{decorations_pass}
 use Rattle.ir_print_law.proofs.Forms.{Keeps, Same, stepped, where_true}

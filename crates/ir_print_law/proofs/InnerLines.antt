@@ -27,7 +27,7 @@ use Rattle.ir_print_law.proofs.WholeForms.{widens_further, grows_widens, Leads}
 use Rattle.ir_print_law.proofs.Known.{Far, AreNamed, known, is_last}
 use Rattle.ir_print_law.proofs.NewValues.{IsNext, unnamed_then, far_value, value_by, value_goes, kind_then}
 use Rattle.ir_print_law.proofs.OpNeeds.{begins_body_line, EndsOp, OpsRead}
-use Rattle.ir_print_law.proofs.CallsAgain.{plain, PlainAgain}
+use Rattle.ir_print_law.proofs.OpsAgain.{plain, PlainAgain}
 use Rattle.ir_print_law.proofs.Parts.{IsLaterAgain}
 
 -- a form that is told by the kind of the next token

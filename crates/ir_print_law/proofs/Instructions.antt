@@ -24,7 +24,11 @@ use Rattle.ir_forms.specs.Sites.{first_of, behind}
 use Rattle.ir_forms.specs.declared.decorating.Spot.TheVariants as spot
 use Rattle.ir_forms.specs.declared.input.Input.{Input}
 use Rattle.ir_forms.specs.declared.site.Site.{Site}
-use Rattle.ir_print_law.specs.Printable.{IsOp, IsNumberOp, IsElement, IsCast, IsChoice, IsInstr, gives_value}
+use Rattle.ir_print_law.specs.Numbers.{IsNumberOp}
+use Rattle.ir_print_law.specs.Elements.{IsElement}
+use Rattle.ir_print_law.specs.Casts.{IsCast}
+use Rattle.ir_print_law.specs.Choices.{IsChoice}
+use Rattle.ir_print_law.specs.Printable.{IsOp, IsInstr, gives_value}
 use Rattle.ir_print_law.proofs.Calls.{IsGivingCall, typed_call_keeps, call_keeps, tail_call_keeps, void_call_keeps}
 use Rattle.ir_print_law.proofs.Casts.{bitcast_keeps}
 use Rattle.ir_print_law.proofs.Choices.{select_keeps}

@@ -18,7 +18,8 @@ use Rattle.ir_forms.specs.Operand.{zero_of, truth_of, number_at, number_or_zero,
 use Rattle.ir_forms.specs.Written.{any_type, passed_type}
 use Rattle.ir_forms.specs.declared.decorating.Spot.TheVariants as spot
 use Rattle.ir_text.specs.ItemsOfText.{body_by, body, is_initial, initial, void_result, declared_result_by, declared_result, defined_result_by, defined_result}
-use Rattle.ir_print_law.specs.Printable.{IsType, IsVoid, IsPassed, IsAnyType, IsInitial}
+use Rattle.ir_print_law.specs.Parts.{IsType, IsVoid}
+use Rattle.ir_print_law.specs.Printable.{IsPassed, IsAnyType, IsInitial}
 use Rattle.ir_print_law.specs.Shapes.{Shape, is_struct_shape}
 use Rattle.ir_print_law.proofs.Decorations.{decorations_pass}
 use Rattle.ir_print_law.proofs.Forms.{Keeps, Same, stepped, where_true}

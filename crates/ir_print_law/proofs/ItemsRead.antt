@@ -193,6 +193,7 @@ module _ (e : Input) (Good : Function → Type 0) where
     bytes = h.bytes;
     spell = h.spell;
     ordered = h.ordered;
+    once = h.once;
     structs = h.structs;
     symbols = h.symbols;
     few_globals = h.few_globals;

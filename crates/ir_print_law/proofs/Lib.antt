@@ -1,4 +1,5 @@
 pub mod Tables
+pub mod OneTypes
 pub mod Forms
 pub mod Looks
 pub mod Reading
@@ -55,6 +56,7 @@ pub mod OperandsAgain
 pub mod AgainTypes
 pub mod Parts
 pub mod Setting
+pub mod OpsAgain
 pub mod NumbersAgain
 pub mod MemoryAgain
 pub mod CastsAgain
@@ -99,6 +101,7 @@ pub mod FunctionLists
 pub mod DeclareLists
 pub mod GlobalLists
 pub mod StructLists
+pub mod SameParts
 pub mod SameText
 pub mod Whole
 pub mod Constants
@@ -111,3 +114,8 @@ pub mod Standing
 pub mod StarsRead
 pub mod Words
 pub mod Worked
+pub mod LongerTypes
+pub mod LongerOps
+pub mod AnewState
+pub mod AnewRead
+pub mod ReplacedWhole

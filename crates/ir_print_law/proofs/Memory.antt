@@ -11,7 +11,8 @@ use Rattle.ir_tokens.specs.declared.token.Kind.TheVariants as k
 use Rattle.ir_forms.specs.declared.input.Input.{Input}
 use Rattle.ir_forms.specs.Memory.{alloca, load, stored_behind, store}
 use Rattle.ir_forms.specs.Written.{bits_of}
-use Rattle.ir_print_law.specs.Printable.{IsMemoryOp, gives_value}
+use Rattle.ir_print_law.specs.Memory.{IsMemoryOp}
+use Rattle.ir_print_law.specs.Printable.{gives_value}
 use Rattle.ir_print_law.proofs.Arguments.{operand_at, place_keeps}
 use Rattle.ir_print_law.proofs.Decorations.{optional_passes}
 use Rattle.ir_print_law.proofs.Forms.{Keeps, Same}

@@ -1,5 +1,5 @@
 -- Printed operations on memory are read as these operations again.
-use Rattle.std.proofs.Common.{◌≡◌, ℕ, ◌+◌, Bool, false, List, [], ◌∷◌, ◌++◌, slice_get, None, Some, refl, sym, subst, arith, append_assoc}
+use Rattle.std.proofs.Common.{◌≡◌, ℕ, ◌+◌, Bool, false, List, [], ◌∷◌, ◌++◌, slice_get, None, Some, refl, sym, subst, arith, append_assoc, ap, true}
 use Rattle.std.specs.Prelude.{codes}
 use Rattle.grammar.specs.Grammar.{pure, ◌>>=◌, ◌>>◌}
 use Rattle.ir_ast.specs.declared.argument.Argument.{Argument}
@@ -14,7 +14,7 @@ use Rattle.ir_tokens.specs.declared.token.Kind.{Kind}
 use Rattle.ir_tokens.specs.declared.token.Kind.TheVariants as k
 use Rattle.ir_tokens.specs.Bytes.{Text, class_of}
 use Rattle.ir_tokens.specs.Keywords.{word_kind, keywords}
-use Rattle.ir_forms.specs.Cursor.{sees}
+use Rattle.ir_forms.specs.Cursor.{sees, kind, same_kind}
 use Rattle.ir_forms.specs.declared.input.Input.{Input}
 use Rattle.ir_forms.specs.declared.written.WrittenType.{WrittenType}
 use Rattle.ir_forms.specs.Input.{Form, advanced, skip, expect}
@@ -25,11 +25,11 @@ use Rattle.ir_forms.specs.Decorations.{optional, either}
 use Rattle.ir_forms.specs.Memory as forms
 use Rattle.ir_print.specs.Memory.{memory_op_text}
 use Rattle.ir_print.specs.Operands.{operand_text, typed_text, argument_text}
-use Rattle.ir_print.specs.Parts.{typed}
-use Rattle.ir_print.specs.Standing.{IsSeam, AreBlanks}
+use Rattle.ir_print.specs.Parts.{typed, placed_text}
+use Rattle.ir_print.specs.Standing.{IsSeam, AreBlanks, Stands}
 use Rattle.ir_print.specs.Types.{type_text}
-use Rattle.ir_print_law.specs.Again.{IsMemoryOpAgain}
-use Rattle.ir_print_law.specs.Printable.{IsType, IsOperand, IsPlaceType, IsMemoryOp}
+use Rattle.ir_print_law.specs.Memory.{IsMemoryOpAgain, IsMemoryOp, memory_gives_value}
+use Rattle.ir_print_law.specs.Parts.{IsType, IsOperand, IsPlaceType}
 use Rattle.ir_print_law.specs.Shapes.{Shape, Pointer, HasShape}
 use Rattle.ir_print_law.proofs.State.{Invariant, Ready, Reads}
 use Rattle.ir_print_law.proofs.Shown.{shown, IsTypeRead, read_stays}
@@ -39,8 +39,24 @@ use Rattle.ir_print_law.proofs.WholeTypes.{type_begins}
 use Rattle.ir_print_law.proofs.PrintedTypes.{type_shown, read_again, scalar_reads}
 use Rattle.ir_print_law.proofs.OperandsAgain.{OperandAgain, operand_reads, ends_operand}
 use Rattle.ir_print_law.proofs.AgainTypes.{pointer_again_reads}
-use Rattle.ir_print_law.proofs.Parts.{ends_comma, IsLaterAgain, ArgumentAgain, Sets, operand_at}
+use Rattle.ir_print_law.proofs.Parts.{ends_comma, IsLaterAgain, ArgumentAgain, Sets, operand_at, OpAgain}
 use Rattle.ir_print_law.proofs.Setting.{on, said_on, set_reads}
+use Rattle.ir_ast.specs.declared.op.Op.TheVariants as op
+use Rattle.ir_print.specs.Instructions.{op_text}
+use Rattle.ir_forms.specs.Place.{Place}
+use Rattle.ir_print_law.proofs.Words.{word_comes}
+use Rattle.ir_forms.specs.declared.site.Site.{Site}
+use Rattle.ir_forms.specs.Calls.{unnamed}
+use Rattle.ir_forms.specs.Instructions as whole
+use Rattle.ir_forms.specs.Ops.{as_op}
+use Rattle.ir_print_law.proofs.ArgumentsAgain.{EndsLine, line_ends_type}
+use Rattle.ir_print_law.proofs.OpsAgain.{op_reads, by_word, PlainAgain, unnamed_reads, plain_by_word}
+use Rattle.ir_print_law.proofs.SameParts.{same2, type_same, typed_same, placed_same}
+use Rattle.ir_print_law.proofs.LongerTypes.{with_types, scalar_again, place_again, operand_again}
+use Rattle.ir_ast.specs.declared.ir_type.IrType.{IrType}
+use Rattle.ir_print_law.specs.Definitions.{defined_functions}
+use Rattle.ir_print_law.proofs.Tables.{Begins}
+use Rattle.ir_print_law.specs.Shapes.{bits_of_shape}
 
 -- an operation on memory is this one again, in each module later on
 abbrev pub MemoryAgain : Module → (locals : List Text) → MemoryOp → MemoryOp → Input → Type 0
@@ -131,6 +147,20 @@ module _ {m : Module} {f : Function} (v : Invariant m f) where
       volatile_form : Form MemoryOp
       volatile_form = optional k.Volatile >> forms.stored_behind
 
+  -- one without a value, where an instruction is read
+  pub plain_memory_reads : (site : Site) (x : MemoryOp) (i : Input) (gap rest : Text) (s : ℕ) → AreBlanks gap → IsMemoryOp m f x → memory_gives_value x ≡ false → EndsLine rest
+      → Ready v s i (gap ++ (op_text m f.locals (op.Memory x) ++ rest)) → Reads v s (whole.instruction site) i rest (PlainAgain m f.locals (op.Memory x))
+  unfolding word_kind keywords class_of
+  plain_memory_reads site (memory.Store stored a place_type place) i gap rest s blanks own gives ends ready =
+      let x = memory.Store stored a place_type place in
+      plain_by_word v site (op.Memory (memory.Store stored a place_type place)) (codes "store") _ i gap rest s blanks refl refl ready
+      (on v v (as_op op.Memory forms.store) unnamed i rest rest s s (OpAgain m f.locals (op.Memory (memory.Store stored a place_type place))) (PlainAgain m f.locals (op.Memory (memory.Store stored a place_type place)))
+      (op_reads v op.Memory forms.store (λ n others. IsMemoryOpAgain m n f.locals others) (memory.Store stored a place_type place) (op.Memory (memory.Store stored a place_type place)) i rest s (λ y o again. again)
+      (store_reads stored a place_type place i gap rest s own blanks ends.0 ready))
+      (λ y o ready g again. unnamed_reads v (op.Memory (memory.Store stored a place_type place)) y o rest s ends again ready))
+  plain_memory_reads site (memory.Alloca held) i gap rest s blanks own gives ends ready = absurd cc
+  plain_memory_reads site (memory.Load loaded place_type place) i gap rest s blanks own gives ends ready = absurd cc
+
 module _ {m : Module} {f : Function} (v u : Invariant m f) where
   -- `load T, T* V`
   pub load_reads : (value loaded place_type : ℕ) (x : Operand) (i : Input) (gap rest : Text) (s : ℕ) → IsMemoryOp m f (memory.Load loaded place_type x) → Sets v u value
@@ -212,3 +242,55 @@ module _ {m : Module} {f : Function} (v u : Invariant m f) where
 
       held_form : Form MemoryOp
       held_form = w.scalar >>= slot_form
+
+  -- an operation on memory is one of instructions
+  as_memory : (form : Form MemoryOp) (x : MemoryOp) (i : Input) (rest : Text) (s : ℕ) → Reads u s form i rest (MemoryAgain m f.locals x) → Reads u s (as_op op.Memory form) i rest (OpAgain m f.locals (op.Memory x))
+  as_memory form x i rest s h = op_reads u op.Memory form (λ n others. IsMemoryOpAgain m n f.locals others) x (op.Memory x) i rest s (λ y o again. again) h
+
+  -- what follows `%v =`
+  pub named_memory_reads : (site : Site) (value : ℕ) (x : MemoryOp) (i : Input) (gap rest : Text) (s : ℕ) → AreBlanks gap → IsMemoryOp m f x → memory_gives_value x ≡ true → Sets v u value → EndsLine rest
+      → Ready v s i (gap ++ (op_text m f.locals (op.Memory x) ++ rest)) → Reads u s (whole.named_op site value) i rest (OpAgain m f.locals (op.Memory x))
+  unfolding word_kind keywords class_of
+  named_memory_reads site value (memory.Alloca held) i gap rest s blanks own gives sets ends ready =
+      by_word v u site value (op.Memory (memory.Alloca held)) (codes "alloca") (32 ∷ (type_text m held ++ rest)) i gap rest s blanks refl refl ready
+      (as_memory (forms.alloca value) (memory.Alloca held) i rest s (alloca_reads value held i gap rest s own sets blanks (line_ends_type rest ends) ready))
+  named_memory_reads site value (memory.Load loaded place_type place) i gap rest s blanks own gives sets ends ready =
+      by_word v u site value (op.Memory (memory.Load loaded place_type place)) (codes "load") (32 ∷ (placed_text m f.locals loaded (typed place_type place) ++ rest)) i gap rest s blanks refl refl ready
+      (as_memory (forms.load value) (memory.Load loaded place_type place) i rest s (load_reads value loaded place_type place i gap rest s own sets blanks ends.0 ready))
+  named_memory_reads site value (memory.Store stored a place_type place) i gap rest s blanks own gives sets ends ready = absurd cc
+
+-- ---- its word
+
+-- its word is not that of a phi
+pub memory_no_phi : (m : Module) (locals : List Text) (x : MemoryOp) (place : Place) (rest : Text) → memory_gives_value x ≡ true → Stands place (32 ∷ (memory_op_text m locals x ++ 10 ∷ rest)) → same_kind (kind place) k.Phi ≡ false
+unfolding class_of word_kind keywords same_kind
+memory_no_phi m locals (memory.Alloca held) place rest gives at = ap (λ (x : Kind). same_kind x k.Phi) (word_comes place (32 ∷ []) (codes "alloca") _ refl refl refl at).0
+memory_no_phi m locals (memory.Load loaded place_type x) place rest gives at = ap (λ (x : Kind). same_kind x k.Phi) (word_comes place (32 ∷ []) (codes "load") _ refl refl refl at).0
+memory_no_phi m locals (memory.Store stored value place_type x) place rest gives at = absurd cc
+
+-- one without a value is a store
+pub plain_memory_kind : (m : Module) (locals : List Text) (x : MemoryOp) (place : Place) (rest : Text) → memory_gives_value x ≡ false → Stands place (10 ∷ 32 ∷ 32 ∷ (memory_op_text m locals x ++ rest)) → kind place ≡ k.Store
+unfolding class_of word_kind keywords
+plain_memory_kind m locals (memory.Store stored value place_type at_place) place rest gives at = (word_comes place (10 ∷ 32 ∷ 32 ∷ []) (codes "store") _ refl refl refl at).0
+plain_memory_kind m locals (memory.Alloca held) place rest gives at = absurd cc
+plain_memory_kind m locals (memory.Load loaded place_type x) place rest gives at = absurd cc
+
+-- ---- its text
+
+module _ (m n : Module) (locals others : List Text) where
+  -- one operation on memory, one text
+  pub memory_op_same : (x y : MemoryOp) → IsMemoryOpAgain m n locals others x y → memory_op_text m locals x ≡ memory_op_text n others y
+  memory_op_same (memory.Alloca t) (memory.Alloca u) h = ap (λ (x : Text). codes "alloca " ++ x) (type_same m n t u h)
+  memory_op_same (memory.Load t place x) (memory.Load u other y) h = ap (λ (z : Text). codes "load " ++ z) (placed_same m n locals others t u (typed place x) (typed other y) h.0 (h.1, h.2))
+  memory_op_same (memory.Store t v place x) (memory.Store u w other y) h =
+      same2 (λ a b. codes "store " ++ a ++ codes ", " ++ b) (typed_same m n locals others t u v w h.0 h.1) (typed_same m n locals others place other x y h.2 h.3)
+  memory_op_same _ _ h = absurd h
+
+-- an operation on memory is printable where the module has more types, too
+pub memory_longer : (m : Module) (types : List IrType) (fs : List Function) (more : Begins m.types types) (same : defined_functions (with_types m types fs) ≡ defined_functions m) (f : Function)
+    → (x : MemoryOp) → IsMemoryOp m f x → IsMemoryOp (with_types m types fs) f x
+memory_longer m types fs more same f (memory.Alloca held) h = (h.0, scalar_again m types fs more same h.0 held h.1)
+memory_longer m types fs more same f (memory.Load loaded place_type place) h =
+    (h.0, scalar_again m types fs more same h.0 loaded h.1, place_again m types fs more same h.0 loaded place_type h.2, operand_again m types fs more same f None place h.3)
+memory_longer m types fs more same f (memory.Store stored value place_type place) h =
+    (h.0, scalar_again m types fs more same h.0 stored h.1, operand_again m types fs more same f (bits_of_shape h.0) value h.2, place_again m types fs more same h.0 stored place_type h.3, operand_again m types fs more same f None place h.4)

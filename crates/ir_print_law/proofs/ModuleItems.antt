@@ -59,6 +59,7 @@ stands_struct_name i none h = record {
   bytes = next_bytes i.cursor h.bytes;
   spell = next_spells i.cursor h.spell;
   ordered = h.ordered;
+  once = h.once;
   structs = subst (λ (l : List ℕ). AreStructs l (defined n (Some (length i.structs)) t)) (nil_first (map (λ (s : StructType). s.name) i.structs) n)
       (subst (λ (k : ℕ). AreStructs (own ++ n ∷ []) (defined n (Some k) t)) (plain_length (λ (s : StructType). s.name) i.structs) made);
   symbols = h.symbols;
@@ -112,6 +113,7 @@ struct_added s i h = record {
   bytes = h.bytes;
   spell = h.spell;
   ordered = h.ordered;
+  once = h.once;
   structs = subst (λ (l : List ℕ). AreStructs l i.struct_names) (added (λ (x : StructType). x.name) i.structs s) h.structs;
   symbols = h.symbols;
   few_globals = h.few_globals;
@@ -156,6 +158,7 @@ stands_global_name i few new h = record {
   bytes = next_bytes i.cursor h.bytes;
   spell = next_spells i.cursor h.spell;
   ordered = h.ordered;
+  once = h.once;
   structs = h.structs;
   symbols = subst (λ (l : List ℕ). AreSymbols (record own { globals = l }) (defined n (symbol.Global (length i.globals)) t))
       (nil_first (map (λ (g : Global). g.symbol) i.globals) n)
@@ -180,6 +183,7 @@ stands_declare_name i few new h = record {
   bytes = next_bytes i.cursor h.bytes;
   spell = next_spells i.cursor h.spell;
   ordered = h.ordered;
+  once = h.once;
   structs = h.structs;
   symbols = subst (λ (l : List ℕ). AreSymbols (record own { declares = l }) (defined n (symbol.Declared (length i.declares)) t))
       (nil_first (map (λ (d : Declare). d.symbol) i.declares) n)
@@ -204,6 +208,7 @@ stands_function_name i few new h = record {
   bytes = next_bytes i.cursor h.bytes;
   spell = next_spells i.cursor h.spell;
   ordered = h.ordered;
+  once = h.once;
   structs = h.structs;
   symbols = subst (λ (l : List ℕ). AreSymbols (record own { functions = l }) (defined n (symbol.Defined (length i.functions)) t))
       (nil_first (map (λ (f : Function). f.symbol) i.functions) n)
@@ -291,6 +296,7 @@ global_added g i h = record {
   bytes = h.bytes;
   spell = h.spell;
   ordered = h.ordered;
+  once = h.once;
   structs = h.structs;
   symbols = subst (λ (l : List ℕ). AreSymbols (record (symbols_of no_one i) { globals = l }) i.symbols) (added (λ (x : Global). x.symbol) i.globals g) h.symbols;
   few_globals = added_length i.globals g 4096 h.few_globals;
@@ -304,6 +310,7 @@ declare_added d i h = record {
   bytes = h.bytes;
   spell = h.spell;
   ordered = h.ordered;
+  once = h.once;
   structs = h.structs;
   symbols = subst (λ (l : List ℕ). AreSymbols (record (symbols_of no_one i) { declares = l }) i.symbols) (added (λ (x : Declare). x.symbol) i.declares d) h.symbols;
   few_globals = h.few_globals;
@@ -319,6 +326,7 @@ function_added symbol returned ps c bs i h = record {
   bytes = h.bytes;
   spell = h.spell;
   ordered = h.ordered;
+  once = h.once;
   structs = h.structs;
   symbols = subst (λ (l : List ℕ). AreSymbols (record (symbols_of no_one i) { functions = l }) i.symbols) (added (λ (x : Function). x.symbol) i.functions f) h.symbols;
   few_globals = h.few_globals;

@@ -27,7 +27,9 @@ use Rattle.ir_text.specs.Read.{module_of, start, IsText}
 use Rattle.name_text.specs.Readings.{AreBytes}
 use Rattle.ir_print_law.specs.FunctionNames.{HasNames}
 use Rattle.ir_print_law.specs.ModuleNames.{HasModuleNames}
-use Rattle.ir_print_law.specs.Printable.{IsPrintable, IsFunction, IsVoid, IsPassed, IsStructType, IsGlobal, IsDeclare}
+use Rattle.ir_print_law.specs.OneTypes.{HasOneTypes}
+use Rattle.ir_print_law.specs.Parts.{IsVoid}
+use Rattle.ir_print_law.specs.Printable.{IsPrintable, IsFunction, IsPassed, IsStructType, IsGlobal, IsDeclare}
 use Rattle.ir_print_law.proofs.Forms.{Keeps, Any}
 use Rattle.ir_print_law.proofs.FunctionsRead.{function_is, function_keeps}
 use Rattle.ir_print_law.proofs.ItemTypes.{defined_result_keeps}
@@ -39,9 +41,10 @@ use Rattle.ir_print_law.proofs.ModuleNamed.{has_names}
 use Rattle.ir_print_law.proofs.ModuleState.{no_one, Stands, Kept, kept_of, Leads, reading_of, Made, made_of, between, outside_of}
 use Rattle.ir_print_law.proofs.ModuleTables.{no_structs, no_symbols}
 use Rattle.ir_print_law.proofs.NumberTokens.{lexed_spell}
+use Rattle.ir_print_law.proofs.OneTypes.{one_types}
 use Rattle.ir_print_law.proofs.Outside.{Outside}
 use Rattle.ir_print_law.proofs.Passes.{Passes, skip_passes}
-use Rattle.ir_print_law.proofs.Tables.{begins_itself}
+use Rattle.ir_print_law.proofs.Tables.{AreOrdered, begins_itself}
 use Rattle.ir_print_law.proofs.Uses.{struct_right, symbol_right, nothing_late}
 
 -- A function that is read is good, and preserves what is known outside of its names.
@@ -58,16 +61,16 @@ FunctionKeeps Good =
     × (IsVoid m returned ⊎ IsPassed m returned
     → Good m (record { symbol = symbol; returned = returned; parameters = ps; collector = c; locals = o.locals.names; sorts = o.locals.sorts; blocks = bs })))
 
-neither : (x y : Option ℕ) → earlier x y ≡ None → (x ≡ None) × (y ≡ None)
+pub neither : (x y : Option ℕ) → earlier x y ≡ None → (x ≡ None) × (y ≡ None)
 neither None y e = (refl, e)
 neither (Some place) y e = absurd cc
 
 -- a function with this head
-abbrev read_function : (symbol returned : ℕ) → List Parameter → Option Text → List Block → Input → Function
+abbrev pub read_function : (symbol returned : ℕ) → List Parameter → Option Text → List Block → Input → Function
 read_function symbol returned ps c bs i = function_of (record { symbol = symbol; returned = returned; parameters = ps; collector = c }) bs i
 
 -- the state after it
-abbrev behind_function : (symbol returned : ℕ) → List Parameter → Option Text → List Block → Input → Input
+abbrev pub behind_function : (symbol returned : ℕ) → List Parameter → Option Text → List Block → Input → Input
 behind_function symbol returned ps c bs i = with_function (record { symbol = symbol; returned = returned; parameters = ps; collector = c }) bs i
 
 -- where reading goes on to its end from after a function, it does so from the function's brace, and no name is missing there
@@ -212,6 +215,7 @@ starts bytes lexed own is = (
     bytes = own;
     spell = lexed_spell bytes lexed is;
     ordered = λ n x e. absurd cc;
+    once = λ one other x e h. absurd cc;
     structs = no_structs;
     symbols = no_symbols;
     few_globals = omega arith;
@@ -296,3 +300,11 @@ pub read_has_names : (bytes : Text) (m : Module) → AreBytes bytes → IsText b
 read_has_names =
     read_so IsNamedFunction (λ m w. function_keeps w) HasModuleNames
     (λ o h. has_names o h.0 (all_so (IsNamedFunction (module_of o)) HasNames o.functions (λ f is. is.1) h.4))
+
+-- and each type is once in its table
+pub read_has_one_types : (bytes : Text) (m : Module) → AreBytes bytes → IsText bytes m → HasOneTypes m
+read_has_one_types = read_so IsFunction (λ m w. function_is w) HasOneTypes (λ o h. one_types (module_of o) h.0.once)
+
+-- and the further fields of a struct come before it in its table of types
+pub read_is_ordered : (bytes : Text) (m : Module) → AreBytes bytes → IsText bytes m → AreOrdered m.types
+read_is_ordered = read_so IsFunction (λ m w. function_is w) (λ m. AreOrdered m.types) (λ o h. h.0.ordered)

@@ -28,6 +28,8 @@ use Rattle.ir_text.specs.Read.{module_of}
 use Rattle.name_text.specs.Readings.{AreBytes}
 use Rattle.ir_print.specs.Names.{name_at}
 use Rattle.ir_print.specs.Standing.{AreDigits}
+use Rattle.ir_print_law.specs.OneTypes.{AreOnce}
+use Rattle.ir_print_law.proofs.OneTypes.{once_more}
 use Rattle.ir_print_law.specs.Definitions.{defined_structs, declared_functions, defined_functions}
 use Rattle.ir_print_law.specs.Printable.{IsSymbol}
 use Rattle.ir_print_law.specs.Shapes.{IsIn}
@@ -70,6 +72,7 @@ pub record Stands (p : Pending) (i : Input) : Type 0 where
   pub bytes : AreBytes i.cursor.text
   pub spell : AllSpell i.cursor.text i.cursor.rest
   pub ordered : AreOrdered i.types
+  pub once : AreOnce i.types
   pub structs : AreStructs (struct_names_of p i) i.struct_names
   pub symbols : AreSymbols (symbols_of p i) i.symbols
   pub few_globals : length i.globals + length p.globals ≤ 4096
@@ -227,6 +230,7 @@ stands_next p i h = record {
   bytes = next_bytes i.cursor h.bytes;
   spell = next_spells i.cursor h.spell;
   ordered = h.ordered;
+  once = h.once;
   structs = h.structs;
   symbols = h.symbols;
   few_globals = h.few_globals;
@@ -240,6 +244,7 @@ stands_type p i t order h = record {
   bytes = h.bytes;
   spell = h.spell;
   ordered = order;
+  once = once_more t i.types h.once;
   structs = h.structs;
   symbols = h.symbols;
   few_globals = h.few_globals;
@@ -253,6 +258,7 @@ stands_struct p i h = record {
   bytes = next_bytes i.cursor h.bytes;
   spell = next_spells i.cursor h.spell;
   ordered = h.ordered;
+  once = h.once;
   structs = table_mentions None (OwnsStruct (struct_names_of p i)) AreBytes i.struct_names (spelled i.cursor) (spelled_bytes i.cursor h.bytes) h.structs;
   symbols = h.symbols;
   few_globals = h.few_globals;
@@ -266,6 +272,7 @@ stands_symbol p i is_call h = record {
   bytes = next_bytes i.cursor h.bytes;
   spell = next_spells i.cursor h.spell;
   ordered = h.ordered;
+  once = h.once;
   structs = h.structs;
   symbols = table_mentions symbol.Unknown (OwnsSymbol (symbols_of p i)) IsSymbol i.symbols (spelled i.cursor) (spelled_bytes i.cursor h.bytes) h.symbols;
   few_globals = h.few_globals;
@@ -409,6 +416,7 @@ stands_own p i t uses values unnamed h = record {
   bytes = h.bytes;
   spell = h.spell;
   ordered = h.ordered;
+  once = h.once;
   structs = h.structs;
   symbols = h.symbols;
   few_globals = h.few_globals;

@@ -13,7 +13,7 @@ use Rattle.ir_tokens.specs.declared.token.Kind.TheVariants as k
 use Rattle.ir_forms.specs.Cursor.{kind}
 use Rattle.ir_forms.specs.Input.{skip, unexpected}
 use Rattle.ir_forms.specs.Numbers.{may_wrap, arithmetic, resize, comparison_of, comparison_by, comparison, compare, integer_op, arithmetic_of, arithmetic_by, resized, resize_of, resize_by}
-use Rattle.ir_print_law.specs.Printable.{IsNumberOp}
+use Rattle.ir_print_law.specs.Numbers.{IsNumberOp}
 use Rattle.ir_print_law.proofs.Arguments.{typed_keeps, pair_keeps}
 use Rattle.ir_print_law.proofs.Decorations.{flags_pass}
 use Rattle.ir_print_law.proofs.Passes.{Passes, skip_passes, expect_passes, look_passes, past, pure_passes, refuse_passes}

@@ -18,7 +18,7 @@ use Rattle.ir_tokens.specs.declared.token.Kind.{Kind}
 use Rattle.ir_tokens.specs.declared.token.Kind.TheVariants as k
 use Rattle.ir_tokens.specs.Bytes.{Text, class_of}
 use Rattle.ir_tokens.specs.Keywords.{word_kind, keywords}
-use Rattle.ir_forms.specs.Cursor.{kind}
+use Rattle.ir_forms.specs.Cursor.{kind, same_kind}
 use Rattle.ir_forms.specs.declared.input.Input.{Input}
 use Rattle.ir_forms.specs.Input.{Form, advanced, skip, expect}
 use Rattle.ir_forms.specs.Names.{set_type}
@@ -29,14 +29,14 @@ use Rattle.ir_forms.specs.Decorations.{flags}
 use Rattle.ir_forms.specs.Starts.{is_flag}
 use Rattle.ir_forms.specs.Lists as lists
 use Rattle.ir_forms.specs.Numbers as numbers
-use Rattle.ir_print.specs.Numbers.{arithmetic_word, comparison_word}
+use Rattle.ir_print.specs.Numbers.{arithmetic_word, comparison_word, resize_word, number_op_text}
 use Rattle.ir_print.specs.Operands.{operand_text, typed_text}
 use Rattle.ir_print.specs.Parts.{typed, pair_text, converted_text}
 use Rattle.ir_print.specs.Standing.{Stands, IsSeam, AreBlanks}
 use Rattle.ir_print.specs.Types.{type_text}
 use Rattle.name_text.specs.Names.{is_plain}
-use Rattle.ir_print_law.specs.Again.{IsNumberOpAgain}
-use Rattle.ir_print_law.specs.Printable.{ArePair, IsConverted, IsCondition}
+use Rattle.ir_print_law.specs.Numbers.{IsNumberOpAgain, IsNumberOp}
+use Rattle.ir_print_law.specs.Parts.{ArePair, IsConverted, IsCondition}
 use Rattle.ir_print_law.specs.Shapes.{Integer}
 use Rattle.ir_print_law.proofs.State.{Invariant, Ready, Reads, Any}
 use Rattle.ir_print_law.proofs.Shown.{shown}
@@ -46,8 +46,24 @@ use Rattle.ir_print_law.proofs.WholeTypes.{type_begins}
 use Rattle.ir_print_law.proofs.PrintedTypes.{type_shown, read_again}
 use Rattle.ir_print_law.proofs.OperandsAgain.{OperandAgain, operand_reads, ends_operand}
 use Rattle.ir_print_law.proofs.AgainTypes.{again_reads}
-use Rattle.ir_print_law.proofs.Parts.{ends_again, IsLaterAgain, ArgumentAgain, PairAgain, Sets, pair_reads}
+use Rattle.ir_print_law.proofs.Parts.{ends_again, IsLaterAgain, ArgumentAgain, PairAgain, Sets, pair_reads, OpAgain}
 use Rattle.ir_print_law.proofs.Setting.{on, said_on, set_reads, converted_reads}
+use Rattle.ir_ast.specs.declared.op.Op.TheVariants as op
+use Rattle.ir_print.specs.Instructions.{op_text}
+use Rattle.ir_ast.specs.declared.numbers.Arithmetic.TheVariants as arithmetic
+use Rattle.ir_ast.specs.declared.numbers.Resize.TheVariants as resize
+use Rattle.ir_forms.specs.Place.{Place}
+use Rattle.ir_print_law.proofs.Words.{word_comes}
+use Rattle.ir_forms.specs.declared.site.Site.{Site}
+use Rattle.ir_forms.specs.Instructions as whole
+use Rattle.ir_forms.specs.Ops.{as_op}
+use Rattle.ir_print_law.proofs.ArgumentsAgain.{EndsLine, line_ends_type}
+use Rattle.ir_print_law.proofs.OpsAgain.{op_reads, by_word}
+use Rattle.ir_print_law.proofs.SameParts.{same2, converted_same, pair_same}
+use Rattle.ir_print_law.proofs.LongerTypes.{with_types, pair_again, converted_again}
+use Rattle.ir_ast.specs.declared.ir_type.IrType.{IrType}
+use Rattle.ir_print_law.specs.Definitions.{defined_functions}
+use Rattle.ir_print_law.proofs.Tables.{Begins}
 
 -- an operation on integers is this one again, in each module later on
 abbrev pub NumberAgain : Module → (locals : List Text) → NumberOp → NumberOp → Input → Type 0
@@ -221,3 +237,80 @@ module _ {m : Module} {f : Function} (v u : Invariant m f) where
   by_compare value comparison.SignedGreaterOrEqual t a b i gap rest s own sets blanks seam ready = compare_reads comparison.SignedGreaterOrEqual (codes "sge") value t a b i gap rest s refl refl own sets blanks seam ready
   by_compare value comparison.SignedLess t a b i gap rest s own sets blanks seam ready = compare_reads comparison.SignedLess (codes "slt") value t a b i gap rest s refl refl own sets blanks seam ready
   by_compare value comparison.SignedLessOrEqual t a b i gap rest s own sets blanks seam ready = compare_reads comparison.SignedLessOrEqual (codes "sle") value t a b i gap rest s refl refl own sets blanks seam ready
+
+  -- an operation on integers is one of instructions
+  as_number : (form : Form NumberOp) (x : NumberOp) (i : Input) (rest : Text) (s : ℕ) → Reads u s form i rest (NumberAgain m f.locals x) → Reads u s (as_op op.Number form) i rest (OpAgain m f.locals (op.Number x))
+  as_number form x i rest s h = op_reads u op.Number form (λ n others. IsNumberOpAgain m n f.locals others) x (op.Number x) i rest s (λ y o again. again) h
+
+  -- what follows `%v =`
+  pub named_number_reads : (site : Site) (value : ℕ) (x : NumberOp) (i : Input) (gap rest : Text) (s : ℕ) → AreBlanks gap → IsNumberOp m f x → Sets v u value → EndsLine rest
+      → Ready v s i (gap ++ (op_text m f.locals (op.Number x) ++ rest)) → Reads u s (whole.named_op site value) i rest (OpAgain m f.locals (op.Number x))
+  unfolding word_kind keywords class_of
+  named_number_reads site value (number.Arithmetic arithmetic.Add t a b) i gap rest s blanks own sets ends ready =
+      by_word v u site value (op.Number (number.Arithmetic arithmetic.Add t a b)) (codes "add") (32 ∷ (pair_text m f.locals (typed t a) b ++ rest)) i gap rest s blanks refl refl ready
+      (as_number (numbers.integer_op value) (number.Arithmetic arithmetic.Add t a b) i rest s (by_arithmetic value arithmetic.Add (codes "add") t a b i gap rest s refl refl refl own sets blanks ends.0 ready))
+  named_number_reads site value (number.Arithmetic arithmetic.Sub t a b) i gap rest s blanks own sets ends ready =
+      by_word v u site value (op.Number (number.Arithmetic arithmetic.Sub t a b)) (codes "sub") (32 ∷ (pair_text m f.locals (typed t a) b ++ rest)) i gap rest s blanks refl refl ready
+      (as_number (numbers.integer_op value) (number.Arithmetic arithmetic.Sub t a b) i rest s (by_arithmetic value arithmetic.Sub (codes "sub") t a b i gap rest s refl refl refl own sets blanks ends.0 ready))
+  named_number_reads site value (number.Arithmetic arithmetic.Mul t a b) i gap rest s blanks own sets ends ready =
+      by_word v u site value (op.Number (number.Arithmetic arithmetic.Mul t a b)) (codes "mul") (32 ∷ (pair_text m f.locals (typed t a) b ++ rest)) i gap rest s blanks refl refl ready
+      (as_number (numbers.integer_op value) (number.Arithmetic arithmetic.Mul t a b) i rest s (by_arithmetic value arithmetic.Mul (codes "mul") t a b i gap rest s refl refl refl own sets blanks ends.0 ready))
+  named_number_reads site value (number.Arithmetic arithmetic.And t a b) i gap rest s blanks own sets ends ready =
+      by_word v u site value (op.Number (number.Arithmetic arithmetic.And t a b)) (codes "and") (32 ∷ (pair_text m f.locals (typed t a) b ++ rest)) i gap rest s blanks refl refl ready
+      (as_number (numbers.integer_op value) (number.Arithmetic arithmetic.And t a b) i rest s (by_arithmetic value arithmetic.And (codes "and") t a b i gap rest s refl refl refl own sets blanks ends.0 ready))
+  named_number_reads site value (number.Arithmetic arithmetic.Or t a b) i gap rest s blanks own sets ends ready =
+      by_word v u site value (op.Number (number.Arithmetic arithmetic.Or t a b)) (codes "or") (32 ∷ (pair_text m f.locals (typed t a) b ++ rest)) i gap rest s blanks refl refl ready
+      (as_number (numbers.integer_op value) (number.Arithmetic arithmetic.Or t a b) i rest s (by_arithmetic value arithmetic.Or (codes "or") t a b i gap rest s refl refl refl own sets blanks ends.0 ready))
+  named_number_reads site value (number.Arithmetic arithmetic.Xor t a b) i gap rest s blanks own sets ends ready =
+      by_word v u site value (op.Number (number.Arithmetic arithmetic.Xor t a b)) (codes "xor") (32 ∷ (pair_text m f.locals (typed t a) b ++ rest)) i gap rest s blanks refl refl ready
+      (as_number (numbers.integer_op value) (number.Arithmetic arithmetic.Xor t a b) i rest s (by_arithmetic value arithmetic.Xor (codes "xor") t a b i gap rest s refl refl refl own sets blanks ends.0 ready))
+  named_number_reads site value (number.Resize resize.ZeroExtend from a to) i gap rest s blanks own sets ends ready =
+      by_word v u site value (op.Number (number.Resize resize.ZeroExtend from a to)) (codes "zext") (32 ∷ (converted_text m f.locals (typed from a) to ++ rest)) i gap rest s blanks refl refl ready
+      (as_number (numbers.integer_op value) (number.Resize resize.ZeroExtend from a to) i rest s (by_resize value resize.ZeroExtend (codes "zext") from a to i gap rest s refl refl refl own sets blanks (line_ends_type rest ends) ready))
+  named_number_reads site value (number.Resize resize.SignExtend from a to) i gap rest s blanks own sets ends ready =
+      by_word v u site value (op.Number (number.Resize resize.SignExtend from a to)) (codes "sext") (32 ∷ (converted_text m f.locals (typed from a) to ++ rest)) i gap rest s blanks refl refl ready
+      (as_number (numbers.integer_op value) (number.Resize resize.SignExtend from a to) i rest s (by_resize value resize.SignExtend (codes "sext") from a to i gap rest s refl refl refl own sets blanks (line_ends_type rest ends) ready))
+  named_number_reads site value (number.Resize resize.Truncate from a to) i gap rest s blanks own sets ends ready =
+      by_word v u site value (op.Number (number.Resize resize.Truncate from a to)) (codes "trunc") (32 ∷ (converted_text m f.locals (typed from a) to ++ rest)) i gap rest s blanks refl refl ready
+      (as_number (numbers.integer_op value) (number.Resize resize.Truncate from a to) i rest s (by_resize value resize.Truncate (codes "trunc") from a to i gap rest s refl refl refl own sets blanks (line_ends_type rest ends) ready))
+  named_number_reads site value (number.Compare c t a b) i gap rest s blanks own sets ends ready =
+      let front = ap (λ (y : Text). y ++ rest) (append_assoc (codes "icmp ") (comparison_word c) (pair_text m f.locals (typed t a) b)) in
+      let ready : Ready v s i (gap ++ (codes "icmp" ++ (32 ∷ ((comparison_word c ++ pair_text m f.locals (typed t a) b) ++ rest)))) = subst (λ (y : Text). Ready v s i (gap ++ y)) front ready in
+      by_word v u site value (op.Number (number.Compare c t a b)) (codes "icmp") (32 ∷ ((comparison_word c ++ pair_text m f.locals (typed t a) b) ++ rest)) i gap rest s blanks refl refl ready
+      (as_number (numbers.compare value) (number.Compare c t a b) i rest s (by_compare value c t a b i gap rest s own sets blanks ends.0 ready))
+
+-- ---- its word
+
+-- its word is not that of a phi
+pub number_no_phi : (m : Module) (locals : List Text) (x : NumberOp) (place : Place) (rest : Text) → Stands place (32 ∷ (number_op_text m locals x ++ 10 ∷ rest)) → same_kind (kind place) k.Phi ≡ false
+unfolding class_of word_kind keywords same_kind
+number_no_phi m locals (number.Arithmetic arithmetic.Add t a b) place rest at = ap (λ (x : Kind). same_kind x k.Phi) (word_comes place (32 ∷ []) (codes "add") _ refl refl refl at).0
+number_no_phi m locals (number.Arithmetic arithmetic.Sub t a b) place rest at = ap (λ (x : Kind). same_kind x k.Phi) (word_comes place (32 ∷ []) (codes "sub") _ refl refl refl at).0
+number_no_phi m locals (number.Arithmetic arithmetic.Mul t a b) place rest at = ap (λ (x : Kind). same_kind x k.Phi) (word_comes place (32 ∷ []) (codes "mul") _ refl refl refl at).0
+number_no_phi m locals (number.Arithmetic arithmetic.And t a b) place rest at = ap (λ (x : Kind). same_kind x k.Phi) (word_comes place (32 ∷ []) (codes "and") _ refl refl refl at).0
+number_no_phi m locals (number.Arithmetic arithmetic.Or t a b) place rest at = ap (λ (x : Kind). same_kind x k.Phi) (word_comes place (32 ∷ []) (codes "or") _ refl refl refl at).0
+number_no_phi m locals (number.Arithmetic arithmetic.Xor t a b) place rest at = ap (λ (x : Kind). same_kind x k.Phi) (word_comes place (32 ∷ []) (codes "xor") _ refl refl refl at).0
+number_no_phi m locals (number.Resize resize.ZeroExtend from a to) place rest at = ap (λ (x : Kind). same_kind x k.Phi) (word_comes place (32 ∷ []) (codes "zext") _ refl refl refl at).0
+number_no_phi m locals (number.Resize resize.SignExtend from a to) place rest at = ap (λ (x : Kind). same_kind x k.Phi) (word_comes place (32 ∷ []) (codes "sext") _ refl refl refl at).0
+number_no_phi m locals (number.Resize resize.Truncate from a to) place rest at = ap (λ (x : Kind). same_kind x k.Phi) (word_comes place (32 ∷ []) (codes "trunc") _ refl refl refl at).0
+number_no_phi m locals (number.Compare c t a b) place rest at = ap (λ (x : Kind). same_kind x k.Phi) (word_comes place (32 ∷ []) (codes "icmp") _ refl refl refl at).0
+
+-- ---- its text
+
+module _ (m n : Module) (locals others : List Text) where
+  -- one operation on integers, one text
+  pub number_op_same : (x y : NumberOp) → IsNumberOpAgain m n locals others x y → number_op_text m locals x ≡ number_op_text n others y
+  number_op_same (number.Arithmetic kind t a b) (number.Arithmetic other u x y) h =
+      same2 (λ c d. c ++ d) (ap arithmetic_word h.0) (pair_same m n locals others (typed t a) (typed u x) b y (h.1.0, h.1.1) h.1.2)
+  number_op_same (number.Resize kind t x to) (number.Resize other u y into) h =
+      same2 (λ a b. a ++ b) (ap resize_word h.0) (converted_same m n locals others (typed t x) (typed u y) to into (h.1, h.2) h.3)
+  number_op_same (number.Compare kind t a b) (number.Compare other u x y) h =
+      same2 (λ c d. codes "icmp " ++ c ++ d) (ap comparison_word h.0) (pair_same m n locals others (typed t a) (typed u x) b y (h.1.0, h.1.1) h.1.2)
+  number_op_same _ _ h = absurd h
+
+-- an operation on numbers is printable where the module has more types, too
+pub number_longer : (m : Module) (types : List IrType) (fs : List Function) (more : Begins m.types types) (same : defined_functions (with_types m types fs) ≡ defined_functions m) (f : Function)
+    → (x : NumberOp) → IsNumberOp m f x → IsNumberOp (with_types m types fs) f x
+number_longer m types fs more same f (number.Arithmetic kind t x y) h = pair_again m types fs more same f t x y h
+number_longer m types fs more same f (number.Resize kind from x to) h = converted_again m types fs more same f from x to h
+number_longer m types fs more same f (number.Compare kind t x y) h = pair_again m types fs more same f t x y h

@@ -24,7 +24,7 @@ use Rattle.ir_print_law.specs.Printable.{IsOp, IsPhi, IsEnd, gives_value}
 use Rattle.ir_print_law.specs.Shapes.{IsIn}
 use Rattle.ir_print_law.proofs.State.{Ready, Reads}
 use Rattle.ir_print_law.proofs.Types.{Comes}
-use Rattle.ir_print_law.proofs.CallsAgain.{PlainAgain}
+use Rattle.ir_print_law.proofs.OpsAgain.{PlainAgain}
 use Rattle.ir_print_law.proofs.EndsAgain.{EndAgain}
 use Rattle.ir_print_law.proofs.Known.{Far, AreNamed, known}
 use Rattle.ir_print_law.proofs.Parts.{OpAgain}

@@ -29,7 +29,7 @@ use Rattle.ir_forms.specs.Operand.{zero_of, truth_of, number_at, number_or_zero,
 use Rattle.ir_print.specs.Fits.{FitsType}
 use Rattle.ir_print.specs.Names.{name_at}
 use Rattle.ir_print_law.specs.Definitions.{functions_of}
-use Rattle.ir_print_law.specs.Printable.{IsGlobalUse, IsOperand, IsTarget}
+use Rattle.ir_print_law.specs.Parts.{IsGlobalUse, IsOperand, IsTarget}
 use Rattle.ir_print_law.specs.Shapes.{IsIn}
 use Rattle.ir_print_law.proofs.Forms.{Keeps, Same, stepped, where_true}
 use Rattle.ir_print_law.proofs.Passes.{skip_passes, expect_passes}

@@ -36,8 +36,8 @@ use Rattle.ir_print_law.proofs.Constants.{constant_is_read}
 use Rattle.ir_print_law.proofs.NamesRead.{local_operands_are_read, few}
 use Rattle.name_text.specs.Reading.{name_spelled}
 use Rattle.ir_print_law.proofs.Words.{global_comes, sign_comes, word_comes}
-use Rattle.ir_print_law.specs.Again.{IsOperandAgain}
-use Rattle.ir_print_law.specs.Printable.{IsType, IsGlobalUse, IsOperand}
+use Rattle.ir_print_law.specs.PartsAgain.{IsOperandAgain}
+use Rattle.ir_print_law.specs.Parts.{IsType, IsGlobalUse, IsOperand}
 use Rattle.ir_print_law.specs.Shapes.{IsIn, Shape, Integer, Pointer, Array, Empty, Struct, Named, HasShape, bits_of_shape, is_pointer_shape}
 use Rattle.ir_print_law.proofs.Tables.{begins_itself, stays, name_begins, name_length, name_there, number_within}
 use Rattle.ir_print_law.proofs.State.{Invariant, Ready, Grows, IsLater, Reads, used_keys, used_symbols}

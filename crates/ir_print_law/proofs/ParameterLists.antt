@@ -30,10 +30,12 @@ use Rattle.ir_print.specs.Standing.{Stands, IsSeam, AreBlanks}
 use Rattle.ir_print.specs.Types.{type_text}
 use Rattle.ir_print_law.proofs.Words.{seen, comma_comes, close_round_comes}
 use Rattle.ir_print_law.specs.Definitions.{parameter_key}
-use Rattle.ir_print_law.specs.Printable.{IsParameter, IsType}
+use Rattle.ir_print_law.specs.Parts.{IsType}
+use Rattle.ir_print_law.specs.Printable.{IsParameter}
 use Rattle.ir_print_law.specs.Shapes.{Shape}
 use Rattle.ir_print_law.proofs.Tables.{stays, begins_itself}
-use Rattle.ir_print_law.specs.Again.{AreAlike, IsParameterAgain}
+use Rattle.ir_print_law.specs.PartsAgain.{AreAlike}
+use Rattle.ir_print_law.specs.Again.{IsParameterAgain}
 use Rattle.ir_print_law.proofs.State.{Ready, IsLater}
 use Rattle.ir_print_law.proofs.Shown.{shape_stays}
 use Rattle.ir_print_law.proofs.Steps.{sign_reads, unlike}

@@ -32,8 +32,9 @@ use Rattle.ir_print.specs.Parts.{typed, pair_text}
 use Rattle.ir_print.specs.Standing.{IsSeam, AreBlanks}
 use Rattle.ir_print_law.proofs.NamesRead.{locals_are_read}
 use Rattle.ir_print_law.proofs.Words.{sign_comes}
-use Rattle.ir_print_law.specs.Again.{IsNameAgain, IsArgumentAgain, ArePairAgain, IsOpAgain}
-use Rattle.ir_print_law.specs.Printable.{IsOperand, IsArgument, ArePair, IsTarget}
+use Rattle.ir_print_law.specs.PartsAgain.{IsNameAgain, IsArgumentAgain, ArePairAgain}
+use Rattle.ir_print_law.specs.Again.{IsOpAgain}
+use Rattle.ir_print_law.specs.Parts.{IsOperand, IsArgument, ArePair, IsTarget}
 use Rattle.ir_print_law.specs.Shapes.{IsIn, Shape, HasShape, bits_of_shape}
 use Rattle.ir_print_law.proofs.Tables.{stays}
 use Rattle.ir_print_law.proofs.State.{Invariant, Ready, IsLater, Reads, used_keys}

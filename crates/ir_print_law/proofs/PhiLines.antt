@@ -20,7 +20,8 @@ use Rattle.ir_print.specs.Names.{name_at, key_text, local_text}
 use Rattle.ir_print.specs.Operands.{listed}
 use Rattle.ir_print.specs.Standing.{Stands, IsSeam, AreBlanks}
 use Rattle.ir_print.specs.Types.{type_text}
-use Rattle.ir_print_law.specs.Again.{AreAlike, IsPhiAgain}
+use Rattle.ir_print_law.specs.PartsAgain.{AreAlike}
+use Rattle.ir_print_law.specs.Again.{IsPhiAgain}
 use Rattle.ir_print_law.specs.Definitions.{phi_key}
 use Rattle.ir_print_law.specs.Printable.{IsPhi}
 use Rattle.ir_print_law.specs.Readings.{IsKey}

@@ -30,7 +30,8 @@ use Rattle.ir_print.specs.Names.{name_at, local_text}
 use Rattle.ir_print.specs.Operands.{operand_text, listed}
 use Rattle.ir_print.specs.Standing.{AreBlanks}
 use Rattle.ir_print.specs.Types.{type_text}
-use Rattle.ir_print_law.specs.Again.{AreAlike, IsTypeAgain, IsIncomingAgain}
+use Rattle.ir_print_law.specs.PartsAgain.{AreAlike, IsTypeAgain}
+use Rattle.ir_print_law.specs.Again.{IsIncomingAgain}
 use Rattle.ir_print_law.specs.Printable.{IsIncoming, IsPhi}
 use Rattle.ir_print_law.specs.Shapes.{Shape, HasShape, bits_of_shape}
 use Rattle.ir_print_law.proofs.State.{Invariant, Ready, Grows, Reads}

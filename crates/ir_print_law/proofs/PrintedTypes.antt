@@ -20,7 +20,7 @@ use Rattle.name_text.specs.Names.{name_text}
 use Rattle.name_text.specs.declared.blank.Blank.TheVariants as blank
 use Rattle.ir_print.specs.Types.{type_text, type_within, type_by, fields_text, further_field}
 use Rattle.ir_print.specs.Standing.{AreBlanks}
-use Rattle.ir_print_law.specs.Again.{IsTypeAgain}
+use Rattle.ir_print_law.specs.PartsAgain.{IsTypeAgain}
 use Rattle.ir_print_law.specs.Definitions.{defined_structs}
 use Rattle.ir_print_law.specs.Shapes.{Shape, Integer, Pointer, Array, Empty, Struct, Named, HasShape, IsWritten, levels, is_scalar_shape, is_pointer_shape, is_passed_shape, is_held_shape, is_struct_shape}
 use Rattle.ir_print_law.proofs.State.{Invariant, Ready, IsLater, Reads}
@@ -28,6 +28,7 @@ use Rattle.ir_print_law.proofs.Shown.{shown, IsTypeRead, shape_stays, some_level
 use Rattle.ir_print_law.proofs.Steps.{go_on, given, checked_then, looked}
 use Rattle.ir_print_law.proofs.Types.{EndsType}
 use Rattle.ir_print_law.proofs.WholeTypes.{claims, braced_reads}
+use Rattle.ir_ast.specs.declared.ir_type.IrType.TheVariants as type
 
 -- ---- a type is printed as its shape is shown
 
@@ -184,3 +185,8 @@ module _ {m : Module} {f : Function} (v : Invariant m f) where
       go_on v (w.braced 63 (w.firm 63)) (λ p. pure p.id) i rest rest s s (IsTypeRead shape 64) (λ n o. HasShape o.types o.struct_names.names shape n)
       (braced_reads v shape i gap rest s is own le blanks ready)
       (λ p o ready g read. given v p.id o rest s (λ n o. HasShape o.types o.struct_names.names shape n) ready read.has_shape)
+
+-- how `void` is printed
+pub void_shown : (n : Module) (t : ℕ) → slice_get n.types t ≡ Some type.Void → type_text n t ≡ codes "void"
+unfolding type_within
+void_shown n t e = ap (type_by (type_within 63 n) n) e

@@ -2,7 +2,7 @@
 use Rattle.std.proofs.Common.{◌≡◌, ℕ, Bool, true, false, not, List, [], ◌∷◌, ◌++◌, slice_get, Option, None, Some, refl, sym, ap, subst, ◌∙◌, arith, append_assoc, length-append, inl, inr, ◌⊎◌}
 use Rattle.std.specs.Prelude.{codes}
 use Rattle.ir_print_law.proofs.ArgumentsAgain.{decorations_said}
-use Rattle.ir_print_law.proofs.CallsAgain.{void_shown}
+use Rattle.ir_print_law.proofs.PrintedTypes.{void_shown, read_again}
 use Rattle.ir_print_law.proofs.OperandsAgain.{ends_global}
 use Rattle.grammar.specs.Grammar.{pure, ◌>>=◌}
 use Rattle.ir_ast.specs.declared.function.Function.{Function}
@@ -27,11 +27,11 @@ use Rattle.ir_print.specs.Standing.{Stands, IsSeam, AreBlanks}
 use Rattle.ir_print.specs.Types.{type_text}
 use Rattle.ir_print_law.proofs.NamesRead.{collectors_are_read}
 use Rattle.ir_print_law.proofs.Words.{sign_comes, word_comes, global_comes, seen}
-use Rattle.ir_print_law.specs.Again.{IsResultAgain}
-use Rattle.ir_print_law.specs.Printable.{IsVoid, IsPassed, IsAnyType, IsCollector}
+use Rattle.ir_print_law.specs.PartsAgain.{IsResultAgain}
+use Rattle.ir_print_law.specs.Parts.{IsVoid}
+use Rattle.ir_print_law.specs.Printable.{IsPassed, IsAnyType, IsCollector}
 use Rattle.ir_print_law.proofs.Tables.{stays}
 use Rattle.ir_print_law.proofs.State.{Invariant, Ready, Reads, IsLater}
-use Rattle.ir_print_law.proofs.PrintedTypes.{read_again}
 use Rattle.ir_print_law.proofs.Steps.{word_skipped, intern_reads, less_spare, grows_further, grows_itself, unlike, passed, grows_advanced}
 use Rattle.ir_print_law.proofs.Types.{Comes}
 use Rattle.ir_print_law.proofs.Needs.{TypesRead}

@@ -20,8 +20,8 @@ use Rattle.ir_forms.specs.Lists as lists
 use Rattle.ir_print.specs.Operands.{typed_text}
 use Rattle.ir_print.specs.Parts.{typed, converted_text}
 use Rattle.ir_print.specs.Standing.{AreBlanks}
-use Rattle.ir_print_law.specs.Again.{IsTypeAgain, IsArgumentAgain}
-use Rattle.ir_print_law.specs.Printable.{IsConverted}
+use Rattle.ir_print_law.specs.PartsAgain.{IsTypeAgain, IsArgumentAgain}
+use Rattle.ir_print_law.specs.Parts.{IsConverted}
 use Rattle.ir_print_law.proofs.State.{Invariant, Ready, Grows, IsLater, Reads}
 use Rattle.ir_print_law.proofs.Shown.{shown, IsTypeRead}
 use Rattle.ir_print_law.proofs.Steps.{word_reads, grows_itself, grows_further, later_before}

@@ -22,7 +22,7 @@ use Rattle.ir_print.specs.Standing.{Stands, AreBlanks}
 use Rattle.ir_print.specs.Types.{type_text}
 use Rattle.ir_print_law.proofs.Words.{sign_comes}
 use Rattle.ir_print_law.specs.Again.{IsStructAgain}
-use Rattle.ir_print_law.specs.Printable.{IsType}
+use Rattle.ir_print_law.specs.Parts.{IsType}
 use Rattle.ir_print_law.specs.Shapes.{IsIn, Shape, Integer, Pointer, Array, Empty, Struct, Named, HasShape, is_struct_shape}
 use Rattle.ir_print_law.proofs.Tables.{stays, begins_itself}
 use Rattle.ir_print_law.proofs.State.{Invariant, Ready, Reads, IsLater}

@@ -28,7 +28,8 @@ use Rattle.ir_print.specs.Names.{name_at}
 use Rattle.ir_print.specs.Standing.{Stands, AreBlanks}
 use Rattle.ir_print_law.specs.Definitions.{AreNew}
 use Rattle.ir_print_law.specs.Printable.{IsStructType, IsPrintable}
-use Rattle.ir_print_law.specs.Again.{AreAlike, IsStructAgain, IsGlobalAgain, IsDeclareAgain, IsFunctionAgain}
+use Rattle.ir_print_law.specs.PartsAgain.{AreAlike}
+use Rattle.ir_print_law.specs.Again.{IsStructAgain, IsGlobalAgain, IsDeclareAgain, IsFunctionAgain}
 use Rattle.ir_print_law.proofs.State.{Ready}
 use Rattle.ir_print_law.proofs.Steps.{unlike}
 use Rattle.ir_print_law.proofs.WholeFunctionEnds.{nobody, Reaches, reaches_further, widens_reaches, IsModuleLater}

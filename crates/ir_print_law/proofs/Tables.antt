@@ -16,20 +16,11 @@ use Rattle.ir_ast.specs.Types.{place_of_type, number_of_type, numbered_type}
 use Rattle.ir_ast.specs.declared.ir_type.IrType.{IrType}
 use Rattle.ir_ast.specs.TypePlaces.{stands}
 use Rattle.ir_tokens.specs.Bytes.{Text}
-use Rattle.ir_ast.specs.declared.ir_type.IrType.TheVariants as type
+pub use Rattle.ir_print_law.specs.TypeOrder.{IsRestBefore, AreOrdered}
 
 -- the second list begins with the first
 abbrev pub Begins : {A : Type 0} → List A → List A → Type 0
 Begins {A = A} xs ys = (more : List A) × (ys ≡ xs ++ more)
-
--- the struct of the further fields of a struct is before it
-abbrev pub IsRestBefore : (number : ℕ) → IrType → Type 0
-IsRestBefore number (type.Struct first rest) = rest < number
-IsRestBefore number _ = Unit {0}
-
--- so it is of each type of a table
-abbrev pub AreOrdered : List IrType → Type 0
-AreOrdered types = (number : ℕ) (x : IrType) → slice_get types number ≡ Some x → IsRestBefore number x
 
 -- ---- a list that begins with another one
 

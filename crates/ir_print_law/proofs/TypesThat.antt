@@ -8,7 +8,8 @@ use Rattle.ir_forms.specs.declared.input.Input.{Input}
 use Rattle.ir_forms.specs.declared.written.WrittenType.{WrittenType}
 use Rattle.ir_forms.specs.Written.{firm, struct_body, type_within, type_that, any_type, scalar_within, scalar, passed_type, held_type, pointer_type, is_scalar, is_passed, is_held, pointer_again}
 use Rattle.ir_print_law.specs.Shapes.{Shape, IsStruct, Integer, Pointer, Array, Empty, Struct, Named, is_struct_shape}
-use Rattle.ir_print_law.specs.Printable.{IsType, IsScalar, IsPointer, IsPlaceType, IsPassed}
+use Rattle.ir_print_law.specs.Parts.{IsType, IsScalar, IsPointer, IsPlaceType}
+use Rattle.ir_print_law.specs.Printable.{IsPassed}
 use Rattle.ir_print_law.proofs.Forms.{Keeps, Same}
 use Rattle.ir_print_law.proofs.Looks.{IsTypeOf, IsShaped, scalar_is, passed_is, pointer_is}
 use Rattle.ir_print_law.proofs.Passes.{again_passes, skip_passes}

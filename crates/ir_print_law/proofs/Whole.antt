@@ -15,7 +15,8 @@ use Rattle.ir_print_law.specs.Definitions.{AreNew, defined_globals, functions_of
 use Rattle.ir_print_law.specs.Printable.{IsPrintable, IsSymbol}
 use Rattle.ir_print_law.specs.Shapes.{IsIn}
 use Rattle.ir_print_law.proofs.Tables.{begins_itself}
-use Rattle.ir_print_law.specs.Again.{AreAlike, IsStructAgain, IsGlobalAgain, IsDeclareAgain, IsFunctionAgain, IsAgain}
+use Rattle.ir_print_law.specs.PartsAgain.{AreAlike}
+use Rattle.ir_print_law.specs.Again.{IsStructAgain, IsGlobalAgain, IsDeclareAgain, IsFunctionAgain, IsAgain}
 use Rattle.ir_print_law.proofs.State.{Ready}
 use Rattle.ir_print_law.proofs.WholeFunctionEnds.{nobody, IsModuleLater}
 use Rattle.ir_print_law.proofs.GlobalLists.{globals_go}

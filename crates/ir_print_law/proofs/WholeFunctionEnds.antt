@@ -26,7 +26,8 @@ use Rattle.ir_print_law.specs.Definitions.{value_keys_of, value_keys, label_keys
 use Rattle.ir_print_law.specs.Printable.{IsBlock}
 use Rattle.ir_print_law.specs.Shapes.{IsIn}
 use Rattle.ir_print_law.proofs.Tables.{Begins, begins_itself, begins_further}
-use Rattle.ir_print_law.specs.Again.{AreAlike, IsBlockAgain}
+use Rattle.ir_print_law.specs.PartsAgain.{AreAlike}
+use Rattle.ir_print_law.specs.Again.{IsBlockAgain}
 use Rattle.ir_print_law.proofs.State.{Invariant, Ready, Reads, IsLater, used_keys}
 use Rattle.ir_print_law.proofs.Steps.{sign_reads, sign_skipped, sign_kind, looked}
 use Rattle.ir_print_law.proofs.BlockLines.{HasKeys}

@@ -17,7 +17,8 @@ use Rattle.ir_tokens.specs.Bytes.{Text}
 use Rattle.std.specs.Fmt.{digits}
 use Rattle.ir_print.specs.Types.{type_within, fields_text}
 use Rattle.ir_print.specs.Items.{text_of}
-use Rattle.ir_print_law.specs.Again.{IsTypeAgain, IsOpAgain, IsAgain}
+use Rattle.ir_print_law.specs.PartsAgain.{IsTypeAgain}
+use Rattle.ir_print_law.specs.Again.{IsOpAgain, IsAgain}
 use Rattle.ir_print_law.specs.Shapes.{Integer}
 
 -- a function that takes an i64 without a name and gives one less

@@ -57,7 +57,7 @@ unfolding read_lexed
 fails bytes lexed (Ok m) short is g = tt
 fails bytes lexed (Err e) short is g = λ ne. inr (short, lexed, is, answered_fails bytes (start bytes lexed) (whole.read (start bytes lexed)) e refl (g ne))
 
-gives_same : {X : Type 0} (r given : Result X ReadFault) (x : Result X ReadFault) → Gives r given → given ≡ x → Gives r x
+pub gives_same : {X : Type 0} (r given : Result X ReadFault) (x : Result X ReadFault) → Gives r given → given ≡ x → Gives r x
 gives_same r given x g e = subst (Gives r) e g
 
 pub only : (bytes : List ℕ) (lexed : Lexed) (r : Result Module ReadFault) (m : Module) → ((other : Lexed) → IsLexed bytes other → lexed ≡ other)

@@ -145,7 +145,7 @@ fn declared_result(alloc: Global, input: &mut Input<'_>) -> Result<TypeId, Fault
 
 /// `void`, or a type that a defined function may return, with what decorates the function.
 #[tactic(auto, unfolding(crate::specs::ItemsOfText::defined_result))]
-fn defined_result(alloc: Global, input: &mut Input<'_>) -> Result<TypeId, Fault>
+pub fn defined_result(alloc: Global, input: &mut Input<'_>) -> Result<TypeId, Fault>
     ensures { Reads (form.defined_result.read input.old) result input.new }
 {
     decorations(alloc, input, Spot::Result)?;
@@ -233,7 +233,7 @@ fn head_end(alloc: Global, input: &mut Input<'_>, spot: Spot) -> Result<Option<I
 
 /// The head of a defined function.
 #[derive(Drop)]
-struct FunctionHead {
+pub struct FunctionHead {
     symbol: SymbolId,
     returned: TypeId,
     parameters: Items<Parameter>,
@@ -241,12 +241,25 @@ struct FunctionHead {
 }
 
 /// `define T @f(T %a, ..) gc "name"`
-#[tactic(auto, unfolding(crate::specs::ItemsOfText::head, crate::specs::Parameters::parameters))]
+#[tactic(auto, unfolding(crate::specs::ItemsOfText::head))]
 fn head(alloc: Global, input: &mut Input<'_>, number: FuncId) -> Result<FunctionHead, Fault>
     ensures { Reads ((form.head number).read input.old) result input.new }
 {
     input.skip();
     let returned = defined_result(alloc, input)?;
+    head_behind(alloc, input, number, returned)
+}
+
+/// What follows the result of a defined function.
+#[tactic(auto, unfolding(crate::specs::Parameters::parameters))]
+pub fn head_behind(
+    alloc: Global,
+    input: &mut Input<'_>,
+    number: FuncId,
+    returned: TypeId,
+) -> Result<FunctionHead, Fault>
+    ensures { Reads ((form.head_behind number returned).read input.old) result input.new }
+{
     let symbol = function_name(alloc, input, SymbolSort::Defined(number))?;
     input.expect(Kind::OpenRound)?;
     let parameters = many::<DefinedParameters>(alloc, input)?;
@@ -299,6 +312,13 @@ fn definition(alloc: Global, input: &mut Input<'_>) -> Result<(), Fault>
     }
     let number = FuncId::new(input.functions.len() as u32);
     let head = head(alloc, input, number)?;
+    body_behind(alloc, input, head)
+}
+
+/// The body after a head.
+pub fn body_behind(alloc: Global, input: &mut Input<'_>, head: FunctionHead) -> Result<(), Fault>
+    ensures { Reads ((form.body_behind head).read input.old) result input.new }
+{
     open_body(input)?;
     let blocks = all_blocks(alloc, input)?;
     input.expect(Kind::CloseBrace)?;

@@ -38,7 +38,7 @@ fn front(bytes: &[u8], count: usize) -> &[u8]
 }
 
 /// A fault with its line and column.
-fn located(alloc: Global, bytes: &[u8], fault: Fault) -> ReadFault
+pub fn located(alloc: Global, bytes: &[u8], fault: Fault) -> ReadFault
     ensures { result ≢ Memory → result ≡ spec.located bytes.now fault }
 {
     match fault {

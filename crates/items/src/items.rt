@@ -1,8 +1,9 @@
-ghost use Rattle.std.specs.Prelude.{◌≡◌, [], ◌∷◌, ◌++◌, ◌<◌, ◌↔◌, length, slice_get, slice_set, IsTrue, IfOk, OnOk, OnErr, OnSome};
+ghost use Rattle.std.specs.Prelude.{◌≡◌, [], ◌∷◌, ◌++◌, ◌<◌, ◌↔◌, Some, length, slice_get, slice_set, IsTrue, IfOk, OnOk, OnErr, OnSome};
 ghost use Rattle.std.specs.Option.{option_copied};
 
 use std::alloc::{AllocError, Global};
 use std::marker::Model;
+use std::mem;
 
 /// A growing list of elements.
 #[derive(Debug, Drop)]
@@ -88,6 +89,15 @@ impl<T: Drop> Items<T> {
         ensures { self.new ≡ slice_set self.old at element }
     {
         self.elements[at] = element;
+    }
+
+    /// Puts an element in the place of another, and gives that one back.
+    pub fn replace(&mut self, at: usize, element: T) -> T
+        requires { at < length self.old }
+        ensures given_back { slice_get self.old at ≡ Some result }
+        ensures new { self.new ≡ slice_set self.old at element }
+    {
+        mem::replace(&mut self.elements[at], element)
     }
 
     /// No elements are left; the room stays.

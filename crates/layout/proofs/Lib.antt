@@ -3,3 +3,5 @@ pub mod Turns
 pub mod Moves
 pub mod Faults
 pub mod Searches
+pub mod Grown
+pub mod Spans

@@ -7,3 +7,5 @@ pub mod Globals
 pub mod Rings
 pub mod Steps
 pub mod AsMany
+pub mod Functions
+pub mod Grown

@@ -2,6 +2,7 @@
 #![tactic(auto)]
 
 mod fault;
+mod laws;
 mod program;
 mod ring;
 mod step;
@@ -10,6 +11,7 @@ mod survey;
 mod word;
 
 pub use fault::LayoutFault;
+pub use laws::layouts_stay_law;
 pub use program::{NotAProgram, Program};
 pub use step::Step;
 pub use struct_words::layouts;

@@ -1,6 +1,7 @@
-ghost use Rattle.std.specs.Prelude.{◌≡◌, ◌≢◌, List, Some, slice_get, IfOk, IfErr};
+ghost use Rattle.std.specs.Prelude.{◌≡◌, ◌≢◌, ◌<◌, List, Some, length, slice_get, slice_set, IfOk, IfErr};
 ghost use Rattle.pools.specs.declared.word_kind.WordKind.{WordKind as AWord};
 ghost use Rattle.layout.specs.declared.fault.LayoutFault.TheVariants.{Memory};
+ghost use Rattle.layout.specs.Functions.{laid_with};
 ghost use Rattle.layout.specs.Globals.{globals_of};
 ghost use Rattle.layout.specs.Layouts.{AreLayouts, AreSizes, IsLayoutFault};
 ghost use Rattle.layout.specs.Offsets.{size_of, words_before, sum_of, field_offset, step_of};
@@ -9,7 +10,7 @@ use crate::fault::LayoutFault;
 use crate::step::Step;
 use crate::struct_words::table;
 use crate::word::words_of_globals;
-use ir_ast::{Argument, IrType, Module, TypeId};
+use ir_ast::{Argument, FuncId, Function, IrType, Module, TypeId};
 use items::Items;
 use pools::{Layouts, WordKind};
 use std::alloc::Global;
@@ -103,6 +104,17 @@ impl Program {
         ensures { result ≡ self.of_module }
     {
         self.of_module
+    }
+
+    /// Puts another function in the place of one, and gives that one back. The layouts depend on no function.
+    pub fn replace_function(&mut self, func: FuncId, function: Function) -> Function
+        requires { func < length self.old.of_module.functions }
+        ensures given_back { slice_get self.old.of_module.functions func ≡ Some result }
+        ensures new { self.new ≡ laid_with self.old (slice_set self.old.of_module.functions func function) }
+    {
+        self.of_module
+            .functions
+            .replace(func.number() as usize, function)
     }
 
     /// How many words a type of the module has, if it has at most 64.

@@ -52,12 +52,18 @@ fn points_nowhere(survey: &Survey, module: &Module, named: &StructType) -> bool
     ensures { result ≡ points_nowhere «module».now survey.now.marks survey.now.fields.items named.now }
 {
     let span = span_of(survey.mark(named.body));
-    survey
-        .fields
+    fields_at(survey.fields.as_slice(), span)
         .iter()
-        .skip(span.start)
-        .take(span.count)
         .any(|field| word_of(module, *field).is_none())
+}
+
+/// The fields at a span, as far as they are there.
+#[tactic(auto, using(crate::proofs::Spans::part_is))]
+fn fields_at(fields: &[TypeId], span: Span) -> &[TypeId]
+    ensures { result.now ≡ fields_at fields.now span }
+{
+    let rest = &fields[span.start.min(fields.len())..];
+    &rest[..span.count.min(rest.len())]
 }
 
 /// The words of the fields at a span.

@@ -11,20 +11,13 @@ use Rattle.ir_ast.specs.declared.op.Op.TheVariants.{Call}
 use Rattle.certs.specs.declared.section.Mark.{Mark}
 use Rattle.certs.specs.declared.section.Promise.{Promise}
 use Rattle.certs.specs.declared.section.Section.{Section}
+pub use Rattle.layout.specs.Functions.{with_functions, laid_with}
 use Rattle.layout.specs.Layouts.{LaidOut}
 use Rattle.block_rules.specs.Promises.{promises_in, promised_in, callee_mark}
 use Rattle.block_rules.specs.Standing.{body_of}
 use Rattle.block_rules.specs.Ways.{Scene}
 
 -- ---- other functions
-
--- the module with these functions in place of its own
-abbrev pub with_functions : Module → List Function → Module
-with_functions m fs = record m { functions = fs }
-
--- the program with these functions in place of its own
-abbrev pub laid_with : LaidOut → List Function → LaidOut
-laid_with p fs = record p { of_module = with_functions p.of_module fs }
 
 -- the same function, with the same certificate, among other functions and other certificates
 abbrev pub scene_with : Scene → List Function → (others : List Section) → Scene

@@ -5,6 +5,6 @@ mod accepted;
 mod verdict;
 
 pub use accepted::Accepted;
-pub use block_check::check_function;
+pub use block_check::{Rows, check_block, check_function, check_rows, rows};
 pub use block_rules::{Detail, Refusal, Rule};
 pub use verdict::{NotAccepted, Verdict, check};

@@ -13,3 +13,4 @@ pub mod GoesOn
 pub mod Sights
 pub mod Breaks
 pub mod Drawn
+pub mod RootsAfter

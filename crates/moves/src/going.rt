@@ -1,4 +1,4 @@
-ghost use Rattle.std.specs.Prelude.{◌≡◌, false, List, IfOk, OnOk, OnErr};
+ghost use Rattle.std.specs.Prelude.{◌≡◌, List, IfOk, OnOk, OnErr};
 ghost use Rattle.pools.specs.Heap.{Setup};
 ghost use Rattle.runs.specs.Machine.{Reference as AReference, machine_of};
 ghost use Rattle.runs.specs.Moves.{answer_of};
@@ -8,59 +8,71 @@ ghost use Rattle.moves.specs.declared.call.Call.{Call as ACall};
 ghost use Rattle.moves.specs.Kinds.{MayAnswer};
 ghost use Rattle.moves.specs.Moving.{HasHint, HasRoom, MayMake};
 ghost use Rattle.moves.specs.Stands.{standing};
+ghost use Rattle.moves.specs.RootsAfter.{IsToldOfRoots};
 
 use crate::call::Answer;
 use crate::hints::note_win;
 use crate::moves::Move;
 use crate::moving::{answer_of, ends_call, stance_behind};
 use crate::reference::{NULL, Reference};
+use crate::roots_after::RootsAfter;
 use crate::runner::Runner;
 use crate::stand::Stand;
 use colours::DONE;
 use pools::Pools;
 use std::alloc::AllocError;
 
-/// The thread after its move. Returns whether its roots change. Without memory it stays as it was.
+/// The thread after its move. Returns what its roots are to those before. Without memory it stays as it was.
 pub fn go_on<M: Runner>(
     pools: &Pools,
     stand: &mut Stand<M>,
     made: &Move,
-) -> Result<bool, AllocError>
+) -> Result<RootsAfter, AllocError>
     requires room { HasRoom stand.old.stance made.now }
     requires hint { HasHint pools.now stand.old.hints made.now (M.action stand.old.state) }
     requires answer { (s : Setup) × MayAnswer s (M.fits s) M.action stand.old.state (answer_of (M.action stand.old.state) (move_in (M.roots stand.old.state) made.now)) }
     ensures ok { (s : Setup) (call : ACall) → s.pools ≡ pools.now → action_of call ≡ M.action stand.old.state → MayMake s stand.old.hints (M.roots stand.old.state) call stand.old.stance made.now
         → (let m = machine_of M.action M.after_answer M.roots in OnOk result (standing s m stand.new ≡ moved s m (standing s m stand.old) (move_in (M.roots stand.old.state) made.now))) }
-    ensures roots { IfOk result (λ change. change ≡ false → M.roots stand.new.state ≡ M.roots stand.old.state) }
+    ensures roots { IfOk result (λ after. IsToldOfRoots after (M.roots stand.old.state) (M.roots stand.new.state)) }
     ensures err { OnErr result (stand.new ≡ stand.old) }
 {
     let call = stand.state.call();
     let stance = stance_behind(pools, &call, stand.stage, stand.stance, made);
-    let roots_change = if ends_call(made, stance) {
+    let roots_after = if ends_call(made, stance) {
         end_call(&mut stand.state, answer_of(&call, made))?
     } else {
-        false
+        RootsAfter::Same
     };
     stand.stage = stage_behind(stand.stage, made);
     stand.stance = stance;
     stand.replaced = old_by(made);
     note_win(pools, &call, &mut stand.hints, made);
-    Ok(roots_change)
+    Ok(roots_after)
 }
 
-/// A call ends with this answer. Returns whether the roots change: where no memory is left to look, they may.
-fn end_call<M: Runner>(state: &mut M, answer: Answer) -> Result<bool, AllocError>
+/// A call ends with this answer. Returns what the roots are to those before.
+fn end_call<M: Runner>(state: &mut M, answer: Answer) -> Result<RootsAfter, AllocError>
     requires { (s : Setup) × MayAnswer s (M.fits s) M.action state.old (answer_in answer) }
     ensures ok { OnOk result (state.new ≡ M.after_answer state.old (answer_in answer)) }
-    ensures roots { IfOk result (λ change. change ≡ false → M.roots state.new ≡ M.roots state.old) }
+    ensures roots { IfOk result (λ after. IsToldOfRoots after (M.roots state.old) (M.roots state.new)) }
     ensures err { OnErr result (state.new ≡ state.old) }
 {
     let before = state.root_references()?;
     state.answer(answer)?;
     match state.root_references() {
-        Ok(after) => Ok(after.as_slice() != before.as_slice()),
-        Err(_) => Ok(true),
+        Ok(after) => Ok(compared(before.as_slice(), after.as_slice())),
+        Err(_) => Ok(RootsAfter::Unseen),
     }
+}
+
+/// What these roots are to those before.
+fn compared(before: &[Reference], after: &[Reference]) -> RootsAfter
+    ensures { IsToldOfRoots result before.now after.now }
+{
+    if after == before {
+        return RootsAfter::Same;
+    }
+    RootsAfter::Others
 }
 
 /// The stage after a move.

@@ -1,5 +1,5 @@
 -- What is told of a run on real threads.
-use Rattle.std.specs.Prelude.{ℕ, ◌≡◌, ◌≤◌, ◌++◌, List, ◌∷◌, length, Some, slice_get}
+use Rattle.std.specs.Prelude.{ℕ, ◌≡◌, ◌<◌, ◌≤◌, ◌++◌, List, ◌∷◌, length, Some, slice_get}
 use Rattle.pools.specs.Heap.{Setup as HeapSetup}
 use Rattle.colours.specs.Runs.{Event, ByThread, log_of, turns_of, IsHeapRun, TouchesAlive}
 use Rattle.colours.specs.Safety.{KeptIsAlive}
@@ -58,4 +58,5 @@ pub record IsReport (p : LaidOut) (setup : Setup) (limits : Limits) (report : Ru
   pub threads : (t : ℕ) (end : ThreadEnd) → slice_get report.threads t ≡ Some end → IsThreadEnd p setup limits.steps t (log_of t run) end
   pub turns : length (turns_of run) ≡ report.turns
   pub within : report.turns ≤ limits.turns
+  pub first : 0 < limits.turns → 0 < report.turns
   pub cycles : HasSwept (heap_of p setup) (turns_of run) report.cycles

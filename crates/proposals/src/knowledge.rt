@@ -84,9 +84,9 @@ impl Knowledge {
     pub fn step(&mut self, scene: &Scene, deals: &Deals, instr: &Instr) -> Result<(), AllocError> {
         if let Op::Call(call) = &instr.op {
             if let Some(callee) = defined(scene.module(), call.callee) {
-                self.drop_arguments(call);
+                self.drop_arguments(call)?;
                 if deals.mark(callee) == Mark::May {
-                    self.here.make_stale();
+                    self.here.make_stale()?;
                 }
                 return self.receive_result(scene, instr.result, call, deals.promised(callee));
             }
@@ -94,11 +94,12 @@ impl Knowledge {
         advance(scene, &mut self.here, instr)
     }
 
-    fn drop_arguments(&mut self, call: &Call) {
+    fn drop_arguments(&mut self, call: &Call) -> Result<(), AllocError> {
         for argument in call.arguments.as_slice() {
             let known = known_of(&self.here, &argument.operand);
-            self.here.drop_fresh_of(known);
+            self.here.drop_fresh_of(known)?;
         }
+        Ok(())
     }
 
     fn receive_result(

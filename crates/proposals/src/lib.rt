@@ -15,6 +15,7 @@ mod guesses;
 mod knowledge;
 mod marks;
 mod needs;
+mod numbers;
 mod order;
 mod proposal;
 mod rows;

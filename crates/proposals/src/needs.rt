@@ -2,8 +2,9 @@
 use crate::call_graph::defined;
 use crate::claim::smaller;
 use crate::deals::Deals;
+use crate::numbers::bounded_operand;
 use crate::rows::{put, row_or};
-use ir_ast::{Block, Call, Element, Function, Instr, Module, NumberOp, Op, Operand, Phi, TypeId};
+use ir_ast::{Block, Call, Element, Function, Instr, Module, Op, Operand, Phi, TypeId};
 use layout::{Program, Step};
 use std::alloc::{AllocError, Global};
 
@@ -50,14 +51,18 @@ impl<'a> Needs<'a> {
         };
         match &instr.op {
             Op::Element(element) => self.note_element(element),
-            Op::Number(NumberOp::Resize { operand, .. }) => self.need(operand, need),
+            Op::Number(op) => {
+                if let Some(operand) = bounded_operand(op) {
+                    self.need(&operand, need);
+                }
+            }
             Op::Cast(cast) => self.need(&cast.operand, need),
             Op::Choice(choice) => {
                 self.need(&choice.chosen, need);
                 self.need(&choice.other, need);
             }
             Op::Call(call) => self.note_call(call),
-            Op::Number(_) | Op::Memory(_) => {}
+            Op::Memory(_) => {}
         }
     }
 

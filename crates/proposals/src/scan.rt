@@ -1,5 +1,6 @@
 //! What each block reads before it writes it, and what it writes. A value has its own number, and a slot the one after those
 //! of all values.
+use crate::numbers::operands_of;
 use crate::rows::{put, row_or};
 use ir_ast::{
     Argument, Block, End, Function, Incoming, Instr, MemoryOp, NumberOp, Op, Operand, Phi, ValueId,
@@ -120,13 +121,11 @@ impl<'a> Scan<'a> {
     }
 
     fn number(&mut self, op: &NumberOp) -> Result<(), AllocError> {
-        match op {
-            NumberOp::Arithmetic { first, second, .. } | NumberOp::Compare { first, second, .. } =>
-                {
-                    self.operand(first)?;
-                    self.operand(second)
-                }
-            NumberOp::Resize { operand, .. } => self.operand(operand),
+        let (first, second) = operands_of(op);
+        self.operand(&first)?;
+        match second {
+            Some(second) => self.operand(&second),
+            None => Ok(()),
         }
     }
 

@@ -21,6 +21,7 @@ use Rattle.stepping.specs.Reach.{IsFirstGone}
 use Rattle.stepping.specs.declared.happening.Happening.{Happening as Made}
 use Rattle.stepping.specs.declared.happening.Happening.TheVariants.{Thread, Collector}
 use Rattle.stepping.specs.declared.happening.Step.{Step}
+use Rattle.stepping.specs.declared.loss.Loss.TheVariants.{Nothing}
 use Rattle.stepping.specs.Ends.{IsStepOrNone, Tells}
 use Rattle.replay.specs.Lists.{cause_of_gone}
 use Rattle.replay.specs.Outcomes.{claims, frees}
@@ -178,7 +179,7 @@ pub cause_told : (s : Setup) (m : Machine) (starts : ℕ → m.State) (actor : A
 cause_told s m starts actor before step is = subst (λ run. IsStepCause s m starts run step.broke) (sym (run-more s m starts actor before (Some is.happening) is.next)) is.broke
 
 -- a step that loses nothing breaks no run by what is gone
-pub nothing_lost : (s : Setup) (m : Machine) (starts : ℕ → m.State) (actor : Actor) (before : List Actor) (step : Step) → IsStepOrNone s m starts (run_by s m starts before) actor (Some step) → step.may_lose ≡ false
+pub nothing_lost : (s : Setup) (m : Machine) (starts : ℕ → m.State) (actor : Actor) (before : List Actor) (step : Step) → IsStepOrNone s m starts (run_by s m starts before) actor (Some step) → step.loss ≡ Nothing
     → ¬ IsBroken s m starts (run_by s m starts before) → IsFirstGone s m starts (run_by s m starts (actor ∷ before)) None
 nothing_lost s m starts actor before step is loses unbroken =
     subst (λ run. IsFirstGone s m starts run None) (sym (run-more s m starts actor before (Some is.happening) is.next)) (is.loses loses (none_gone s m starts (run_by s m starts before) unbroken))

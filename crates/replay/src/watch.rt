@@ -16,7 +16,7 @@ use layout::Program;
 use moves::Move;
 use setups::SetupFault;
 use std::alloc::{AllocError, Global};
-use stepping::{Happening, Step};
+use stepping::{Happening, Loss, Step};
 use trace_text::{Actor, Setup};
 
 /// A world whose run was never broken so far, with what was counted on the way.
@@ -162,7 +162,7 @@ fn cause_after(world: &World<'_>, made: &Option<Step>) -> Result<Option<Cause>, 
     if let Some(cause) = step.broke {
         return Ok(Some(Cause::OfStep(cause)));
     }
-    if !step.may_lose {
+    if let Loss::Nothing = step.loss {
         return Ok(None);
     }
     match world.first_gone()? {

@@ -1,3 +1,4 @@
 pub mod Births
 pub mod Safety
 pub mod RealThreads
+pub mod OnlyMoves

@@ -19,7 +19,7 @@ use Rattle.runs.specs.Calls.{get_in, phase_with}
 
 -- ---- the roots to be marked
 
-non_null_cells : (roots : List Reference) → non_null (cells_of roots) ≡ cells_of (filter (λ (r : Reference). not (r.cell == 0)) roots)
+pub non_null_cells : (roots : List Reference) → non_null (cells_of roots) ≡ cells_of (filter (λ (r : Reference). not (r.cell == 0)) roots)
 non_null_cells [] = refl
 non_null_cells (r ∷ roots) = go (non_null_cells roots) (not (r.cell == 0))
   where
@@ -28,7 +28,7 @@ non_null_cells (r ∷ roots) = go (non_null_cells roots) (not (r.cell == 0))
     go e true = ap (λ (cs : List ℕ). r.cell ∷ cs) e
     go e false = e
 
-length_cells : (rs : List Reference) → length (cells_of rs) ≡ length rs
+pub length_cells : (rs : List Reference) → length (cells_of rs) ≡ length rs
 length_cells [] = refl
 length_cells (r ∷ rs) = ap suc (length_cells rs)
 

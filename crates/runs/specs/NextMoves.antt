@@ -93,3 +93,13 @@ pub record NextMoveIsNext (s : Setup) (m : Machine) (starts : ℕ → m.State) (
 abbrev pub NextMovesAreNext : (s : Setup) (m : Machine) → Type 0
 NextMovesAreNext s m = (starts : ℕ → m.State) (run : List Happening) (h : Sight) (t : ℕ) → IsModuleRun s m starts run → IsSightOf s run h → t < s.threads
     → TriesInPoolBehind s m starts run h t → NextMoveIsNext s m starts run h t
+
+-- a move is this one; where both try a cell, they are one if their cells are
+abbrev pub IsThisMove : (next move : Move) → Type 0
+IsThisMove (Claims r won) (Claims q other) = q.cell ≡ r.cell → Claims q other ≡ Claims r won
+IsThisMove next move = move ≡ next
+
+-- the law of no other move: after a run, a thread has no next move but the one from the heap there; only the cell of a try may be another
+abbrev pub NextMovesAreOnly : (s : Setup) (m : Machine) → Type 0
+NextMovesAreOnly s m = (starts : ℕ → m.State) (run : List Happening) (h : Sight) (t : ℕ) → IsSightOf s run h → (move : Move) → IsNext s m starts run (OfThread t move)
+    → MatchOption (next_move_in s m starts run h t) ⊥ (λ next. IsThisMove next move)

@@ -114,7 +114,7 @@ lost s log layout tried cell o e before few = go (length (cell ∷ tried) == sli
         record { few = omega (arith, few, other); before = sooner; last = o.2 }
 
 -- the pool of a cell is not empty
-some_cell : (s : Setup) (layout cell : ℕ) → IsOfLayout s layout cell → 0 < slice_index s.pools layout
+pub some_cell : (s : Setup) (layout cell : ℕ) → IsOfLayout s layout cell → 0 < slice_index s.pools layout
 unfolding layout_of
 some_cell s layout cell o =
     let some : slice_index s.pools layout ≢ 0 = subst (λ (l : ℕ). slice_index s.pools l ≢ 0) o.2 (has_cells s.pools (cell - 1) (omega (arith, o.0, o.1))) in

@@ -5,7 +5,7 @@ ghost use Rattle.runs.specs.ModuleRuns.{Happening};
 ghost use Rattle.runs.specs.Broken.{CausesName};
 ghost use Rattle.runs.specs.Promises.{AreCareful, IsSafe, CarefulIsSafe, CarefulIsNeverWrong};
 ghost use Rattle.runs.specs.Soundness.{AreSound};
-ghost use Rattle.runs.specs.NextMoves.{NextMovesAreNext, IsSightOf, sight_behind};
+ghost use Rattle.runs.specs.NextMoves.{NextMovesAreNext, NextMovesAreOnly, IsSightOf, sight_behind};
 ghost use Rattle.runs.specs.Tries.{HintsInOrder};
 ghost use Rattle.runs.specs.Ends.{Standing, StandsBehind, GoesOn, begun};
 ghost use Rattle.runs.specs.RealThreads.{CarefulMeetsConditions};
@@ -43,11 +43,12 @@ pub fn cause_law<M: Machine>()
 {}
 
 /// The law of next moves: after every run, the move that a thread's state and the contents of the heap determine may happen
-/// next, if the cell that an alloc tries next is one of the pool that was not tried. Only a thread that has ended has no next
-/// move. The cell is such a one where a pool's cells are tried from the thread's hint to the pool's end, and then from the first
-/// one up to the hint.
+/// next, if the cell that an alloc tries next is one of the pool that was not tried. No other move may, but the try of another
+/// cell. Only a thread that has ended has no next move. The cell is such a one where a pool's cells are tried from the thread's
+/// hint to the pool's end, and then from the first one up to the hint.
 pub fn next_move_law<M: Machine>()
     ensures next { (s : Setup) → NextMovesAreNext s (machine_of M.action M.after_answer M.roots) }
+    ensures only { (s : Setup) → NextMovesAreOnly s (machine_of M.action M.after_answer M.roots) }
     ensures hints { (s : Setup) → HintsInOrder s (machine_of M.action M.after_answer M.roots) }
     ensures sight { (s : Setup) (run : List Happening) (order : ℕ → List ℕ → ℕ) → IsSightOf s run (sight_behind s run order) }
 {}

@@ -1,8 +1,9 @@
-ghost use Rattle.std.specs.Prelude.{◌≡◌};
+ghost use Rattle.std.specs.Prelude.{◌≡◌, OnOk, OnErr};
 ghost use Rattle.safepoints.specs.Marks.{is_may, marks_agree, after_mark, EndsOthers};
 
 use certs::Mark;
 use facts::{Facts, safepoint_law};
+use std::alloc::AllocError;
 
 /// Whether a function may reach a safepoint.
 pub fn is_may(mark: Mark) -> bool
@@ -19,13 +20,14 @@ pub fn marks_agree(own: Mark, called: Mark) -> bool
 }
 
 /// Goes on to the facts after a call of a function that is marked so.
-pub fn after_call(facts: &mut Facts, mark: Mark)
-    ensures facts { facts.new ≡ after_mark mark facts.old }
-    ensures statements { EndsOthers mark facts.old facts.new }
+pub fn after_call(facts: &mut Facts, mark: Mark) -> Result<(), AllocError>
+    ensures facts { OnOk result (facts.new ≡ after_mark mark facts.old) }
+    ensures statements { OnOk result (EndsOthers mark facts.old facts.new) }
+    ensures err { OnErr result (facts.new ≡ facts.old) }
 {
     safepoint_law();
     match mark {
         Mark::May => facts.make_stale(),
-        Mark::None => {}
+        Mark::None => Ok(()),
     }
 }

@@ -2,3 +2,4 @@ pub mod Serving
 pub mod Tries
 pub mod Endings
 pub mod Jobs
+pub mod Turns

@@ -5,6 +5,7 @@ ghost use Rattle.colours.specs.declared.turn.Turn.{Turn};
 ghost use Rattle.runs.specs.Machine.{machine_of};
 ghost use Rattle.heap_table.specs.Sweepers.{IsSweeperOf, IsNowAt};
 ghost use Rattle.serving.specs.Jobs.{MayBegin, WasServed};
+ghost use Rattle.serving.specs.Turns.{MayBeginCycle};
 
 use crate::collecting::collect;
 use crate::serving::{Outcome, serve};
@@ -50,6 +51,7 @@ pub fn serve_beside<'a, T: Threads + Sync, R: Runner + Send, G: Gate + Sync>(
     ensures token { IsNowAt sweeper.old sweeper.new.log sweeper.new }
     ensures turns { (turns : List Turn) × (sweeper.new.log ≡ turns ++ sweeper.old.log) × (length turns ≡ result) }
     ensures limit { result ≤ limits.turns }
+    ensures first { 0 < limits.turns → MayBeginCycle sweeper.old.log → 0 < result }
 {
     let ended = AtomicUsize::new(0);
     let threads = jobs.len();
@@ -119,6 +121,7 @@ fn collect_gated<'a, G: Gate>(
     ensures token { IsNowAt sweeper.old sweeper.new.log sweeper.new }
     ensures turns { (turns : List Turn) × (sweeper.new.log ≡ turns ++ sweeper.old.log) × (length turns ≡ result) }
     ensures limit { result ≤ limit }
+    ensures first { 0 < limit → MayBeginCycle sweeper.old.log → 0 < result }
 {
     gate.before(threads);
     let turns = collect(heap, sweeper, limit, ended, threads);

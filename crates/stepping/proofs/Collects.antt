@@ -24,7 +24,9 @@ use Rattle.moves.specs.Runs.{found_in, collector_behind, turn_for, by_collector,
 use Rattle.moves.specs.Shared.{held_at}
 use Rattle.moves.specs.Stands.{standing}
 use Rattle.moves.specs.Drawn.{drawn, moved-found}
-use Rattle.stepping.specs.Reach.{LosesNothing}
+use Rattle.stepping.specs.Reach.{FreesNothing, LosesNothing}
+use Rattle.stepping.specs.Loss.{IsTold}
+use Rattle.stepping.specs.declared.loss.Loss.{Loss}
 use Rattle.run_law.specs.Growth.{CollectorIsBehind, MotionGrows, with_stored}
 use Rattle.stepping.specs.declared.acting.Actors.{Actors}
 use Rattle.stepping.specs.declared.happening.Happening.TheVariants as made
@@ -103,10 +105,10 @@ collects-more s c run word_at motion behind e x =
 -- the actors are those after it
 pub collected : (s : Setup) (m : Machine) (Fits : m.State → Type 0) (starts : ℕ → m.State) (before : List Actor) (a : Actors m.State) → AreBehindSteps s m Fits starts before a
     → (motion : Motion) (behind : Collecting) → IsStepOn (held_at a.shared) a.collector motion behind → MotionGrows s (run_by s m starts before) a.shared motion behind
-    → KeepsAll s m starts → (may_lose : Bool) → (may_lose ≡ false → LosesNothing s m starts (run_by s m starts before) (OfCollector motion.turn))
-    → IsOneStep s m Fits starts before Collector (Some (record { happening = made.Collector motion.turn; broke = None; may_lose = may_lose }))
+    → KeepsAll s m starts → (loss : Loss) → IsTold loss (LosesNothing s m starts (run_by s m starts before) (OfCollector motion.turn))
+    → IsOneStep s m Fits starts before Collector (Some (record { happening = made.Collector motion.turn; broke = None; loss = loss }))
     (record { plan = a.plan; threads = a.threads; shared = with_stored a.shared motion motion.stored; collector = behind })
-collected s m Fits starts before a b motion behind x grows keeps may_lose loses =
+collected s m Fits starts before a b motion behind x grows keeps loss told =
     let end = b.is_behind.is_end in
     let run = run_by s m starts before in
     let next : next_by s m starts run Collector ≡ Some (OfCollector motion.turn) = next-by-collector s m Fits starts before a b ∙ ap by_collector (next-turn (held_at a.shared) a.collector motion behind x) in
@@ -126,7 +128,9 @@ collected s m Fits starts before a b motion behind x grows keeps may_lose loses 
         next = next;
         tells = refl;
         broke = (λ w. w, λ w. w);
-        loses = λ none before_it. keeps run (OfCollector motion.turn) (is_longer_run s m starts before Collector (OfCollector motion.turn) (tt, b.is_behind.are_actors) next) (loses none) before_it;
+        loss = told;
+        loses = λ lossless before_it. keeps run (OfCollector motion.turn) (is_longer_run s m starts before Collector (OfCollector motion.turn) (tt, b.is_behind.are_actors) next)
+            (subst (λ (l : Loss). IsTold l (LosesNothing s m starts run (OfCollector motion.turn))) lossless told) before_it;
       };
       behind = record {
         plan = b.plan;
@@ -140,10 +144,10 @@ collected s m Fits starts before a b motion behind x grows keeps may_lose loses 
 
 -- ---- as the code makes it
 
--- a step that frees no cell loses nothing
-pub loses-none : (s : Setup) (m : Machine) (starts : ℕ → m.State) (run : List Happening) (turn : Turn) → ((cell : ℕ) → turn ≡ Free cell → ⊥) → LosesNothing s m starts run (OfCollector turn)
-loses-none s m starts run (Free cell) none = none cell refl
-loses-none s m starts run turn none = tt
+-- each step but the one that frees a cell frees nothing
+pub frees-none : (turn : Turn) → ((cell : ℕ) → turn ≡ Free cell → ⊥) → FreesNothing turn
+frees-none (Free cell) none = none cell refl
+frees-none turn none = tt
 
 -- the words after a step that stores nothing
 pub stored-none : (h : Shared) (motion : Motion) → ((n : ℕ) → motion.stored ≡ Some n → ⊥) → with_stored h motion motion.stored ≡ h

@@ -1,5 +1,5 @@
 -- A thread's next move, and the actors after it.
-use Rattle.std.proofs.Common.{◌≡◌, ◌<◌, inl, inr, ℕ, Bool, false, Option, Some, None, List, ◌∷◌, slice_get, slice_set, length-set, refl, sym, ap, ◌∙◌, subst, if◌then◌else◌}
+use Rattle.std.proofs.Common.{◌≡◌, ◌<◌, inl, inr, ℕ, Bool, Option, Some, None, List, ◌∷◌, slice_get, slice_set, length-set, refl, sym, ap, ◌∙◌, subst, if◌then◌else◌}
 use Rattle.std.specs.Vec.{with_item}
 use Rattle.lemmas.specs.Numbers.{test_yes}
 use Rattle.pools.specs.Heap.{Setup, cells}
@@ -26,6 +26,9 @@ use Rattle.moves.specs.Drawn.{drawn, turns-with}
 use Rattle.moves.specs.Sights.{next_in_words}
 use Rattle.moves.specs.Breaks.{first_cause}
 use Rattle.stepping.specs.Reach.{AddsNothing, LosesNothing}
+use Rattle.stepping.specs.Loss.{IsTold}
+use Rattle.stepping.specs.declared.loss.Loss.{Loss}
+use Rattle.stepping.specs.declared.loss.Loss.TheVariants.{Nothing, Possible, Unseen}
 use Rattle.run_law.specs.Growth.{ThreadIsBehind, MoveGrows}
 use Rattle.stepping.specs.declared.acting.Actors.{Actors}
 use Rattle.stepping.specs.declared.happening.Happening.TheVariants as happening
@@ -131,6 +134,25 @@ loses-none s m starts run t stand move behind stands is loses = (
       ∙ ap m.roots stands.state,
 )
 
+-- and one that loses nothing stores nothing and leaves the roots unchanged
+loses-back : (s : Setup) (m : Machine) (starts : ℕ → m.State) (run : List Happening) (t : ℕ) (stand : Stand m.State) (move : moves.Move) (behind : Stand m.State)
+    → StandsBehind s m starts run t (standing s m stand) → standing s m behind ≡ moved s m (standing s m stand) move
+    → LosesNothing s m starts run (OfThread t move) → AddsNothing move × (m.roots behind.state ≡ m.roots stand.state)
+loses-back s m starts run t stand move behind stands is loses = (
+  loses.0,
+  ap (λ (st : Standing m.State). m.roots st.state) is
+      ∙ ap m.roots ((goes_on s m starts run t (standing s m stand) stands).own move).state
+      ∙ ap (λ (share : List moves.Move). m.roots (state_after s m t (starts t) share)) (share-with t move run)
+      ∙ loses.1
+      ∙ ap m.roots (sym stands.state),
+)
+
+-- what is told where one statement holds is told where the other does, if either gives the other
+told-so : (loss : Loss) (P Q : Type 0) → (P → Q) → (Q → P) → IsTold loss P → IsTold loss Q
+told-so Nothing P Q to back told = to told
+told-so Possible P Q to back told = λ q. told (back q)
+told-so Unseen P Q to back told = tt
+
 -- the end of the run with the move
 moves-on : (s : Setup) (m : Machine) (Fits : m.State → Type 0) (starts : ℕ → m.State) (run : List Happening) (a : Actors m.State) → IsEnd s m Fits starts run a.threads.items a.shared a.collector
     → (t : ℕ) (stand : Stand m.State) → slice_get a.threads.items t ≡ Some stand
@@ -168,22 +190,27 @@ pub moved-on : (s : Setup) (m : Machine) (Fits : m.State → Type 0) (starts : �
     → (made : Move) → next_move_of s m (sight_in s a.shared stand.hints) (standing s m stand) ≡ Some (move_in (m.roots stand.state) made) → MoveGrows s m Fits (run_by s m starts before) t stand a.shared made
     → (behind : Stand m.State) → standing s m behind ≡ moved s m (standing s m stand) (move_in (m.roots stand.state) made)
     → (broke : Option Cause) → Breaks a.shared made broke
-    → KeepsAll s m starts → (may_lose : Bool) → (may_lose ≡ false → AddsNothing (move_in (m.roots stand.state) made) × (m.roots behind.state ≡ m.roots stand.state))
-    → IsOneStep s m Fits starts before (Thread t) (Some (record { happening = happening.Thread t made; broke = broke; may_lose = may_lose }))
+    → KeepsAll s m starts → (loss : Loss) → IsTold loss (AddsNothing (move_in (m.roots stand.state) made) × (m.roots behind.state ≡ m.roots stand.state))
+    → IsOneStep s m Fits starts before (Thread t) (Some (record { happening = happening.Thread t made; broke = broke; loss = loss }))
     (record { plan = a.plan; threads = with_item a.threads t behind; shared = with_move a.shared t stand.stage made; collector = a.collector })
-moved-on s m Fits starts before a b t lt stand is made asked grows behind behind_is broke breaks keeps may_lose loses =
+moved-on s m Fits starts before a b t lt stand is made asked grows behind behind_is broke breaks keeps loss told =
     let end = b.is_behind.is_end in
     let run = run_by s m starts before in
     let move = move_in (m.roots stand.state) made in
     let next : next_by s m starts run (Thread t) ≡ Some (OfThread t move) = next-by-thread s m Fits starts before a b t stand is ∙ ap (by_thread t) asked in
+    let stands = end.stands t stand is in
+    let told_of : IsTold loss (LosesNothing s m starts run (OfThread t move)) =
+    told-so loss (AddsNothing move × (m.roots behind.state ≡ m.roots stand.state)) (LosesNothing s m starts run (OfThread t move))
+    (loses-none s m starts run t stand move behind stands behind_is) (loses-back s m starts run t stand move behind stands behind_is) told in
     record {
       made_is = record {
         happening = OfThread t move;
         next = next;
         tells = ap (λ (state : m.State). OfThread t (move_in (m.roots state) made)) (end.stands t stand is).state;
         broke = first_cause s m starts run t (m.roots stand.state) a.shared made broke end.words.behind breaks;
+        loss = told_of;
         loses = λ lossless before_it. keeps run (OfThread t move) (is_longer_run s m starts before (Thread t) (OfThread t move) (lt, b.is_behind.are_actors) next)
-            (loses-none s m starts run t stand move behind (end.stands t stand is) behind_is (loses lossless)) before_it;
+            (subst (λ (l : Loss). IsTold l (LosesNothing s m starts run (OfThread t move))) lossless told_of) before_it;
       };
       behind = record {
         plan = b.plan;

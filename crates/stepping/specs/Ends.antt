@@ -1,5 +1,5 @@
 -- The threads, the shared words and the collector at the end of the run that a list of actors makes, and one step more.
-use Rattle.std.specs.Prelude.{ℕ, ◌≡◌, ◌<◌, ◌≤◌, ◌^◌, false, Option, Some, None, List, ◌∷◌, length, slice_get}
+use Rattle.std.specs.Prelude.{ℕ, ◌≡◌, ◌<◌, ◌≤◌, ◌^◌, Option, Some, None, List, ◌∷◌, length, slice_get}
 use Rattle.pools.specs.Heap.{Setup, IsSetup, cells}
 use Rattle.colours.specs.Runs.{turns_of}
 use Rattle.trace_sweep.specs.Collecting.{Collecting}
@@ -16,12 +16,14 @@ use Rattle.moves.specs.Causes.{IsStepCause}
 use Rattle.moves.specs.Runs.{collector_behind, next_by, run_by, AreActors}
 use Rattle.moves.specs.Shared.{StandBehind}
 use Rattle.moves.specs.Stands.{standing}
-use Rattle.stepping.specs.Reach.{IsPlanOf, IsFirstGone}
+use Rattle.stepping.specs.Reach.{IsPlanOf, IsFirstGone, LosesNothing}
+use Rattle.stepping.specs.Loss.{IsTold}
 use Rattle.run_law.specs.Growth.{IsInHeap}
 use Rattle.stepping.specs.declared.acting.Actors.{Actors}
 use Rattle.stepping.specs.declared.happening.Happening.{Happening}
 use Rattle.stepping.specs.declared.happening.Happening.TheVariants.{Thread, Collector}
 use Rattle.stepping.specs.declared.happening.Step.{Step}
+use Rattle.stepping.specs.declared.loss.Loss.TheVariants.{Nothing}
 
 -- the threads, the shared words and the collector at the end of this run
 pub record IsEnd (s : Setup) (m : Machine) (Fits : m.State → Type 0) (starts : ℕ → m.State) (run : List runs.Happening) (threads : List (Stand m.State)) (shared : Shared) (collector : Collecting) : Type 0 where
@@ -59,8 +61,10 @@ pub record IsStep (s : Setup) (m : Machine) (starts : ℕ → m.State) (run : Li
   pub next : next_by s m starts run actor ≡ Some happening
   pub tells : Tells (λ t. m.roots (moves.state_after s m t (starts t) (share_of t run))) step.happening happening
   pub broke : IsStepCause s m starts (happening ∷ run) step.broke
+  -- it is told that nothing may be lost only of a step that loses nothing, and that something may be only of another one
+  pub loss : IsTold step.loss (LosesNothing s m starts run happening)
   -- where nothing that is gone could be reached before, nothing can be after a step that loses nothing
-  pub loses : step.may_lose ≡ false → IsFirstGone s m starts run None → IsFirstGone s m starts (happening ∷ run) None
+  pub loses : step.loss ≡ Nothing → IsFirstGone s m starts run None → IsFirstGone s m starts (happening ∷ run) None
 
 -- where no step was made, the actor has no next step
 abbrev pub IsStepOrNone : (s : Setup) (m : Machine) (starts : ℕ → m.State) → List runs.Happening → Actor → Option Step → Type 0

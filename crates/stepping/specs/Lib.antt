@@ -2,4 +2,5 @@ pub mod Reach
 pub mod Walks
 pub mod Starts
 pub mod Roots
+pub mod Loss
 pub mod Ends

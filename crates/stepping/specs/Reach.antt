@@ -1,6 +1,7 @@
 -- The first thing that is gone and can be reached, after a run.
 use Rattle.std.specs.Prelude.{ℕ, ◌≡◌, ◌≢◌, ◌<◌, Option, Some, None, List, ◌∷◌}
 use Rattle.pools.specs.Heap.{Setup, cells}
+use Rattle.colours.specs.declared.turn.Turn.{Turn}
 use Rattle.colours.specs.declared.turn.Turn.TheVariants.{Free}
 use Rattle.runs.specs.Machine.{Reference, Machine}
 use Rattle.runs.specs.Moves.{Move, StoresBehindBarrier, StoresPlain, ReadsPostedAgain, IsIn, state_after}
@@ -42,8 +43,12 @@ AddsNothing (StoresPlain base word value) = value.cell ≡ 0
 AddsNothing (ReadsPostedAgain stage) = ⊥
 AddsNothing move = Unit {0}
 
+-- the step of the collector frees no cell
+abbrev pub FreesNothing : Turn → Type 0
+FreesNothing (Free cell) = ⊥
+FreesNothing turn = Unit {0}
+
 -- the step after this run frees no cell, stores no reference, begins no thread, and leaves the roots of its thread unchanged
 abbrev pub LosesNothing : (s : Setup) (m : Machine) (starts : ℕ → m.State) → List Happening → Happening → Type 0
-LosesNothing s m starts run (OfCollector (Free cell)) = ⊥
-LosesNothing s m starts run (OfCollector turn) = Unit {0}
+LosesNothing s m starts run (OfCollector turn) = FreesNothing turn
 LosesNothing s m starts run (OfThread t move) = AddsNothing move × (m.roots (state_after s m t (starts t) (move ∷ share_of t run)) ≡ m.roots (state_after s m t (starts t) (share_of t run)))

@@ -1,21 +1,20 @@
-ghost use Rattle.std.specs.Prelude.{ℕ, ◌≡◌, ◌<◌, ◌^◌, Some, List, [], ◌∷◌, length, map, slice_get, true, false, All, IfOk, OnErr};
+ghost use Rattle.std.specs.Prelude.{ℕ, ◌≡◌, ◌<◌, ◌^◌, Some, List, [], ◌∷◌, length, map, slice_get, All, IfOk, OnErr};
 ghost use Rattle.std.specs.Option.{option_copied};
 ghost use Rattle.pools.specs.Heap.{Setup, IsSetup};
-ghost use Rattle.runs.specs.Machine.{Reference as AReference, machine_of};
-ghost use Rattle.moves.specs.Calls.{move_in};
+ghost use Rattle.runs.specs.Machine.{machine_of};
 ghost use Rattle.moves.specs.declared.actor.Actor.{Actor as AnActor};
 ghost use Rattle.moves.specs.declared.actor.Actor.TheVariants as actor;
 ghost use Rattle.moves.specs.Runs.{run_by, IsActor};
-ghost use Rattle.stepping.specs.Reach.{IsPlanOf, IsFirstGone, AddsNothing};
+ghost use Rattle.stepping.specs.Reach.{IsPlanOf, IsFirstGone};
 ghost use Rattle.stepping.specs.Ends.{AreBehindSteps, IsOneStep};
 
 use crate::beginning::{NewThread, shared_at_start, stands_at_start};
 use crate::gone::{Gone, Plan, first_gone};
 use crate::happening::{Happening, Step};
 use crate::laws::loss_law;
+use crate::loss::{loss_of_move, loss_of_turn};
 use crate::roots::roots_under_way;
-use colours::Turn;
-use moves::{Actor, Move, Runner, Shared, Stand, broken_by, go_on, next_move};
+use moves::{Actor, Runner, Shared, Stand, broken_by, go_on, next_move};
 use run_law::growth_law;
 use std::alloc::{AllocError, Global};
 use trace_sweep::Collector;
@@ -99,13 +98,14 @@ impl<'a, M: Runner + Drop> Actors<'a, M> {
         growth_law::<M>();
         loss_law::<M>();
         let motion = self.collector.next(&self.shared)?;
+        let loss = loss_of_turn(motion.turn);
         if let Some(number) = motion.stored {
             self.shared.put(motion.place, number);
         }
         Some(Step {
             happening: Happening::Collector(motion.turn),
             broke: None,
-            may_lose: matches!(motion.turn, Turn::Free(_)),
+            loss,
         })
     }
 
@@ -126,12 +126,13 @@ impl<'a, M: Runner + Drop> Actors<'a, M> {
         };
         let broke = broken_by(&self.shared, &made);
         let stage = stand.stage;
-        let roots_change = go_on(self.plan.pools, &mut self.threads[index], &made)?;
+        let roots_after = go_on(self.plan.pools, &mut self.threads[index], &made)?;
+        let loss = loss_of_move(&made, roots_after);
         self.shared.apply(index, stage, &made);
         Ok(Some(Step {
             happening: Happening::Thread(thread, made),
             broke,
-            may_lose: roots_change || may_lose(&made),
+            loss,
         }))
     }
 
@@ -142,17 +143,5 @@ impl<'a, M: Runner + Drop> Actors<'a, M> {
     {
         let roots = roots_under_way(alloc, self.threads.as_slice())?;
         first_gone::<M>(alloc, self.plan, &self.shared, roots.as_slice())
-    }
-}
-
-/// Whether a move puts a reference, or a number other than 0, into a word, or may be the one after which a late thread has begun.
-fn may_lose(made: &Move) -> bool
-    ensures { (roots : List AReference) → result ≡ false → AddsNothing (move_in roots made.now) }
-{
-    match made {
-        Move::StoresBehindBarrier { value, .. } | Move::StoresPlain { value, .. } => value.cell
-            != 0,
-        Move::ReadsPostedAgain(_) => true,
-        _ => false,
     }
 }

@@ -1,3 +1,4 @@
+use crate::loss::Loss;
 use colours::Turn;
 use moves::{Cause, Move};
 
@@ -15,5 +16,5 @@ pub struct Step {
     /// The cause by which the step itself breaks the run: it is wrong, or uses a cell that was gone before it.
     pub broke: Option<Cause>,
     /// Whether a reference that is gone may be reachable after the step, where none was before.
-    pub may_lose: bool,
+    pub loss: Loss,
 }

@@ -6,6 +6,7 @@ mod beginning;
 mod gone;
 mod happening;
 mod laws;
+mod loss;
 mod roots;
 mod walk;
 
@@ -14,3 +15,4 @@ pub use beginning::NewThread;
 pub use gone::{Gone, Plan, first_gone};
 pub use happening::{Happening, Step};
 pub use laws::loss_law;
+pub use loss::Loss;

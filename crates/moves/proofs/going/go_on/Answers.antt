@@ -12,7 +12,7 @@ use Rattle.moves.specs.Stands.{cells_to_try, phase_at}
 use Rattle.moves.proofs.Wins.{wins-of-layout}
 use Rattle.moves.specs.GoesOn.{same-call, moved-between, moved-within}
 use Rattle.moves.proofs.going.go_on.Goals as goal
-use Rattle.moves.proofs.going.go_on.Goals.{then-ends_call+in_ok-roots_change, else-ends_call}
+use Rattle.moves.proofs.going.go_on.Goals.{then-ends_call+in_ok-roots_after, else-ends_call}
 
 pub returns-clause-ok : goal.returns-clause-ok
 returns-clause-ok g c s call e asked may =
@@ -26,10 +26,10 @@ returns-clause-ok g c s call e asked may =
     c.call-call.ensures (c.stance_behind-stance.ensures s c.args.stand.now.hints roots e here) in
     let noted = c.note_win.ensures s roots e (wins-of-layout s c.args.stand.now.hints roots c.call-call.result c.args.stand.now.stance c.args.made.now here) in
     elim c.if-ends_call.branch [
-      | then-ends_call+in_ok-roots_change w ↦
+      | then-ends_call+in_ok-roots_after w ↦
           rw w.stand-is
           (moved-between s m c.args.stand.now c.args.made.now w.end_call.new.state c.stage_behind-stand.result c.stance_behind-stance.result c.old_by-stand.result c.note_win.new.hints (answer_in w.answer_of.result)
-          phase (sym (c.ends_call.ensures cells roots) ∙ w.if-ends_call.true) w.in_ok-roots_change.ensures.ok
+          phase (sym (c.ends_call.ensures cells roots) ∙ w.if-ends_call.true) w.in_ok-roots_after.ensures.ok
           (w.answer_of.ensures roots ∙ ap (λ a. answer_of a (move_in roots c.args.made.now)) c.call-call.ensures) (c.stage_behind-stand.ensures roots ∙ ap (λ (v : Stand g.row.M.Denot). stage_behind v.stage (move_in roots c.args.made.now)) w.stand-is) (c.old_by-stand.ensures roots)
           (noted ∙ ap (λ (v : Stand g.row.M.Denot). hints_by s v.hints (step_of (move_in roots c.args.made.now))) w.stand-is))
       | else-ends_call w ↦

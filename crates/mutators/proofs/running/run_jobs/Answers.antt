@@ -40,5 +40,5 @@ returns g c =
     report c.args.accepted.now.program c.args.setup.now c.args.heap c.args.limits before after _ c.args.sweeper c.serve_programs-turns.new.sweeper c.in_ok-close_after.field-0 c.in_ok-threads.threads
     c.serve_programs-turns.result c.cycles-cycles.result c.heap_law.ensures.kept c.heap_law.ensures.touched c.requires.heap are (ap length value ∙ c.requires.count) same
     (written_over c.args.jobs.len after c.args.jobs.items (same ∙ ap length value) (omega (arith, c.args.jobs.ok.0))) c.serve_programs-turns.ensures.jobs c.requires.sweeper c.requires.fresh
-    c.serve_programs-turns.ensures.token c.serve_programs-turns.ensures.turns c.serve_programs-turns.ensures.limit c.cycles-cycles.ensures c.in_ok-close_after.ensures.run
+    c.serve_programs-turns.ensures.token c.serve_programs-turns.ensures.turns c.serve_programs-turns.ensures.limit c.serve_programs-turns.ensures.first c.cycles-cycles.ensures c.in_ok-close_after.ensures.run
     (c.in_ok-threads.ensures ∙ ap (map end_of) c.as_slice.ensures.value)

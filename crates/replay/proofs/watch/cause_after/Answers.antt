@@ -22,14 +22,14 @@ returns-in-Some-broke c before actor behind made unbroken =
     let told = cause_told (heap_of w.program w.setup) program_machine (starts_of w.program w.setup) actor before step is in
     subst (λ o. IsStepCause (heap_of w.program w.setup) program_machine (starts_of w.program w.setup) (run_by (heap_of w.program w.setup) program_machine (starts_of w.program w.setup) (actor ∷ before)) o) c.in-Some-broke.is told
 
-pub returns-then-not-step : goal.returns-then-not-step
-returns-then-not-step c before actor behind made unbroken =
+pub returns-in-Nothing : goal.returns-in-Nothing
+returns-in-Nothing c before actor behind made unbroken =
     let w = c.args.world.now in
     let step = c.in-Some.step in
     let is = subst (λ o. IsMadeBehind w before actor o) c.in-Some.is made in
     let told = cause_told (heap_of w.program w.setup) program_machine (starts_of w.program w.setup) actor before step is in
     let none = subst (λ o. IsStepCause (heap_of w.program w.setup) program_machine (starts_of w.program w.setup) (run_by (heap_of w.program w.setup) program_machine (starts_of w.program w.setup) (actor ∷ before)) o) c.in_default-broke.is told in
-    let sound = nothing_lost (heap_of w.program w.setup) program_machine (starts_of w.program w.setup) actor before step is c.if-not-step.true unbroken in
+    let sound = nothing_lost (heap_of w.program w.setup) program_machine (starts_of w.program w.setup) actor before step is c.in-Nothing.is unbroken in
     unbroken_by (heap_of w.program w.setup) program_machine (starts_of w.program w.setup) (run_by (heap_of w.program w.setup) program_machine (starts_of w.program w.setup) (actor ∷ before)) none.0 none.1 sound
 
 pub returns-in-None : goal.returns-in-None

@@ -1,17 +1,11 @@
 -- The collector's step on the words as they are is the run's next one.
-use Rattle.std.proofs.Common.{◌≡◌, true, false, refl, sym, ap, ◌∙◌}
+use Rattle.std.proofs.Common.{false, refl, sym, ap, ◌∙◌}
 use Rattle.runs.specs.Machine.{machine_of}
-use Rattle.runs.specs.ModuleRuns.{OfCollector}
 use Rattle.moves.specs.Runs.{run_by}
-use Rattle.stepping.specs.Reach.{LosesNothing}
 use Rattle.run_law.specs.Growth.{with_stored}
-use Rattle.stepping.proofs.Collects.{collector_is_behind, collected-none, collected, loses-none, stored-none, with-words}
+use Rattle.stepping.proofs.Collects.{collector_is_behind, collected-none, collected, stored-none, with-words}
 use Rattle.stepping.proofs.acting.Actors.step_of_collector.Goals as goal
-use Rattle.stepping.proofs.acting.Actors.step_of_collector.Goals.{in-Some, in_default, in-Free, in_default-matches}
-
--- a bool is not both
-true-is-not-false : true ≡ false → ⊥
-true-is-not-false e = absurd cc
+use Rattle.stepping.proofs.acting.Actors.step_of_collector.Goals.{in-Some, in_default}
 
 pub next-requires : goal.next-requires
 next-requires g c =
@@ -37,11 +31,7 @@ returns g c s starts before b =
     let a = c.args.self.now in
     let motion = c.in_ok-motion.motion in
     let grows = (c.growth_law.ensures.collector s run a.collector a.shared (collector_is_behind s m (g.M.Runner.fits s) starts before a b)).1 motion c.next.new.self c.in_ok-motion.ensures.step in
-    let loses : c.match-matches.matches ≡ false → LosesNothing s m starts run (OfCollector motion.turn) = elim c.match-matches.branch [
-      | in-Free w ↦ λ lossless. absurd (true-is-not-false (sym w.matches-is ∙ lossless))
-      | in_default-matches w ↦ λ lossless. loses-none s m starts run motion.turn w.in_default-matches.not-Free
-    ] in
-    let done = collected s m (g.M.Runner.fits s) starts before a b motion c.next.new.self c.in_ok-motion.ensures.step grows (c.loss_law.ensures s starts) c.match-matches.matches loses in
+    let done = collected s m (g.M.Runner.fits s) starts before a b motion c.next.new.self c.in_ok-motion.ensures.step grows (c.loss_law.ensures s starts) c.loss_of_turn-loss.result c.loss_of_turn-loss.ensures in
     elim c.match-motion.branch [
       | in-Some w ↦
           with-words s m (g.M.Runner.fits s) starts before _ a c.match-motion.self w.put.new.self (with_stored a.shared motion motion.stored) c.next.new.self

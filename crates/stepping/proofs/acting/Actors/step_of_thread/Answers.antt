@@ -1,5 +1,5 @@
 -- A thread's move on the words as they are is its next one in the run.
-use Rattle.std.proofs.Common.{◌≡◌, ℕ, Option, Some, List, slice_get, slice_set, true, false, sym, ap, ◌∙◌, subst}
+use Rattle.std.proofs.Common.{◌≡◌, ℕ, Option, Some, List, slice_get, slice_set, sym, ap, ◌∙◌, subst}
 use Rattle.std.specs.Vec.{with_item}
 use Rattle.std.proofs.lemmas.Option.{slice_get_read}
 use Rattle.std.proofs.lemmas.List.{set-get_or}
@@ -12,20 +12,15 @@ use Rattle.moves.specs.declared.stand.Stand.{Stand}
 use Rattle.moves.specs.declared.actor.Actor.TheVariants as actor
 use Rattle.moves.specs.Calls.{move_in, made_by}
 use Rattle.moves.specs.Kinds.{MayAnswer}
+use Rattle.moves.specs.RootsAfter.{IsToldOfRoots}
 use Rattle.moves.specs.Moving.{HasHint, HasRoom, HasRoomForNext, MayMake}
 use Rattle.moves.specs.Runs.{run_by}
 use Rattle.moves.specs.Stands.{standing, HasTryLeft}
-use Rattle.stepping.specs.Reach.{AddsNothing}
 use Rattle.stepping.specs.declared.happening.Happening.TheVariants as happening
 use Rattle.stepping.specs.Ends.{IsOneStep}
 use Rattle.stepping.proofs.Lists.{on-err}
 use Rattle.stepping.proofs.Threads.{call-of, asks-for, thread_is_behind, same-actors, moved-none, moved-on}
 use Rattle.stepping.proofs.acting.Actors.step_of_thread.Goals as goal
-use Rattle.stepping.proofs.acting.Actors.step_of_thread.Goals.{then-roots_change, else-roots_change}
-
--- a bool is not both
-true-is-not-false : true ≡ false → ⊥
-true-is-not-false e = absurd cc
 
 -- a place holds one element
 one-element : {X : Type 0} (x y : X) → Some x ≡ Some y → x ≡ y
@@ -96,11 +91,11 @@ go_on-requires-clause-answer g c =
     } in
     (r.0, subst (λ (v : Stand g.row.M.Denot). MayAnswer r.0 (g.M.Runner.fits r.0) m.action v.state (answer_of (m.action v.state) (move_in (m.roots v.state) move))) (one-element stand c.index_mut.result.now (sym is ∙ at)) may)
 
-pub returns-in_err-roots_change-clause-err : goal.returns-in_err-roots_change-clause-err
-returns-in_err-roots_change-clause-err g c =
+pub returns-in_err-roots_after-clause-err : goal.returns-in_err-roots_after-clause-err
+returns-in_err-roots_after-clause-err g c =
     let a = c.args.self.now in
     let stays : slice_set a.threads.items c.args.thread c.go_on.new.stand ≡ a.threads.items =
-    ap (slice_set a.threads.items c.args.thread) (c.in_err-roots_change.ensures.err ∙ c.index_mut.ensures.value) ∙ set-get_or a.threads.items c.args.thread c.index_mut.result.now in
+    ap (slice_set a.threads.items c.args.thread) (c.in_err-roots_after.ensures.err ∙ c.index_mut.ensures.value) ∙ set-get_or a.threads.items c.args.thread c.index_mut.result.now in
     on-err _ (same-actors a c.args.thread c.go_on.new.stand stays)
 
 pub apply-requires : goal.apply-requires
@@ -127,14 +122,12 @@ returns-clause-ok g c s starts before b lt =
     let moves = grows.move move asked in
     let behind : standing s m c.go_on.new.stand ≡ moved s m (standing s m stand) (move_in (m.roots stand.state) move) =
     subst (λ (v : Stand g.row.M.Denot). standing s m c.go_on.new.stand ≡ moved s m (standing s m v) (move_in (m.roots v.state) move)) (sym same)
-    (c.in_ok-roots_change.ensures.ok s (call-of (m.action c.index_mut.result.now.state)) b.plan.pools (asks-for (m.action c.index_mut.result.now.state))
+    (c.in_ok-roots_after.ensures.ok s (call-of (m.action c.index_mut.result.now.state)) b.plan.pools (asks-for (m.action c.index_mut.result.now.state))
     (subst (λ (v : Stand g.row.M.Denot). MayMake s v.hints (m.roots v.state) (call-of (m.action v.state)) v.stance move) same (moves.may_make (call-of (m.action stand.state)) (asks-for (m.action stand.state))))) in
-    let loses : c.if-roots_change.result ≡ false → AddsNothing (move_in (m.roots stand.state) move) × (m.roots c.go_on.new.stand.state ≡ m.roots stand.state) = elim c.if-roots_change.branch [
-      | then-roots_change w ↦ λ lossless. absurd (true-is-not-false (sym w.if-roots_change.true ∙ sym w.result-is ∙ lossless))
-      | else-roots_change w ↦ λ lossless. (w.may_lose.ensures (m.roots stand.state) (sym w.result-is ∙ lossless), c.in_ok-roots_change.ensures.roots w.if-roots_change.false ∙ ap (λ (v : Stand g.row.M.Denot). m.roots v.state) (sym same))
-    ] in
+    let told = c.loss_of_move-loss.ensures (m.roots stand.state) (m.roots c.go_on.new.stand.state)
+    (subst (λ (v : Stand g.row.M.Denot). IsToldOfRoots c.in_ok-roots_after.roots_after (m.roots v.state) (m.roots c.go_on.new.stand.state)) (sym same) c.in_ok-roots_after.ensures.roots) in
     let done = moved-on s m (g.M.Runner.fits s) starts before a b c.args.thread lt stand is move asked moves c.go_on.new.stand behind c.broken_by-broke.result c.broken_by-broke.ensures
-    (c.loss_law.ensures s starts) c.if-roots_change.result loses in
+    (c.loss_law.ensures s starts) c.loss_of_move-loss.result told in
     subst (λ (h : Shared). IsOneStep s m (g.M.Runner.fits s) starts before (actor.Thread c.args.thread)
-    (Some (record { happening = happening.Thread c.args.thread move; broke = c.broken_by-broke.result; may_lose = c.if-roots_change.result }))
+    (Some (record { happening = happening.Thread c.args.thread move; broke = c.broken_by-broke.result; loss = c.loss_of_move-loss.result }))
     (record { plan = a.plan; threads = with_item a.threads c.args.thread c.go_on.new.stand; shared = h; collector = a.collector })) (sym c.apply.ensures) done

@@ -1,0 +1,11 @@
+//! Copies of a module and of its parts.
+#![tactic(auto)]
+
+mod copied;
+mod function;
+mod of_module;
+mod tables;
+
+pub use function::copy_function;
+pub use of_module::copy_module;
+pub use tables::{copy_names, copy_types};

@@ -1,0 +1,81 @@
+//! What is known at a place, kept in as much room as it fills.
+ghost use Rattle.std.specs.Prelude.{◌≡◌, length};
+
+use crate::known::{Class, SlotFact};
+use crate::numbered::Numbered;
+use crate::uses::Use;
+use std::marker::Model;
+
+/// The filled rows of a sheet.
+#[derive(Drop)]
+pub(crate) struct KeptSheet {
+    pub count: usize,
+    pub rows: Vec<Numbered>,
+    /// The rows that the next safepoint may change.
+    pub current: Vec<usize>,
+}
+
+impl Model for KeptSheet {
+    ghost use Rattle.std.specs.Prelude.{List};
+    ghost use Rattle.facts.specs.declared.row.Row.{Row};
+    ghost use Rattle.facts.specs.Numbered.{among_blank};
+    ghost use Rattle.facts.specs.Sheets.{OnlyCurrent};
+
+    ghost Value = { List Row };
+
+    ghost view = { λ kept. among_blank kept.count kept.rows.items };
+
+    ghost invariant = { λ kept. OnlyCurrent kept.current.items (among_blank kept.count kept.rows.items) };
+}
+
+impl KeptSheet {
+    /// How many rows there are.
+    pub fn len(&self) -> usize
+        ensures { result ≡ length self.now }
+    {
+        self.count
+    }
+}
+
+/// What is known of values and classes.
+#[derive(Drop)]
+pub(crate) struct KeptValues {
+    pub sheet: KeptSheet,
+    pub added: Vec<Class>,
+    pub uses: Vec<Use>,
+}
+
+impl KeptValues {
+    /// How many values there are.
+    pub fn count(&self) -> usize
+        ensures { result ≡ length self.now.values }
+    {
+        self.sheet.len()
+    }
+}
+
+impl Model for KeptValues {
+    ghost use Rattle.facts.specs.Values.{ValueFacts, facts_of_rows};
+    ghost use Rattle.facts.specs.Uses.{OnlyUsers};
+
+    ghost Value = { ValueFacts };
+
+    ghost view = { λ kept. facts_of_rows kept.sheet kept.added.items };
+
+    ghost invariant = { λ kept. OnlyUsers kept.uses.items kept.sheet };
+}
+
+/// What is known at a place of a function, in as much room as it fills: `Facts` has a row for each value.
+#[derive(Drop)]
+pub struct KeptFacts {
+    pub(crate) values: KeptValues,
+    pub(crate) slots: Vec<SlotFact>,
+}
+
+impl Model for KeptFacts {
+    ghost use Rattle.facts.specs.Facts.{FactSet};
+
+    ghost Value = { FactSet };
+
+    ghost view = { λ kept. record { values = kept.values.values; slots = kept.slots.items; classes = kept.values.classes; tests = kept.values.tests } };
+}

@@ -1,0 +1,22 @@
+-- Calls: when they are printable, and when one is another one again.
+use Rattle.std.specs.Prelude.{List}
+use Rattle.std.specs.List.{AllByRecursion}
+use Rattle.ir_ast.specs.declared.calls.Call.{Call}
+use Rattle.ir_ast.specs.declared.function.Function.{Function}
+use Rattle.ir_ast.specs.declared.module.Module.{Module}
+use Rattle.ir_tokens.specs.Bytes.{Text}
+use Rattle.ir_print.specs.Names.{name_at}
+use Rattle.ir_print_law.specs.Shapes.{IsIn}
+use Rattle.ir_print_law.specs.Definitions.{functions_of}
+use Rattle.ir_print_law.specs.Parts.{IsArgument, IsReturned}
+use Rattle.ir_print_law.specs.PartsAgain.{AreAlike, IsNameAgain, IsResultAgain, IsArgumentAgain}
+
+-- a call
+abbrev pub IsCall : Module → Function → Call → Type 0
+IsCall m f x = IsReturned m x.returned × IsIn (functions_of m) (name_at m.symbols x.callee) × AllByRecursion (IsArgument m f) x.arguments
+
+-- Two modules, and the names of a function in each.
+module _ (m n : Module) (locals others : List Text) where
+  -- a call
+  abbrev pub IsCallAgain : Call → Call → Type 0
+  IsCallAgain x y = IsResultAgain m n x.returned y.returned × IsNameAgain m.symbols n.symbols x.callee y.callee × AreAlike (IsArgumentAgain m n locals others) x.arguments y.arguments

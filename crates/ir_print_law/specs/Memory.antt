@@ -1,0 +1,32 @@
+-- Operations on memory: when they are printable, and when one is another one again.
+use Rattle.std.specs.Prelude.{Bool, true, false, List, None}
+use Rattle.ir_ast.specs.declared.function.Function.{Function}
+use Rattle.ir_ast.specs.declared.memory.MemoryOp.{MemoryOp}
+use Rattle.ir_ast.specs.declared.memory.MemoryOp.TheVariants as memory
+use Rattle.ir_ast.specs.declared.module.Module.{Module}
+use Rattle.ir_tokens.specs.Bytes.{Text}
+use Rattle.ir_print_law.specs.Shapes.{Shape, bits_of_shape}
+use Rattle.ir_print_law.specs.Parts.{IsScalar, IsPlaceType, IsOperand}
+use Rattle.ir_print_law.specs.PartsAgain.{IsTypeAgain, IsOperandAgain}
+
+-- an operation on memory
+abbrev pub IsMemoryOp : Module → Function → MemoryOp → Type 0
+IsMemoryOp m f (memory.Alloca held) = (shape : Shape) × IsScalar m shape held
+IsMemoryOp m f (memory.Load loaded place_type place) =
+    (shape : Shape) × IsScalar m shape loaded × IsPlaceType m shape loaded place_type × IsOperand m f None place
+IsMemoryOp m f (memory.Store stored value place_type place) =
+    (shape : Shape) × IsScalar m shape stored × IsOperand m f (bits_of_shape shape) value × IsPlaceType m shape stored place_type × IsOperand m f None place
+
+-- whether it gives a value: all do but stores
+abbrev pub memory_gives_value : MemoryOp → Bool
+memory_gives_value (memory.Store stored value place_type place) = false
+memory_gives_value _ = true
+
+-- Two modules, and the names of a function in each.
+module _ (m n : Module) (locals others : List Text) where
+  -- operations on memory
+  abbrev pub IsMemoryOpAgain : MemoryOp → MemoryOp → Type 0
+  IsMemoryOpAgain (memory.Alloca t) (memory.Alloca u) = IsTypeAgain m n t u
+  IsMemoryOpAgain (memory.Load t place x) (memory.Load u other y) = IsTypeAgain m n t u × IsTypeAgain m n place other × IsOperandAgain m n locals others x y
+  IsMemoryOpAgain (memory.Store t v place x) (memory.Store u w other y) = IsTypeAgain m n t u × IsOperandAgain m n locals others v w × IsTypeAgain m n place other × IsOperandAgain m n locals others x y
+  IsMemoryOpAgain _ _ = ⊥

@@ -1,0 +1,24 @@
+-- Operations on integers: when they are printable, and when one is another one again.
+use Rattle.std.specs.Prelude.{◌≡◌, List}
+use Rattle.ir_ast.specs.declared.function.Function.{Function}
+use Rattle.ir_ast.specs.declared.module.Module.{Module}
+use Rattle.ir_ast.specs.declared.numbers.NumberOp.{NumberOp}
+use Rattle.ir_ast.specs.declared.numbers.NumberOp.TheVariants as number
+use Rattle.ir_tokens.specs.Bytes.{Text}
+use Rattle.ir_print_law.specs.Parts.{ArePair, IsConverted}
+use Rattle.ir_print_law.specs.PartsAgain.{IsTypeAgain, IsOperandAgain, ArePairAgain}
+
+-- an operation that gives an integer
+abbrev pub IsNumberOp : Module → Function → NumberOp → Type 0
+IsNumberOp m f (number.Arithmetic kind written first second) = ArePair m f written first second
+IsNumberOp m f (number.Resize kind from x to) = IsConverted m f from x to
+IsNumberOp m f (number.Compare kind written first second) = ArePair m f written first second
+
+-- Two modules, and the names of a function in each.
+module _ (m n : Module) (locals others : List Text) where
+  -- operations that give an integer: one operation, each part alike
+  abbrev pub IsNumberOpAgain : NumberOp → NumberOp → Type 0
+  IsNumberOpAgain (number.Arithmetic kind t a b) (number.Arithmetic other u x y) = (kind ≡ other) × ArePairAgain m n locals others t a b u x y
+  IsNumberOpAgain (number.Resize kind t x to) (number.Resize other u y into) = (kind ≡ other) × IsTypeAgain m n t u × IsOperandAgain m n locals others x y × IsTypeAgain m n to into
+  IsNumberOpAgain (number.Compare kind t a b) (number.Compare other u x y) = (kind ≡ other) × ArePairAgain m n locals others t a b u x y
+  IsNumberOpAgain _ _ = ⊥

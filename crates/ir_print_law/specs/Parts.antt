@@ -1,0 +1,75 @@
+-- Parts of the instructions of printable modules: types, operands, and what instructions of several families have.
+use Rattle.std.specs.Prelude.{◌≡◌, ℕ, ◌<◌, ◌≤◌, true, false, Option, Some, ◌⊎◌, slice_get}
+use Rattle.ir_ast.specs.declared.argument.Argument.{Argument}
+use Rattle.ir_ast.specs.declared.function.Function.{Function}
+use Rattle.ir_ast.specs.declared.ir_type.IrType.TheVariants as type
+use Rattle.ir_ast.specs.declared.module.Module.{Module}
+use Rattle.ir_ast.specs.declared.operand.Operand.{Operand}
+use Rattle.ir_ast.specs.declared.operand.Operand.TheVariants as operand
+use Rattle.ir_forms.specs.Intrinsics.{is_intrinsic}
+use Rattle.ir_print.specs.Fits.{FitsType}
+use Rattle.ir_print.specs.Names.{name_at}
+use Rattle.ir_print_law.specs.Shapes.{IsIn, Shape, HasShape, IsWritten, levels, bits_of_shape, is_scalar_shape, is_pointer_shape}
+use Rattle.ir_print_law.specs.Definitions.{value_keys, target_keys, defined_structs, defined_globals}
+
+-- ---- types
+
+-- a type of this shape, which has at most 64 levels
+abbrev pub IsType : Module → Shape → (written : ℕ) → Type 0
+IsType m shape written = HasShape m.types m.struct_names shape written × (levels shape ≤ 64) × IsWritten (defined_structs m) shape
+
+-- a type that a word holds
+abbrev pub IsScalar : Module → Shape → (written : ℕ) → Type 0
+IsScalar m shape written = IsType m shape written × (is_scalar_shape shape ≡ true)
+
+-- a type in a constant bitcast
+abbrev pub IsPointer : Module → (written : ℕ) → Type 0
+IsPointer m written = (shape : Shape) × IsType m shape written × (is_pointer_shape shape ≡ true)
+
+-- the type `void`
+abbrev pub IsVoid : Module → (written : ℕ) → Type 0
+IsVoid m written = slice_get m.types written ≡ Some type.Void
+
+-- the type of a place of a value of this shape, whose type has this number
+abbrev pub IsPlaceType : Module → Shape → (held place_type : ℕ) → Type 0
+IsPlaceType m shape held place_type = (slice_get m.types place_type ≡ Some (type.Pointer held)) × (levels shape < 64)
+
+-- ---- operands
+
+-- a global that is an operand: it is no function, and no intrinsic has its name
+abbrev pub IsGlobalUse : Module → (symbol : ℕ) → Type 0
+IsGlobalUse m symbol = IsIn (defined_globals m) (name_at m.symbols symbol) × (is_intrinsic (name_at m.symbols symbol) ≡ false)
+
+-- what an instruction of this function reads, at an integer type of n bits or else at a pointer type
+abbrev pub IsOperand : Module → Function → Option ℕ → Operand → Type 0
+IsOperand m f bits (operand.Constant x) = FitsType bits x
+IsOperand m f bits (operand.Local value) = IsIn (value_keys f) (name_at f.locals value)
+IsOperand m f bits (operand.Global symbol) = IsGlobalUse m symbol
+IsOperand m f bits (operand.CastGlobal from symbol to) = IsPointer m from × IsGlobalUse m symbol × IsPointer m to
+
+-- an operand with its type, which a word holds
+abbrev pub IsArgument : Module → Function → Argument → Type 0
+IsArgument m f x = (shape : Shape) × IsScalar m shape x.written × IsOperand m f (bits_of_shape shape) x.operand
+
+-- a block that may be branched to
+abbrev pub IsTarget : Function → (label : ℕ) → Type 0
+IsTarget f label = IsIn (target_keys f) (name_at f.locals label)
+
+-- ---- parts of instructions
+
+-- a condition has the type i1
+abbrev pub IsCondition : Module → Function → (written : ℕ) → Operand → Type 0
+IsCondition m f written x = (slice_get m.types written ≡ Some (type.Integer 1)) × IsOperand m f (Some 1) x
+
+-- two operands of one type
+abbrev pub ArePair : Module → Function → (written : ℕ) → (first second : Operand) → Type 0
+ArePair m f written first second =
+    (shape : Shape) × IsScalar m shape written × IsOperand m f (bits_of_shape shape) first × IsOperand m f (bits_of_shape shape) second
+
+-- an operand and another type for it
+abbrev pub IsConverted : Module → Function → (from : ℕ) → Operand → (to : ℕ) → Type 0
+IsConverted m f from x to = IsArgument m f (record { written = from; operand = x }) × ((shape : Shape) × IsScalar m shape to)
+
+-- what a call gives: nothing, or a value that a word holds
+abbrev pub IsReturned : Module → (returned : ℕ) → Type 0
+IsReturned m returned = IsVoid m returned ⊎ ((shape : Shape) × IsScalar m shape returned)

@@ -1,0 +1,13 @@
+//! A module in which one function is replaced is a module.
+ghost use Rattle.ir_print_law.specs.Wholes.{AreReadWhole, AreReplacedWhole, AreWholeAgain};
+
+/// A module that is read from a text is whole, and what is printed of a whole module is read as that module again.
+pub fn whole_law()
+    ensures read { AreReadWhole }
+    ensures again { AreWholeAgain }
+{}
+
+/// A whole module in which one function is replaced is whole.
+pub fn replaced_law()
+    ensures { AreReplacedWhole }
+{}

@@ -1,0 +1,7 @@
+//! The tables of a module that is read.
+ghost use Rattle.ir_print_law.specs.OneTypes.{HaveOneTypes};
+
+/// Each type is once in the table of a module that is read from a text. So two types are one exactly where they are written alike.
+pub fn one_type_law()
+    ensures { HaveOneTypes }
+{}

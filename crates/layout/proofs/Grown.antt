@@ -1,0 +1,129 @@
+-- Layouts, sizes and the words of globals where the table of types has grown. Functions are no part of any of them.
+use Rattle.std.proofs.Common.{◌≡◌, ℕ, true, List, [], ◌∷◌, map, Option, Some, None, is_none, unwrap_or, refl, ap, sym, ◌∙◌, subst}
+use Rattle.std.specs.Prelude.{slice_get}
+use Rattle.ir_ast.specs.declared.function.Function.{Function}
+use Rattle.ir_ast.specs.declared.items_of_module.Global.{Global}
+use Rattle.ir_ast.specs.declared.items_of_module.StructType.{StructType}
+use Rattle.ir_ast.specs.declared.ir_type.IrType.{IrType}
+use Rattle.ir_ast.specs.declared.ir_type.IrType.TheVariants.{Void, Integer, Pointer, Array, EmptyStruct, Struct, Named}
+use Rattle.ir_ast.specs.declared.module.Module.{Module}
+use Rattle.pools.specs.declared.word_kind.WordKind.{WordKind}
+use Rattle.pools.specs.declared.word_kind.WordKind.TheVariants as kind
+use Rattle.types.specs.Elements.{body_in, body_of_layout, body_named}
+use Rattle.types.specs.References.{struct_named, layout_of_struct}
+use Rattle.layout.specs.Functions.{with_functions}
+use Rattle.layout.specs.Globals.{kind_of_global, globals_of}
+use Rattle.layout.specs.Grown.{TablesGrow}
+use Rattle.layout.specs.Layouts.{IsLayout, AreLayoutsOf, AreLayouts, IsSize, AreSizes}
+use Rattle.layout.specs.Words.{Scalars, is_scalar, reference_to, word_of_type, word_of, AreWords}
+
+-- ---- scalars and words
+
+module _ (m n : Module) (grow : TablesGrow m n) where
+  body_at : (layout : Option ℕ) → body_of_layout n layout ≡ body_of_layout m layout
+  body_at None = refl
+  body_at (Some layout) = ap (λ structs. body_in (slice_get structs layout)) grow.structs
+
+  body_stays : (written name : ℕ) → slice_get m.types written ≡ Some (Named name) → body_named n name ≡ body_named m name
+  body_stays written name at = ap (body_of_layout n) (grow.names written name at) ∙ body_at (struct_named m name)
+
+  scalar_by : (written : ℕ) (type : Option IrType) → slice_get m.types written ≡ type → is_scalar m type ≡ true → is_scalar n (slice_get n.types written) ≡ true
+  scalar_by written None at h = absurd cc
+  scalar_by written (Some Void) at h = rw (grow.types written Void at) refl
+  scalar_by written (Some (Integer bits)) at h = rw (grow.types written (Integer bits) at) refl
+  scalar_by written (Some (Pointer part)) at h = rw (grow.types written (Pointer part) at) refl
+  scalar_by written (Some (Array length part)) at h = absurd cc
+  scalar_by written (Some EmptyStruct) at h = absurd cc
+  scalar_by written (Some (Struct first rest)) at h = absurd cc
+  scalar_by written (Some (Named name)) at h = rw (grow.types written (Named name) at) (ap is_none (body_stays written name at) ∙ h)
+
+  scalars_stay : (written : ℕ) (fields : List ℕ) → Scalars m written fields → Scalars n written fields
+  scalars_stay written fields (Scalars.Scalar _ h) = Scalars.Scalar written (scalar_by written (slice_get m.types written) refl h)
+  scalars_stay written fields (Scalars.Elements _ length part inner at h) = Scalars.Elements written length part inner (grow.types written (Array length part) at) (scalars_stay part inner h)
+  scalars_stay written fields (Scalars.NoField _ at) = Scalars.NoField written (grow.types written EmptyStruct at)
+  scalars_stay written fields (Scalars.Fields _ first rest of_first behind at h k) =
+      Scalars.Fields written first rest of_first behind (grow.types written (Struct first rest) at) (scalars_stay first of_first h) (scalars_stay rest behind k)
+  scalars_stay written fields (Scalars.Body _ name body inner at is h) =
+      Scalars.Body written name body inner (grow.types written (Named name) at) (body_stays written name at ∙ is) (scalars_stay body inner h)
+
+  layout_by : (part layout : ℕ) (type : Option IrType) → slice_get m.types part ≡ type → layout_of_struct m type ≡ Some layout → layout_of_struct n (slice_get n.types part) ≡ Some layout
+  layout_by part layout (Some (Named name)) at h = rw (grow.types part (Named name) at) (grow.names part name at ∙ h)
+  layout_by part layout _ at h = absurd cc
+
+  reference_stays : (part : ℕ) (word : WordKind) (layout : Option ℕ) → layout_of_struct m (slice_get m.types part) ≡ layout → reference_to layout ≡ Some word
+      → reference_to (layout_of_struct n (slice_get n.types part)) ≡ Some word
+  reference_stays part word None is h = absurd cc
+  reference_stays part word (Some layout) is h = ap reference_to (layout_by part layout (slice_get m.types part) refl is) ∙ h
+
+  word_by : (field : ℕ) (word : WordKind) (type : Option IrType) → slice_get m.types field ≡ type → word_of_type m type ≡ Some word → word_of n field ≡ Some word
+  word_by field word (Some (Integer bits)) at h = rw (grow.types field (Integer bits) at) h
+  word_by field word (Some (Pointer part)) at h = rw (grow.types field (Pointer part) at) (reference_stays part word (layout_of_struct m (slice_get m.types part)) refl h)
+  word_by field word _ at h = absurd cc
+
+  word_stays : (field : ℕ) (word : WordKind) → word_of m field ≡ Some word → word_of n field ≡ Some word
+  word_stays field word h = word_by field word (slice_get m.types field) refl h
+
+  words_stay : (fields : List ℕ) (words : List WordKind) → AreWords m fields words → AreWords n fields words
+  words_stay [] [] h = tt
+  words_stay [] (word ∷ words) h = absurd h
+  words_stay (field ∷ fields) [] h = absurd h
+  words_stay (field ∷ fields) (word ∷ words) h = (word_stays field word h.0, words_stay fields words h.1)
+
+  -- ---- layouts
+
+  layout_stays : (struct : StructType) (words : List WordKind) → IsLayout m struct words → IsLayout n struct words
+  layout_stays struct words h = record {
+    fields = h.fields;
+    scalars = scalars_stay struct.body h.fields h.scalars;
+    few = h.few;
+    words_are = words_stay h.fields words h.words_are;
+  }
+
+  layouts_of : (structs : List StructType) (layouts : List (List WordKind)) → AreLayoutsOf m structs layouts → AreLayoutsOf n structs layouts
+  layouts_of [] [] h = tt
+  layouts_of [] (words ∷ layouts) h = absurd h
+  layouts_of (struct ∷ structs) [] h = absurd h
+  layouts_of (struct ∷ structs) (words ∷ layouts) h = (layout_stays struct words h.0, layouts_of structs layouts h.1)
+
+  pub layouts_stay : (layouts : List (List WordKind)) → AreLayouts m layouts → AreLayouts n layouts
+  layouts_stay layouts h = subst (λ structs. AreLayoutsOf n structs layouts) (sym grow.structs) (layouts_of m.structs layouts h)
+
+-- ---- other functions
+
+functions_only : (m : Module) (fs : List Function) → TablesGrow m (with_functions m fs)
+functions_only m fs = record { types = λ written type at. at; names = λ written name at. refl; structs = refl }
+
+functions_back : (m : Module) (fs : List Function) → TablesGrow (with_functions m fs) m
+functions_back m fs = record { types = λ written type at. at; names = λ written name at. refl; structs = refl }
+
+-- layouts depend on no function
+pub layouts_with : (m : Module) (fs : List Function) (layouts : List (List WordKind)) → AreLayouts m layouts → AreLayouts (with_functions m fs) layouts
+layouts_with m fs layouts h = layouts_stay m (with_functions m fs) (functions_only m fs) layouts h
+
+size_with : (m : Module) (fs : List Function) (written : ℕ) (size : Option ℕ) → IsSize m written size → IsSize (with_functions m fs) written size
+size_with m fs written size h =
+    let n = with_functions m fs in
+    record {
+      has = λ count is. let s = h.has count is in (s.0, (scalars_stay m n (functions_only m fs) written s.0 s.1.0, s.1.1, s.1.2));
+      has_none = λ is fields s. h.has_none is fields (scalars_stay n m (functions_back m fs) written fields s);
+    }
+
+-- sizes depend on no function
+pub sizes_with : (m : Module) (fs : List Function) (sizes : List (Option ℕ)) → AreSizes m sizes → AreSizes (with_functions m fs) sizes
+sizes_with m fs sizes h = record { one_each = h.one_each; each = λ written size at. size_with m fs written size (h.each written size at) }
+
+word_with : (m : Module) (fs : List Function) (held : ℕ) (one other : Option WordKind) → word_of m held ≡ one → word_of (with_functions m fs) held ≡ other → other ≡ one
+word_with m fs held (Some word) other is is_other = sym is_other ∙ word_stays m (with_functions m fs) (functions_only m fs) held word is
+word_with m fs held None None is is_other = refl
+word_with m fs held None (Some word) is is_other = let back = word_stays (with_functions m fs) m (functions_back m fs) held word is_other in absurd cc
+
+kind_with : (m : Module) (fs : List Function) (global : Global) → kind_of_global (with_functions m fs) global ≡ kind_of_global m global
+kind_with m fs global = ap (λ word. unwrap_or word (kind.Integer 64)) (word_with m fs global.held (word_of m global.held) (word_of (with_functions m fs) global.held) refl refl)
+
+kinds_with : (m : Module) (fs : List Function) (globals : List Global) → map (kind_of_global (with_functions m fs)) globals ≡ map (kind_of_global m) globals
+kinds_with m fs [] = refl
+kinds_with m fs (global ∷ globals) = rw (kind_with m fs global, kinds_with m fs globals) refl
+
+-- the words of globals depend on no function
+pub globals_with : (m : Module) (fs : List Function) → globals_of (with_functions m fs) ≡ globals_of m
+globals_with m fs = kinds_with m fs m.globals

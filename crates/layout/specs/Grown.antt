@@ -1,0 +1,18 @@
+-- Modules whose table of types has grown.
+use Rattle.std.specs.Prelude.{◌≡◌, ℕ, List, Some, slice_get}
+use Rattle.ir_ast.specs.declared.ir_type.IrType.{IrType}
+use Rattle.ir_ast.specs.declared.ir_type.IrType.TheVariants.{Named}
+use Rattle.ir_ast.specs.declared.module.Module.{Module}
+use Rattle.pools.specs.declared.word_kind.WordKind.{WordKind}
+use Rattle.types.specs.References.{struct_named}
+use Rattle.layout.specs.Layouts.{AreLayouts}
+
+-- Each type of one module's table is at the same place in another's. The structs are the same, and so is what the types' names mean.
+pub record TablesGrow (m n : Module) : Type 0 where
+  pub types : (written : ℕ) (type : IrType) → slice_get m.types written ≡ Some type → slice_get n.types written ≡ Some type
+  pub names : (written name : ℕ) → slice_get m.types written ≡ Some (Named name) → struct_named n name ≡ struct_named m name
+  pub structs : n.structs ≡ m.structs
+
+-- layouts stay where the tables grow
+abbrev pub LayoutsStay : Type 0
+LayoutsStay = (m n : Module) (layouts : List (List WordKind)) → TablesGrow m n → AreLayouts m layouts → AreLayouts n layouts

@@ -1,0 +1,11 @@
+-- What is told of a thread's roots after its move.
+use Rattle.std.specs.Prelude.{◌≡◌, ◌≢◌, List}
+use Rattle.runs.specs.Machine.{Reference}
+use Rattle.moves.specs.declared.roots_after.RootsAfter.{RootsAfter}
+use Rattle.moves.specs.declared.roots_after.RootsAfter.TheVariants.{Same, Others, Unseen}
+
+-- what is told of these roots, after those before, is so
+abbrev pub IsToldOfRoots : RootsAfter → (before after : List Reference) → Type 0
+IsToldOfRoots Same before after = after ≡ before
+IsToldOfRoots Others before after = after ≢ before
+IsToldOfRoots Unseen before after = Unit {0}
