@@ -2,9 +2,9 @@
 use Rattle.std.proofs.Common.{◌≡◌, ◌≢◌, ◌⊎◌, inl, inr, ℕ, suc, ◌*◌, ◌<◌, List, refl, sym, ap, ◌∙◌, subst, arith}
 use Rattle.std.proofs.lemmas.Bool.{cases_eq}
 use Rattle.collector_law.specs.Invariant.{State, Phase, Ready, MarkingOld, MarkingNew, Writing, Answering, Time, Early, Late, Clean, time_of, IsMarked, picture, OldIsNot, HasMarked, IsBase, Stands, AtTime, IsInvariant}
-use Rattle.collector_law.proofs.Trace.{quiet}
-use Rattle.collector_law.proofs.Puts.{put, put-here, put-other}
-use Rattle.collector_law.proofs.Write.{moved, phased}
+use Rattle.collector_law.specs.Trace.{quiet}
+use Rattle.collector_law.specs.Puts.{put, put-here, put-other}
+use Rattle.collector_law.specs.Write.{moved, phased}
 
 -- the thread has stored the stage that it read, and holds its roots alone
 abbrev pub after_answer : State → (t p : ℕ) → (ℕ → Type 0) → State

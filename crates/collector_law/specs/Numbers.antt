@@ -4,8 +4,8 @@ use Rattle.std.proofs.lemmas.Bool.{cases_eq}
 use Rattle.lemmas.specs.Numbers.{test_true, test_yes, test_false, test_no}
 use Rattle.colours.specs.Colours.{cycle_of, is_async, done, grey, black, mark_at, claim_at}
 use Rattle.collector_law.specs.Invariant as law
-use Rattle.collector_law.proofs.Write.{AreStages}
-use Rattle.collector_law.proofs.Match.{IsSync}
+use Rattle.collector_law.specs.Write.{AreStages}
+use Rattle.collector_law.specs.Match.{IsSync}
 
 -- which stages are sync stages
 pub async_three : (k st : ℕ) → st ≡ 3 * k → is_async st ≡ true

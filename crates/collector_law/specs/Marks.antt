@@ -2,9 +2,9 @@
 use Rattle.std.proofs.Common.{◌≡◌, ◌≢◌, ◌⊎◌, inl, inr, ℕ, ◌*◌, ◌<◌, ◌≤◌, List, refl, sym, ap, ◌∙◌, subst, arith}
 use Rattle.std.proofs.lemmas.Bool.{cases_eq}
 use Rattle.collector_law.specs.Invariant.{State, MarkingOld, MarkingNew, Answering, Clean, time_of, IsWhite, IsMarked, Differs, OldIsNot, HasMarked, IsBase, IsInCycle, Stands, IsInvariant}
-use Rattle.collector_law.proofs.Puts.{put, put-here, put-other}
-use Rattle.collector_law.proofs.Claim.{stands-grow}
-use Rattle.collector_law.proofs.Shade.{shaded, shades}
+use Rattle.collector_law.specs.Puts.{put, put-here, put-other}
+use Rattle.collector_law.specs.Claim.{stands-grow}
+use Rattle.collector_law.specs.Shade.{shaded, shades}
 
 -- what fetch_max of the thread's mark value does to a live cell's colour
 pub record IsMark (s : State) (cell now : ℕ) : Type 0 where

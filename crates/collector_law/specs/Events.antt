@@ -6,7 +6,7 @@ use Rattle.lemmas.specs.Numbers.{test_true, test_yes, test_false, test_no}
 use Rattle.pools.specs.Heap.{Setup}
 use Rattle.colours.specs.Steps.{Step, ReadWord, ReadOldValue, Mark, StoreBehindBarrier, StorePlain, Claim, ReadPosted, StoreStage, ReadPostedFirst, EnterStage, ReadPostedAgain}
 use Rattle.colours.specs.Mutator.{Phase, Ready, MarkingOld, MarkingNew, Trying, Answering, Absent, Arriving, Entering, Leaving, HasBegun, MayFollow, stage_of, phase_of, phase_after, Held, Fresh, gains, Keeps, wins, stores, is_answer}
-use Rattle.collector_law.proofs.Match.{seen, seen_begun}
+use Rattle.collector_law.specs.Match.{seen, seen_begun}
 use Rattle.colours.specs.Runs.{Event, ByThread, ByCollector, log_of, births_after, given, IsRun}
 
 -- ---- logs

@@ -2,9 +2,9 @@
 use Rattle.std.proofs.Common.{◌≡◌, ◌≢◌, ◌⊎◌, inl, inr, ℕ, ◌+◌, ◌*◌, ◌<◌, ◌≤◌, refl, sym, ap, ◌∙◌, subst, arith}
 use Rattle.std.proofs.lemmas.Bool.{cases_eq}
 use Rattle.collector_law.specs.Invariant.{State, Waiting, Rooted, Early, time_of, IsBlack, IsMarked, IsLive, IsLiveAt, Differs, picture, MayLag, posted_at, IsColour, RootAt, LooseIsMarked, AtTime, IsInvariant}
-use Rattle.collector_law.proofs.Trace.{begins}
-use Rattle.collector_law.proofs.Puts.{put, put-here, put-other}
-use Rattle.collector_law.proofs.Claim.{stands-grow}
+use Rattle.collector_law.specs.Trace.{begins}
+use Rattle.collector_law.specs.Puts.{put, put-here, put-other}
+use Rattle.collector_law.specs.Claim.{stands-grow}
 
 -- the globals' cell is marked
 abbrev pub rooted : State → State

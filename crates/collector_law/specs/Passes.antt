@@ -11,18 +11,18 @@ use Rattle.colours.specs.declared.turn.Turn.TheVariants.{MarkFound, ReadColour, 
 use Rattle.colours.specs.Collector.{Passing, Scanning, Shading, Sweeping, Clearing, Pass, posted_of, reference_from, skip_integers, sweep_from, pass_from, in_turn, out_of_turn, looked, shaded_too, is_white}
 use Rattle.colours.specs.Runs.{Event, ByCollector, turns_of, word_after}
 use Rattle.collector_law.specs.Invariant as law
-use Rattle.collector_law.proofs.Puts.{put, put-here, put-other, put_word, here_or_not, put_word-here, put_word-other}
-use Rattle.collector_law.proofs.Claim.{stands-grow}
-use Rattle.collector_law.proofs.Shade.{shaded, shades}
-use Rattle.collector_law.proofs.Turn.{turned, scans, drops, begins_scan, passes}
-use Rattle.collector_law.proofs.End.{ended_trace, ends_trace}
-use Rattle.collector_law.proofs.Post.{blackened, blackens}
-use Rattle.collector_law.proofs.Sweep.{begins_clearing, sweeps, cleared, clears, freed, frees}
-use Rattle.collector_law.proofs.Match.{IsSync, IsInvariant, Shows, Safe}
-use Rattle.collector_law.proofs.Numbers.{Rises, claim_black, async_three}
-use Rattle.collector_law.proofs.Marking.{mark_grows}
-use Rattle.collector_law.proofs.Storing.{word_put}
-use Rattle.collector_law.proofs.Moves.{turn_shows, IsLook, look_shows, moves, cycle_in, passes_on, sweeps_on, skips, skip_found, past_words}
+use Rattle.collector_law.specs.Puts.{put, put-here, put-other, put_word, here_or_not, put_word-here, put_word-other}
+use Rattle.collector_law.specs.Claim.{stands-grow}
+use Rattle.collector_law.specs.Shade.{shaded, shades}
+use Rattle.collector_law.specs.Turn.{turned, scans, drops, begins_scan, passes}
+use Rattle.collector_law.specs.End.{ended_trace, ends_trace}
+use Rattle.collector_law.specs.Post.{blackened, blackens}
+use Rattle.collector_law.specs.Sweep.{begins_clearing, sweeps, cleared, clears, freed, frees}
+use Rattle.collector_law.specs.Match.{IsSync, IsInvariant, Shows, Safe}
+use Rattle.collector_law.specs.Numbers.{Rises, claim_black, async_three}
+use Rattle.collector_law.specs.Marking.{mark_grows}
+use Rattle.collector_law.specs.Storing.{word_put}
+use Rattle.collector_law.specs.Moves.{turn_shows, IsLook, look_shows, moves, cycle_in, passes_on, sweeps_on, skips, skip_found, past_words}
 
 -- a look at a colour changes no word
 look_look : (s : Setup) (run : List Event) (cell colour : ℕ) → IsLook s run (ReadColour cell colour)

@@ -1,8 +1,8 @@
 -- A read of a reference word preserves the invariant.
 use Rattle.std.proofs.Common.{◌≡◌, ◌≢◌, ◌⊎◌, inl, inr, ℕ, suc, ◌<◌, List, refl, sym, ap, ◌∙◌, subst}
 use Rattle.collector_law.specs.Invariant.{State, Phase, Ready, Answering, Time, Early, Late, Clean, time_of, IsLive, Differs, picture, OldIsNot, HasMarked, IsBase, Stands, AtTime, IsInvariant}
-use Rattle.collector_law.proofs.Trace.{quiet}
-use Rattle.collector_law.proofs.Write.{base-live}
+use Rattle.collector_law.specs.Trace.{quiet}
+use Rattle.collector_law.specs.Write.{base-live}
 
 -- the thread holds what it read from the word, by the birth in the word
 abbrev pub after_read : State → (t x i : ℕ) → (ℕ → Phase) → State

@@ -3,7 +3,7 @@ use Rattle.std.proofs.Common.{◌≡◌, ◌≢◌, inl, inr, ℕ, suc, ◌*◌,
 use Rattle.std.proofs.lemmas.Bool.{cases_eq, eqb-true, eq-eqb, ne_eqb, both_ways}
 use Rattle.collector_law.specs.Picture.{IsSpared}
 use Rattle.collector_law.specs.Invariant.{State, Passing, Sweeping, Late, time_of, IsGrey, IsBlack, IsLive, IsLiveAt, hand_of, picture, MayLag, posted_at, IsUnderWay, IsColour, RootAt, AtTime, IsInvariant}
-use Rattle.collector_law.proofs.Trace.{ends}
+use Rattle.collector_law.specs.Trace.{ends}
 
 abbrev white_set : State → ℕ → Bool
 white_set s c = suc (s.colour c) == 2 * s.cycle

@@ -12,13 +12,13 @@ use Rattle.colours.specs.Mutator.{Phase, Ready, stage_of, phase_of, phase_after,
 use Rattle.colours.specs.Collector.{Collection}
 use Rattle.colours.specs.Runs.{Event, ByThread, log_of, word_after, births_after, MayHappen, IsRun}
 use Rattle.collector_law.specs.Invariant as law
-use Rattle.collector_law.proofs.Puts.{put, put-here, put-other}
-use Rattle.collector_law.proofs.Write.{base-live}
-use Rattle.collector_law.proofs.Claim.{stands-grow}
-use Rattle.collector_law.proofs.Read.{after_read, reads}
-use Rattle.collector_law.proofs.Match.{seen, IsSync, flat, Shows, Safe}
-use Rattle.collector_law.proofs.Events.{stage_stays, held_by, fresh_by}
-use Rattle.collector_law.proofs.Threads.{in_range, not_done, base_in, phase_put, phase_kept, IsIdle, idle}
+use Rattle.collector_law.specs.Puts.{put, put-here, put-other}
+use Rattle.collector_law.specs.Write.{base-live}
+use Rattle.collector_law.specs.Claim.{stands-grow}
+use Rattle.collector_law.specs.Read.{after_read, reads}
+use Rattle.collector_law.specs.Match.{seen, IsSync, flat, Shows, Safe}
+use Rattle.collector_law.specs.Events.{stage_stays, held_by, fresh_by}
+use Rattle.collector_law.specs.Threads.{in_range, not_done, base_in, phase_put, phase_kept, IsIdle, idle}
 use Rattle.colours.specs.Colours.{claim_at}
 
 -- a thread reads between two calls

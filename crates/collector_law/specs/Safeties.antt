@@ -14,17 +14,17 @@ use Rattle.colours.specs.Collector.{Collection, Posting, Sweeping, Clearing, pos
 use Rattle.colours.specs.Runs.{Event, ByThread, ByCollector, log_of, turns_of, word_after, births_after, MayHappen, IsRun, IsHeapRun, Kept, globals, held, further, IsAlive, birth_used, TouchesAlive}
 use Rattle.colours.specs.Frames.{won_blue}
 use Rattle.collector_law.specs.Invariant as law
-use Rattle.collector_law.proofs.Write.{base-live}
-use Rattle.collector_law.proofs.Law as heap
+use Rattle.collector_law.specs.Write.{base-live}
+use Rattle.collector_law.specs.Law as heap
 use Rattle.collector_law.specs.Laws.{IsClean, IsPastTrace, FitsKind, EachWordFits}
-use Rattle.collector_law.proofs.Match.{IsSync, IsAt, Shows}
-use Rattle.collector_law.proofs.Events.{holder}
-use Rattle.collector_law.proofs.Threads.{base_in}
-use Rattle.collector_law.proofs.Numbers.{sync_one, sync_two}
-use Rattle.collector_law.proofs.Moves.{cycle_in}
-use Rattle.collector_law.proofs.Claiming.{claim_cell}
-use Rattle.collector_law.proofs.Whole.{safe, collected}
-use Rattle.collector_law.proofs.Typing.{fits}
+use Rattle.collector_law.specs.Match.{IsSync, IsAt, Shows}
+use Rattle.collector_law.specs.Events.{holder}
+use Rattle.collector_law.specs.Threads.{base_in}
+use Rattle.collector_law.specs.Numbers.{sync_one, sync_two}
+use Rattle.collector_law.specs.Moves.{cycle_in}
+use Rattle.collector_law.specs.Claiming.{claim_cell}
+use Rattle.collector_law.specs.Whole.{safe, collected}
+use Rattle.collector_law.specs.Typing.{fits}
 
 -- the globals' cell is never claimed
 root_birth : (s : Setup) (run : List Event) → IsRun s run → (births_after s run).of_cell 0 ≡ 0

@@ -11,8 +11,8 @@ use Rattle.colours.specs.Mutator.{MayUse, IsDisciplined, Held, gains, Keeps}
 use Rattle.colours.specs.Runs.{Event, ByThread, ByCollector, log_of, word_after, births_after, given, MayHappen, IsHeapRun, Kept, globals, held, further, IsAlive}
 use Rattle.colours.specs.Frames.{won_blue}
 use Rattle.collector_law.specs.Laws.{HoldsReference}
-use Rattle.collector_law.proofs.Events.{log_here, log_other}
-use Rattle.collector_law.proofs.Safeties.{kept_alive}
+use Rattle.collector_law.specs.Events.{log_here, log_other}
+use Rattle.collector_law.specs.Safeties.{kept_alive}
 
 -- what a reader finds in a word of a cell that it may use is alive
 found : (s : Setup) (run : List Event) → IsHeapRun s run → (t cell word value c : ℕ) → MayUse s (log_of t run) cell → word_after s run (Word cell word) ≡ value

@@ -3,7 +3,7 @@ use Rattle.std.proofs.Common.{◌≡◌, ◌≢◌, ◌⊎◌, inl, inr, ℕ, ze
 use Rattle.std.proofs.lemmas.Bool.{cases_eq, eqb-true, eq-eqb, ne_eqb, both_ways}
 use Rattle.collector_law.specs.Picture.{IsSpared}
 use Rattle.collector_law.specs.Invariant.{State, Phase, Ready, Answering, Part, Resting, Waiting, Rooted, Passing, Scanning, Sweeping, Clearing, Time, Early, Late, Clean, time_of, IsWhite, IsGrey, IsBlack, IsMarked, IsLiveAt, Differs, hand_of, picture, MayLag, posted_at, IsUnderWay, IsColour, OldIsNot, HasMarked, RootAt, Stands, AtTime, IsInvariant}
-use Rattle.collector_law.proofs.Trace.{quiet, ends}
+use Rattle.collector_law.specs.Trace.{quiet, ends}
 
 -- the colours and the phases are others
 abbrev pub shaded : State → (ℕ → ℕ) → (ℕ → Phase) → State

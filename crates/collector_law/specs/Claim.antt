@@ -2,9 +2,9 @@
 use Rattle.std.proofs.Common.{◌≡◌, ◌≢◌, ◌⊎◌, inl, inr, ℕ, suc, ◌*◌, ◌<◌, ◌≤◌, true, false, refl, sym, ap, ◌∙◌, subst, arith}
 use Rattle.std.proofs.lemmas.Bool.{cases_eq}
 use Rattle.collector_law.specs.Invariant.{State, Phase, Ready, MarkingOld, MarkingNew, Writing, Answering, Part, Resting, Waiting, Rooted, Passing, Scanning, Sweeping, Clearing, Time, Early, Late, Clean, time_of, IsWhite, IsGrey, IsMarked, IsLive, IsLiveAt, hand_of, picture, IsUnderWay, IsColour, OldIsNot, RootAt, IsBase, Stands, AtTime, IsInvariant}
-use Rattle.collector_law.proofs.Trace.{claim}
-use Rattle.collector_law.proofs.Puts.{put, put-here, put-other}
-use Rattle.collector_law.proofs.Write.{live-not_blue}
+use Rattle.collector_law.specs.Trace.{claim}
+use Rattle.collector_law.specs.Puts.{put, put-here, put-other}
+use Rattle.collector_law.specs.Write.{live-not_blue}
 
 -- ---- what is held, and marked, may grow
 abbrev pub changed : State → (ℕ → ℕ) → (ℕ → ℕ) → (ℕ → ℕ → ℕ → Type 0) → State

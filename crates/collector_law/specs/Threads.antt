@@ -10,9 +10,9 @@ use Rattle.colours.specs.Mutator.{Phase, stage_of, phase_of, phase_after, MayFol
 use Rattle.colours.specs.Runs.{Event, ByThread, log_of, word_after, births_after, MayHappen, IsRun}
 use Rattle.colours.specs.Stages.{no_more, handshake}
 use Rattle.collector_law.specs.Invariant as law
-use Rattle.collector_law.proofs.Puts.{put, put-here, put-other}
-use Rattle.collector_law.proofs.Match.{IsInvariant, flat, seen, stage_in, Shows}
-use Rattle.collector_law.proofs.Events.{log_here, log_other, is_plain, plain_begun, held_by, fresh_by}
+use Rattle.collector_law.specs.Puts.{put, put-here, put-other}
+use Rattle.collector_law.specs.Match.{IsInvariant, flat, seen, stage_in, Shows}
+use Rattle.collector_law.specs.Events.{log_here, log_other, is_plain, plain_begun, held_by, fresh_by}
 
 -- a step is one of the state's threads
 pub in_range : (s : Setup) (run : List Event) (S : law.State) → Shows s run S → (t : ℕ) (step : Step) → MayHappen s run (ByThread t step) → t < S.threads

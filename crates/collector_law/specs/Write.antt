@@ -2,8 +2,8 @@
 use Rattle.std.proofs.Common.{◌≡◌, ◌≢◌, ◌⊎◌, inl, inr, ℕ, zero, suc, ◌+◌, ◌*◌, ◌<◌, ◌≤◌, true, false, List, refl, sym, ap, ◌∙◌, subst, arith}
 use Rattle.std.proofs.lemmas.Bool.{cases_eq}
 use Rattle.collector_law.specs.Invariant.{State, Phase, Ready, Answering, Part, Resting, Waiting, Rooted, Passing, Scanning, Sweeping, Clearing, Time, Early, Late, Clean, time_of, IsWhite, IsLive, IsLiveAt, IsGood, IsLoose, Differs, picture, MayLag, posted_at, AreInStep, IsUnderWay, AreLive, AreFresh, OldIsNot, HasMarked, RootAt, IsBase, IsNullOrMarked, IsInCycle, Stands, AtTime, IsInvariant}
-use Rattle.collector_law.proofs.Trace.{store, outside}
-use Rattle.collector_law.proofs.Puts.{put, put-here, put-other, put_word, here_or_not, put_word-here, put_word-other}
+use Rattle.collector_law.specs.Trace.{store, outside}
+use Rattle.collector_law.specs.Puts.{put, put-here, put-other, put_word, here_or_not, put_word-here, put_word-other}
 
 -- the value is stored with its birth, and is fresh no longer
 abbrev pub after_store : State → (t x i v : ℕ) → State

@@ -11,15 +11,15 @@ use Rattle.colours.specs.Collector.{Collection, posted_of}
 use Rattle.colours.specs.Runs.{Event, ByThread, log_of, turns_of, word_after, births_after, MayHappen, IsRun}
 use Rattle.colours.specs.Stages.{posted_is, handshake}
 use Rattle.collector_law.specs.Invariant as law
-use Rattle.collector_law.proofs.Puts.{put, put-here, put-other}
-use Rattle.collector_law.proofs.Shade.{shaded, shades}
-use Rattle.collector_law.proofs.Answer.{after_answer, answered}
-use Rattle.collector_law.proofs.Match.{IsSync, IsInvariant, flat, Shows, Safe}
-use Rattle.collector_law.proofs.Match.{seen, stage_in}
-use Rattle.collector_law.proofs.Events.{plain_begun, seen_kept, log_here, log_other, stage_stays, held_by, fresh_by}
-use Rattle.collector_law.proofs.Threads.{in_range, not_done, phase_put, held_kept, fresh_kept, IsIdle, idle}
-use Rattle.collector_law.proofs.Numbers.{async_three}
-use Rattle.collector_law.proofs.Storing.{low_cycle}
+use Rattle.collector_law.specs.Puts.{put, put-here, put-other}
+use Rattle.collector_law.specs.Shade.{shaded, shades}
+use Rattle.collector_law.specs.Answer.{after_answer, answered}
+use Rattle.collector_law.specs.Match.{IsSync, IsInvariant, flat, Shows, Safe}
+use Rattle.collector_law.specs.Match.{seen, stage_in}
+use Rattle.collector_law.specs.Events.{plain_begun, seen_kept, log_here, log_other, stage_stays, held_by, fresh_by}
+use Rattle.collector_law.specs.Threads.{in_range, not_done, phase_put, held_kept, fresh_kept, IsIdle, idle}
+use Rattle.collector_law.specs.Numbers.{async_three}
+use Rattle.collector_law.specs.Storing.{low_cycle}
 
 -- ---- the poll
 

@@ -2,10 +2,10 @@
 use Rattle.std.proofs.Common.{◌≡◌, ◌≢◌, ◌⊎◌, inl, inr, ℕ, zero, suc, ◌+◌, ◌*◌, ◌<◌, ◌≤◌, true, false, List, refl, sym, ap, ◌∙◌, subst, arith}
 use Rattle.std.proofs.lemmas.Bool.{cases_eq, cases_lt}
 use Rattle.collector_law.specs.Invariant.{State, Phase, Ready, MarkingOld, MarkingNew, Writing, Answering, Resting, Waiting, Rooted, Passing, Scanning, Time, Early, Late, Clean, time_of, IsGrey, IsMarked, IsLive, IsLiveAt, hand_of, picture, MayLag, posted_at, IsUnderWay, IsColour, RootAt, IsScanned, Stands, AtTime, IsInvariant}
-use Rattle.collector_law.proofs.Trace.{quiet}
-use Rattle.collector_law.proofs.Puts.{put, put-here, put-other}
-use Rattle.collector_law.proofs.Claim.{stands-grow}
-use Rattle.collector_law.proofs.Turn.{turned, turns}
+use Rattle.collector_law.specs.Trace.{quiet}
+use Rattle.collector_law.specs.Puts.{put, put-here, put-other}
+use Rattle.collector_law.specs.Claim.{stands-grow}
+use Rattle.collector_law.specs.Turn.{turned, turns}
 
 -- ---- looking for a grey cell
 find_grey : (s : State) (n : ℕ) → ((c : ℕ) × IsGrey s c) ⊎ ((c : ℕ) → c < n → IsGrey s c → ⊥)

@@ -22,7 +22,7 @@ use Rattle.runs.specs.Broken as broken
 use Rattle.runs.specs.Broken.{IsRoot, Reached, IsReachable, IsGone, WentWrong, TouchedGone, IsBroken}
 use Rattle.runs.specs.Promises.{AreCareful, HeapLaw, IsSafe, IsNeverWrong}
 use Rattle.runs.specs.Shares.{same_cell, log_is, run_with, heap_run, is_share, brings_gains, leaves_keeps, holds_held, disciplined}
-use Rattle.runs.proofs.Births.{birth_stays, birth_given, birth_elsewhere, word_birth_left}
+use Rattle.runs.specs.Births.{birth_stays, birth_given, birth_elsewhere, word_birth_left}
 
 -- what holds of each end of a run: the heap part obeys the discipline, answers were possible, and the births of references are the heap's
 pub record Invariant (s : Setup) (run : List Happening) : Type 0 where

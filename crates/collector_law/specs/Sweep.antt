@@ -2,9 +2,9 @@
 use Rattle.std.proofs.Common.{◌≡◌, inl, inr, ℕ, suc, ◌*◌, ◌<◌, ◌≤◌, refl, sym, ap, ◌∙◌, subst, arith}
 use Rattle.std.proofs.lemmas.Bool.{cases_eq, cases_lt}
 use Rattle.collector_law.specs.Invariant.{State, Resting, Sweeping, Clearing, Clean, time_of, IsWhite, IsBlack, IsMarked, IsLive, IsLiveAt, IsGood, MayLag, posted_at, IsUnderWay, IsColour, RootAt, IsInvariant}
-use Rattle.collector_law.proofs.Puts.{put, put-here, put-other, put_word, here_or_not, put_word-here, put_word-other}
-use Rattle.collector_law.proofs.Turn.{turned, turns}
-use Rattle.collector_law.proofs.Claim.{stands-grow}
+use Rattle.collector_law.specs.Puts.{put, put-here, put-other, put_word, here_or_not, put_word-here, put_word-other}
+use Rattle.collector_law.specs.Turn.{turned, turns}
+use Rattle.collector_law.specs.Claim.{stands-grow}
 
 -- ---- a white cell was met: its words are cleared
 pub begins_clearing : (done : ℕ) (cycle_of claim_at : ℕ → ℕ) (IsSync : ℕ → Type 0) (s : State) (c : ℕ) → s.part ≡ Sweeping c → 0 < c → IsWhite s c → IsInvariant done cycle_of claim_at IsSync s → IsInvariant done cycle_of claim_at IsSync (turned s (Clearing c 0))

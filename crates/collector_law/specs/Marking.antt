@@ -10,14 +10,14 @@ use Rattle.colours.specs.Mutator.{Phase, MarkingOld, MarkingNew, Answering, stag
 use Rattle.colours.specs.Collector.{Collection}
 use Rattle.colours.specs.Runs.{Event, ByThread, log_of, word_after, births_after, MayHappen, IsRun}
 use Rattle.collector_law.specs.Invariant as law
-use Rattle.collector_law.proofs.Puts.{put, put-here, put-other}
-use Rattle.collector_law.proofs.Claim.{stands-grow}
-use Rattle.collector_law.proofs.Shade.{shaded, shades}
-use Rattle.collector_law.proofs.Match.{IsSync, IsInvariant, flat, Shows, Safe}
-use Rattle.collector_law.proofs.Events.{stage_stays, is_plain, plain_begun}
-use Rattle.collector_law.proofs.Match.{stage_in}
-use Rattle.collector_law.proofs.Threads.{in_range, not_done, held_in, phase_put, held_kept, fresh_kept}
-use Rattle.collector_law.proofs.Numbers.{AtPosted, Rises, rises, sync_one, sync_cycle, async_next}
+use Rattle.collector_law.specs.Puts.{put, put-here, put-other}
+use Rattle.collector_law.specs.Claim.{stands-grow}
+use Rattle.collector_law.specs.Shade.{shaded, shades}
+use Rattle.collector_law.specs.Match.{IsSync, IsInvariant, flat, Shows, Safe}
+use Rattle.collector_law.specs.Events.{stage_stays, is_plain, plain_begun}
+use Rattle.collector_law.specs.Match.{stage_in}
+use Rattle.collector_law.specs.Threads.{in_range, not_done, held_in, phase_put, held_kept, fresh_kept}
+use Rattle.collector_law.specs.Numbers.{AtPosted, Rises, rises, sync_one, sync_cycle, async_next}
 
 -- ---- a mark, over states
 

@@ -1,7 +1,7 @@
 -- Each step of the threads and of the collector preserves the trace's law.
 use Rattle.std.proofs.Common.{◌≡◌, ◌≢◌, ◌⊎◌, inl, inr, ℕ, Bool, true, false, refl, sym, ap, ◌∙◌, subst, ◌&&◌, ◌||◌, ◌==◌, not}
 use Rattle.std.proofs.lemmas.Bool.{cases_eq, false_from_ne_true, both_ways, or_parts, or_cases, or_from, and_parts, and_cases, and_left, and_right, eqb-true, eq-eqb, ne_eqb}
-use Rattle.collector_law.proofs.Puts.{here_or_not}
+use Rattle.collector_law.specs.Puts.{here_or_not}
 use Rattle.collector_law.specs.Picture.{Picture, IsUnsupported, IsSpared, IsSafe}
 
 -- what is not white lies outside

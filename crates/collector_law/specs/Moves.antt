@@ -11,11 +11,11 @@ use Rattle.colours.specs.declared.turn.Turn.{Turn}
 use Rattle.colours.specs.Collector.{Pass, posted_of, skip_integers, sweep_from, pass_from, after_wait, wait_from}
 use Rattle.colours.specs.Runs.{Event, ByCollector, turns_of, word_after, births_after}
 use Rattle.collector_law.specs.Invariant as law
-use Rattle.collector_law.proofs.Turn.{turned, scans}
-use Rattle.collector_law.proofs.Post.{traces, repeats}
-use Rattle.collector_law.proofs.Sweep.{rests}
-use Rattle.collector_law.proofs.Match.{IsSync, IsInvariant, Shows, Safe}
-use Rattle.collector_law.proofs.Numbers.{cycle_is}
+use Rattle.collector_law.specs.Turn.{turned, scans}
+use Rattle.collector_law.specs.Post.{traces, repeats}
+use Rattle.collector_law.specs.Sweep.{rests}
+use Rattle.collector_law.specs.Match.{IsSync, IsInvariant, Shows, Safe}
+use Rattle.collector_law.specs.Numbers.{cycle_is}
 
 -- the state after a step of the collector
 abbrev pub behind : law.State → law.Part → (cycle posted : ℕ) → (ℕ → ℕ) → (ℕ → ℕ → ℕ) → law.State

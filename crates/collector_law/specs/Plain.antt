@@ -3,9 +3,9 @@ use Rattle.std.proofs.Common.{◌≡◌, ◌≢◌, ◌⊎◌, inl, inr, ℕ, su
 use Rattle.std.proofs.lemmas.Bool.{cases_eq}
 use Rattle.collector_law.specs.Invariant.{State, Phase, Ready, MarkingOld, MarkingNew, Writing, Answering, Part, Time, Early, Late, Clean, time_of, IsWhite, IsGrey, IsLive, IsLiveAt, IsGood, IsLoose, Differs, picture, IsUnderWay, HasMarked, IsBase, IsNullOrMarked, IsScanned, Stands, AtTime, IsInvariant}
 use Rattle.collector_law.specs.Invariant.{Scanning, Resting, Waiting, Rooted, Passing, Sweeping, Clearing}
-use Rattle.collector_law.proofs.Trace.{store, plain_store}
-use Rattle.collector_law.proofs.Puts.{put_word, here_or_not, put_word-here, put_word-other}
-use Rattle.collector_law.proofs.Write.{late_by, live_after, under_way_after}
+use Rattle.collector_law.specs.Trace.{store, plain_store}
+use Rattle.collector_law.specs.Puts.{put_word, here_or_not, put_word-here, put_word-other}
+use Rattle.collector_law.specs.Write.{late_by, live_after, under_way_after}
 
 -- the value is stored, and is fresh no longer
 abbrev pub after_plain : State → (t x i v : ℕ) → State

@@ -3,8 +3,8 @@ use Rattle.std.proofs.Common.{◌≡◌, ◌≢◌, ◌⊎◌, inl, inr, ℕ, su
 use Rattle.std.proofs.lemmas.Bool.{cases_eq, cases_lt}
 use Rattle.collector_law.specs.Picture.{Picture}
 use Rattle.collector_law.specs.Invariant.{State, Part, Passing, Scanning, Late, time_of, IsWhite, IsGrey, IsMarked, IsLive, IsLiveAt, hand_of, picture, MayLag, posted_at, IsUnderWay, IsColour, RootAt, IsScanned, AtTime, IsInvariant}
-use Rattle.collector_law.proofs.Trace.{quiet, outside}
-use Rattle.collector_law.proofs.Write.{not_white}
+use Rattle.collector_law.specs.Trace.{quiet, outside}
+use Rattle.collector_law.specs.Write.{not_white}
 
 -- the collector is elsewhere
 abbrev pub turned : State → Part → State

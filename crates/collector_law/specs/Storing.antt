@@ -13,14 +13,14 @@ use Rattle.colours.specs.Collector.{Collection, posted_of}
 use Rattle.colours.specs.Runs.{Event, ByThread, log_of, turns_of, word_after, births_after, MayHappen, IsRun}
 use Rattle.colours.specs.Stages.{handshake}
 use Rattle.collector_law.specs.Invariant as law
-use Rattle.collector_law.proofs.Puts.{put_word, here_or_not, put_word-here, put_word-other}
-use Rattle.collector_law.proofs.Write.{after_store, IsStoring, written}
-use Rattle.collector_law.proofs.Plain.{after_plain, stored_plainly}
-use Rattle.collector_law.proofs.Match.{IsSync, IsInvariant, flat, Shows, Safe}
-use Rattle.collector_law.proofs.Match.{stage_in}
-use Rattle.collector_law.proofs.Events.{stage_stays, plain_begun, fresh_by}
-use Rattle.collector_law.proofs.Threads.{in_range, held_in, base_in, phase_put, phase_kept, held_kept, IsIdle, idle}
-use Rattle.collector_law.proofs.Numbers.{are_stages, posted_near, claim_black, claim_white}
+use Rattle.collector_law.specs.Puts.{put_word, here_or_not, put_word-here, put_word-other}
+use Rattle.collector_law.specs.Write.{after_store, IsStoring, written}
+use Rattle.collector_law.specs.Plain.{after_plain, stored_plainly}
+use Rattle.collector_law.specs.Match.{IsSync, IsInvariant, flat, Shows, Safe}
+use Rattle.collector_law.specs.Match.{stage_in}
+use Rattle.collector_law.specs.Events.{stage_stays, plain_begun, fresh_by}
+use Rattle.collector_law.specs.Threads.{in_range, held_in, base_in, phase_put, phase_kept, held_kept, IsIdle, idle}
+use Rattle.collector_law.specs.Numbers.{are_stages, posted_near, claim_black, claim_white}
 
 -- a cycle is far below the number of the stage done
 pub low_cycle : (s : Setup) (run : List Event) (S : law.State) → IsInvariant S → Shows s run S → IsRun s run → 3 * S.cycle + 6 < done

@@ -10,14 +10,14 @@ use Rattle.colours.specs.Mutator.{Phase, Ready, Trying, stage_of, phase_of, phas
 use Rattle.colours.specs.Collector.{Collection}
 use Rattle.colours.specs.Runs.{Event, ByThread, log_of, word_after, births_after, MayHappen, IsRun}
 use Rattle.collector_law.specs.Invariant as law
-use Rattle.collector_law.proofs.Puts.{put-here, put-other}
-use Rattle.collector_law.proofs.Claim.{after_claim, claimed}
-use Rattle.collector_law.proofs.Match.{IsSync, flat, Shows, Safe}
-use Rattle.collector_law.proofs.Match.{stage_in}
-use Rattle.collector_law.proofs.Events.{stage_stays, plain_begun, held_by, fresh_by}
-use Rattle.collector_law.proofs.Threads.{in_range, not_done, phase_kept, IsIdle, idle}
-use Rattle.collector_law.proofs.Numbers.{Claims, claims, claim_black}
-use Rattle.collector_law.proofs.Marking.{at_posted}
+use Rattle.collector_law.specs.Puts.{put-here, put-other}
+use Rattle.collector_law.specs.Claim.{after_claim, claimed}
+use Rattle.collector_law.specs.Match.{IsSync, flat, Shows, Safe}
+use Rattle.collector_law.specs.Match.{stage_in}
+use Rattle.collector_law.specs.Events.{stage_stays, plain_begun, held_by, fresh_by}
+use Rattle.collector_law.specs.Threads.{in_range, not_done, phase_kept, IsIdle, idle}
+use Rattle.collector_law.specs.Numbers.{Claims, claims, claim_black}
+use Rattle.collector_law.specs.Marking.{at_posted}
 
 -- a thread tries to claim only between two calls or in one call for a cell
 claim_ready : (s : Setup) (stage : ℕ) (phase : Phase) (cell : ℕ) (won : Bool) → MayFollow s stage phase (Claim cell won) → flat phase ≡ law.Ready

@@ -2,8 +2,8 @@
 use Rattle.std.proofs.Common.{◌≡◌, ◌≢◌, ◌⊎◌, inl, inr, ℕ, ◌<◌, List, refl, subst, arith}
 use Rattle.std.proofs.lemmas.Bool.{cases_eq}
 use Rattle.collector_law.specs.Invariant.{State, Ready, Answering, Resting, Clean, time_of, IsBlack, IsLive, IsLiveAt, IsInvariant}
-use Rattle.collector_law.proofs.Puts.{put, put-here, put-other}
-use Rattle.collector_law.proofs.Write.{root-live, live-not_blue}
+use Rattle.collector_law.specs.Puts.{put, put-here, put-other}
+use Rattle.collector_law.specs.Write.{root-live, live-not_blue}
 
 -- from the globals' cell or a held cell, along words
 pub data IsKept (s : State) : ℕ → ℕ → Type 0 where

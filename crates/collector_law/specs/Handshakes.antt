@@ -11,16 +11,16 @@ use Rattle.colours.specs.Collector.{Posting, Waiting, ShadingGlobals, posted_of,
 use Rattle.colours.specs.Runs.{Event, ByCollector, log_of, turns_of, word_after, IsRun}
 use Rattle.colours.specs.Stages.{stage_is, begun_stage, handshake}
 use Rattle.colours.specs.Mutator.{phase_of, stage_of}
-use Rattle.collector_law.proofs.Match.{begun_or_done, stage_in}
+use Rattle.collector_law.specs.Match.{begun_or_done, stage_in}
 use Rattle.collector_law.specs.Invariant as law
-use Rattle.collector_law.proofs.Puts.{put, put-here, put-other}
-use Rattle.collector_law.proofs.Turn.{turned}
-use Rattle.collector_law.proofs.Post.{posted_sync1, posts_sync1, posted_sync2, posts_sync2, posted_async, posts_async, sees}
-use Rattle.collector_law.proofs.Root.{rooted, marks_root}
-use Rattle.collector_law.proofs.Match.{IsSync, IsInvariant, IsAt, Shows, Safe}
-use Rattle.collector_law.proofs.Numbers.{async_three}
-use Rattle.collector_law.proofs.Storing.{low_cycle}
-use Rattle.collector_law.proofs.Moves.{behind, IsBehind, turn_shows, IsLook, look_shows, moves, cycle_in, IsWait, waits}
+use Rattle.collector_law.specs.Puts.{put, put-here, put-other}
+use Rattle.collector_law.specs.Turn.{turned}
+use Rattle.collector_law.specs.Post.{posted_sync1, posts_sync1, posted_sync2, posts_sync2, posted_async, posts_async, sees}
+use Rattle.collector_law.specs.Root.{rooted, marks_root}
+use Rattle.collector_law.specs.Match.{IsSync, IsInvariant, IsAt, Shows, Safe}
+use Rattle.collector_law.specs.Numbers.{async_three}
+use Rattle.collector_law.specs.Storing.{low_cycle}
+use Rattle.collector_law.specs.Moves.{behind, IsBehind, turn_shows, IsLook, look_shows, moves, cycle_in, IsWait, waits}
 
 -- a post changes the posted word alone
 post_behind : (s : Setup) (run : List Event) (S : law.State) → Shows s run S → (to : ℕ) → to ≡ suc (posted_of (turns_of run)) → IsBehind s run S (PostStage to) (suc S.posted) S.colour S.word

@@ -9,21 +9,21 @@ use Rattle.colours.specs.Colours.{done, cycle_of, claim_at}
 use Rattle.colours.specs.Steps.{Step, ReadWord, ReadOldValue, Mark, StoreBehindBarrier, StorePlain, Claim, ReadPosted, StoreStage, ReadPostedFirst, EnterStage, ReadPostedAgain, FoundBy, place_of}
 use Rattle.colours.specs.declared.turn.Turn.{Turn}
 use Rattle.colours.specs.declared.turn.Turn.TheVariants.{PostStage, ReadStage, MarkFound, ReadColour, ScanWord, Blacken, ClearWord, Free}
-use Rattle.collector_law.proofs.Match.{flat, seen}
+use Rattle.collector_law.specs.Match.{flat, seen}
 use Rattle.colours.specs.Mutator.{Ready, Absent, IsDisciplined}
 use Rattle.colours.specs.Collector.{Collection, Posting, Waiting, ShadingGlobals, Passing, Scanning, Shading, Sweeping, Clearing, posted_of, has_answered, wait_from, Turns, Collects}
 use Rattle.colours.specs.Runs.{Event, ByThread, ByCollector, log_of, turns_of, word_after, births_after, MayHappen, IsRun, KeepsDiscipline, ask_in}
 use Rattle.collector_law.specs.Invariant as law
-use Rattle.collector_law.proofs.Puts.{put, put-other}
-use Rattle.collector_law.proofs.Law.{start, starts}
-use Rattle.collector_law.proofs.Match.{IsSync, IsAt, Shows, Safe}
-use Rattle.collector_law.proofs.Readings.{read_safe, read_old_safe}
-use Rattle.collector_law.proofs.Marking.{mark_safe}
-use Rattle.collector_law.proofs.Storing.{write_safe, plain_safe}
-use Rattle.collector_law.proofs.Claiming.{claim_safe}
-use Rattle.collector_law.proofs.Replies.{poll_safe, answer_safe, arrive_safe, enter_safe, confirm_safe}
-use Rattle.collector_law.proofs.Handshakes.{post_safe, check_safe, root_safe}
-use Rattle.collector_law.proofs.Passes.{out_safe, in_safe, scan_safe, blacken_safe, shade_safe, sweep_safe, clear_safe, free_safe}
+use Rattle.collector_law.specs.Puts.{put, put-other}
+use Rattle.collector_law.specs.Law.{start, starts}
+use Rattle.collector_law.specs.Match.{IsSync, IsAt, Shows, Safe}
+use Rattle.collector_law.specs.Readings.{read_safe, read_old_safe}
+use Rattle.collector_law.specs.Marking.{mark_safe}
+use Rattle.collector_law.specs.Storing.{write_safe, plain_safe}
+use Rattle.collector_law.specs.Claiming.{claim_safe}
+use Rattle.collector_law.specs.Replies.{poll_safe, answer_safe, arrive_safe, enter_safe, confirm_safe}
+use Rattle.collector_law.specs.Handshakes.{post_safe, check_safe, root_safe}
+use Rattle.collector_law.specs.Passes.{out_safe, in_safe, scan_safe, blacken_safe, shade_safe, sweep_safe, clear_safe, free_safe}
 
 -- each step of a thread leads to a state that satisfies the invariant
 thread_safe : (s : Setup) (run : List Event) (c : Collection) (t : ℕ) (step : Step) → IsRun s run → MayHappen s run (ByThread t step) → IsDisciplined s (log_of t run) step → Safe s run c → Safe s (ByThread t step ∷ run) c
