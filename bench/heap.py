@@ -9,14 +9,15 @@ files have the suffix .in. The script copies the crates to FOLDER (by default ou
 bench/heap/steps.c makes the same steps over words that lie in the same places, by sequentially consistent atomics of C11. It
 is built with `clang -O3` where there is one, as the kit builds programs, and else with `cc -O3`.
 
-Prints a row for each call and each number of threads: million steps a second of each program, the fastest of R runs, where
-the programs take turns; and how many times longer the first one takes. Times are processor time, so other work on the
-machine counts only by what it does to caches. For use by hand.
+Prints a row for each call and each number of threads: million steps a second of each program, and how many times longer the
+first one takes. The first three columns are the middle of R runs, and the last three the fastest ones. The programs take
+turns. Times are processor time, so other work on the machine counts only by what it does to caches. For use by hand.
 """
 import argparse
 import collections
 import os
 import shutil
+import statistics
 import subprocess
 import sys
 
@@ -79,24 +80,33 @@ def rate(program, row, threads):
     return calls * row.steps * 1000 / took
 
 
+def rates(programs, row, threads, runs):
+    """The rates of each program; the one that runs first differs from run to run."""
+    found = {program: [] for program in programs}
+    for turn in range(runs):
+        for program in programs[:: 1 if turn % 2 else -1]:
+            found[program].append(rate(program, row, threads))
+    return found.values()
+
+
 def main():
     parser = argparse.ArgumentParser(description=__doc__.split("\n")[0])
     parser.add_argument("--scratch", default=os.path.join(TOP, "out", CRATE))
     parser.add_argument("--program")
-    parser.add_argument("--runs", type=int, default=5)
+    parser.add_argument("--runs", type=int, default=25)
     parser.add_argument("--threads", type=int, nargs="+", default=[1, 2, 4])
     options = parser.parse_args()
     os.makedirs(options.scratch, exist_ok=True)
     program = options.program or build(options.scratch)
     twin = build_c(options.scratch)
-    print(f"{'million steps a second':30} threads  heap_table       C   times")
+    print(f"{'million steps a second':28} threads    middle       C  times   fastest       C  times")
     for row in ROWS:
         for threads in options.threads:
-            ours, theirs = 0, 0
-            for _ in range(options.runs):
-                ours = max(ours, rate(program, row, threads))
-                theirs = max(theirs, rate(twin, row, threads))
-            print(f"{row.counted:30} {threads:7} {ours:11.1f} {theirs:7.1f} {theirs / ours:7.2f}", flush=True)
+            ours, theirs = rates([program, twin], row, threads, options.runs)
+            columns = "".join(
+                f"  {of(ours):8.1f} {of(theirs):7.1f} {of(theirs) / of(ours):6.2f}" for of in (statistics.median, max)
+            )
+            print(f"{row.counted:28} {threads:7}{columns}", flush=True)
 
 
 if __name__ == "__main__":
