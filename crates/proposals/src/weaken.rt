@@ -59,10 +59,7 @@ pub fn weakened(
 
 fn shows_all(ground: &Ground, knowledge: &Knowledge, lines: &[Line]) -> bool {
     let way = knowledge.way();
-    lines
-        .iter()
-        .all(|line| way
-        .shows_line(&ground.slots, &knowledge.there, *line))
+    lines.iter().all(|line| way.shows_line(&ground.slots, &knowledge.there, *line))
 }
 
 /// What both the lines and the way say, line by line.

@@ -23,10 +23,13 @@ returns-in-Err-certs_for-clause-plain c answered =
     let program = c.in-Ok.program in
     let found = c.in-Ok.ensures.found in
     let refused = c.in-Err-certs_for.ensures.lack (is_no_answer _ (sym c.from-in-Err-certs_for.ensures ∙ answered)) in
-    subst IsPlainlyRefused found.0 (refused.0, record {
-      layouts = program.layouts;
-      sizes = program.sizes;
-      laid_out = subst (λ m. AreLayouts m program.layouts) (sym found.0) found.1;
-      sized = subst (λ m. AreSizes m program.sizes) (sym found.0) found.2;
-      first = refused.1;
-    })
+    subst IsPlainlyRefused found.0 (
+      refused.0,
+      record {
+        layouts = program.layouts;
+        sizes = program.sizes;
+        laid_out = subst (λ m. AreLayouts m program.layouts) (sym found.0) found.1;
+        sized = subst (λ m. AreSizes m program.sizes) (sym found.0) found.2;
+        first = refused.1;
+      },
+    )
