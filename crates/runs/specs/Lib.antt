@@ -16,7 +16,6 @@ pub mod Calls
 pub mod Standings
 pub mod Causes
 pub mod Theorems
-
 -- ---- the proof of the safety theorem
 mod Births
 mod Safety
