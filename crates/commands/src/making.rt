@@ -80,6 +80,25 @@ fn print_refused<O: Write, E: Write>(
     }
 }
 
+/// Prints that no certificates are made; and if that is wanted, the first refusal with some.
+fn print_tried<O: Write, E: Write>(
+    alloc: Global,
+    of_module: &Module,
+    tried: &Refused,
+    why: Why,
+    out: &mut O,
+    err: &mut E,
+) -> io::Result<u8>
+    requires plain { IsAccepted of_module.now (plain of_module.now) → ⊥ }
+    requires refused { IsFirstRefusal of_module.now tried.now.certs tried.now.refusal }
+    ensures { IfOk result (Says (OfMade why of_module.now) (O.contents out.old) (O.contents out.new) (E.contents err.old) (E.contents err.new)) }
+{
+    match why {
+        Why::Wanted => print_refused(alloc, of_module, tried, out, err),
+        Why::NotWanted => print_no_answer(out),
+    }
+}
+
 /// Prints why no certificates are made.
 fn print_unmade<O: Write, E: Write>(
     alloc: Global,
@@ -93,17 +112,13 @@ fn print_unmade<O: Write, E: Write>(
     requires refused { IfSome unmade.now.refused (IsRefusedWith unmade.now.of_module) }
     ensures { IfOk result (Says (OfMade why unmade.now.of_module) (O.contents out.old) (O.contents out.new) (E.contents err.old) (E.contents err.new)) }
 {
-    match (unmade.fault, &unmade.refused, why) {
-        (MakeFault::Layout(fault), _, _) => crate::faults::no_layouts(
-            err,
-            &unmade.of_module,
-            fault,
-        ),
-        (MakeFault::Memory, _, _) => crate::faults::memory(err),
-        (MakeFault::NoAnswer, Some(tried), Why::Wanted) => {
-            print_refused(alloc, &unmade.of_module, tried, out, err)
+    match (unmade.fault, &unmade.refused) {
+        (MakeFault::Layout(fault), _) => crate::faults::no_layouts(err, &unmade.of_module, fault),
+        (MakeFault::Memory, _) => crate::faults::memory(err),
+        (MakeFault::NoAnswer, Some(tried)) => {
+            print_tried(alloc, &unmade.of_module, tried, why, out, err)
         }
-        (MakeFault::NoAnswer, _, _) => print_no_answer(out),
+        (MakeFault::NoAnswer, _) => print_no_answer(out),
     }
 }
 
