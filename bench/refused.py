@@ -6,8 +6,8 @@
 For each command it runs DGC once for each request for memory that it makes: that one is refused, by a library that is loaded
 before the program (refuse.c). Then it does so again, and refuses that request and all after it. Each run has to end with
 `error memory` and status 3, or with what it prints where memory is ample. Of `run` the turns and cycles of the collector may
-differ. Ends with status 1 where a run ends in another way, or where a command never says `error memory`. With --every it refuses only every Nth request. DGC has to be
-built by `rt run`, and not by `rt try`. For use by hand.
+differ. Ends with status 1 where a run ends in another way, or where a command never says `error memory`. With --every it
+refuses only every Nth request. DGC has to be built by `rt run`, and not by `rt try`. For use by hand.
 """
 import argparse
 import os
