@@ -39,32 +39,30 @@ class Refuser:
     """Runs DGC with some request refused."""
 
     def __init__(self, dgc, folder):
-        self.dgc, self.library, self.count = dgc, os.path.join(folder, "refuse.so"), os.path.join(folder, "count")
+        self.dgc, self.library, self.mark = dgc, os.path.join(folder, "refuse.so"), os.path.join(folder, "mark")
         subprocess.run(["cc", "-O2", "-shared", "-fPIC", "-o", self.library, os.path.join(HERE, "refuse.c"), "-ldl"], check=True)
 
     def ended(self, words, how=""):
-        """The status of a run and what it printed, and how many requests it made."""
+        """The status of a run and what it printed, and whether a request was refused."""
         given = dict([how.split("=")]) if how else {}
-        environment = {**os.environ, "LD_PRELOAD": self.library, "COUNT_TO": self.count, **given}
+        environment = {**os.environ, "LD_PRELOAD": self.library, "MARK": self.mark, **given}
         ran = subprocess.run([self.dgc, *words.split()], env=environment, capture_output=True, text=True, timeout=300)
-        made = 0
-        if os.path.exists(self.count):
-            with open(self.count) as count:
-                made = int(count.read())
-            os.remove(self.count)
+        marked = os.path.exists(self.mark)
+        if marked:
+            os.remove(self.mark)
         printed = re.sub(r"^collector turns \d+ cycles \d+$", "collector", ran.stdout, flags=re.M)
-        return (ran.returncode, printed, ran.stderr), made
+        return (ran.returncode, printed, ran.stderr), marked
 
     def refuse_each(self, name, words, every):
         """Refuses each request in turn, by both ways. Returns how many runs ended wrongly."""
-        ample, most = self.ended(words)
+        ample, _ = self.ended(words)
         refused, same, wrong = 0, 0, 0
         for way in ("REFUSE_AT", "REFUSE_FROM"):
-            number = 1
-            while number <= most:
+            number, marked = 1, True
+            while marked:
                 how = f"{way}={number}"
                 try:
-                    answer, _ = self.ended(words, how)
+                    answer, marked = self.ended(words, how)
                 except (OSError, subprocess.TimeoutExpired) as fault:
                     answer = fault
                 refused += answer == (3, "", "error memory\n")
@@ -76,7 +74,7 @@ class Refuser:
         if not refused:
             wrong += 1
             print(f"{name}: no run ended with error memory")
-        print(f"{name:20} status {ample[0]}, {most:7,} requests: {refused:7,} times error memory, {same:7,} times the same, "
+        print(f"{name:20} status {ample[0]}, {number // every:7,} requests: {refused:7,} times error memory, {same:7,} times the same, "
               f"{wrong} wrong", flush=True)
         return wrong
 
