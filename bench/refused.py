@@ -6,7 +6,7 @@
 For each command it runs DGC once for each request for memory that it makes: that one is refused, by a library that is loaded
 before the program (refuse.c). Then it does so again, and refuses that request and all after it. Each run has to end with
 `error memory` and status 3, or with what it prints where memory is ample. Of `run` the turns and cycles of the collector may
-differ. Ends with status 1 where a run ends in another way, or where a command never says `error memory`. With --every it
+differ, and a thread may end for want of memory. Ends with status 1 where a run ends in another way, or where a command never says `error memory`. With --every it
 refuses only every Nth request. DGC has to be built by `rt run`, and not by `rt try`. For use by hand.
 """
 import argparse
@@ -51,6 +51,7 @@ class Refuser:
         if marked:
             os.remove(self.mark)
         printed = re.sub(r"^collector turns \d+ cycles \d+$", "collector", ran.stdout, flags=re.M)
+        printed = re.sub(r"^(t \d+) memory$", r"\1 stopped", printed, flags=re.M)
         return (ran.returncode, printed, ran.stderr), marked
 
     def refuse_each(self, name, words, every):
