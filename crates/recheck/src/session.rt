@@ -1,13 +1,19 @@
-ghost use Rattle.std.specs.Prelude.{◌≡◌, List, length, IfOk, IfErr, MatchOption};
+ghost use Rattle.std.specs.Prelude.{◌≡◌, ◌≢◌, List, length, IfOk, IfErr, OnOk, OnErr, MatchOption};
 ghost use Rattle.layout.specs.Layouts.{AreLayouts};
 ghost use Rattle.module_check.specs.Accepted.{IsAccepted, IsFirstRefusal};
 ghost use Rattle.module_check.specs.declared.verdict.Verdict.TheVariants as verdict;
 ghost use Rattle.pools.specs.declared.word_kind.WordKind.{WordKind as AWord};
-ghost use Rattle.recheck.specs.Session.{IsBeginFault};
+ghost use Rattle.recheck.specs.Edits.{IsEdited, IsEditFault, IsRefusedFor, IsTaken, IsRefusedBy};
+ghost use Rattle.recheck.specs.Session.{IsBeginFault, State as AState};
+ghost use Rattle.recheck.specs.declared.edit_fault.EditFault.{EditFault as AFault};
+ghost use Rattle.recheck.specs.declared.edit_fault.EditFault.TheVariants as fault;
 
+use crate::edit_fault::EditFault;
+use crate::edits::put_edit;
 use answers::{answers_to, first_refusal};
 use block_rules::Refusal;
 use certs::Certs;
+use edit_text::Edit;
 use ir_ast::Module;
 use items::Items;
 use layout::Program;
@@ -71,6 +77,35 @@ impl Session {
         }
     }
 
+    /// Puts the texts of an edit in the place of the code, the section, or both of the function that it names. Where only code is
+    /// given, the section is read anew with it, from the text that it has with the code that was there. An edit that is refused
+    /// leaves the session as it was.
+    pub fn apply(&mut self, alloc: Global, edit: &Edit) -> Result<(), EditFault>
+        // The session is the one that comes of the edit.
+        ensures taken { OnOk result (IsEdited self.old edit.now self.new) }
+        ensures kept { OnErr result (self.new ≡ self.old) }
+        // An edit of which some session comes is taken, unless memory runs out.
+        ensures only { (t : AState) → IsEdited self.old edit.now t → IsTaken result }
+        // What is refused is refused for its first fault.
+        ensures fault { IfErr result (λ e. e ≢ fault.Memory → IsRefusedFor self.old edit.now e) }
+        // What has a first fault is refused for it, unless memory runs out.
+        ensures only_fault { (e : AFault) → IsEditFault self.old edit.now e → IsRefusedBy result e }
+    {
+        let put = match put_edit(
+            alloc,
+            &mut self.program,
+            &mut self.certs,
+            self.answers.as_slice(),
+            edit,
+        ) {
+            Ok(put) => put,
+            Err(fault) => return Err(fault),
+        };
+        self.answers = put.answers;
+        self.rechecked = put.rechecked;
+        Ok(())
+    }
+
     /// What `check` finds in the present module with its certificates: nothing, or the first refused instruction.
     pub fn verdict(&self) -> Option<Refusal>
         ensures { MatchOption result (IsAccepted self.now.program.of_module self.now.certs) (IsFirstRefusal self.now.program.of_module self.now.certs) }
@@ -78,7 +113,8 @@ impl Session {
         first_refusal(self.answers.as_slice())
     }
 
-    /// How many functions the last edit made be checked. A session begins with 0.
+    /// How many functions the last edit made be checked: the one that it replaced, and its callers where they are told something
+    /// else of it. 0 before the first edit that was taken.
     pub fn rechecked(&self) -> u64
         ensures { result ≡ self.now.rechecked }
     {
