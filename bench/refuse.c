@@ -1,13 +1,14 @@
 /* A library to be loaded before a program (LD_PRELOAD): it refuses requests for memory.
    REFUSE_AT=7 refuses the 7th request, REFUSE_FROM=7 the 7th and all after it.
-   COUNT_TO=FILE writes to FILE how many requests were made, when the program ends. */
+   It makes the file MARK where it refuses one. */
 #define _GNU_SOURCE
 #include <dlfcn.h>
 #include <errno.h>
+#include <fcntl.h>
 #include <stdatomic.h>
-#include <stdio.h>
 #include <stdlib.h>
 #include <string.h>
+#include <unistd.h>
 
 static void *(*real_malloc)(size_t), *(*real_calloc)(size_t, size_t), *(*real_realloc)(void *, size_t);
 static void *(*real_aligned_alloc)(size_t, size_t);
@@ -46,18 +47,14 @@ __attribute__((constructor)) static void begin(void) {
     atomic_store(&made, 0);
 }
 
-__attribute__((destructor)) static void end(void) {
-    const char *path = getenv("COUNT_TO");
-    unsigned long count = atomic_load(&made);
-    at = from = 0;
-    FILE *file = path ? fopen(path, "w") : NULL;
-    if (file) { fprintf(file, "%lu\n", count); fclose(file); }
-}
-
 static int is_refused(void) {
     unsigned long number = atomic_fetch_add(&made, 1) + 1;
     int refused = (at && number == at) || (from && number >= from);
-    if (refused) errno = ENOMEM;
+    if (refused) {
+        int file = open(getenv("MARK"), O_CREAT | O_WRONLY, 0600);
+        if (file >= 0) close(file);
+        errno = ENOMEM;
+    }
     return refused;
 }
 

@@ -6,8 +6,8 @@
 For each command it runs DGC once for each request for memory that it makes: that one is refused, by a library that is loaded
 before the program (refuse.c). Then it does so again, and refuses that request and all after it. Each run has to end with
 `error memory` and status 3, or with what it prints where memory is ample. Of `run` the turns and cycles of the collector may
-differ. Ends with status 1 where a run ends in another way. With --every it refuses only every Nth request. DGC has to be
-built by `rt run`, and not by `rt try`. For use by hand.
+differ. Ends with status 1 where a run ends in another way, or where a command never says `error memory`. With --every it
+refuses only every Nth request. DGC has to be built by `rt run`, and not by `rt try`. For use by hand.
 """
 import argparse
 import os
@@ -39,32 +39,30 @@ class Refuser:
     """Runs DGC with some request refused."""
 
     def __init__(self, dgc, folder):
-        self.dgc, self.library, self.count = dgc, os.path.join(folder, "refuse.so"), os.path.join(folder, "count")
+        self.dgc, self.library, self.mark = dgc, os.path.join(folder, "refuse.so"), os.path.join(folder, "mark")
         subprocess.run(["cc", "-O2", "-shared", "-fPIC", "-o", self.library, os.path.join(HERE, "refuse.c"), "-ldl"], check=True)
 
     def ended(self, words, how=""):
-        """The status of a run and what it printed, and how many requests it made."""
+        """The status of a run and what it printed, and whether a request was refused."""
         given = dict([how.split("=")]) if how else {}
-        environment = {**os.environ, "LD_PRELOAD": self.library, "COUNT_TO": self.count, **given}
+        environment = {**os.environ, "LD_PRELOAD": self.library, "MARK": self.mark, **given}
         ran = subprocess.run([self.dgc, *words.split()], env=environment, capture_output=True, text=True, timeout=300)
-        made = 0
-        if os.path.exists(self.count):
-            with open(self.count) as count:
-                made = int(count.read())
-            os.remove(self.count)
+        marked = os.path.exists(self.mark)
+        if marked:
+            os.remove(self.mark)
         printed = re.sub(r"^collector turns \d+ cycles \d+$", "collector", ran.stdout, flags=re.M)
-        return (ran.returncode, printed, ran.stderr), made
+        return (ran.returncode, printed, ran.stderr), marked
 
     def refuse_each(self, name, words, every):
         """Refuses each request in turn, by both ways. Returns how many runs ended wrongly."""
-        ample, most = self.ended(words)
+        ample, _ = self.ended(words)
         refused, same, wrong = 0, 0, 0
         for way in ("REFUSE_AT", "REFUSE_FROM"):
-            number = 1
-            while number <= most:
+            number, marked = 1, True
+            while marked:
                 how = f"{way}={number}"
                 try:
-                    answer, _ = self.ended(words, how)
+                    answer, marked = self.ended(words, how)
                 except (OSError, subprocess.TimeoutExpired) as fault:
                     answer = fault
                 refused += answer == (3, "", "error memory\n")
@@ -73,7 +71,10 @@ class Refuser:
                     wrong += 1
                     print(f"{name}, {how}: {answer}")
                 number += every
-        print(f"{name:20} status {ample[0]}, {most:7,} requests: {refused:7,} times error memory, {same:7,} times the same, "
+        if not refused:
+            wrong += 1
+            print(f"{name}: no run ended with error memory")
+        print(f"{name:20} status {ample[0]}, {number // every:7,} requests: {refused:7,} times error memory, {same:7,} times the same, "
               f"{wrong} wrong", flush=True)
         return wrong
 
