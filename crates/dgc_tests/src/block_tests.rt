@@ -1,14 +1,6 @@
-//! Facts that are shared, and blocks that are checked by what they begin with, found before.
-ghost use Rattle.std.specs.Prelude.{◌<◌, length};
-
-use crate::texts::{HEAD, TWO, joined};
-use block_check::{BlockFault, Refusal, Rule, check_block, check_rows, rows};
-use certificate::read_cert;
-use certs::Certs;
+//! Facts that blocks share.
 use facts::{Class, ClassId, Entry, Facts, Given, Known, Test};
-use ir_ast::{BlockId, Comparison, Constant, FuncId, ValueId};
-use ir_text::read;
-use layout::Program;
+use ir_ast::{Comparison, Constant, ValueId};
 use pools::LayoutId;
 use shadow_stack::SlotId;
 use std::alloc::{AllocError, Global};
@@ -191,99 +183,5 @@ fn a_million_sharers_are_dropped(rt: HostRuntime) -> Result<(), Fail> {
     make(alloc, &mut last, Change::Forget)?;
     drop(sharers);
     assert!(rt; !is_alike(&last, &facts));
-    Ok(())
-}
-
-/// Walks a list to its end, and returns how many cells it has.
-const WALK: &str =
-    "define i64 @walk(%Node* %n) gc \"shadow-stack\" {\nentry:\n  br label %loop\nloop:\n  %p = phi %Node* [ %n, %entry ], [ %q, %loop ]\n  %k = phi i64 [ 0, %entry ], [ %m, %loop ]\n  %m = add i64 %k, 1\n  %f = getelementptr %Node, %Node* %p, i32 0, i32 1\n  %q = load %Node*, %Node** %f\n  %c = icmp eq %Node* %q, null\n  br i1 %c, label %out, label %loop\nout:\n  ret i64 %m\n}\n";
-
-/// The place of an instruction in its block, and the rule that it breaks.
-type Broken = Option<(usize, Rule)>;
-
-/// Certificates of `WALK` and `TWO`, and what is wanted of each block of each function.
-type Case = (&'static str, [[Broken; 3]; 2]);
-
-const CASES: [Case; 2] = [
-    (
-        "cert 1\nfunction @walk none\nparam %n nonnull\nblock %loop\n%p ref Node nonnull\n%k i64\nblock %out\n%m i64\nend\nfunction @two none\nblock %no\nblock %ok\n%x ref Node nonnull fresh\nend\n",
-        [[None, None, None], [None, None, None]],
-    ),
-    (
-        "cert 1\nfunction @walk none\nblock %loop\n%p ref Node nonnull\n%k i64\nblock %out\nend\nfunction @two none\nblock %no\n%x ref Node nonnull\nblock %ok\nend\n",
-        [
-            [Some((0, Rule::K15)), None, Some((0, Rule::K1))],
-            [Some((6, Rule::K15)), None, Some((0, Rule::K1))],
-        ],
-    ),
-];
-
-/// The program of `WALK` and `TWO`, with these certificates of it.
-fn read_both(alloc: Global, certificates: &str) -> Result<Option<(Program, Certs)>, AllocError> {
-    let text = joined(alloc, [HEAD, WALK, TWO].as_slice())?;
-    let Ok(of_module) = read(alloc, text.as_slice()) else {
-        return Ok(None);
-    };
-    let Ok(certs) = read_cert(alloc, certificates.as_bytes(), &of_module) else {
-        drop(of_module);
-        return Ok(None);
-    };
-    match Program::new(alloc, of_module) {
-        Ok(program) => Ok(Some((program, certs))),
-        Err(_) => Ok(None),
-    }
-}
-
-/// What a check found in a block.
-fn found(answer: Result<(), BlockFault>) -> Result<Option<Refusal>, AllocError> {
-    match answer {
-        Ok(()) => Ok(None),
-        Err(BlockFault::Refused(refusal)) => Ok(Some(refusal)),
-        Err(BlockFault::Memory) => Err(AllocError),
-    }
-}
-
-/// Whether this is found in each block of a function, by its rows and without them.
-fn is_found(
-    alloc: Global,
-    program: &Program,
-    certs: &Certs,
-    func: FuncId,
-    wanted: [Broken; 3],
-) -> Result<bool, AllocError>
-    requires { func < length program.now.of_module.functions }
-{
-    let rows = rows(alloc, program, certs, func)?;
-    for (number, wanted) in (0..3u32).zip(wanted) {
-        let block = BlockId::new(number);
-        let by_rows = found(check_rows(alloc, program, certs, &rows, func, block))?;
-        let alone = found(check_block(alloc, program, certs, func, block))?;
-        if by_rows != alone || broken_by(alone) != wanted {
-            return Ok(false);
-        }
-    }
-    Ok(true)
-}
-
-/// What is broken where this is found.
-fn broken_by(refusal: Option<Refusal>) -> Broken {
-    match refusal {
-        Some(refusal) => Some((refusal.instr, refusal.rule)),
-        None => None,
-    }
-}
-
-#[test]
-fn rows_and_blocks_say_the_same(rt: HostRuntime) -> Result<(), Fail> {
-    let alloc = rt.alloc();
-    for (certificates, [walk, two]) in CASES {
-        let Some((program, certs)) = read_both(alloc, certificates)? else {
-            assert!(rt; false, "{certificates}");
-            return Ok(());
-        };
-        assert_eq!(rt; program.module().functions.len(), 2);
-        assert!(rt; is_found(alloc, &program, &certs, FuncId::new(0), walk)?);
-        assert!(rt; is_found(alloc, &program, &certs, FuncId::new(1), two)?);
-    }
     Ok(())
 }
