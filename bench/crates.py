@@ -5,7 +5,7 @@
     crates.py --check    writes nothing; says whether docs/CRATES.md is current, and exits with 1 if it is not
 
 The order, the groups and the crates that each one uses come from crates.txt: a comment line names the group of the crates
-below it. What a crate does is the comment at the head of its src/lib.rt or src/main.rt. Source lines are all lines of the
+below it. What a crate does is the first paragraph of the comment at the head of its src/lib.rt or src/main.rt. Source lines are all lines of the
 .rt files in src/. Edits are the files of must-fail/.
 """
 import argparse
@@ -18,7 +18,7 @@ PAGE = os.path.join(TOP, "docs", "CRATES.md")
 
 HEAD = """# Crates
 
-This page is made by `bench/crates.py` from crates.txt, from the comment at the head of each crate, and from its files. Do not edit it: run the script. `bench/crates.py --check` says whether the page is current.
+This page is made by `bench/crates.py` from crates.txt, from the first paragraph of the comment at the head of each crate, and from its files. Do not edit it: run the script. `bench/crates.py --check` says whether the page is current.
 
 A crate uses only crates above it in the table. docs/THEOREMS.md says what each one promises, and docs/ARCHITECTURE.md how they fit together. An edit is a change that the prover has to refuse: a file of the crate's folder must-fail/. Each changes code.
 
@@ -40,14 +40,14 @@ def listed():
 
 
 def described(name):
-    """The comment at the head of a crate's root file."""
+    """The first paragraph of the comment at the head of a crate's root file."""
     for root in ("lib.rt", "main.rt"):
         path = os.path.join(TOP, "crates", name, "src", root)
         if os.path.isfile(path):
             words = []
             with open(path, encoding="utf-8") as lines:
                 for line in lines:
-                    if not line.startswith("//!"):
+                    if not line.startswith("//!") or not line[3:].strip():
                         break
                     words.append(line[3:].strip())
             return " ".join(words).replace("|", "\\|")

@@ -1,7 +1,7 @@
 #!/usr/bin/env python3
 """Measures how the time of `dgc check` and `dgc replay` grows with the number of each kind of thing in their texts.
 
-    growth.py DGC [--only WORD ..] [--least N] [--runs R] [--seconds S] [--beside OPT] [--keep FOLDER] [--all]
+    growth.py DGC [--only WORD ..] [--least N] [--runs R] [--seconds S] [--beside OPT] [--make] [--keep FOLDER] [--all]
 
 For each kind (growth_modules.py, growth_bodies.py, growth_pairs.py, growth_traces.py) it writes texts with 1,000 things,
 then about three times as many, up to 100,000 or the limit of the program, and runs the command on each. Prints the
@@ -9,8 +9,9 @@ processor time of the largest, and the exponent: how the time grows with the siz
 2^exponent the time. The size is in bytes, and in steps or things where a kind's text does not grow. It is measured from the last size to the one that is about ten times smaller, less the time that an
 empty module takes. A kind ends early at the first run of more than S seconds. A time under 5 ms says nothing: then the
 exponent is `-`. A kind whose exponent is over 1.1 is marked. With `--beside opt-14` the last column says how many times longer
-the check takes than that program's reader and verifier on the same module, `-` where that refuses the module. With --all the time of
-each size is printed. FOLDER keeps the texts. For use by hand.
+the check takes than that program's reader and verifier on the same module, `-` where that refuses the module. With --make it times
+`dgc make` on the modules of `check` instead. With --all the time of each size is printed. FOLDER keeps the texts. For use by
+hand.
 """
 import argparse
 import math
@@ -78,14 +79,15 @@ def measure(dgc, it, options, folder):
         for path, text in zip(paths, (module, other)):
             with open(path, "w") as out:
                 out.write(text)
-        took, said = run([dgc, it.command, *paths], options.runs, 4 * options.seconds)
+        words = ["make", paths[0]] if options.make else [it.command, *paths]
+        took, said = run([dgc, *words], options.runs, 4 * options.seconds)
         other_took = beside(options, it, paths[0])
         if not options.keep:
             for path in paths:
                 os.remove(path)
         if took is None:
             return rows, f"more than {4 * options.seconds:.0f} s at {count:,}"
-        if not said.startswith(it.says):
+        if not said.startswith("cert 1" if options.make and it.says == "yes" else it.says):
             return rows, f"at {count:,}: {said.splitlines()[0][:60]}"
         rows.append((count, size, took, other_took))
         if took > options.seconds:
@@ -121,6 +123,7 @@ def main():
     parser.add_argument("--runs", type=int, default=3)
     parser.add_argument("--seconds", type=float, default=10)
     parser.add_argument("--beside", default=None, help="a program `opt` of LLVM 14 or older")
+    parser.add_argument("--make", action="store_true", help="times `dgc make` on the modules of `check`")
     parser.add_argument("--keep", default=None)
     parser.add_argument("--all", action="store_true", help="also prints the time of each size")
     options = parser.parse_args()
@@ -137,6 +140,8 @@ def main():
         over = 0
         for it in KINDS:
             if options.only and not any(word in it.name for word in options.only):
+                continue
+            if options.make and it.command != "check":
                 continue
             rows, wrong = measure(options.dgc, it, options, folder)
             if options.all:

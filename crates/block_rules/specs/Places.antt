@@ -22,15 +22,10 @@ use Rattle.block_rules.specs.declared.type_kind.TypeKind.TheVariants.{Bits, Refe
 use Rattle.block_rules.specs.Operands.{slot_named, known_of, known_fits, is_null_constant}
 use Rattle.block_rules.specs.TypeKinds.{kind_of, is_any_reference, is_word}
 
--- a value may be loaded from a slot: the type that the slot holds is the one that the load writes, or the slot holds references and i8* is written
-abbrev pub loads_kind : (same : Bool) → (written : TypeKind) → (held : TypeKind) → Bool
-loads_kind same written (Reference layout) = same || is_any_reference written
-loads_kind same written _ = same
-
--- the same by the types; a slot that does not exist holds nothing
+-- a value may be loaded from a slot: the load writes the type that the slot holds, or i8*; a slot that does not exist holds nothing
 abbrev pub loads_slot : Module → (written : ℕ) → (held : Option ℕ) → Bool
 loads_slot m written None = false
-loads_slot m written (Some held) = loads_kind (written == held) (kind_of m written) (kind_of m held)
+loads_slot m written (Some held) = (written == held) || is_any_reference (kind_of m written)
 
 -- a value may be stored in a slot: the slot holds integers or references, and its type is the one that the store writes, or it holds references and i8* is written
 abbrev pub moves_kind : (same : Bool) → (written : TypeKind) → (held : TypeKind) → Bool

@@ -2,7 +2,7 @@ ghost use Rattle.std.specs.Prelude.{◌≡◌, OnOk, Some};
 ghost use Rattle.pools.specs.Layouts.{kind_of_word};
 ghost use Rattle.facts.specs.Facts.{drop_fresh_of};
 ghost use Rattle.block_rules.specs.Operands.{known_of};
-ghost use Rattle.block_rules.specs.Places.{loads_kind, loads_slot, moves_kind, moves, holds_wanted, layout_of_word, cell_words, each_word, first_layout, one_reference, wanted_by_load, loads_words, loads_base, loads_word, loads_known, may_load, wanted_by_store, wanted_by_value, fits_words, stores_base, fits_word, stores_word, stores_known, fits_held, stores_slot, may_store, define_held, load_kind, load_held_type, load_words, load_base, load_word, load_known, load_place, after_load, after_store};
+ghost use Rattle.block_rules.specs.Places.{loads_slot, moves_kind, moves, holds_wanted, layout_of_word, cell_words, each_word, first_layout, one_reference, wanted_by_load, loads_words, loads_base, loads_word, loads_known, may_load, wanted_by_store, wanted_by_value, fits_words, stores_base, fits_word, stores_word, stores_known, fits_held, stores_slot, may_store, define_held, load_kind, load_held_type, load_words, load_base, load_word, load_known, load_place, after_load, after_store};
 
 use crate::operands::{is_null_constant, known_fits, known_of, slot_named};
 use crate::scene::Scene;
@@ -15,24 +15,11 @@ use pools::{CELL_WORDS, LayoutId, Layouts, WordKind, WordSet};
 use shadow_stack::SlotId;
 use std::alloc::AllocError;
 
-fn loads_kind(same: bool, written: TypeKind, held: TypeKind) -> bool
-    ensures { result ≡ loads_kind same written held }
-{
-    match held {
-        TypeKind::Reference(_) => same || written.is_any_reference(),
-        _ => same,
-    }
-}
-
 fn loads_slot(module: &Module, written: TypeId, held: Option<TypeId>) -> bool
     ensures { result ≡ loads_slot «module».now written held }
 {
     match held {
-        Some(held) => loads_kind(
-            written == held,
-            TypeKind::of(module, written),
-            TypeKind::of(module, held),
-        ),
+        Some(held) => written == held || TypeKind::of(module, written).is_any_reference(),
         None => false,
     }
 }

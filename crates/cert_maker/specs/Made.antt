@@ -53,3 +53,7 @@ fault_of_lack lack.Memory = Memory
 -- these are certificates, and the first instruction of a module that is refused with them
 abbrev pub IsRefusedWith : Module → Refused → Type 0
 IsRefusedWith m refused = IsFirstRefusal m refused.certs refused.refusal
+
+-- a module has layouts, and with its plain certificates some instruction is refused
+abbrev pub IsPlainlyRefused : Module → Type 0
+IsPlainlyRefused m = (refusal : Refusal) × IsFirstRefusal m (plain m) refusal

@@ -3,7 +3,7 @@ ghost use Rattle.pools.specs.declared.word_kind.WordKind.{WordKind as AWord};
 ghost use Rattle.layout.specs.Layouts.{AreLayouts, IsLayoutFault};
 ghost use Rattle.certs.specs.Fits.{fits};
 ghost use Rattle.module_check.specs.Accepted.{IsAccepted};
-ghost use Rattle.cert_maker.specs.Made.{AreGood, AreRefused, IfLayout, IsFirstIn, IsRefusedWith};
+ghost use Rattle.cert_maker.specs.Made.{AreGood, AreRefused, IfLayout, IsFirstIn, IsPlainlyRefused, IsRefusedWith};
 ghost use Rattle.cert_maker.specs.Plain.{plain};
 ghost use Rattle.cert_maker.specs.declared.made.MakeFault.TheVariants as fault;
 ghost use Rattle.cert_maker.specs.declared.tried.Lack.TheVariants.{NoAnswer};
@@ -32,6 +32,7 @@ pub fn make(alloc: Global, of_module: Module) -> Result<Accepted, NotMade>
     ensures fits { IfOk result (λ accepted. fits of_module accepted.certs ≡ true) }
     ensures certified { IfOk result (λ accepted. IsAccepted of_module accepted.certs) }
     ensures none { IfErr result (λ unmade. unmade.fault ≡ fault.NoAnswer → IsAccepted of_module (plain of_module) → ⊥) }
+    ensures plain { IfErr result (λ unmade. unmade.fault ≡ fault.NoAnswer → IsPlainlyRefused of_module) }
     ensures layout { IfErr result (λ unmade. IfLayout unmade.fault (IsLayoutFault of_module)) }
     ensures only_so { (words : List (List AWord)) → AreLayouts of_module words → IfErr result (λ unmade. IfLayout unmade.fault (λ _. ⊥)) }
     ensures refused { IfErr result (λ unmade. IfSome unmade.refused (IsRefusedWith of_module)) }

@@ -4,10 +4,12 @@ use Rattle.clap.specs.Words.{Text, kind_of}
 use Rattle.clap.specs.declared.error.Error.{Error}
 use Rattle.clap.specs.declared.error.kind.ErrorKind.{ErrorKind}
 use Rattle.clap.specs.declared.error.kind.ErrorKind.TheVariants.{OutOfMemory}
+use Rattle.serving.specs.declared.beside.Limits.{Limits}
 use Rattle.commands.specs.declared.asked.Line.{Line}
 use Rattle.commands.specs.declared.asked.Line.TheVariants.{Check, Make, Replay, Soak, Run}
 use Rattle.commands.specs.declared.asked.LineFault.{LineFault}
 use Rattle.commands.specs.declared.asked.LineFault.TheVariants.{Memory, Words}
+use Rattle.commands.specs.declared.asked.Why.{Why}
 
 -- whether the kind of error is out of memory
 abbrev pub is_memory_kind : ErrorKind → Bool
@@ -21,18 +23,18 @@ fault_of_error error = if is_memory_kind (kind_of error) then Memory else Words 
 -- what a line asks for: a command on the files of these paths, with its options
 pub data Asked : Type 0 where
   check : (module_path certificate_path : Text) (workers : ℕ) → Asked
-  make : (module_path : Text) (why : Bool) → Asked
+  make : (module_path : Text) (why : Why) → Asked
   replay : (module_path trace_path : Text) → Asked
   soak : (module_path trace_path : Text) (seeds steps : ℕ) → Asked
-  run : (module_path certificate_path trace_path : Text) (turns steps : ℕ) → Asked
+  run : (module_path certificate_path trace_path : Text) (limits : Limits) → Asked
 
 -- what a line asks for, as plain text and numbers
 abbrev pub asked_by : Line → Asked
-asked_by (Check module_path certificate_path workers) = check module_path.now certificate_path.now workers
-asked_by (Make module_path why) = make module_path.now why
-asked_by (Replay module_path trace_path) = replay module_path.now trace_path.now
-asked_by (Soak module_path trace_path seeds steps) = soak module_path.now trace_path.now seeds steps
-asked_by (Run module_path certificate_path trace_path turns steps) = run module_path.now certificate_path.now trace_path.now turns steps
+asked_by (Check line) = check line.module_path.now line.certificate_path.now line.workers
+asked_by (Make line) = make line.module_path.now line.why
+asked_by (Replay line) = replay line.module_path.now line.trace_path.now
+asked_by (Soak line) = soak line.module_path.now line.trace_path.now line.seeds line.steps
+asked_by (Run line) = run line.module_path.now line.certificate_path.now line.trace_path.now line.limits
 
 -- the paths of the command's files, in the line's order
 abbrev pub paths_of : Asked → List Text
@@ -40,7 +42,7 @@ paths_of (check module_path certificate_path workers) = module_path ∷ certific
 paths_of (make module_path why) = module_path ∷ []
 paths_of (replay module_path trace_path) = module_path ∷ trace_path ∷ []
 paths_of (soak module_path trace_path seeds steps) = module_path ∷ trace_path ∷ []
-paths_of (run module_path certificate_path trace_path turns steps) = module_path ∷ certificate_path ∷ trace_path ∷ []
+paths_of (run module_path certificate_path trace_path limits) = module_path ∷ certificate_path ∷ trace_path ∷ []
 
 -- a check has from 1 to 64 workers
 abbrev pub HasWorkers : Asked → Type 0

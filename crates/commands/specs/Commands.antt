@@ -1,5 +1,5 @@
 -- What each command says of the files of its line.
-use Rattle.std.specs.Prelude.{◌≡◌, ◌≢◌, ℕ, List, Option, Bool, true, length}
+use Rattle.std.specs.Prelude.{◌≡◌, ◌≢◌, ℕ, List, Option, true, length}
 use Rattle.std.specs.Io.KnownBytes.{Appends}
 use Rattle.ir_ast.specs.declared.module.Module.{Module}
 use Rattle.layout.specs.Layouts.{IsLayoutFault, LaidOut}
@@ -22,6 +22,8 @@ use Rattle.serving.specs.declared.beside.Limits.{Limits}
 use Rattle.mutators.specs.Faults.{HasNoRunFault, IsRunFault}
 use Rattle.mutators.specs.Reports.{IsReport}
 use Rattle.mutators.specs.declared.report.RunReport.{RunReport}
+use Rattle.commands.specs.declared.asked.Why.{Why}
+use Rattle.commands.specs.declared.asked.Why.TheVariants.{Wanted}
 use Rattle.commands.specs.Asked.{Asked, check, make, replay, soak, run}
 use Rattle.commands.specs.Report.{Answer, IsTold, line_of, made_text, no, no_answer, no_memory, of_layout_fault, yes}
 use Rattle.commands.specs.Runs.{of_outcome, of_setup_fault, of_soak}
@@ -72,16 +74,16 @@ pub data OfCertified (Certs : Module → List Section → Said → Type 0) (modu
 
 -- what is said of a module for which certificates are made: some that fit it and with which it is accepted; that there are none, as the
 -- plain ones are refused, with some and their first refusal if that was asked for; the fault of the layouts; or that memory was refused
-pub data OfMade (why : Bool) (m : Module) : Said → Type 0 where
+pub data OfMade (why : Why) (m : Module) : Said → Type 0 where
   made : (certs : List Section) → fits m certs ≡ true → IsAccepted m certs → OfMade why m (OnOutput (made_text (cert_text certs m)))
   none_made : (IsAccepted m (plain m) → ⊥) → OfMade why m (OnOutput no_answer)
-  none_made_why : (certs : List Section) (refusal : Refusal) → why ≡ true → (IsAccepted m (plain m) → ⊥) → IsFirstRefusal m certs refusal
+  none_made_why : (certs : List Section) (refusal : Refusal) → why ≡ Wanted → (IsAccepted m (plain m) → ⊥) → IsFirstRefusal m certs refusal
       → OfMade why m (OnBoth no_answer (no m (line_of certs m refusal.func refusal.detail) refusal).text)
   without_layouts : (fault : LayoutFault) → IsLayoutFault m fault → OfMade why m (OnError (of_layout_fault m fault))
   not_made : OfMade why m (OnError no_memory)
 
 -- what is said of the file of a module, which has this path
-pub data OfMake (why : Bool) (path : List ℕ) (file : Option (List ℕ)) : Said → Type 0 where
+pub data OfMake (why : Why) (path : List ℕ) (file : Option (List ℕ)) : Said → Type 0 where
   no_module : (unread : Unread) → IsNoModule path file unread → OfMake why path file (OnError (of_unread unread))
   of_module : (m : Module) (said : Said) → HasModule file m → OfMade why m said → OfMake why path file said
 
@@ -129,5 +131,5 @@ OfCommand (check module_path cert_path workers) file_at = OfCertified OfCerts mo
 OfCommand (make module_path why) file_at = OfMake why module_path (file_at 0)
 OfCommand (replay module_path trace_path) file_at = OfRun OfTrace module_path trace_path (file_at 0) (file_at 1)
 OfCommand (soak module_path trace_path seeds steps) file_at = OfRun (OfSeeds seeds steps) module_path trace_path (file_at 0) (file_at 1)
-OfCommand (run module_path cert_path trace_path turns steps) file_at =
-    OfCertified (OfRunCerts (record { turns = turns; steps = steps }) trace_path (file_at 2)) module_path cert_path (file_at 0) (file_at 1)
+OfCommand (run module_path cert_path trace_path limits) file_at =
+    OfCertified (OfRunCerts limits trace_path (file_at 2)) module_path cert_path (file_at 0) (file_at 1)

@@ -9,6 +9,8 @@ use Rattle.clap.specs.declared.builder.value_parser.ValueParser.TheVariants.{Sig
 use Rattle.commands.specs.Asked.{Asked, check, make, replay, soak, run}
 use Rattle.commands.specs.declared.asked.LineFault.{LineFault}
 use Rattle.commands.specs.declared.asked.LineFault.TheVariants.{Memory, NoCommand, Words}
+use Rattle.commands.specs.declared.asked.Why.{Why}
+use Rattle.commands.specs.declared.asked.Why.TheVariants.{Wanted, NotWanted}
 
 -- a word that has to be given: a file's path
 abbrev pub file_rule : Text → Rule
@@ -101,6 +103,10 @@ number_of name given = option_and_then number_in (one_of name given)
 abbrev pub flag_of : Text → List Row → Bool
 flag_of name given = option_map_or (λ text. bytes_eq text (codes "true")) (first_of name given) false
 
+-- whether to say what is refused, by the option `why`
+abbrev pub why_of : List Row → Why
+why_of given = if flag_of (codes "why") given then Wanted else NotWanted
+
 -- the paths of the module and of the other file, if both were given
 abbrev pub paths_in : (second : Text) → List Row → Option (Text × Text)
 paths_in second given =
@@ -117,7 +123,7 @@ check_of given =
 
 -- `make` with what was given to it, if that is a module
 abbrev pub make_of : List Row → Option Asked
-make_of given = option_map (λ module_path. make module_path (flag_of (codes "why") given)) (first_of (codes "MODULE") given)
+make_of given = option_map (λ module_path. make module_path (why_of given)) (first_of (codes "MODULE") given)
 
 -- `replay` with what was given to it, if that is a module and a trace
 abbrev pub replay_of : List Row → Option Asked
@@ -132,7 +138,7 @@ soak_of given =
 -- `run` with what was given to it, if that is a module, a certificate, a trace and both limits
 abbrev pub run_of : List Row → Option Asked
 run_of given =
-    option_and_then (λ paths. option_and_then (λ trace_path. option_and_then (λ turns. option_map (λ steps. run paths.0 paths.1 trace_path turns steps)
+    option_and_then (λ paths. option_and_then (λ trace_path. option_and_then (λ turns. option_map (λ steps. run paths.0 paths.1 trace_path (record { turns = turns; steps = steps }))
     (number_of (codes "steps") given)) (number_of (codes "turns") given)) (first_of (codes "TRACE") given)) (paths_in (codes "CERT") given)
 
 -- what a command's name with what was given to it asks for

@@ -5,43 +5,65 @@ ghost use Rattle.commands.specs.declared.asked.LineFault.TheVariants.{Memory};
 
 use clap::Error;
 use clap::error::ErrorKind;
+use mutators::Limits;
 use std::alloc::{AllocError, Global};
 
-/// A command with the paths of its files.
+/// Check a module against a certificate, by `workers` workers.
+#[derive(Clone, Copy, PartialEq, Eq)]
+pub struct CheckLine<'a> {
+    pub module_path: &'a str,
+    pub certificate_path: &'a str,
+    pub workers: u32,
+}
+
+/// Whether to say what is refused where no certificate is made.
+#[derive(Clone, Copy, PartialEq, Eq)]
+pub enum Why {
+    Wanted,
+    NotWanted,
+}
+
+/// Make a certificate of a module.
+#[derive(Clone, Copy, PartialEq, Eq)]
+pub struct MakeLine<'a> {
+    pub module_path: &'a str,
+    pub why: Why,
+}
+
+/// Make the steps of a trace of a module.
+#[derive(Clone, Copy, PartialEq, Eq)]
+pub struct ReplayLine<'a> {
+    pub module_path: &'a str,
+    pub trace_path: &'a str,
+}
+
+/// From the start of a trace of a module, make `steps` steps by the schedule of each of `seeds` seeds.
+#[derive(Clone, Copy, PartialEq, Eq)]
+pub struct SoakLine<'a> {
+    pub module_path: &'a str,
+    pub trace_path: &'a str,
+    pub seeds: u32,
+    pub steps: u32,
+}
+
+/// Check a module against a certificate. Then run the threads of a trace on real threads, beside the collector, within these
+/// limits.
+#[derive(Clone, Copy, PartialEq, Eq)]
+pub struct RunLine<'a> {
+    pub module_path: &'a str,
+    pub certificate_path: &'a str,
+    pub trace_path: &'a str,
+    pub limits: Limits,
+}
+
+/// A command with the paths of its files and its options.
 #[derive(Clone, Copy, PartialEq, Eq)]
 pub enum Line<'a> {
-    /// Check a module against a certificate, by `workers` workers.
-    Check {
-        module_path: &'a str,
-        certificate_path: &'a str,
-        workers: u32,
-    },
-    /// Make a certificate of a module; where none is made, say what is refused if `why`.
-    Make {
-        module_path: &'a str,
-        why: bool,
-    },
-    /// Make the steps of a trace of a module.
-    Replay {
-        module_path: &'a str,
-        trace_path: &'a str,
-    },
-    /// From the start of a trace of a module, make `steps` steps by the schedule of each of `seeds` seeds.
-    Soak {
-        module_path: &'a str,
-        trace_path: &'a str,
-        seeds: u32,
-        steps: u32,
-    },
-    /// Check a module against a certificate. Then run the threads of a trace on real threads, beside the collector: at most
-    /// `turns` steps of the collector, and at most `steps` steps of each thread.
-    Run {
-        module_path: &'a str,
-        certificate_path: &'a str,
-        trace_path: &'a str,
-        turns: u32,
-        steps: u32,
-    },
+    Check(CheckLine<'a>),
+    Make(MakeLine<'a>),
+    Replay(ReplayLine<'a>),
+    Soak(SoakLine<'a>),
+    Run(RunLine<'a>),
 }
 
 /// Why a command line asks for nothing.
@@ -81,27 +103,13 @@ impl<'a> Line<'a> {
         ensures { IfOk result (λ paths. map (λ path. path.now) paths.items ≡ paths_of (asked_by self.now)) }
     {
         let paths = match *self {
-            Line::Check {
-                module_path,
-                certificate_path,
-                ..
-            } => vec![in alloc; module_path, certificate_path]?,
-            Line::Make { module_path, .. } => vec![in alloc; module_path]?,
-            Line::Replay {
-                module_path,
-                trace_path,
-            } => vec![in alloc; module_path, trace_path]?,
-            Line::Soak {
-                module_path,
-                trace_path,
-                ..
-            } => vec![in alloc; module_path, trace_path]?,
-            Line::Run {
-                module_path,
-                certificate_path,
-                trace_path,
-                ..
-            } => vec![in alloc; module_path, certificate_path, trace_path]?,
+            Line::Check(asked) => vec![in alloc; asked.module_path, asked.certificate_path]?,
+            Line::Make(asked) => vec![in alloc; asked.module_path]?,
+            Line::Replay(asked) => vec![in alloc; asked.module_path, asked.trace_path]?,
+            Line::Soak(asked) => vec![in alloc; asked.module_path, asked.trace_path]?,
+            Line::Run(asked) => {
+                vec![in alloc; asked.module_path, asked.certificate_path, asked.trace_path]?
+            }
         };
         Ok(paths)
     }

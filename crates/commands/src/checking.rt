@@ -4,6 +4,7 @@ ghost use Rattle.commands.specs.Commands.{OfCertified, OfCerts, OfVerdict, Says}
 ghost use Rattle.commands.specs.Files as spec;
 ghost use Rattle.module_check.specs.Accepted.{IsFirstRefusal, IsVerdictOf};
 
+use crate::asked::CheckLine;
 use crate::files::{Certified, read_certified};
 use crate::outcomes::unread;
 use module_check::{NotAccepted, Refusal, Verdict};
@@ -81,23 +82,22 @@ fn check_certified<O: Write, E: Write>(
     }
 }
 
-/// Checks the module and the certificate of these paths, by this number of workers. The first fault counts: of each file in the
-/// line's order, its path and then its text, then of the layouts, then of the check.
+/// Checks the module and the certificate of a line, by its workers. The first fault counts: of each file in the line's order, its
+/// path and then its text, then of the layouts, then of the check.
 pub fn check_files<O: Write, E: Write>(
     rt: &(impl Threads + Sync),
     alloc: Global,
-    paths: (&str, &str),
-    workers: u32,
+    asked: CheckLine<'_>,
     files: &[Option<Vec<u8>>],
     out: &mut O,
     err: &mut E,
 ) -> io::Result<u8>
-    requires some { 1 ≤ workers }
-    requires few { workers ≤ 64 }
-    ensures { IfOk result (Says (OfCertified OfCerts paths.entry.0.now paths.entry.1.now (spec.file_at files.now 0) (spec.file_at files.now 1)) (O.contents out.old) (O.contents out.new) (E.contents err.old) (E.contents err.new)) }
+    requires some { 1 ≤ asked.workers }
+    requires few { asked.workers ≤ 64 }
+    ensures { IfOk result (Says (OfCertified OfCerts asked.entry.module_path.now asked.entry.certificate_path.now (spec.file_at files.now 0) (spec.file_at files.now 1)) (O.contents out.old) (O.contents out.new) (E.contents err.old) (E.contents err.new)) }
 {
-    match read_certified(alloc, paths, files) {
-        Ok(certified) => check_certified(rt, alloc, certified, workers, out, err),
+    match read_certified(alloc, (asked.module_path, asked.certificate_path), files) {
+        Ok(certified) => check_certified(rt, alloc, certified, asked.workers, out, err),
         Err(fault) => {
             let status = unread(err, &fault);
             drop(fault);

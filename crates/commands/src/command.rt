@@ -10,7 +10,6 @@ use crate::making::make_file;
 use crate::replaying::replay_files;
 use crate::running::run_files;
 use crate::soaking::soak_files;
-use mutators::Limits;
 use std::alloc::Global;
 use std::io;
 use std::io::Write;
@@ -30,53 +29,10 @@ pub fn work<O: Write, E: Write>(
     ensures { IfOk result (Says (OfCommand (asked_by line.now) (spec.file_at files.now)) (O.contents out.old) (O.contents out.new) (E.contents err.old) (E.contents err.new)) }
 {
     match *line {
-        Line::Check {
-            module_path,
-            certificate_path,
-            workers,
-        } => check_files(
-            rt,
-            alloc,
-            (module_path, certificate_path),
-            workers,
-            files,
-            out,
-            err,
-        ),
-        Line::Make { module_path, why } => make_file(alloc, module_path, why, files, out, err),
-        Line::Replay {
-            module_path,
-            trace_path,
-        } => replay_files(alloc, (module_path, trace_path), files, out, err),
-        Line::Soak {
-            module_path,
-            trace_path,
-            seeds,
-            steps,
-        } => soak_files(
-            rt,
-            alloc,
-            (module_path, trace_path),
-            seeds,
-            steps,
-            files,
-            out,
-            err,
-        ),
-        Line::Run {
-            module_path,
-            certificate_path,
-            trace_path,
-            turns,
-            steps,
-        } => run_files(
-            rt,
-            alloc,
-            (module_path, certificate_path, trace_path),
-            Limits { turns, steps },
-            files,
-            out,
-            err,
-        ),
+        Line::Check(asked) => check_files(rt, alloc, asked, files, out, err),
+        Line::Make(asked) => make_file(alloc, asked, files, out, err),
+        Line::Replay(asked) => replay_files(alloc, asked, files, out, err),
+        Line::Soak(asked) => soak_files(rt, alloc, asked, files, out, err),
+        Line::Run(asked) => run_files(rt, alloc, asked, files, out, err),
     }
 }

@@ -19,7 +19,7 @@ mod soaking;
 mod status;
 mod verdicts;
 
-pub use asked::{Line, LineFault};
+pub use asked::{CheckLine, Line, LineFault, MakeLine, ReplayLine, RunLine, SoakLine, Why};
 pub use command::work;
 pub use faults::{memory, no_layouts};
 pub use outcomes::{replayed, soaked};

@@ -8,8 +8,10 @@ ghost use Rattle.cert_maker.specs.Plain.{plain};
 ghost use Rattle.cert_maker.specs.declared.made.MakeFault.TheVariants as fault;
 ghost use Rattle.commands.specs.Commands.{OfMade, OfMake, Says};
 ghost use Rattle.commands.specs.Files as spec;
+ghost use Rattle.commands.specs.declared.asked.Why.TheVariants.{Wanted};
 ghost use Rattle.commands.specs.Report.{IsTold, made_text, no_answer};
 
+use crate::asked::{MakeLine, Why};
 use crate::files::module_in;
 use crate::outcomes::unread;
 use crate::status::{STATUS_NO, STATUS_YES};
@@ -26,7 +28,7 @@ use std::io::Write;
 fn print_made<O: Write, E: Write>(
     alloc: Global,
     accepted: &Accepted,
-    why: bool,
+    why: Why,
     out: &mut O,
     err: &mut E,
 ) -> io::Result<u8>
@@ -61,14 +63,12 @@ fn print_refused<O: Write, E: Write>(
     alloc: Global,
     of_module: &Module,
     tried: &Refused,
-    why: bool,
     out: &mut O,
     err: &mut E,
 ) -> io::Result<u8>
-    requires asked { why ≡ true }
     requires plain { IsAccepted of_module.now (plain of_module.now) → ⊥ }
     requires refused { IsFirstRefusal of_module.now tried.now.certs tried.now.refusal }
-    ensures { IfOk result (Says (OfMade why of_module.now) (O.contents out.old) (O.contents out.new) (E.contents err.old) (E.contents err.new)) }
+    ensures { IfOk result (Says (OfMade Wanted of_module.now) (O.contents out.old) (O.contents out.new) (E.contents err.old) (E.contents err.new)) }
 {
     match line_of_refusal(alloc, of_module, &tried.certs, &tried.refusal) {
         Ok(line) => {
@@ -80,11 +80,30 @@ fn print_refused<O: Write, E: Write>(
     }
 }
 
+/// Prints that no certificates are made; and if that is wanted, the first refusal with some.
+fn print_tried<O: Write, E: Write>(
+    alloc: Global,
+    of_module: &Module,
+    tried: &Refused,
+    why: Why,
+    out: &mut O,
+    err: &mut E,
+) -> io::Result<u8>
+    requires plain { IsAccepted of_module.now (plain of_module.now) → ⊥ }
+    requires refused { IsFirstRefusal of_module.now tried.now.certs tried.now.refusal }
+    ensures { IfOk result (Says (OfMade why of_module.now) (O.contents out.old) (O.contents out.new) (E.contents err.old) (E.contents err.new)) }
+{
+    match why {
+        Why::Wanted => print_refused(alloc, of_module, tried, out, err),
+        Why::NotWanted => print_no_answer(out),
+    }
+}
+
 /// Prints why no certificates are made.
 fn print_unmade<O: Write, E: Write>(
     alloc: Global,
     unmade: &NotMade,
-    why: bool,
+    why: Why,
     out: &mut O,
     err: &mut E,
 ) -> io::Result<u8>
@@ -96,8 +115,8 @@ fn print_unmade<O: Write, E: Write>(
     match (unmade.fault, &unmade.refused) {
         (MakeFault::Layout(fault), _) => crate::faults::no_layouts(err, &unmade.of_module, fault),
         (MakeFault::Memory, _) => crate::faults::memory(err),
-        (MakeFault::NoAnswer, Some(tried)) if why => {
-            print_refused(alloc, &unmade.of_module, tried, why, out, err)
+        (MakeFault::NoAnswer, Some(tried)) => {
+            print_tried(alloc, &unmade.of_module, tried, why, out, err)
         }
         (MakeFault::NoAnswer, _) => print_no_answer(out),
     }
@@ -107,7 +126,7 @@ fn print_unmade<O: Write, E: Write>(
 fn make_of<O: Write, E: Write>(
     alloc: Global,
     of_module: Module,
-    why: bool,
+    why: Why,
     out: &mut O,
     err: &mut E,
 ) -> io::Result<u8>
@@ -127,19 +146,18 @@ fn make_of<O: Write, E: Write>(
     }
 }
 
-/// Makes certificates of the module of this path. The first fault counts: of the path, then of its text, then of its layouts.
+/// Makes certificates of the module of a line. The first fault counts: of the path, then of its text, then of its layouts.
 pub fn make_file<O: Write, E: Write>(
     alloc: Global,
-    path: &str,
-    why: bool,
+    asked: MakeLine<'_>,
     files: &[Option<Vec<u8>>],
     out: &mut O,
     err: &mut E,
 ) -> io::Result<u8>
-    ensures { IfOk result (Says (OfMake why path.now (spec.file_at files.now 0)) (O.contents out.old) (O.contents out.new) (E.contents err.old) (E.contents err.new)) }
+    ensures { IfOk result (Says (OfMake asked.entry.why asked.entry.module_path.now (spec.file_at files.now 0)) (O.contents out.old) (O.contents out.new) (E.contents err.old) (E.contents err.new)) }
 {
-    match module_in(alloc, path, files) {
-        Ok(of_module) => make_of(alloc, of_module, why, out, err),
+    match module_in(alloc, asked.module_path, files) {
+        Ok(of_module) => make_of(alloc, of_module, asked.why, out, err),
         Err(fault) => {
             let status = unread(err, &fault);
             drop(fault);

@@ -3,14 +3,15 @@ ghost use Rattle.std.specs.Prelude.{◌≡◌, IfOk, IfErr, IsOk, [], map, optio
 ghost use Rattle.clap.specs.Words.{app_of, fault_of, first_of, found_of, new_app, rows_of, rule_of};
 ghost use Rattle.clap.specs.declared.builder.command.Command.TheViews.{out-Command};
 ghost use Rattle.commands.specs.Asked.{asked_by, HasWorkers};
-ghost use Rattle.commands.specs.Grammar.{asked_in, asked_of, check_app, check_of, dgc_app, file_rule, files_app, flag_of, flag_rule, IsRefusalOf, limit_rule, make_app, make_of, module_app, number_of, number_rule, paths_in, replay_of, run_app, run_of, soak_app, soak_of, workers_of, workers_rule};
+ghost use Rattle.commands.specs.Grammar.{asked_in, asked_of, check_app, check_of, dgc_app, file_rule, files_app, flag_of, flag_rule, IsRefusalOf, limit_rule, make_app, make_of, module_app, number_of, number_rule, paths_in, replay_of, run_app, run_of, soak_app, soak_of, why_of, workers_of, workers_rule};
 
-use crate::asked::{Line, LineFault};
+use crate::asked::{CheckLine, Line, LineFault, MakeLine, ReplayLine, RunLine, SoakLine, Why};
 use crate::help::{
     CHECK, CommandHelp, DGC_ABOUT, DGC_AFTER, MAKE_ABOUT, MAKE_AFTER, MODULE, REPLAY, RUN,
     RUN_STEPS, RUN_TRACE, SEEDS, SOAK, STEPS, TURNS, WHY, WORKERS,
 };
 use clap::{Arg, ArgAction, ArgMatches, Command, value_parser};
+use mutators::Limits;
 use std::alloc::{AllocError, Global};
 
 /// A file's path, which has to be given.
@@ -218,11 +219,11 @@ fn check_line<'a>(given: &ArgMatches<'a>) -> Option<Line<'a>>
     let Some(workers) = workers_given(given) else {
         return None;
     };
-    Some(Line::Check {
+    Some(Line::Check(CheckLine {
         module_path,
         certificate_path,
         workers,
-    })
+    }))
 }
 
 /// Whether this option was given.
@@ -235,6 +236,17 @@ fn flag_given(given: &ArgMatches<'_>, name: &str) -> bool
     }
 }
 
+/// Whether to say what is refused, by the option `why`.
+fn why_given(given: &ArgMatches<'_>) -> Why
+    ensures { result ≡ why_of (rows_of (found_of given.now)) }
+{
+    if flag_given(given, "why") {
+        Why::Wanted
+    } else {
+        Why::NotWanted
+    }
+}
+
 /// The line of `make`, from what was given to it.
 fn make_line<'a>(given: &ArgMatches<'a>) -> Option<Line<'a>>
     ensures { option_map asked_by result ≡ make_of (rows_of (found_of given.now)) }
@@ -242,8 +254,8 @@ fn make_line<'a>(given: &ArgMatches<'a>) -> Option<Line<'a>>
     let Some(module_path) = text_given(given, "MODULE") else {
         return None;
     };
-    let why = flag_given(given, "why");
-    Some(Line::Make { module_path, why })
+    let why = why_given(given);
+    Some(Line::Make(MakeLine { module_path, why }))
 }
 
 /// The line of `replay`, from what was given to it.
@@ -253,10 +265,10 @@ fn replay_line<'a>(given: &ArgMatches<'a>) -> Option<Line<'a>>
     let Some((module_path, trace_path)) = paths_given(given, "TRACE") else {
         return None;
     };
-    Some(Line::Replay {
+    Some(Line::Replay(ReplayLine {
         module_path,
         trace_path,
-    })
+    }))
 }
 
 /// The line of `soak`, from what was given to it.
@@ -272,12 +284,12 @@ fn soak_line<'a>(given: &ArgMatches<'a>) -> Option<Line<'a>>
     let Some(steps) = number_given(given, "steps") else {
         return None;
     };
-    Some(Line::Soak {
+    Some(Line::Soak(SoakLine {
         module_path,
         trace_path,
         seeds,
         steps,
-    })
+    }))
 }
 
 /// The line of `run`, from what was given to it.
@@ -296,13 +308,12 @@ fn run_line<'a>(given: &ArgMatches<'a>) -> Option<Line<'a>>
     let Some(steps) = number_given(given, "steps") else {
         return None;
     };
-    Some(Line::Run {
+    Some(Line::Run(RunLine {
         module_path,
         certificate_path,
         trace_path,
-        turns,
-        steps,
-    })
+        limits: Limits { turns, steps },
+    }))
 }
 
 /// The line of a command with what was given to it.

@@ -4,6 +4,7 @@ ghost use Rattle.commands.specs.Commands.{OfRun, OfTrace, Says};
 ghost use Rattle.commands.specs.Files as spec;
 ghost use Rattle.trace_text.specs.Traces.{IsTraceOf};
 
+use crate::asked::ReplayLine;
 use crate::files::{Traced, read_traced};
 use crate::outcomes::{no_threads, replayed, unread};
 use replay::replay;
@@ -27,18 +28,18 @@ fn replay_traced<O: Write, E: Write>(
     }
 }
 
-/// Replays the trace of the second path in the module of the first. After the faults of the files, the first thread
+/// Replays the trace of a line in its module. After the faults of the files, the first thread
 /// counts that does not begin.
 pub fn replay_files<O: Write, E: Write>(
     alloc: Global,
-    paths: (&str, &str),
+    asked: ReplayLine<'_>,
     files: &[Option<Vec<u8>>],
     out: &mut O,
     err: &mut E,
 ) -> io::Result<u8>
-    ensures { IfOk result (Says (OfRun OfTrace paths.entry.0.now paths.entry.1.now (spec.file_at files.now 0) (spec.file_at files.now 1)) (O.contents out.old) (O.contents out.new) (E.contents err.old) (E.contents err.new)) }
+    ensures { IfOk result (Says (OfRun OfTrace asked.entry.module_path.now asked.entry.trace_path.now (spec.file_at files.now 0) (spec.file_at files.now 1)) (O.contents out.old) (O.contents out.new) (E.contents err.old) (E.contents err.new)) }
 {
-    match read_traced(alloc, paths, files) {
+    match read_traced(alloc, (asked.module_path, asked.trace_path), files) {
         Ok(traced) => {
             let status = replay_traced(alloc, &traced, out, err);
             drop(traced);

@@ -4,6 +4,7 @@ ghost use Rattle.commands.specs.Commands.{OfCertified, OfRunCerts, OfThreads, Of
 ghost use Rattle.commands.specs.Files as spec;
 ghost use Rattle.trace_text.specs.Traces.{IsTraceOf};
 
+use crate::asked::RunLine;
 use crate::checking::report_verdict;
 use crate::files::{Certified, read_certified, trace_in};
 use crate::outcomes::{no_threads, unread};
@@ -90,22 +91,29 @@ fn run_certified<O: Write, E: Write>(
     }
 }
 
-/// Checks the module of the first path against the certificate of the second, and runs it from the beginning of the trace of the
-/// third. The first fault counts: of the module and the certificate, each its path and then its text; then what the check
+/// Checks the module of a line against its certificate, and runs it from the beginning of its trace. The first fault counts: of the module and the certificate, each its path and then its text; then what the check
 /// says; then of the trace, its path and then its text; then of its threads.
 pub fn run_files<O: Write, E: Write>(
     rt: &(impl Threads + Sync),
     alloc: Global,
-    paths: (&str, &str, &str),
-    limits: Limits,
+    asked: RunLine<'_>,
     files: &[Option<Vec<u8>>],
     out: &mut O,
     err: &mut E,
 ) -> io::Result<u8>
-    ensures { IfOk result (Says (OfCertified (OfRunCerts limits paths.entry.2.now (spec.file_at files.now 2)) paths.entry.0.now paths.entry.1.now (spec.file_at files.now 0) (spec.file_at files.now 1)) (O.contents out.old) (O.contents out.new) (E.contents err.old) (E.contents err.new)) }
+    ensures { IfOk result (Says (OfCertified (OfRunCerts asked.entry.limits asked.entry.trace_path.now (spec.file_at files.now 2)) asked.entry.module_path.now asked.entry.certificate_path.now (spec.file_at files.now 0) (spec.file_at files.now 1)) (O.contents out.old) (O.contents out.new) (E.contents err.old) (E.contents err.new)) }
 {
-    match read_certified(alloc, (paths.0, paths.1), files) {
-        Ok(certified) => run_certified(rt, alloc, certified, paths.2, limits, files, out, err),
+    match read_certified(alloc, (asked.module_path, asked.certificate_path), files) {
+        Ok(certified) => run_certified(
+            rt,
+            alloc,
+            certified,
+            asked.trace_path,
+            asked.limits,
+            files,
+            out,
+            err,
+        ),
         Err(fault) => {
             let status = unread(err, &fault);
             drop(fault);

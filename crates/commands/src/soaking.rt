@@ -4,6 +4,7 @@ ghost use Rattle.commands.specs.Commands.{OfRun, OfSeeds, Says};
 ghost use Rattle.commands.specs.Files as spec;
 ghost use Rattle.trace_text.specs.Traces.{IsTraceOf};
 
+use crate::asked::SoakLine;
 use crate::files::{Traced, read_traced};
 use crate::outcomes::{no_threads, soaked, unread};
 use replay::soak;
@@ -38,23 +39,21 @@ fn soak_traced<O: Write, E: Write>(
     }
 }
 
-/// Runs `seeds` seeds with `steps` steps each, from the start of the trace of the second path in the module of the first. The
-/// steps of the trace are left out.
+/// Runs the seeds of a line with its number of steps each, from the start of its trace in its module. The steps of the trace are
+/// left out.
 pub fn soak_files<O: Write, E: Write>(
     rt: &(impl Threads + Sync),
     alloc: Global,
-    paths: (&str, &str),
-    seeds: u32,
-    steps: u32,
+    asked: SoakLine<'_>,
     files: &[Option<Vec<u8>>],
     out: &mut O,
     err: &mut E,
 ) -> io::Result<u8>
-    ensures { IfOk result (Says (OfRun (OfSeeds seeds steps) paths.entry.0.now paths.entry.1.now (spec.file_at files.now 0) (spec.file_at files.now 1)) (O.contents out.old) (O.contents out.new) (E.contents err.old) (E.contents err.new)) }
+    ensures { IfOk result (Says (OfRun (OfSeeds asked.entry.seeds asked.entry.steps) asked.entry.module_path.now asked.entry.trace_path.now (spec.file_at files.now 0) (spec.file_at files.now 1)) (O.contents out.old) (O.contents out.new) (E.contents err.old) (E.contents err.new)) }
 {
-    match read_traced(alloc, paths, files) {
+    match read_traced(alloc, (asked.module_path, asked.trace_path), files) {
         Ok(traced) => {
-            let status = soak_traced(rt, alloc, &traced, seeds, steps, out, err);
+            let status = soak_traced(rt, alloc, &traced, asked.seeds, asked.steps, out, err);
             drop(traced);
             status
         }

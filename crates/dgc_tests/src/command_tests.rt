@@ -1,15 +1,15 @@
 //! Commands on long texts, which are made here, and on outputs that take nothing.
 use crate::texts::joined;
-use commands::{Line, STATUS_UNREADABLE, STATUS_USAGE, status_of, work};
+use commands::{CheckLine, Line, STATUS_UNREADABLE, STATUS_USAGE, status_of, work};
 use std::io;
 use std::io::Write;
 use std::test::Fail;
 
-const CHECK: Line<'static> = Line::Check {
+const CHECK: Line<'static> = Line::Check(CheckLine {
     module_path: "module.ll",
     certificate_path: "module.cert",
     workers: 1,
-};
+});
 
 #[test]
 fn refuses_a_long_text(rt: HostRuntime) -> Result<(), Fail> {

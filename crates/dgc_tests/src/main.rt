@@ -10,6 +10,8 @@
 #[cfg(test)]
 mod anew_tests;
 #[cfg(test)]
+mod block_tests;
+#[cfg(test)]
 mod collector_tests;
 #[cfg(test)]
 mod command_tests;

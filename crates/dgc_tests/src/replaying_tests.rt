@@ -1,6 +1,6 @@
 //! Replays of traces that are made here: one that a seed draws, and those in which an actor stops for good.
 use crate::texts::{FOUR, HEAD, PUBLISHER_AND_CLEARER, joined, text_of};
-use commands::{Line, status_of, work};
+use commands::{Line, ReplayLine, status_of, work};
 use ir_text::read;
 use layout::Program;
 use replay::drawn_trace;
@@ -9,10 +9,10 @@ use std::test::Fail;
 use std::thread::Threads;
 use trace_text::{Actor, Trace, print_trace, read_trace};
 
-const REPLAY: Line<'static> = Line::Replay {
+const REPLAY: Line<'static> = Line::Replay(ReplayLine {
     module_path: "module.ll",
     trace_path: "module.trace",
-};
+});
 
 /// The functions of a module and a trace of them.
 type Case<'a> = (&'a str, &'a str);

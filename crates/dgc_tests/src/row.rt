@@ -4,7 +4,9 @@ ghost use Rattle.commands.specs.Asked.{asked_by, HasWorkers};
 
 use crate::failure::Failure;
 use crate::printed::Printed;
-use commands::{Line, LineFault, STATUS_USAGE, STATUS_YES, line, status_of, work};
+use commands::{
+    CheckLine, Line, LineFault, MakeLine, STATUS_USAGE, STATUS_YES, Why, line, status_of, work,
+};
 use std::fs;
 use std::rt::Runtime;
 use std::thread::Threads;
@@ -104,13 +106,11 @@ impl Row {
     {
         let alloc = rt.alloc();
         let module_path = self.words[2].as_str();
-        let made = self.done(
-            rt,
-            &Line::Make {
-                module_path,
-                why: false,
-            },
-        )?;
+        let line = Line::Make(MakeLine {
+            module_path,
+            why: Why::NotWanted,
+        });
+        let made = self.done(rt, &line)?;
         if made.status != STATUS_YES {
             return Ok(made);
         }
@@ -118,11 +118,11 @@ impl Row {
         let mut files = Vec::new(alloc);
         files.push(bytes_of(rt, path.as_str())?)?;
         files.push(Some(made.out))?;
-        let line = Line::Check {
+        let line = Line::Check(CheckLine {
             module_path,
             certificate_path: module_path,
             workers: 1,
-        };
+        });
         printed_of(rt, &line, files.as_slice())
     }
 

@@ -2,7 +2,7 @@
 use crate::meeting::Meeting;
 use crate::texts::{FOUR, HEAD, PUBLISHER_AND_CLEARER, joined, text_of};
 use certificate::read_cert;
-use commands::{Line, STATUS_YES, status_of, work};
+use commands::{Line, RunLine, STATUS_YES, status_of, work};
 use ir_text::read;
 use module_check::{Accepted, check};
 use mutators::{Limits, RunReport, ThreadEnd, run};
@@ -50,13 +50,12 @@ fn printed_of(
     limits: Limits,
 ) -> Result<(u8, String), Fail> {
     let (functions, certificates, trace) = case;
-    let line = Line::Run {
+    let line = Line::Run(RunLine {
         module_path: "module.ll",
         certificate_path: "module.cert",
         trace_path: "module.trace",
-        turns: limits.turns,
-        steps: limits.steps,
-    };
+        limits,
+    });
     let files = vec![in alloc;
         Some(joined(alloc, [HEAD, functions].as_slice())?),
         Some(joined(alloc, [certificates].as_slice())?),

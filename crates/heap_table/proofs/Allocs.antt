@@ -11,7 +11,7 @@ use Rattle.colours.specs.declared.place.Place.TheVariants.{Colour}
 use Rattle.colours.specs.declared.ask.Ask.TheVariants.{CompareExchange}
 use Rattle.colours.specs.Steps.{Step, Claim}
 use Rattle.colours.specs.Mutator.{Phase, Ready, Trying, IsAmong, MayFollow, after_loss, phase_after, phase_of, stage_of}
-use Rattle.collector_law.proofs.Claiming.{claim_cell}
+use Rattle.collector_law.specs.Theorems.{claim_cell}
 use Rattle.heap_words.specs.Tokens.{Shared}
 use Rattle.heap_table.specs.declared.mutator.Mutator.TheInside.{Inside}
 use Rattle.heap_table.specs.Holders.{Holder, IsOf, MayCall, IsNow, with_log}

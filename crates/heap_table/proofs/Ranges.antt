@@ -12,8 +12,7 @@ use Rattle.colours.specs.Mutator.{IsAmong}
 use Rattle.colours.specs.Collector.{Pass, Collection, Posting, Waiting, ShadingGlobals, Passing, Scanning, Shading, Sweeping, Clearing, posted_of, first_pass, sweep_from, pass_from, after_wait, wait_from, has_answered, without, in_turn, out_of_turn, with_grey, looked, shaded_too, is_white, reference_from, Turns, Collects}
 use Rattle.colours.specs.Runs.{Event, ByThread, ByCollector, turns_of, word_after, IsHeapRun}
 use Rattle.collector_law.specs.Laws.{FitsKind}
-use Rattle.collector_law.proofs.Safeties.{words_fit}
-use Rattle.collector_law.proofs.Moves.{skip_found}
+use Rattle.collector_law.specs.Theorems.{words_fit, skip_found}
 use Rattle.lemmas.specs.Numbers.{lt_true}
 use Rattle.heap_table.specs.Sweepers.{AreCells, IsInRange}
 

@@ -18,7 +18,7 @@ use Rattle.colours.specs.Stages.{posted_is, handshake}
 use Rattle.heap_rule.specs.View.{Share}
 use Rattle.heap_rule.specs.Rule.{Happens}
 use Rattle.heap_table.specs.Nexts.{IsNext}
-use Rattle.heap_table.specs.Safepoints.{with_marks, before_answer, OwesAnswer}
+use Rattle.heap_table.specs.Safepoints.{with_marks, before_answer, OwesAnswer, pushed, turned}
 
 pub look_next : (s : Setup) (t : ℕ) (log : List Step) → phase_of s t log ≡ Ready → IsNext s t log ReadPosted (Load Posted)
 look_next s t log ready = record {
@@ -49,12 +49,6 @@ stage_marked [] log = refl
 stage_marked (zero ∷ roots) log = stage_marked roots log
 stage_marked (suc r ∷ roots) log = stage_marked roots (Mark (suc r) ∷ log)
 
--- the marks, the newest first
-abbrev pub pushed : List ℕ → List ℕ → List ℕ
-pushed [] marked = marked
-pushed (zero ∷ roots) marked = pushed roots marked
-pushed (suc r ∷ roots) marked = pushed roots (suc r ∷ marked)
-
 pub phase_marked : (s : Setup) (t posted : ℕ) (roots : List ℕ) (log : List Step) (marked : List ℕ) → phase_of s t log ≡ Answering posted marked → phase_of s t (with_marks roots log) ≡ Answering posted (pushed roots marked)
 phase_marked s t posted [] log marked h = h
 phase_marked s t posted (zero ∷ roots) log marked h = phase_marked s t posted roots log marked h
@@ -62,11 +56,6 @@ phase_marked s t posted (suc r ∷ roots) log marked h = phase_marked s t posted
 
 true_false : {b : Bool} → b ≡ true → b ≡ false → ⊥
 true_false x y = cc
-
-pub turned : (roots marked : List ℕ) → reverse (pushed roots marked) ≡ reverse marked ++ non_null roots
-turned [] marked = sym (append-nil (reverse marked))
-turned (zero ∷ roots) marked = turned roots marked
-turned (suc r ∷ roots) marked = let no : (suc r == 0) ≡ false = test_no (suc r) 0 (λ e. omega arith) in rw no (turned roots (suc r ∷ marked) ∙ (ap (λ (l : List ℕ). l ++ non_null roots) (reverse_onto marked (suc r) []) ∙ append_assoc (reverse marked) (suc r ∷ []) (non_null roots)))
 
 -- ---- one root more
 

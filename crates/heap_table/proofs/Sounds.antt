@@ -9,8 +9,7 @@ use Rattle.lemmas.specs.Numbers.{test_true, not_null}
 use Rattle.colours.specs.Steps.{Step, ReadWord, ReadOldValue, Claim}
 use Rattle.colours.specs.Mutator.{stage_of, phase_of, MayFollow, MayFind, IsPossible, IsPossibleLog, gains}
 use Rattle.colours.specs.Runs.{ByThread}
-use Rattle.collector_law.proofs.Safeties.{answers_possible}
-use Rattle.collector_law.proofs.Claiming.{claim_cell}
+use Rattle.collector_law.specs.Theorems.{answers_possible, claim_cell}
 use Rattle.heap_rule.specs.View.{OfThread}
 use Rattle.heap_rule.specs.Rule.{Happens}
 use Rattle.heap_rule.specs.Shares.{own_log}

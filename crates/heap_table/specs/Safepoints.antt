@@ -1,8 +1,12 @@
 -- What a safepoint logs and returns.
-use Rattle.std.specs.Prelude.{ℕ, ◌^◌, ◌<◌, ◌≡◌, ◌≢◌, Bool, MatchBool, List, [], ◌∷◌, ◌++◌, if◌then◌else◌}
+use Rattle.std.specs.Prelude.{◌^◌, ◌<◌, ◌≢◌, Bool, MatchBool, if◌then◌else◌}
+use Rattle.std.proofs.Common.{ℕ, zero, suc, ◌==◌, ◌≡◌, false, List, [], ◌∷◌, ◌++◌, reverse, sym, ap, ◌∙◌, append-nil, arith}
+use Rattle.std.proofs.lemmas.Grind.{reverse_onto}
+use Rattle.std.proofs.lemmas.List.{append_assoc}
+use Rattle.lemmas.specs.Numbers.{test_no}
 use Rattle.colours.specs.Colours.{is_async, done}
 use Rattle.colours.specs.Steps.{Step, ReadPosted, StoreStage}
-use Rattle.colours.specs.Mutator.{Answering, stage_of, phase_of}
+use Rattle.colours.specs.Mutator.{Answering, non_null, stage_of, phase_of}
 use Rattle.colours.specs.Calls.{marks}
 use Rattle.heap_words.specs.Tokens.{Shared}
 use Rattle.heap_table.specs.Holders.{Holder, IsOf}
@@ -28,3 +32,17 @@ pub record OwesAnswer (heap : Shared) (token : Holder) (posted : ℕ) : Type 0 w
   pub phase : phase_of token.setup token.thread token.log ≡ Answering posted []
   pub running : stage_of token.log ≢ done
   pub low : posted < 2 ^ 62
+
+-- ---- the roots that an answer names
+
+-- the marks, the newest first
+abbrev pub pushed : List ℕ → List ℕ → List ℕ
+pushed [] marked = marked
+pushed (zero ∷ roots) marked = pushed roots marked
+pushed (suc r ∷ roots) marked = pushed roots (suc r ∷ marked)
+
+-- they are the roots that are not null, in their order
+pub turned : (roots marked : List ℕ) → reverse (pushed roots marked) ≡ reverse marked ++ non_null roots
+turned [] marked = sym (append-nil (reverse marked))
+turned (zero ∷ roots) marked = turned roots marked
+turned (suc r ∷ roots) marked = let no : (suc r == 0) ≡ false = test_no (suc r) 0 (λ e. omega arith) in rw no (turned roots (suc r ∷ marked) ∙ (ap (λ (l : List ℕ). l ++ non_null roots) (reverse_onto marked (suc r) []) ∙ append_assoc (reverse marked) (suc r ∷ []) (non_null roots)))

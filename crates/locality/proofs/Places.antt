@@ -2,8 +2,8 @@
 use Rattle.std.specs.Prelude.{List, None, Option, Some, [], is_some, not, refl, ℕ, ◌&&◌, ◌==◌, ◌||◌, ◌∷◌, ◌≡◌}
 use Rattle.block_rules.specs.Barriers.{after_read, after_read_call, is_own_place, is_read, is_write, may_read, may_write, names_object, needs_no_barrier, read_conditions, write_conditions}
 use Rattle.block_rules.specs.Operands.{is_available, is_based, is_current, is_no_slot, is_null_constant, known_fits, known_of, slot_named}
-use Rattle.block_rules.specs.Places.{after_load, fits_held, load_base, load_held_type, load_kind, load_known, load_place, loads_base, loads_kind, loads_known, loads_local, loads_slot, may_load, may_store, moves, moves_kind, stores_base, stores_known, stores_local, stores_slot}
-use Rattle.block_rules.specs.TypeKinds.{is_word, may_be_reference}
+use Rattle.block_rules.specs.Places.{after_load, fits_held, load_base, load_held_type, load_kind, load_known, load_place, loads_base, loads_known, loads_local, loads_slot, may_load, may_store, moves, moves_kind, stores_base, stores_known, stores_local, stores_slot}
+use Rattle.block_rules.specs.TypeKinds.{is_any_reference, is_word, may_be_reference}
 use Rattle.block_rules.specs.declared.rule.Rule.TheVariants.{K1, K10, K12, K19, K2, K3, K4, K7}
 use Rattle.block_rules.specs.declared.type_kind.TypeKind.{TypeKind}
 use Rattle.block_rules.specs.declared.type_kind.TypeKind.TheVariants.{AnyReference}
@@ -26,7 +26,7 @@ use Rattle.locality.specs.Local.{laid_with, with_functions}
 
 loads_slot_by : (m : Module) (fs : List Function) (written : ℕ) (held : Option ℕ) → loads_slot (with_functions m fs) written held ≡ loads_slot m written held
 loads_slot_by m fs written None = refl
-loads_slot_by m fs written (Some held) = λ along. loads_kind (written == held) (kind_of_same m fs along written) (kind_of_same m fs along held)
+loads_slot_by m fs written (Some held) = λ along. (written == held) || is_any_reference (kind_of_same m fs along written)
 
 pub loads_slot_same : (m : Module) (fs : List Function) → loads_slot (with_functions m fs) ≡ loads_slot m
 loads_slot_same m fs = λ along written held. loads_slot_by m fs written held along

@@ -50,7 +50,7 @@ only_if b action = if b then action else Wrong
 
 -- ---- slots
 
--- a value of this type may be loaded from a slot, or stored in it: the slot's own type, or i8* where it is a reference
+-- a value of this type may be stored in a slot: the slot's own type, or i8* where it is a reference
 abbrev pub is_slot_type : Module → (held written : ℕ) → Bool
 is_slot_type m held written = (held == written) || (is_some (referenced_layout m held) && is_byte_pointer m written)
 
@@ -58,6 +58,11 @@ is_slot_type m held written = (held == written) || (is_some (referenced_layout m
 abbrev pub is_held_as : Module → (held : Option ℕ) → (written : ℕ) → Bool
 is_held_as m None written = false
 is_held_as m (Some held) written = is_slot_type m held written
+
+-- a value of this type may be loaded from a slot: the slot's own type, or i8*
+abbrev pub is_loaded_as : Module → (held : Option ℕ) → (written : ℕ) → Bool
+is_loaded_as m None written = false
+is_loaded_as m (Some held) written = (held == written) || is_byte_pointer m written
 
 -- a value fits a type: where the type is a reference, it is of its layout
 abbrev pub fits_type : Module → (written : ℕ) → Value → Bool
@@ -123,7 +128,7 @@ read_action p loaded (Some (place.Global g)) = only_if (is_read_as p.of_module l
 
 -- a load from a slot under its type, or from an address
 abbrev pub load_action : LaidOut → SlotTable → (loaded : ℕ) → Option ℕ → Option Place → Action
-load_action p slots loaded (Some slot) address = only_if (is_held_as p.of_module (held_type slots slot) loaded) Local
+load_action p slots loaded (Some slot) address = only_if (is_loaded_as p.of_module (held_type slots slot) loaded) Local
 load_action p slots loaded None address = read_action p loaded address
 
 -- a store of a value under its type to the word to which an address points, without the barrier

@@ -2,7 +2,7 @@
 ghost use Rattle.std.specs.Prelude.{◌≡◌};
 ghost use Rattle.machine.specs.Elements.{is_read_as, takes_value};
 ghost use Rattle.machine.specs.Kinds.{slot_at_place, address_at_place, is_usable, value_of};
-ghost use Rattle.machine.specs.Asks.{is_slot_type, is_held_as, fits_type, fits_held, read_action, load_action, plain_action, barrier_action, store_action, memory_action};
+ghost use Rattle.machine.specs.Asks.{is_slot_type, is_held_as, is_loaded_as, fits_type, fits_held, read_action, load_action, plain_action, barrier_action, store_action, memory_action};
 ghost use Rattle.machine.specs.Machine.{slot_value, read_at, loaded_from};
 
 use crate::action::{Action, only_if};
@@ -26,12 +26,22 @@ fn is_slot_type(of_module: &Module, held: TypeId, written: TypeId) -> bool
         || (is_reference(of_module, held).is_some() && is_byte_pointer(of_module, written))
 }
 
-/// Whether a slot of this type is loaded or stored under a type.
+/// Whether a slot of this type is stored to under a type.
 fn is_held_as(of_module: &Module, held: Option<TypeId>, written: TypeId) -> bool
     ensures { result ≡ is_held_as of_module.now held written }
 {
     match held {
         Some(held) => is_slot_type(of_module, held, written),
+        None => false,
+    }
+}
+
+/// Whether a slot of this type is loaded under a type.
+fn is_loaded_as(of_module: &Module, held: Option<TypeId>, written: TypeId) -> bool
+    ensures { result ≡ is_loaded_as of_module.now held written }
+{
+    match held {
+        Some(held) => held == written || is_byte_pointer(of_module, written),
         None => false,
     }
 }
@@ -82,7 +92,7 @@ fn load_action(scene: &Scene<'_>, loaded: TypeId, place_type: TypeId, place: &Op
 {
     match slot_at_place(scene, place_type, place) {
         Some(slot) => only_if(
-            is_held_as(scene.of_module(), scene.slots.held_type(slot), loaded),
+            is_loaded_as(scene.of_module(), scene.slots.held_type(slot), loaded),
             Action::Local,
         ),
         None => read_action(

@@ -10,31 +10,42 @@ use ir_ast::{BlockId, Call, Constant, Instr, Op, Operand, ValueId};
 use items::Items;
 use std::alloc::{AllocError, Global};
 
+/// Where that stands which is known on a way.
+#[derive(Clone, Copy)]
+enum Road {
+    /// The way changes nothing: it is what is known where it begins.
+    Straight,
+    /// In room of its own.
+    Bent,
+}
+
 /// What is known at a place of a block, on a way out of it, and where the block to which the way leads begins.
 #[derive(Drop)]
 pub struct Knowledge {
     pub here: Facts,
-    pub way: Facts,
     pub there: Facts,
+    road: Road,
+    bent: Facts,
     entries: Items<Entry>,
 }
 
 impl Knowledge {
     pub fn new(alloc: Global) -> Result<Knowledge, AllocError> {
         let here = Facts::new(alloc, 0, 0)?;
-        let Ok(way) = Facts::new(alloc, 0, 0) else {
+        let Ok(bent) = Facts::new(alloc, 0, 0) else {
             drop(here);
             return Err(AllocError);
         };
         let Ok(there) = Facts::new(alloc, 0, 0) else {
             drop(here);
-            drop(way);
+            drop(bent);
             return Err(AllocError);
         };
         Ok(Knowledge {
             here,
-            way,
             there,
+            road: Road::Straight,
+            bent,
             entries: Items::new(alloc),
         })
     }
@@ -154,13 +165,26 @@ impl Knowledge {
         to: BlockId,
         decided: Option<(ValueId, bool)>,
     ) -> Result<(), AllocError> {
-        self.way.set_from(alloc, &self.here)?;
+        if decided.is_none() && !has_phis(scene, to) {
+            self.road = Road::Straight;
+            return Ok(());
+        }
+        self.road = Road::Bent;
+        self.bent.set_from(alloc, &self.here)?;
         if let Some((value, taken)) = decided {
-            let test = self.way.test(value);
-            self.way.learn_test(test, taken)?;
+            let test = self.bent.test(value);
+            self.bent.learn_test(test, taken)?;
         }
         self.note_entries(scene, ground, from, to)?;
-        self.way.after_phis(self.entries.as_slice())
+        self.bent.after_phis(self.entries.as_slice())
+    }
+
+    /// What is known on the way that was entered.
+    pub fn way(&self) -> &Facts {
+        match self.road {
+            Road::Straight => &self.here,
+            Road::Bent => &self.bent,
+        }
     }
 
     fn note_entries(
@@ -178,7 +202,7 @@ impl Knowledge {
         for phi in block.phis.as_slice() {
             let kind = TypeKind::of(scene.module(), phi.written);
             let operand = ground.reading.arrivals.operand(to, place, from);
-            let known = comes_in(&self.way, kind, &operand);
+            let known = comes_in(&self.bent, kind, &operand);
             self.entries.push(Entry {
                 phi: phi.value,
                 known,
@@ -186,6 +210,14 @@ impl Knowledge {
             place = place.saturating_add(1);
         }
         Ok(())
+    }
+}
+
+/// Whether a block begins with phis.
+fn has_phis(scene: &Scene, block: BlockId) -> bool {
+    match scene.function.blocks.get(block.number() as usize) {
+        Some(block) => !block.phis.is_empty(),
+        None => false,
     }
 }
 

@@ -9,6 +9,7 @@ use crate::knowledge::Knowledge;
 use crate::weaken::weakened;
 use block_rules::{Scene, TypeKind};
 use certs::Line;
+use indexmap::IndexSet;
 use ir_ast::{Argument, Block, BlockId, Case, End, Instr, Op, Operand, ValueId};
 use std::alloc::{AllocError, Global};
 use types::target_of;
@@ -216,6 +217,7 @@ impl Room {
         }
     }
 
+    /// The ways of cases: one to each target, since a further one says the same.
     fn cases(
         &mut self,
         alloc: Global,
@@ -224,8 +226,26 @@ impl Room {
         from: BlockId,
         cases: &[Case],
     ) -> Result<(), AllocError> {
+        let mut gone = IndexSet::new(alloc);
+        let went = self.new_ways(alloc, subject, draft, from, cases, &mut gone);
+        drop(gone);
+        went
+    }
+
+    /// The ways to targets to which none went; `gone` are the others.
+    fn new_ways(
+        &mut self,
+        alloc: Global,
+        subject: &Subject,
+        draft: &mut Draft,
+        from: BlockId,
+        cases: &[Case],
+        gone: &mut IndexSet<u32>,
+    ) -> Result<(), AllocError> {
         for case in cases {
-            self.open_way(alloc, subject, draft, from, case.target)?;
+            if gone.insert(case.target.number())? {
+                self.open_way(alloc, subject, draft, from, case.target)?;
+            }
         }
         Ok(())
     }
@@ -303,7 +323,7 @@ impl Room {
             alloc,
             subject.scene,
             subject.ground,
-            &self.knowledge.way,
+            self.knowledge.way(),
             to,
             &self.names,
         )

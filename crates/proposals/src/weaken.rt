@@ -45,7 +45,7 @@ pub fn weakened(
     if shows_all(ground, knowledge, listed.lines.as_slice()) {
         return Ok(None);
     }
-    let met = met(alloc, ground, &knowledge.way, lengths, listed)?;
+    let met = met(alloc, ground, knowledge.way(), lengths, listed)?;
     let kept = without_unlisted(alloc, &met);
     drop(met);
     let kept = kept?;
@@ -58,9 +58,8 @@ pub fn weakened(
 }
 
 fn shows_all(ground: &Ground, knowledge: &Knowledge, lines: &[Line]) -> bool {
-    lines.iter().all(|line| knowledge
-        .way
-        .shows_line(&ground.slots, &knowledge.there, *line))
+    let way = knowledge.way();
+    lines.iter().all(|line| way.shows_line(&ground.slots, &knowledge.there, *line))
 }
 
 /// What both the lines and the way say, line by line.
@@ -415,7 +414,7 @@ fn without_lost_fresh(
     let mut left = Listed::new(alloc);
     for (line, grown) in kept.lines.as_slice().iter().zip(kept.grown.iter()) {
         let shown = knowledge
-            .way
+            .way()
             .shows_line(&ground.slots, &knowledge.there, *line);
         let line = if shown { *line } else { held(*line) };
         left.add(line, *grown)?;

@@ -1,4 +1,2 @@
-pub mod Births
-pub mod Safety
 pub mod RealThreads
 pub mod OnlyMoves

@@ -15,3 +15,7 @@ pub mod Shares
 pub mod Calls
 pub mod Standings
 pub mod Causes
+pub mod Theorems
+-- ---- the proof of the safety theorem
+mod Births
+mod Safety

@@ -7,11 +7,11 @@ use Rattle.pools.specs.declared.word_kind.WordKind.TheVariants as kind
 use Rattle.pools.specs.Heap.{Setup, kind_of}
 use Rattle.pools.specs.Layouts.{is_reference_kind}
 use Rattle.colours.specs.Steps.{Step}
-use Rattle.colours.specs.Mutator.{Held, IsAmong, Keeps, gains, IsDisciplined, MayUse, MayStore}
+use Rattle.colours.specs.Mutator.{Held, IsAmong, Keeps, gains, IsDisciplined, IsPossible, IsPossibleLog, MayUse, MayStore}
 use Rattle.colours.specs.Runs.{Event, ByThread, log_of, IsRun, MayHappen}
 use Rattle.runs.specs.Machine.{Reference, Machine}
 use Rattle.runs.specs.Moves.{Move, Works, GoesWrong, ReadsWord, ReadsOldValue, Marks, StoresBehindBarrier, StoresPlain, Claims, ReadsPosted, StoresStage, ReadsPostedFirst, EntersStage, ReadsPostedAgain, cells_of, IsIn, step_of, logged, steps_of, IsShare, IsAsked}
-use Rattle.runs.specs.Discipline.{Brings, Leaves, Holds, MayTouch, MayName, MayPut, KeepsTo}
+use Rattle.runs.specs.Discipline.{Brings, Leaves, Holds, MayTouch, MayName, MayPut, KeepsTo, ArePossible}
 use Rattle.runs.specs.ModuleRuns.{Happening, OfThread, OfCollector, share_of, with_step, heap_of, IsModuleRun}
 
 -- equal references have one cell
@@ -153,3 +153,15 @@ disciplined s share (StoresStage stage roots) h = name_cells s share roots h
 disciplined s share (ReadsPostedFirst stage) h = tt
 disciplined s share (EntersStage stage) h = tt
 disciplined s share (ReadsPostedAgain stage) h = tt
+
+-- ---- possible answers
+
+-- where each answer in the log was possible, each move of the share was
+pub possible_share : (s : Setup) (share : List Move) → IsPossibleLog s (steps_of share) → ArePossible s share
+possible_share s [] p = tt
+possible_share s (move ∷ share) p = go (possible_share s share) (step_of move) p
+  where
+    go : (IsPossibleLog s (steps_of share) → ArePossible s share) → (o : Option Step) → IsPossibleLog s (logged o (steps_of share))
+        → ArePossible s share × MatchOption o (Unit {0}) (λ step. IsPossible s (steps_of share) step)
+    go rest None x = (rest x, tt)
+    go rest (Some step) x = (rest x.0, x.1)

@@ -12,8 +12,7 @@ use Rattle.runs.specs.Moves.{Move, IsIn, cells_of, steps_of}
 use Rattle.runs.specs.Broken.{IsUnderWay}
 use Rattle.runs.specs.Discipline.{MayTouch, MayName, MayPut, ArePossible}
 use Rattle.runs.specs.Discipline as discipline
-use Rattle.runs.specs.Shares.{holds_held, same_cell}
-use Rattle.runs.proofs.RealThreads.{possible_share}
+use Rattle.runs.specs.Shares.{holds_held, same_cell, possible_share}
 use Rattle.heap_table.specs.Holders.{Holder}
 use Rattle.serving.specs.Serving.{Serves}
 

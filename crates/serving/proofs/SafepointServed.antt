@@ -12,8 +12,7 @@ use Rattle.runs.specs.RealThreads.{Left, cut}
 use Rattle.moves.specs.Kinds.{AnswersByKind}
 use Rattle.heap_words.specs.Tokens.{Shared}
 use Rattle.heap_table.specs.Holders.{Holder, MayCall, IsNow, with_log}
-use Rattle.heap_table.specs.Safepoints.{with_marks, before_answer}
-use Rattle.heap_table.proofs.Safepoints.{pushed, turned}
+use Rattle.heap_table.specs.Safepoints.{with_marks, before_answer, pushed, turned}
 use Rattle.serving.specs.Serving.{Serves, IsServed, IsLeft}
 use Rattle.serving.proofs.UnderWay.{Under, Over, begins, further, last, ends}
 use Rattle.serving.proofs.ReadServed.{at_most}

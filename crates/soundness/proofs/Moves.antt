@@ -49,7 +49,7 @@ module _ (p : LaidOut) (f : Function) (table : SlotTable) where
   pub place_is : (written v s : ℕ) → has_type p.of_module f written v ≡ true → slot_of table v ≡ Some s → k.slot_at_place p.of_module f table written (operand.Local v) ≡ Some s
   place_is written v s k2 is = rw k2 is
 
-  -- a type under which a slot is loaded or stored
+  -- a type under which a slot is stored to
   moves_is : (written held : ℕ) → r.moves_kind (written == held) (kind_of p.of_module written) (kind_of p.of_module held) ≡ true → a.is_slot_type p.of_module held written ≡ true
   moves_is written held e = by (kind_of p.of_module held) refl e where
     by : (x : TypeKind) → kind_of p.of_module held ≡ x → r.moves_kind (written == held) (kind_of p.of_module written) x ≡ true → a.is_slot_type p.of_module held written ≡ true
@@ -64,24 +64,13 @@ module _ (p : LaidOut) (f : Function) (table : SlotTable) where
     by AddressKind is e = absurd cc
     by Other is e = absurd cc
 
-  -- a type under which a slot is loaded; where it is no reference, it is the slot's own
-  loads_is : (written held : ℕ) → r.loads_kind (written == held) (kind_of p.of_module written) (kind_of p.of_module held) ≡ true → a.is_slot_type p.of_module held written ≡ true
-  loads_is written held e = by (kind_of p.of_module held) refl e where
-    own : (written == held) ≡ true → a.is_slot_type p.of_module held written ≡ true
-    own e = or_first (held == written) (is_some (referenced_layout p.of_module held) && k.is_byte_pointer p.of_module written) (turned written held e)
-
-    by : (x : TypeKind) → kind_of p.of_module held ≡ x → r.loads_kind (written == held) (kind_of p.of_module written) x ≡ true → a.is_slot_type p.of_module held written ≡ true
-    by NoValue is e = own e
-    by (Bits bits) is e = own e
-    by (Reference layout) is e = moves_is written held (subst (λ x. r.moves_kind (written == held) (kind_of p.of_module written) x ≡ true) (sym is) e)
-    by AnyReference is e = own e
-    by AddressKind is e = own e
-    by Other is e = own e
-
-  -- by the type that a slot holds
-  pub loaded_as : (written : ℕ) (held : Option ℕ) → r.loads_slot p.of_module written held ≡ true → a.is_held_as p.of_module held written ≡ true
+  -- a type under which a slot is loaded: its own, or i8*
+  pub loaded_as : (written : ℕ) (held : Option ℕ) → r.loads_slot p.of_module written held ≡ true → a.is_loaded_as p.of_module held written ≡ true
   loaded_as written None e = absurd cc
-  loaded_as written (Some held) e = loads_is written held e
+  loaded_as written (Some held) e = pick (written == held) refl e where
+    pick : (b : Bool) → (written == held) ≡ b → (b || is_any_reference (kind_of p.of_module written)) ≡ true → a.is_loaded_as p.of_module (Some held) written ≡ true
+    pick true same e = or_first (held == written) (k.is_byte_pointer p.of_module written) (turned written held same)
+    pick false same e = or_second (held == written) (k.is_byte_pointer p.of_module written) (sym (bytes_same p.of_module written) ∙ e)
 
   -- by the type that a slot holds
   pub held_as : (written : ℕ) (held : Option ℕ) → r.moves p.of_module written held ≡ true → a.is_held_as p.of_module held written ≡ true

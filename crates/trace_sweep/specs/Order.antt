@@ -13,7 +13,7 @@ use Rattle.colours.specs.Mutator.{IsAmong}
 use Rattle.lemmas.specs.Numbers.{lt_true, lt_false, lt_yes, lt_no, test_yes}
 use Rattle.lemmas.specs.Bools.{yes_or_no}
 use Rattle.colours.specs.Collector.{Collection, Posting, Waiting, ShadingGlobals, Passing, Scanning, Shading, Sweeping, Clearing, Pass, posted_of, Turns, wait_from, sweep_from, pass_from, has_answered, looked, without, shaded_too, is_white, reference_from, Collects}
-use Rattle.collector_law.proofs.Moves.{skip_found}
+use Rattle.collector_law.specs.Theorems.{skip_found}
 use Rattle.trace_sweep.specs.Turns.{is_at_limit, turn_in, behind, TurnsInOrder, IsPartOf, shaded_at, kept_list, list_after, list_after_look, list_limit, pass_after_look, next_cell}
 use Rattle.trace_sweep.specs.Collecting.{Collecting, plan_of, in_order, without_list, scans, posted_by, moved, NamesCells}
 use Rattle.trace_sweep.specs.Collecting as machine

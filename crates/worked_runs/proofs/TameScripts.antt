@@ -7,7 +7,7 @@ use Rattle.runs.specs.Discipline.{Holds, MayName, MayCall}
 use Rattle.runs.specs.Soundness.{EndsCall, IsSound}
 use Rattle.runs.specs.Promises.{HeapLaw, IsSafe}
 use Rattle.runs.specs.Calls.{all_careful}
-use Rattle.runs.proofs.Safety.{safe}
+use Rattle.runs.specs.Theorems.{safe}
 use Rattle.worked_runs.proofs.Scripts.{Script, scripts, next_call, after_call, behind_call}
 
 -- each call allocates or is a safepoint

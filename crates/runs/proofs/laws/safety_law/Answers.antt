@@ -1,7 +1,7 @@
 -- The law is that of every machine, over the heap theorem.
 use Rattle.runs.specs.Machine.{machine_of}
 use Rattle.runs.specs.Promises.{HeapLaw}
-use Rattle.runs.proofs.Safety.{safe, never_wrong}
+use Rattle.runs.specs.Theorems.{safe, never_wrong}
 use Rattle.runs.proofs.laws.safety_law.Goals as goal
 
 pub returns-clause-safe : goal.returns-clause-safe

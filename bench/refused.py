@@ -1,0 +1,97 @@
+#!/usr/bin/env python3
+"""Refuses each request for memory of `dgc` in turn, and looks at what it prints.
+
+    refused.py DGC [--only WORD ..] [--every N]
+
+For each command it runs DGC once for each request for memory that it makes: that one is refused, by a library that is loaded
+before the program (refuse.c). Then it does so again, and refuses that request and all after it. Each run has to end with
+`error memory` and status 3, or with what it prints where memory is ample. Of `run` the turns and cycles of the collector may
+differ, and a thread may end for want of memory. Ends with status 1 where a run ends in another way, or where a command never says `error memory`. With --every it
+refuses only every Nth request. DGC has to be built by `rt run`, and not by `rt try`. For use by hand.
+"""
+import argparse
+import os
+import re
+import subprocess
+import sys
+import tempfile
+
+HERE = os.path.dirname(os.path.abspath(__file__))
+SWAP = os.path.join(HERE, "..", "examples", "swap")
+ROWS = os.path.join(HERE, "..", "crates", "dgc_tests", "data", "rows")
+SAFE, RACE = f"{SWAP}/barrier.ll {SWAP}/two.trace", f"{SWAP}/plain.ll {SWAP}/race.trace"
+COMMANDS = {
+    "check": f"check {SWAP}/barrier.ll {SWAP}/swap.cert",
+    "check, refused": f"check {SWAP}/plain.ll {SWAP}/swap.cert",
+    "check, slots": f"check {ROWS}/six/module.ll {ROWS}/six/module.cert",
+    "check, two workers": f"check {SWAP}/barrier.ll {SWAP}/swap.cert --workers 2",
+    "make": f"make {SWAP}/barrier.ll",
+    "make, slots": f"make {ROWS}/six/module.ll",
+    "make, no answer": f"make --why {ROWS}/front_end_sum_refused/module.ll",
+    "replay": f"replay {SAFE}",
+    "replay, broken": f"replay {RACE}",
+    "soak": f"soak --seeds 3 --steps 50 {SAFE}",
+    "run": f"run {SWAP}/barrier.ll {SWAP}/swap.cert {SWAP}/two.trace --steps 50 --turns 1000",
+}
+
+
+class Refuser:
+    """Runs DGC with some request refused."""
+
+    def __init__(self, dgc, folder):
+        self.dgc, self.library, self.mark = dgc, os.path.join(folder, "refuse.so"), os.path.join(folder, "mark")
+        subprocess.run(["cc", "-O2", "-shared", "-fPIC", "-o", self.library, os.path.join(HERE, "refuse.c"), "-ldl"], check=True)
+
+    def ended(self, words, how=""):
+        """The status of a run and what it printed, and whether a request was refused."""
+        given = dict([how.split("=")]) if how else {}
+        environment = {**os.environ, "LD_PRELOAD": self.library, "MARK": self.mark, **given}
+        ran = subprocess.run([self.dgc, *words.split()], env=environment, capture_output=True, text=True, timeout=300)
+        marked = os.path.exists(self.mark)
+        if marked:
+            os.remove(self.mark)
+        printed = re.sub(r"^collector turns \d+ cycles \d+$", "collector", ran.stdout, flags=re.M)
+        printed = re.sub(r"^(t \d+) memory$", r"\1 stopped", printed, flags=re.M)
+        return (ran.returncode, printed, ran.stderr), marked
+
+    def refuse_each(self, name, words, every):
+        """Refuses each request in turn, by both ways. Returns how many runs ended wrongly."""
+        ample, _ = self.ended(words)
+        refused, same, wrong = 0, 0, 0
+        for way in ("REFUSE_AT", "REFUSE_FROM"):
+            number, marked = 1, True
+            while marked:
+                how = f"{way}={number}"
+                try:
+                    answer, marked = self.ended(words, how)
+                except (OSError, subprocess.TimeoutExpired) as fault:
+                    answer = fault
+                refused += answer == (3, "", "error memory\n")
+                same += answer == ample
+                if answer not in (ample, (3, "", "error memory\n")):
+                    wrong += 1
+                    print(f"{name}, {how}: {answer}")
+                number += every
+        if not refused:
+            wrong += 1
+            print(f"{name}: no run ended with error memory")
+        print(f"{name:20} status {ample[0]}, {number // every:7,} requests: {refused:7,} times error memory, {same:7,} times the same, "
+              f"{wrong} wrong", flush=True)
+        return wrong
+
+
+def main():
+    options = argparse.ArgumentParser(description=__doc__.split("\n")[0])
+    options.add_argument("dgc")
+    options.add_argument("--only", nargs="+", default=[""])
+    options.add_argument("--every", type=int, default=1)
+    options = options.parse_args()
+    with tempfile.TemporaryDirectory() as folder:
+        refuser = Refuser(os.path.abspath(options.dgc), folder)
+        wrong = [refuser.refuse_each(name, words, options.every) for name, words in COMMANDS.items()
+                 if any(word in name for word in options.only)]
+    sys.exit(1 if sum(wrong) else 0)
+
+
+if __name__ == "__main__":
+    main()
