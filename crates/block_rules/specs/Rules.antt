@@ -256,7 +256,3 @@ after p certs slots facts instr = after_op p certs slots instr.result instr.op f
 pub record Allows (p : LaidOut) (certs : List Section) (f : Function) (slots : SlotTable) (here : Standing) (facts : FactSet) (instr : Instr) (next : FactSet) : Type 0 where
   pub conditions_hold : first_failing (conditions p certs f slots here facts instr) ≡ None
   pub facts_after : next ≡ after p certs slots facts instr
-
--- an instruction is refused by the first of its conditions that fails
-abbrev pub Refuses : LaidOut → (certs : List Section) → Function → SlotTable → Standing → FactSet → Instr → Rule → Type 0
-Refuses p certs f slots here facts instr rule = first_failing (conditions p certs f slots here facts instr) ≡ Some rule

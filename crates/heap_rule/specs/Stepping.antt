@@ -59,14 +59,7 @@ extends s run (OfCollector log) (ByCollector turn) ask n r h w k = record {
   discipline = r.discipline;
 }
 
--- an operation leaves one number in its own word
-left_there : (ask : Ask) (p : Place) (m : ℕ) → same_place (place_of ask) p ≡ true → left_by ask p m ≡ left_by ask (place_of ask) m
-left_there (Load q) p m e = refl
-left_there (Store q v) p m e = rw (e, same_self q) refl
-left_there (FetchMax q v) p m e = rw (e, same_self q) refl
-left_there (CompareExchange q old new) p m e = rw (e, same_self q) refl
-
--- and no other word is changed
+-- an operation changes no other word than its own
 left_else : (ask : Ask) (p : Place) (m : ℕ) → same_place (place_of ask) p ≡ false → left_by ask p m ≡ m
 left_else (Load q) p m e = refl
 left_else (Store q v) p m e = rw e refl

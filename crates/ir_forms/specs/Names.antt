@@ -445,22 +445,3 @@ new_value_takes = any_value_takes k.LocalName (λ x. cc)
 pub numbered_value_takes : TakesWhere (IsKind k.LocalNumber) numbered_value
 unfolding numbered_value
 numbered_value_takes = keeps_takes (IsKind k.LocalNumber) next_number (λ _. new_value) (λ i a o h is. next_number_keeps i a o k.LocalNumber h is) (λ _. any_value_takes k.LocalNumber (λ x. cc))
-
-label_left : (block : ℕ) (i : Input) → left (with_label block i) ≡ length (next i.cursor).rest
-unfolding left
-label_left block i = refl
-
-label_stays : Stays label_rules
-label_stays i a o h = h.2.1 ∙ h.3.1
-
-any_label_takes : (x : Kind) → x ≢ k.End → (block : ℕ) → TakesWhere (IsKind x) (new_label block)
-unfolding new_label
-any_label_takes x ne block = stays_takes (IsKind x) label_rules (step local_number (with_label block) (with_label_falls block)) label_stays
-    (advance_takes x ne local_number (with_label block) (with_label_falls block) (label_left block))
-
-pub new_label_takes : (block : ℕ) → TakesWhere (IsKind k.LabelName) (new_label block)
-new_label_takes = any_label_takes k.LabelName (λ x. cc)
-
-pub numbered_label_takes : (block : ℕ) → TakesWhere (IsKind k.LabelNumber) (numbered_label block)
-unfolding numbered_label
-numbered_label_takes block = keeps_takes (IsKind k.LabelNumber) next_number (λ _. new_label block) (λ i a o h is. next_number_keeps i a o k.LabelNumber h is) (λ _. any_label_takes k.LabelNumber (λ x. cc) block)

@@ -1,5 +1,5 @@
 -- One function of a module, read anew from a text of its own in the place of the one that is there.
-use Rattle.std.specs.Prelude.{◌≡◌, ◌<◌, ◌≤◌, ◌⊎◌, ℕ, Bool, not, if◌then◌else◌, nat_lt, List, [], length, map, Option, Some, None, is_some, Result, Ok, Err}
+use Rattle.std.specs.Prelude.{◌≡◌, ◌<◌, ◌≤◌, ◌⊎◌, ℕ, Bool, not, if◌then◌else◌, nat_lt, List, length, map, Option, Some, None, is_some, Result, Ok, Err}
 use Rattle.std.specs.Str.{bytes_eq}
 use Rattle.grammar.specs.Grammar.{checked, ◌>>=◌, ◌>>◌}
 use Rattle.ir_tokens.specs.declared.token.Kind.TheVariants as k
@@ -10,10 +10,10 @@ use Rattle.ir_tokens.specs.Bytes.{Text}
 use Rattle.ir_ast.specs.declared.items_of_module.SymbolSort.{SymbolSort}
 use Rattle.ir_ast.specs.declared.items_of_module.SymbolSort.TheVariants as symbol
 use Rattle.ir_forms.specs.Cursor.{spelled, at_end}
-use Rattle.ir_forms.specs.Table.{empty}
+use Rattle.ir_forms.specs.Place.{Place}
 use Rattle.ir_forms.specs.declared.fault.Fault.{Fault}
 use Rattle.ir_forms.specs.declared.input.Input.{Input}
-use Rattle.ir_forms.specs.Input.{Form, Outcome, unexpected, skip, sees_a}
+use Rattle.ir_forms.specs.Input.{Form, Outcome, start_of, unexpected, skip, sees_a}
 use Rattle.ir_text.specs.declared.anew.Tables.{Tables}
 use Rattle.ir_text.specs.declared.anew.Replacement.{Replacement}
 use Rattle.ir_text.specs.declared.items_of_text.FunctionHead.{FunctionHead}
@@ -36,25 +36,21 @@ sort_before func (symbol.Defined f) = if nat_lt f func then symbol.Defined f els
 abbrev pub sorts_before : (func : ℕ) → List SymbolSort → List SymbolSort
 sorts_before func sorts = map (sort_before func) sorts
 
--- before the first token, where the names and types of the module were mentioned
-abbrev pub start_anew : Tables → (func : ℕ) → Text → Lexed → Input
-start_anew t func bytes lexed = record {
-  cursor = record { text = bytes; rest = lexed.tokens; bad = lexed.bad };
+-- before the first token, where the names and types of these tables were mentioned
+abbrev pub start_with : Tables → Place → Input
+start_with t place = record (start_of place) {
   types = t.types;
   struct_names = record { names = t.struct_names; sorts = t.struct_of };
-  struct_uses = [];
-  symbols = record { names = t.symbols; sorts = sorts_before func t.sorts };
-  symbol_uses = [];
-  locals = empty;
-  local_uses = [];
-  values = 0;
-  unnamed = 0;
-  missing = None;
-  structs = [];
-  globals = [];
-  declares = [];
-  functions = [];
+  symbols = record { names = t.symbols; sorts = t.sorts };
 }
+
+-- the tables of a module, where neither this function nor one after it is defined so far
+abbrev pub tables_before : (func : ℕ) → Tables → Tables
+tables_before func t = record t { sorts = sorts_before func t.sorts }
+
+-- before the first token of this function, where the names and types of the module were mentioned
+abbrev pub start_anew : Tables → (func : ℕ) → Text → Lexed → Input
+start_anew t func bytes lexed = start_with (tables_before func t) (record { text = bytes; rest = lexed.tokens; bad = lexed.bad })
 
 -- ---- the text
 
@@ -92,18 +88,22 @@ with_sorts sorts i = record i { symbols = record { names = i.symbols.names; sort
 abbrev pub late_anew : Tables → Input → Option Fault
 late_anew t o = late_fault (with_sorts t.sorts o)
 
--- what was read: the function, and the names and types of the module with those that its text adds
-abbrev pub anew_of : Tables → Input → Replacement
-anew_of t o = record {
+-- the functions that were read, with the tables after them
+abbrev pub replacement_of : Input → Replacement
+replacement_of o = record {
   tables = record {
     types = o.types;
     struct_names = o.struct_names.names;
     struct_of = o.struct_names.sorts;
     symbols = o.symbols.names;
-    sorts = t.sorts;
+    sorts = o.symbols.sorts;
   };
   functions = o.functions;
 }
+
+-- what was read: the function, and the names and types of the module with those that its text adds
+abbrev pub anew_of : Tables → Input → Replacement
+anew_of t o = replacement_of (with_sorts t.sorts o)
 
 -- ---- what a text is
 

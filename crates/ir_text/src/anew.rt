@@ -117,6 +117,40 @@ fn set_sorts(alloc: Global, input: &mut Input<'_>, sorts: Items<SymbolSort>)
     input.symbols = Table { names, sorts };
 }
 
+/// Before the first token, where the names and types of these tables were mentioned.
+fn start_with<'x>(alloc: Global, tables: Tables, cursor: Cursor<'x>) -> Input<'x>
+    ensures { result ≡ spec.start_with tables cursor.entry }
+{
+    Input {
+        types: tables.types,
+        struct_names: Table {
+            names: tables.struct_names,
+            sorts: tables.struct_of,
+        },
+        symbols: Table {
+            names: tables.symbols,
+            sorts: tables.sorts,
+        },
+        ..Input::new(alloc, cursor)
+    }
+}
+
+/// The functions that were read, with the tables after them.
+fn replacement_of(input: Input<'_>) -> Replacement
+    ensures { result ≡ spec.replacement_of input.entry }
+{
+    Replacement {
+        tables: Tables {
+            types: input.types,
+            struct_names: input.struct_names.names,
+            struct_of: input.struct_names.sorts,
+            symbols: input.symbols.names,
+            sorts: input.symbols.sorts,
+        },
+        functions: input.functions,
+    }
+}
+
 /// The function that the tokens of a text tell.
 #[tactic(auto, unfolding(crate::specs::Anew::read_anew))]
 fn read_lexed<'x>(
@@ -130,49 +164,20 @@ fn read_lexed<'x>(
     requires { length bytes.now ≤ text_limit }
     ensures { Gives result (spec.read_anew tables func name.now bytes.now lexed.now) }
 {
+    let mut tables = tables;
     let before = sorts_before(alloc, func, tables.sorts.as_slice())?;
+    let sorts = mem::replace(&mut tables.sorts, before);
     let cursor = Cursor::new(bytes, lexed.tokens.as_slice(), lexed.bad);
-    let mut input = Input {
-        cursor,
-        types: tables.types,
-        struct_names: Table {
-            names: tables.struct_names,
-            sorts: tables.struct_of,
-        },
-        struct_uses: Items::new(alloc),
-        symbols: Table {
-            names: tables.symbols,
-            sorts: before,
-        },
-        symbol_uses: Items::new(alloc),
-        locals: Table::new(alloc),
-        local_uses: Items::new(alloc),
-        values: 0,
-        unnamed: 0,
-        missing: None,
-        structs: Items::new(alloc),
-        globals: Items::new(alloc),
-        declares: Items::new(alloc),
-        functions: Items::new(alloc),
-    };
+    let mut input = start_with(alloc, tables, cursor);
     let fault = match anew(alloc, &mut input, func, name) {
         Ok(()) => {
-            set_sorts(alloc, &mut input, tables.sorts);
+            set_sorts(alloc, &mut input, sorts);
             late_fault(&input)
         }
         Err(fault) => Some(fault),
     };
     match fault {
-        None => Ok(Replacement {
-            tables: Tables {
-                types: input.types,
-                struct_names: input.struct_names.names,
-                struct_of: input.struct_names.sorts,
-                symbols: input.symbols.names,
-                sorts: input.symbols.sorts,
-            },
-            functions: input.functions,
-        }),
+        None => Ok(replacement_of(input)),
         Some(fault) => {
             drop(input);
             Err(located(alloc, bytes, fault))

@@ -1,4 +1,4 @@
-use Rattle.std.proofs.Common.{refl, rules, subst}
+use Rattle.std.proofs.Common.{refl, subst}
 use Rattle.std.proofs.lemmas.Result.{IfOk-weaker}
 use Rattle.layout.specs.Layouts.{LaidOut}
 use Rattle.trace_text.specs.Traces.{IsTraceOf}
