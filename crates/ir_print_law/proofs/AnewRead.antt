@@ -42,6 +42,7 @@ use Rattle.ir_print_law.proofs.NumberTokens.{lexed_spell}
 use Rattle.ir_print_law.proofs.Passes.{skip_passes, check_passes}
 use Rattle.ir_print_law.proofs.Tables.{Begins, AreOrdered, begins_itself, place_stays, place_there}
 use Rattle.ir_print_law.proofs.Uses.{struct_right, symbol_right, nothing_late}
+use Rattle.ir_print_law.proofs.WithinRead.{IsInnerOf, inner_keeps}
 
 -- no item is made
 abbrev nothing_made : Made
@@ -63,6 +64,7 @@ pub record IsRead (m : Module) (old f : Function) (o : Input) : Type 0 where
   pub symbol_is : f.symbol ≡ old.symbol
   pub function_is : IsFunction (with_types m o.types m.functions) f
   pub has_names : HasNames f
+  pub inner : IsInnerOf (with_types m o.types m.functions) f
 
 module _ (m : Module) (names : HasModuleNames m) where
   -- ---- the end of reading
@@ -259,6 +261,9 @@ module _ (m : Module) (names : HasModuleNames m) where
         let b5 = function_keeps (anew_outside m types names nothing_made) s3.0 s1.0 s5.0 s7.0 u2.0 s3.1 s4.1 s5.1 s6.1 s7.1 u1.1 u2.1 u3.1 s4.2 s5.2 s6.2 s7.2 opened u2.2 u3.2
         (ap (λ (x : Kept). x.locals) quiet) (ap (λ (x : Kept). x.local_uses) quiet) (ap (λ (x : Kept). x.values) quiet) (ap (λ (x : Kept). x.unnamed) quiet)
         (b4.0.0, ap made_of quiet) in
+        let inner = inner_keeps (with_types m types m.functions) (anew_outside m types names nothing_made) s3.0 s1.0 s5.0 s7.0 u2.0 s3.1 s4.1 s5.1 s6.1 s7.1 u1.1 u2.1 u3.1 s4.2 s5.2 s6.2 s7.2 opened u2.2 u3.2
+        (ap (λ (x : Kept). x.locals) quiet) (ap (λ (x : Kept). x.local_uses) quiet) (ap (λ (x : Kept). x.values) quiet) (ap (λ (x : Kept). x.unnamed) quiet)
+        (b4.0.0, ap made_of quiet) in
         let there : Anew m o = subst (Anew m) end (anew_function s3.0 s1.0 s5.0 s7.0 u2.0 u3.1 b5.0.0) in
         let over = ended o there none in
         let c6 = arrives_function types s3.0 s1.0 s5.0 s7.0 u2.0 u3.1 (subst (Arrives m types) (sym end) over.arrives) in
@@ -278,5 +283,6 @@ module _ (m : Module) (names : HasModuleNames m) where
             symbol_is = c4.1;
             function_is = good.0;
             has_names = good.1;
+            inner = (inner.1 c6.0 c6.1).1 c2.1;
           },
         )

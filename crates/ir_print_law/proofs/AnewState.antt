@@ -33,7 +33,7 @@ use Rattle.ir_print_law.proofs.NameBytes.{spelled_bytes}
 use Rattle.ir_print_law.proofs.NumberTokens.{AllSpell}
 use Rattle.ir_print_law.proofs.Outside.{Outside}
 use Rattle.ir_print_law.proofs.Reading.{Reading, used_symbols}
-use Rattle.ir_print_law.proofs.Tables.{Begins, AreOrdered, begins_further, type_begins, name_there, stays, at_end_or_before}
+use Rattle.ir_print_law.proofs.Tables.{Begins, IsRestBefore, AreOrdered, begins_further, type_begins, type_ordered, name_there, stays, at_end_or_before}
 use Rattle.ir_print_law.proofs.Uses.{in_further}
 
 -- the names of globals and functions are those of the module, or one is used that the module does not have
@@ -125,11 +125,11 @@ module _ (m : Module) where
     layouts = h.layouts;
   }
 
-  pub anew_type : (i : Input) (t : IrType) → AreOrdered (numbered_type t i.types) → Anew m i → Anew m (with_type_interned t i)
-  anew_type i t order h = record {
+  pub anew_type : (i : Input) (t : IrType) → IsRestBefore (length i.types) t → Anew m i → Anew m (with_type_interned t i)
+  anew_type i t last h = record {
     bytes = h.bytes;
     spell = h.spell;
-    ordered = order;
+    ordered = type_ordered t i.types last h.ordered;
     symbols = h.symbols;
     structs = h.structs;
     layouts = h.layouts;
@@ -251,14 +251,14 @@ module _ (m : Module) where
       anew_reading P = record {
         Fore = λ i. Anew m i × P (kept_of i);
         Back = Arrives m types;
-        ordered = λ i f. f.0.ordered;
-        bytes = λ i f. spelled_bytes i.cursor f.0.bytes;
+        ordered = λ i f back. f.0.ordered;
+        bytes = λ i f back. spelled_bytes i.cursor f.0.bytes;
         has_types = λ i b. b.begins;
         has_structs = λ i b. b.struct_names;
         has_symbols = λ i b. b.symbols;
         on_token = λ i f. (anew_next i f.0, f.1);
         from_token = arrives_token;
-        on_type = λ i t order f. (anew_type i t order f.0, f.1);
+        on_type = λ i t last f. (anew_type i t last f.0, f.1);
         from_type = arrives_type;
         on_struct = λ i f. (anew_struct i f.0, f.1);
         from_struct = arrives_struct;
@@ -284,5 +284,6 @@ module _ (m : Module) where
           symbol_uses = b.symbol_uses;
           missing = b.missing;
         };
+        bytes = λ i f. spelled_bytes i.cursor f.0.bytes;
         digits = λ i f is. number_spells i.cursor f.0.spell is;
       }

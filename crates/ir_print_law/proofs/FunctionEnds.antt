@@ -29,11 +29,11 @@ names_are : (f : Function) → keys_at f.locals (whole_of f).names ≡ defined_k
 names_are f =
     blocks_names f.locals (with_parameters nothing f.parameters) f.blocks ∙ ap (λ (l : List Text). l ++ flat_map (block_keys f.locals) f.blocks) (parameters_names f.locals nothing f.parameters)
 
-values_are : (f : Function) → keys_at f.locals (whole_of f).values ≡ value_keys f
+pub values_are : (f : Function) → keys_at f.locals (whole_of f).values ≡ value_keys f
 values_are f =
     blocks_values f.locals (with_parameters nothing f.parameters) f.blocks ∙ ap (λ (l : List Text). l ++ flat_map (value_keys_of f.locals) f.blocks) (parameters_values f.locals nothing f.parameters)
 
-labels_are : (f : Function) → keys_at f.locals (whole_of f).labels ≡ label_keys f
+pub labels_are : (f : Function) → keys_at f.locals (whole_of f).labels ≡ label_keys f
 labels_are f =
     blocks_labels f.locals (with_parameters nothing f.parameters) f.blocks
     ∙ ap (λ (l : List ℕ). keys_at f.locals l ++ map (λ block. name_at f.locals block.label) f.blocks) (parameters_labels nothing f.parameters)

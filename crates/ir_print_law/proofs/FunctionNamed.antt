@@ -63,10 +63,10 @@ new_value_is i n o h =
     (not_true (is_known_local i) (ap (λ (j : Input). not (is_known_local j)) first ∙ new.3.0), grind (arith, nat_tests), ap local_number same ∙ h.3.0, ap with_value same ∙ h.3.1)
 
 -- a label that was not defined before
-abbrev IsNewLabel : (block : ℕ) → Input → ℕ → Input → Type 0
+abbrev pub IsNewLabel : (block : ℕ) → Input → ℕ → Input → Type 0
 IsNewLabel block i n o = (is_known_local i ≡ false) × (local_number i ≡ n) × (with_label block i ≡ o)
 
-new_label_is : (block : ℕ) (i : Input) (n : ℕ) (o : Input) → (new_label block).says i n o → IsNewLabel block i n o
+pub new_label_is : (block : ℕ) (i : Input) (n : ℕ) (o : Input) → (new_label block).says i n o → IsNewLabel block i n o
 unfolding new_label
 new_label_is block i n o h =
     let rules = h.2 in
@@ -109,7 +109,7 @@ fresh_next g t unnamed key h few is =
 module _ {m : Module} (w : Outside m) where
   -- a name that is written is the key of a name
   written_name : (i : Input) → w.reading.Fore i → is_local_number (kind i.cursor) ≡ false → IsNameKey (local_key i.cursor)
-  written_name i fore none = (spelled i.cursor, w.reading.bytes i fore, name_key i none)
+  written_name i fore none = (spelled i.cursor, w.bytes i fore, name_key i none)
 
   -- a number that is written is the next one in decimal
   written_number : (i : Input) → w.reading.Fore i → is_local_number (kind i.cursor) ≡ true → is_written_next i ≡ true → local_key i.cursor ≡ text.decimal i.unnamed

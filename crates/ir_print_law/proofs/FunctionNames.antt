@@ -61,7 +61,7 @@ all_defined g t uses unnamed names places right n less = elim (places.covered n 
 
 -- ---- labels
 
-blocks_labels : (g : Progress) (xs : List Block) → (with_blocks g xs).labels ≡ g.labels ++ map (λ block. block.label) xs
+pub blocks_labels : (g : Progress) (xs : List Block) → (with_blocks g xs).labels ≡ g.labels ++ map (λ block. block.label) xs
 blocks_labels g [] = sym (append-nil g.labels)
 blocks_labels g (x ∷ xs) =
     blocks_labels (with_block g x) xs ∙ ap (λ (l : List ℕ). l ++ map (λ block. block.label) xs) (block_labels g x)

@@ -127,15 +127,15 @@ module _ {m : Module} (w : Outside m) where
 
   pub kit : (f : Function) (t : Table LocalSort) (unnamed : ℕ) (g : Progress) (pending : Option ℕ) → Kit m f (Holds m w g pending) (Ends m w f t unnamed)
   kit f t unnamed g pending = record {
-    ordered = λ i h. w.reading.ordered i h.outside;
-    bytes = λ i h. w.reading.bytes i h.outside;
+    ordered = λ i h back. w.reading.ordered i h.outside back.outside;
+    bytes = λ i h back. w.reading.bytes i h.outside back.outside;
     has_types = λ i h. w.reading.has_types i h.outside;
     has_structs = λ i h. w.reading.has_structs i h.outside;
     has_symbols = λ i h. w.reading.has_symbols i h.outside;
     has_locals = λ i h. h.begins;
     on_token = λ i h. record { outside = w.reading.on_token i h.outside; names = h.names; count = h.count; few = h.few; numbers = h.numbers; places = h.places };
     from_token = λ i h. token_ends f t unnamed i h;
-    on_type = λ i t order h. record { outside = w.reading.on_type i t order h.outside; names = h.names; count = h.count; few = h.few; numbers = h.numbers; places = h.places };
+    on_type = λ i t last h. record { outside = w.reading.on_type i t last h.outside; names = h.names; count = h.count; few = h.few; numbers = h.numbers; places = h.places };
     from_type = λ i t h. record { outside = w.reading.from_type i t h.outside; begins = h.begins; right = h.right; names = h.names };
     on_struct = λ i h. record { outside = w.reading.on_struct i h.outside; names = h.names; count = h.count; few = h.few; numbers = h.numbers; places = h.places };
     from_struct = λ i h. record { outside = w.reading.from_struct i h.outside; begins = h.begins; right = h.right; names = h.names };

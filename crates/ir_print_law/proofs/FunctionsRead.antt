@@ -1,5 +1,5 @@
 -- Defined functions, as they are read.
-use Rattle.std.proofs.Common.{◌≡◌, ◌≤◌, ℕ, Bool, true, false, List, [], length, Option, None, refl, sym, subst, arith, ◌⊎◌}
+use Rattle.std.proofs.Common.{◌≡◌, ◌<◌, ◌≤◌, ℕ, Bool, true, false, List, [], length, Option, None, refl, sym, subst, arith, ◌⊎◌}
 use Rattle.grammar.specs.Grammar.{pure, step}
 use Rattle.ir_ast.specs.declared.block.Block.{Block}
 use Rattle.ir_ast.specs.declared.function.Function.{Function}
@@ -22,11 +22,12 @@ use Rattle.ir_text.specs.Parameters.{parameters}
 use Rattle.name_text.specs.Readings.{AreBytes}
 use Rattle.ir_print_law.specs.FunctionNames.{HasNames}
 use Rattle.ir_print_law.specs.Parts.{IsVoid}
-use Rattle.ir_print_law.specs.Printable.{IsPassed, IsCollector, IsFunction}
+use Rattle.std.specs.List.{AllByRecursion}
+use Rattle.ir_print_law.specs.Printable.{IsPassed, IsParameter, IsCollector, IsBlock, IsFunction}
 use Rattle.ir_print_law.proofs.Blocks.{with_blocks, with_parameters, blocks_keep, parameters_keep}
 use Rattle.ir_print_law.proofs.Decorations.{decorations_pass}
 use Rattle.ir_print_law.proofs.Forms.{Keeps, Same, stepped, where_true}
-use Rattle.ir_print_law.proofs.FunctionEnds.{nothing, function_defined, function_values}
+use Rattle.ir_print_law.proofs.FunctionEnds.{nothing, whole_of, function_defined, function_values}
 use Rattle.ir_print_law.proofs.FunctionNamed.{builder}
 use Rattle.ir_print_law.proofs.FunctionNames.{function_names}
 use Rattle.ir_print_law.proofs.FunctionPlaces.{Places, AreFirst}
@@ -37,7 +38,7 @@ use Rattle.ir_print_law.proofs.ParametersRead.{parameters_unused, expect_unused}
 use Rattle.ir_print_law.proofs.Passes.{Passes, skip_passes, expect_passes, look_passes, refuse_passes}
 use Rattle.ir_print_law.proofs.Progresses.{parameters_labels}
 use Rattle.ir_print_law.proofs.Reading.{Reading, within_of}
-use Rattle.ir_print_law.proofs.Tables.{begins_itself}
+use Rattle.ir_print_law.proofs.Tables.{Begins, begins_itself}
 use Rattle.ir_print_law.proofs.Uses.{local_right}
 
 module _ {m : Module} (r : Reading m) where
@@ -46,7 +47,7 @@ module _ {m : Module} (r : Reading m) where
   quoted_keeps i =
       where_true r.Back r.Fore (Same r.Fore) AreBytes (λ i. sees k.Quoted i.cursor) unexpected (step (λ i. spelled i.cursor) advanced advanced_falls) i
       (λ e. stepped r.Back r.Fore (Same r.Fore) AreBytes (λ i. spelled i.cursor) advanced advanced_falls i
-      (λ fore. (r.on_token i fore, λ back. (r.from_token i back, r.bytes i fore))))
+      (λ fore. (r.on_token i fore, λ back. let before = r.from_token i back in (before, r.bytes i fore before))))
 
   collector_keeps : (i : Input) → Keeps r.Fore (Same r.Fore) r.Back collector IsCollector i
   unfolding collector
@@ -79,7 +80,7 @@ module _ {m : Module} (r : Reading m) where
             ((a.1 bb.0).0, subst IsCollector u.3.0 bb.1),
       )
 
-  open_body_passes : Passes r open_body
+  pub open_body_passes : Passes r open_body
   unfolding open_body
   open_body_passes = look_passes r (λ i. kind i.cursor) open_body_by by where
     by : (x : Kind) → Passes r (open_body_by x)
@@ -117,7 +118,42 @@ begins_here w i locals uses values unnamed fore = record {
   places = subst (Places nothing None i.locals) (sym uses) (subst (λ t. Places nothing None t []) (sym locals) no_places);
 }
 
--- a function after its name, where none of its own names is read so far, up to the brace that closes it
+-- the parameters and blocks of a function after its name, where none of its own names is read so far, up to the brace that closes it; its local names may have more after them
+pub function_parts : {m : Module} (w : Outside m) (f : Function) (i i1 i2 i3 i4 i5 i6 o : Input)
+    → (expect k.OpenRound).says i tt i1 → parameters.says i1 f.parameters i2 → (expect k.CloseRound).says i2 tt i3 → (head_end spot.Defined).says i3 f.collector i4
+    → open_body.says i4 tt i5 → blocks.says i5 f.blocks i6 → (expect k.CloseBrace).says i6 tt o
+    → i.locals ≡ empty → i.local_uses ≡ [] → i.values ≡ 0 → i.unnamed ≡ 0 → Begins o.locals.names f.locals → w.reading.Fore i
+    → (Holds m w (whole_of f) None o × AreFirst (with_parameters nothing f.parameters).names (length i2.locals.names))
+    × (first_missing o.locals o.local_uses ≡ None → w.reading.Back o → w.reading.Back i × AllByRecursion (IsParameter m) f.parameters × IsCollector f.collector
+    × (0 < length f.blocks) × (length f.blocks ≤ 65535) × AllByRecursion (IsBlock m f) f.blocks)
+function_parts w f i i1 i2 i3 i4 i5 i6 o s1 s2 s3 s4 s5 s6 s7 locals uses values unnamed begins fore =
+    let ps = f.parameters in
+    let bs = f.blocks in
+    let b = builder w f o.locals o.unnamed in
+    let g = with_parameters nothing ps in
+    let r = (within_of (b.kit g)).reading in
+    let a1 = expect_passes (within_of (b.kit nothing)).reading k.OpenRound i tt i1 s1 (begins_here w i locals uses values unnamed fore) in
+    let a2 = parameters_keep b nothing i1 ps i2 s2 a1.0 in
+    let a3 = expect_passes r k.CloseRound i2 tt i3 s3 a2.0 in
+    let a4 = head_end_keeps r spot.Defined i3 f.collector i4 s4 a3.0 in
+    let a5 = open_body_passes r i4 tt i5 s5 a4.0 in
+    let a6 = blocks_keep b g i5 (parameters_labels nothing ps) bs i6 s6 a5.0 in
+    let a7 = expect_passes (within_of (b.kit (with_blocks g bs))).reading k.CloseBrace i6 tt o s7 a6.0 in
+    let end = a7.0 in
+    let unused = parameters_unused w i1 ps i2 s2 a1.0.outside (expect_unused w k.OpenRound i tt i1 s1 fore uses) in (
+      (end, a2.0.places.first unused),
+      λ missing back.
+          let b7 = a7.1 (record { outside = back; begins = begins; right = local_right o.locals o.local_uses missing; names = end.names }) in
+          let b6 = a6.1 b7.0 in
+          let b5 = a5.1 b6.0 in
+          let b4 = a4.1 b5.0 in
+          let b3 = a3.1 b4.0 in
+          let b2 = a2.1 b3.0 in
+          let b1 = a1.1 b2.0 in
+          (b1.0.outside, b2.1, b4.1, b6.1.0, b6.1.1, b6.1.2),
+    )
+
+-- what is read is a function
 function_all : {m : Module} (w : Outside m) (symbol returned : ℕ) (ps : List Parameter) (c : Option Text) (bs : List Block) (i i1 i2 i3 i4 i5 i6 o : Input)
     → (expect k.OpenRound).says i tt i1 → parameters.says i1 ps i2 → (expect k.CloseRound).says i2 tt i3 → (head_end spot.Defined).says i3 c i4
     → open_body.says i4 tt i5 → blocks.says i5 bs i6 → (expect k.CloseBrace).says i6 tt o
@@ -126,40 +162,23 @@ function_all : {m : Module} (w : Outside m) (symbol returned : ℕ) (ps : List P
     × (first_missing o.locals o.local_uses ≡ None → w.reading.Back o → w.reading.Back i
     × (IsVoid m returned ⊎ IsPassed m returned
     → IsFunction m (record { symbol = symbol; returned = returned; parameters = ps; collector = c; locals = o.locals.names; sorts = o.locals.sorts; blocks = bs })))
-function_all {m = m} w symbol returned ps c bs i i1 i2 i3 i4 i5 i6 o s1 s2 s3 s4 s5 s6 s7 locals uses values unnamed fore =
+function_all w symbol returned ps c bs i i1 i2 i3 i4 i5 i6 o s1 s2 s3 s4 s5 s6 s7 locals uses values unnamed fore =
     let f : Function = record { symbol = symbol; returned = returned; parameters = ps; collector = c; locals = o.locals.names; sorts = o.locals.sorts; blocks = bs } in
-    let b = builder w f o.locals o.unnamed in
-    let g = with_parameters nothing ps in
-    let r = (within_of (b.kit g)).reading in
-    let a1 = expect_passes (within_of (b.kit nothing)).reading k.OpenRound i tt i1 s1 (begins_here w i locals uses values unnamed fore) in
-    let a2 = parameters_keep b nothing i1 ps i2 s2 a1.0 in
-    let a3 = expect_passes r k.CloseRound i2 tt i3 s3 a2.0 in
-    let a4 = head_end_keeps r spot.Defined i3 c i4 s4 a3.0 in
-    let a5 = open_body_passes r i4 tt i5 s5 a4.0 in
-    let a6 = blocks_keep b g i5 (parameters_labels nothing ps) bs i6 s6 a5.0 in
-    let a7 = expect_passes (within_of (b.kit (with_blocks g bs))).reading k.CloseBrace i6 tt o s7 a6.0 in
-    let end = a7.0 in
-    let unused = parameters_unused w i1 ps i2 s2 a1.0.outside (expect_unused w k.OpenRound i tt i1 s1 fore uses) in (
-      (end, a2.0.places.first unused),
+    let x = function_parts w f i i1 i2 i3 i4 i5 i6 o s1 s2 s3 s4 s5 s6 s7 locals uses values unnamed (begins_itself o.locals.names) fore in
+    let end = x.0.0 in (
+      x.0,
       λ missing back.
-          let b7 = a7.1 (record { outside = back; begins = begins_itself o.locals.names; right = local_right o.locals o.local_uses missing; names = end.names }) in
-          let b6 = a6.1 b7.0 in
-          let b5 = a5.1 b6.0 in
-          let b4 = a4.1 b5.0 in
-          let b3 = a3.1 b4.0 in
-          let b2 = a2.1 b3.0 in
-          let b1 = a1.1 b2.0 in
-          let first = b1.0 in (
-            first.outside,
+          let y = x.1 missing back in (
+            y.0,
             λ is_returned. record {
               returned = is_returned;
-              parameters = b2.1;
-              collector = b4.1;
+              parameters = y.1;
+              collector = y.2;
               definitions = function_defined f o.locals o.unnamed refl end.names;
               values = (let same = function_values f in let few = end.few in subst (λ (n : ℕ). n ≤ 1000000) (sym same) few);
-              has_block = b6.1.0;
-              few_blocks = b6.1.1;
-              blocks = b6.1.2;
+              has_block = y.3;
+              few_blocks = y.4;
+              blocks = y.5;
             },
           ),
     )

@@ -116,6 +116,13 @@ pub mod Words
 pub mod Worked
 pub mod LongerTypes
 pub mod LongerOps
+pub mod FoundNames
+pub mod DefinedWithin
+pub mod OpsWithin
+pub mod WithinRead
 pub mod AnewState
 pub mod AnewRead
 pub mod ReplacedWhole
+pub mod Growth
+pub mod WithinLonger
+pub mod ReplacedWithin

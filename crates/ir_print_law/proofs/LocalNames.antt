@@ -34,7 +34,7 @@ pub in_at_end : {A : Type 0} (xs : List A) (y : A) → IsIn (xs ++ y ∷ []) y
 in_at_end [] y = inl refl
 in_at_end (z ∷ xs) y = inr (in_at_end xs y)
 
-in_map : {A B : Type 0} (h : A → B) (xs : List A) (y : B) → IsIn (map h xs) y → (x : A) × IsIn xs x × (h x ≡ y)
+pub in_map : {A B : Type 0} (h : A → B) (xs : List A) (y : B) → IsIn (map h xs) y → (x : A) × IsIn xs x × (h x ≡ y)
 in_map h [] y e = absurd e
 in_map h (x ∷ xs) y (inl e) = (x, inl refl, e)
 in_map h (x ∷ xs) y (inr e) = let p = in_map h xs y e in (p.0, inr p.1, p.2)

@@ -250,7 +250,7 @@ no_more : (n most : ℕ) → n + 0 ≤ most → n ≤ most
 no_more n most le = omega (arith, le)
 
 -- what holds where the reading of a text ends
-abbrev HasRead : (Module → Function → Type 0) → Input → Type 0
+abbrev pub HasRead : (Module → Function → Type 0) → Input → Type 0
 HasRead Good o = Stands no_one o × AllByRecursion (IsStructType (module_of o)) o.structs × AllByRecursion (IsGlobal (module_of o)) o.globals
     × AllByRecursion (IsDeclare (module_of o)) o.declares × AllByRecursion (Good (module_of o)) o.functions
 
@@ -283,7 +283,7 @@ end_printable Good is_function o h = record {
 }
 
 -- what holds of a module where reading ends holds of the module that is read
-read_so : (Good : Module → Function → Type 0) → FunctionKeeps Good → (P : Module → Type 0) → ((o : Input) → HasRead Good o → P (module_of o))
+pub read_so : (Good : Module → Function → Type 0) → FunctionKeeps Good → (P : Module → Type 0) → ((o : Input) → HasRead Good o → P (module_of o))
     → (bytes : Text) (m : Module) → AreBytes bytes → IsText bytes m → P m
 read_so Good keeps P so bytes m own is = let end = is.3 in subst P end.3 (so end.0 (read Good keeps bytes is.1 end.0 own is.2 end.1 end.2))
 

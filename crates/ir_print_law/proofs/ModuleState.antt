@@ -39,7 +39,7 @@ use Rattle.ir_print_law.proofs.NameBytes.{spelled_bytes}
 use Rattle.ir_print_law.proofs.NumberTokens.{AllSpell}
 use Rattle.ir_print_law.proofs.Outside.{Outside, with_own}
 use Rattle.ir_print_law.proofs.Reading.{Reading, used_symbols}
-use Rattle.ir_print_law.proofs.Tables.{Begins, AreOrdered, begins_further, type_begins, name_begins, name_there, stays}
+use Rattle.ir_print_law.proofs.Tables.{Begins, IsRestBefore, AreOrdered, begins_further, type_begins, type_ordered, name_begins, name_there, stays}
 use Rattle.ir_print_law.proofs.Uses.{in_further}
 
 -- ---- before a place
@@ -239,11 +239,11 @@ stands_next p i h = record {
 }
 
 -- after a type
-pub stands_type : (p : Pending) (i : Input) (t : IrType) → AreOrdered (numbered_type t i.types) → Stands p i → Stands p (with_type_interned t i)
-stands_type p i t order h = record {
+pub stands_type : (p : Pending) (i : Input) (t : IrType) → IsRestBefore (length i.types) t → Stands p i → Stands p (with_type_interned t i)
+stands_type p i t last h = record {
   bytes = h.bytes;
   spell = h.spell;
-  ordered = order;
+  ordered = type_ordered t i.types last h.ordered;
   once = once_more t i.types h.once;
   structs = h.structs;
   symbols = h.symbols;
@@ -342,14 +342,14 @@ abbrev pub reading_of : (e : Input) (P : Kept → Type 0) (p : Pending) → Read
 reading_of e P p = record {
   Fore = λ i. Stands p i × P (kept_of i);
   Back = Leads e;
-  ordered = λ i f. f.0.ordered;
-  bytes = λ i f. spelled_bytes i.cursor f.0.bytes;
+  ordered = λ i f back. f.0.ordered;
+  bytes = λ i f back. spelled_bytes i.cursor f.0.bytes;
   has_types = λ i b. b.types;
   has_structs = λ i b. b.struct_names;
   has_symbols = λ i b. b.symbols;
   on_token = λ i f. (stands_next p i f.0, f.1);
   from_token = leads_token e;
-  on_type = λ i t order f. (stands_type p i t order f.0, f.1);
+  on_type = λ i t last f. (stands_type p i t last f.0, f.1);
   from_type = leads_type e;
   on_struct = λ i f. (stands_struct p i f.0, f.1);
   from_struct = leads_struct e;
@@ -430,5 +430,6 @@ outside_of e made p = record {
   reading = reading_of e (λ k. made_of k ≡ made) p;
   on_own = λ i t uses values unnamed f. (stands_own p i t uses values unnamed f.0, f.1);
   from_own = λ i t uses values unnamed b. leads_kept e i (kept_of (with_own t uses values unnamed i)) b;
+  bytes = λ i f. spelled_bytes i.cursor f.0.bytes;
   digits = λ i f is. number_spells i.cursor f.0.spell is;
 }

@@ -5,7 +5,6 @@ use Rattle.ir_ast.specs.declared.function.LocalSort.{LocalSort}
 use Rattle.ir_ast.specs.declared.function.LocalSort.TheVariants as local
 use Rattle.ir_ast.specs.declared.ir_type.IrType.{IrType}
 use Rattle.ir_ast.specs.declared.module.Module.{Module}
-use Rattle.ir_ast.specs.Types.{numbered_type}
 use Rattle.ir_tokens.specs.Bytes.{Text}
 use Rattle.ir_tokens.specs.declared.token.Kind.TheVariants as k
 use Rattle.ir_forms.specs.Cursor.{kind, spelled, local_key}
@@ -19,7 +18,7 @@ use Rattle.name_text.specs.Readings.{AreBytes}
 use Rattle.ir_print_law.specs.Definitions.{value_keys, label_keys, target_keys, defined_structs, defined_globals, functions_of}
 use Rattle.ir_print_law.specs.Shapes.{IsIn}
 use Rattle.ir_print_law.proofs.Forms.{Keeps, Any}
-use Rattle.ir_print_law.proofs.Tables.{Begins, AreOrdered}
+use Rattle.ir_print_law.proofs.Tables.{Begins, IsRestBefore, AreOrdered}
 
 -- which keys may be used as what
 abbrev pub used_keys : Function → Wanted → List Text
@@ -35,14 +34,14 @@ used_symbols m false = defined_globals m
 pub record Reading (m : Module) : Type 1 where
   pub Fore : Input → Type 0
   pub Back : Input → Type 0
-  pub ordered : (i : Input) → Fore i → AreOrdered i.types
-  pub bytes : (i : Input) → Fore i → AreBytes (spelled i.cursor)
+  pub ordered : (i : Input) → Fore i → Back i → AreOrdered i.types
+  pub bytes : (i : Input) → Fore i → Back i → AreBytes (spelled i.cursor)
   pub has_types : (i : Input) → Back i → Begins i.types m.types
   pub has_structs : (i : Input) → Back i → Begins i.struct_names.names m.struct_names
   pub has_symbols : (i : Input) → Back i → Begins i.symbols.names m.symbols
   pub on_token : (i : Input) → Fore i → Fore (advanced i)
   pub from_token : (i : Input) → Back (advanced i) → Back i
-  pub on_type : (i : Input) (t : IrType) → AreOrdered (numbered_type t i.types) → Fore i → Fore (with_type_interned t i)
+  pub on_type : (i : Input) (t : IrType) → IsRestBefore (length i.types) t → Fore i → Fore (with_type_interned t i)
   pub from_type : (i : Input) (t : IrType) → Back (with_type_interned t i) → Back i
   pub on_struct : (i : Input) → Fore i → Fore (with_struct_use i)
   pub from_struct : (i : Input) → Back (with_struct_use i) → Back i
@@ -74,15 +73,15 @@ pub record Naming (m : Module) (f : Function) (value : ℕ) : Type 1 where
 
 -- The same for what holds before, and for what is known from after it.
 pub record Kit (m : Module) (f : Function) (Fore Back : Input → Type 0) : Type 0 where
-  pub ordered : (i : Input) → Fore i → AreOrdered i.types
-  pub bytes : (i : Input) → Fore i → AreBytes (spelled i.cursor)
+  pub ordered : (i : Input) → Fore i → Back i → AreOrdered i.types
+  pub bytes : (i : Input) → Fore i → Back i → AreBytes (spelled i.cursor)
   pub has_types : (i : Input) → Back i → Begins i.types m.types
   pub has_structs : (i : Input) → Back i → Begins i.struct_names.names m.struct_names
   pub has_symbols : (i : Input) → Back i → Begins i.symbols.names m.symbols
   pub has_locals : (i : Input) → Back i → Begins i.locals.names f.locals
   pub on_token : (i : Input) → Fore i → Fore (advanced i)
   pub from_token : (i : Input) → Back (advanced i) → Back i
-  pub on_type : (i : Input) (t : IrType) → AreOrdered (numbered_type t i.types) → Fore i → Fore (with_type_interned t i)
+  pub on_type : (i : Input) (t : IrType) → IsRestBefore (length i.types) t → Fore i → Fore (with_type_interned t i)
   pub from_type : (i : Input) (t : IrType) → Back (with_type_interned t i) → Back i
   pub on_struct : (i : Input) → Fore i → Fore (with_struct_use i)
   pub from_struct : (i : Input) → Back (with_struct_use i) → Back i

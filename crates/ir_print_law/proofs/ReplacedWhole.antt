@@ -35,7 +35,7 @@ map_set {B = B} g [] place x y at e = refl
 map_set {B = B} g (z ∷ xs) zero x y at e = let same : z ≡ x = cc in ap (λ (b : B). b ∷ map g xs) (e ∙ ap g (sym same))
 map_set {B = B} g (z ∷ xs) (suc place) x y at e = ap (λ (l : List B). g z ∷ l) (map_set g xs place x y at e)
 
-all_set : {A : Type 0} (P : A → Type 0) (xs : List A) (place : ℕ) (y : A) → AllByRecursion P xs → P y → AllByRecursion P (slice_set xs place y)
+pub all_set : {A : Type 0} (P : A → Type 0) (xs : List A) (place : ℕ) (y : A) → AllByRecursion P xs → P y → AllByRecursion P (slice_set xs place y)
 all_set P [] place y all p = tt
 all_set P (z ∷ xs) zero y all p = (p, all.1)
 all_set P (z ∷ xs) (suc place) y all p = (all.0, all_set P xs place y all.1 p)
@@ -57,7 +57,7 @@ numbered_set number (z ∷ xs) (suc place) x y at e (suc other) name h = numbere
 
 module _ (m : Module) (whole : IsWhole m) (func : ℕ) (old : Function) (at : slice_get m.functions func ≡ Some old) where
   -- the module with these types and this function
-  abbrev edited : List IrType → Function → Module
+  abbrev pub edited : List IrType → Function → Module
   edited types f = with_types m types (slice_set m.functions func f)
 
   module _ (types : List IrType) (f : Function) (more : Begins m.types types) (order : AreOrdered types) (symbol_is : f.symbol ≡ old.symbol)
@@ -118,7 +118,7 @@ module _ (m : Module) (whole : IsWhole m) (func : ℕ) (old : Function) (at : sl
     functions = put_function func (slice_get read 0) m.functions;
   }
 
-  read_edits : (o : Input) (f : Function) → IsRead m old f o → with_replacement m func (anew_of (tables_of m) o) ≡ edited o.types f
+  pub read_edits : (o : Input) (f : Function) → IsRead m old f o → with_replacement m func (anew_of (tables_of m) o) ≡ edited o.types f
   read_edits o f h =
       let names = o.struct_names.names in
       let sorts = o.struct_names.sorts in

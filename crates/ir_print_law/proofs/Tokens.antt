@@ -21,7 +21,7 @@ use Rattle.ir_print_law.specs.Definitions.{defined_structs}
 use Rattle.ir_print_law.specs.Shapes.{IsIn}
 use Rattle.ir_print_law.proofs.Forms.{Keeps, Same, Any, stepped, where_true}
 use Rattle.ir_print_law.proofs.Reading.{Reading}
-use Rattle.ir_print_law.proofs.Tables.{IsRestBefore, stays, type_there, type_ordered, place_there, place_stays}
+use Rattle.ir_print_law.proofs.Tables.{IsRestBefore, stays, type_there, place_there, place_stays}
 
 -- this type is at its number
 abbrev pub IsAt : Module → IrType → ℕ → Type 0
@@ -52,10 +52,16 @@ module _ {m : Module} (r : Reading m) where
       where_true r.Back r.Fore (Has r.Fore) (IsAt m t) (λ i. nat_lt (place_in_table t i) 4294967296) limit (step (place_in_table t) (with_type_interned t) (with_type_interned_falls t)) i
       (λ e. stepped r.Back r.Fore (Has r.Fore) (IsAt m t) (place_in_table t) (with_type_interned t) (with_type_interned_falls t) i
       (λ f.
-      let order = type_ordered t i.types last (r.ordered i f) in
+      let next = r.on_type i t last f in
       let there = type_there t i.types in (
-        (r.on_type i t order f, slice_get_within (numbered_type t i.types) (number_of_type t i.types) t there),
-        λ b. (r.from_type i t b, (stays (numbered_type t i.types) m.types (number_of_type t i.types) t (r.has_types (with_type_interned t i) b) there, order (number_of_type t i.types) t there)),
+        (next, slice_get_within (numbered_type t i.types) (number_of_type t i.types) t there),
+        λ b. (
+          r.from_type i t b,
+          (
+            stays (numbered_type t i.types) m.types (number_of_type t i.types) t (r.has_types (with_type_interned t i) b) there,
+            r.ordered (with_type_interned t i) next b (number_of_type t i.types) t there,
+          ),
+        ),
       )))
 
   -- the same, where it is not asked for how far the table goes
@@ -84,7 +90,7 @@ module _ {m : Module} (r : Reading m) where
             spelled i.cursor,
             place_stays (spelled i.cursor) (numbered (spelled i.cursor) i.struct_names.names) m.struct_names (struct_number i) (r.has_structs (with_struct_use i) b)
                 (place_there (spelled i.cursor) i.struct_names.names),
-            r.bytes i f,
+            r.bytes i f (r.from_struct i b),
             r.struct_is i b,
           ),
         ),

@@ -1,4 +1,4 @@
--- Calls: when they are printable, and when one is another one again.
+-- Calls: when they are printable, when their numbers are within the tables, and when one is another one again.
 use Rattle.std.specs.Prelude.{List}
 use Rattle.std.specs.List.{AllByRecursion}
 use Rattle.ir_ast.specs.declared.calls.Call.{Call}
@@ -9,11 +9,16 @@ use Rattle.ir_print.specs.Names.{name_at}
 use Rattle.ir_print_law.specs.Shapes.{IsIn}
 use Rattle.ir_print_law.specs.Definitions.{functions_of}
 use Rattle.ir_print_law.specs.Parts.{IsArgument, IsReturned}
+use Rattle.ir_print_law.specs.PartsWithin.{HasType, HasSymbol, IsArgumentWithin}
 use Rattle.ir_print_law.specs.PartsAgain.{AreAlike, IsNameAgain, IsResultAgain, IsArgumentAgain}
 
 -- a call
 abbrev pub IsCall : Module → Function → Call → Type 0
 IsCall m f x = IsReturned m x.returned × IsIn (functions_of m) (name_at m.symbols x.callee) × AllByRecursion (IsArgument m f) x.arguments
+
+-- a call whose numbers are within the tables
+abbrev pub IsCallWithin : Module → Function → Call → Type 0
+IsCallWithin m f x = HasType m x.returned × HasSymbol m x.callee × AllByRecursion (IsArgumentWithin m f) x.arguments
 
 -- Two modules, and the names of a function in each.
 module _ (m n : Module) (locals others : List Text) where

@@ -1,4 +1,4 @@
--- getelementptr: when it is printable, and when one is another one again.
+-- getelementptr: when it is printable, when its numbers are within the tables, and when one is another one again.
 use Rattle.std.specs.Prelude.{◌<◌, List, length, None}
 use Rattle.std.specs.List.{AllByRecursion}
 use Rattle.ir_ast.specs.declared.elements.Element.{Element}
@@ -7,6 +7,7 @@ use Rattle.ir_ast.specs.declared.module.Module.{Module}
 use Rattle.ir_tokens.specs.Bytes.{Text}
 use Rattle.ir_print_law.specs.Shapes.{Shape}
 use Rattle.ir_print_law.specs.Parts.{IsType, IsPlaceType, IsOperand, IsArgument}
+use Rattle.ir_print_law.specs.PartsWithin.{HasType, IsOperandWithin, IsArgumentWithin}
 use Rattle.ir_print_law.specs.PartsAgain.{AreAlike, IsTypeAgain, IsOperandAgain, IsArgumentAgain}
 
 -- a getelementptr
@@ -14,6 +15,11 @@ abbrev pub IsElement : Module → Function → Element → Type 0
 IsElement m f x =
     (shape : Shape) × IsType m shape x.source × IsPlaceType m shape x.source x.base_type × IsOperand m f None x.base × (0 < length x.indices)
     × AllByRecursion (IsArgument m f) x.indices
+
+-- a getelementptr whose numbers are within the tables
+abbrev pub IsElementWithin : Module → Function → Element → Type 0
+IsElementWithin m f x =
+    HasType m x.source × HasType m x.base_type × IsOperandWithin m f x.base × AllByRecursion (IsArgumentWithin m f) x.indices
 
 -- Two modules, and the names of a function in each.
 module _ (m n : Module) (locals others : List Text) where

@@ -3,6 +3,7 @@ pub mod TypeOrder
 pub mod Definitions
 pub mod Parts
 pub mod PartsAgain
+pub mod PartsWithin
 pub mod Numbers
 pub mod Memory
 pub mod Elements
@@ -17,6 +18,8 @@ pub mod OneTypes
 pub mod Again
 pub mod Printed
 pub mod Wholes
+pub mod Within
+pub mod Growing
 pub mod Ends
 pub mod Stars
 pub mod Readings

@@ -1,4 +1,4 @@
--- Operations on memory: when they are printable, and when one is another one again.
+-- Operations on memory: when they are printable, when their numbers are within the tables, and when one is another one again.
 use Rattle.std.specs.Prelude.{Bool, true, false, List, None}
 use Rattle.ir_ast.specs.declared.function.Function.{Function}
 use Rattle.ir_ast.specs.declared.memory.MemoryOp.{MemoryOp}
@@ -7,6 +7,7 @@ use Rattle.ir_ast.specs.declared.module.Module.{Module}
 use Rattle.ir_tokens.specs.Bytes.{Text}
 use Rattle.ir_print_law.specs.Shapes.{Shape, bits_of_shape}
 use Rattle.ir_print_law.specs.Parts.{IsScalar, IsPlaceType, IsOperand}
+use Rattle.ir_print_law.specs.PartsWithin.{HasType, IsOperandWithin}
 use Rattle.ir_print_law.specs.PartsAgain.{IsTypeAgain, IsOperandAgain}
 
 -- an operation on memory
@@ -21,6 +22,13 @@ IsMemoryOp m f (memory.Store stored value place_type place) =
 abbrev pub memory_gives_value : MemoryOp → Bool
 memory_gives_value (memory.Store stored value place_type place) = false
 memory_gives_value _ = true
+
+-- an operation on memory, whose numbers are within the tables
+abbrev pub IsMemoryOpWithin : Module → Function → MemoryOp → Type 0
+IsMemoryOpWithin m f (memory.Alloca held) = HasType m held
+IsMemoryOpWithin m f (memory.Load loaded place_type place) = HasType m loaded × HasType m place_type × IsOperandWithin m f place
+IsMemoryOpWithin m f (memory.Store stored value place_type place) =
+    HasType m stored × IsOperandWithin m f value × HasType m place_type × IsOperandWithin m f place
 
 -- Two modules, and the names of a function in each.
 module _ (m n : Module) (locals others : List Text) where

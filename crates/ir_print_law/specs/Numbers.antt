@@ -1,4 +1,4 @@
--- Operations on integers: when they are printable, and when one is another one again.
+-- Operations on integers: when they are printable, when their numbers are within the tables, and when one is another one again.
 use Rattle.std.specs.Prelude.{◌≡◌, List}
 use Rattle.ir_ast.specs.declared.function.Function.{Function}
 use Rattle.ir_ast.specs.declared.module.Module.{Module}
@@ -6,6 +6,7 @@ use Rattle.ir_ast.specs.declared.numbers.NumberOp.{NumberOp}
 use Rattle.ir_ast.specs.declared.numbers.NumberOp.TheVariants as number
 use Rattle.ir_tokens.specs.Bytes.{Text}
 use Rattle.ir_print_law.specs.Parts.{ArePair, IsConverted}
+use Rattle.ir_print_law.specs.PartsWithin.{ArePairWithin, IsConvertedWithin}
 use Rattle.ir_print_law.specs.PartsAgain.{IsTypeAgain, IsOperandAgain, ArePairAgain}
 
 -- an operation that gives an integer
@@ -13,6 +14,12 @@ abbrev pub IsNumberOp : Module → Function → NumberOp → Type 0
 IsNumberOp m f (number.Arithmetic kind written first second) = ArePair m f written first second
 IsNumberOp m f (number.Resize kind from x to) = IsConverted m f from x to
 IsNumberOp m f (number.Compare kind written first second) = ArePair m f written first second
+
+-- an operation that gives an integer, whose numbers are within the tables
+abbrev pub IsNumberOpWithin : Module → Function → NumberOp → Type 0
+IsNumberOpWithin m f (number.Arithmetic kind written first second) = ArePairWithin m f written first second
+IsNumberOpWithin m f (number.Resize kind from x to) = IsConvertedWithin m f from x to
+IsNumberOpWithin m f (number.Compare kind written first second) = ArePairWithin m f written first second
 
 -- Two modules, and the names of a function in each.
 module _ (m n : Module) (locals others : List Text) where

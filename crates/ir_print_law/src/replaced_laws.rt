@@ -1,4 +1,5 @@
 //! A module in which one function is replaced is a module.
+ghost use Rattle.ir_print_law.specs.Growing.{ReplacingKeepsTables};
 ghost use Rattle.ir_print_law.specs.Wholes.{AreReadWhole, AreReplacedWhole, AreWholeAgain};
 
 /// A module that is read from a text is whole, and what is printed of a whole module is read as that module again.
@@ -10,4 +11,9 @@ pub fn whole_law()
 /// A whole module in which one function is replaced is whole.
 pub fn replaced_law()
     ensures { AreReplacedWhole }
+{}
+
+/// Where one function of any module is replaced, each type stays at its place, and each name of a struct means what it meant.
+pub fn grown_law()
+    ensures { ReplacingKeepsTables }
 {}

@@ -1,7 +1,14 @@
 //! The tables of a module that is read.
 ghost use Rattle.ir_print_law.specs.OneTypes.{HaveOneTypes};
+ghost use Rattle.ir_print_law.specs.Within.{AreWithin, AreReplacedWithin};
 
 /// Each type is once in the table of a module that is read from a text. So two types are one exactly where they are written alike.
 pub fn one_type_law()
     ensures { HaveOneTypes }
+{}
+
+/// The numbers of a module that is read from a text are within its tables, and still where one function is replaced.
+pub fn within_law()
+    ensures read { AreWithin }
+    ensures replaced { AreReplacedWithin }
 {}

@@ -1,0 +1,83 @@
+-- The numbers of a module are within its tables where one of its functions is replaced.
+use Rattle.std.proofs.Common.{◌≡◌, ℕ, ◌<◌, ◌≤◌, List, ◌++◌, length, slice_get, Some, sym, ap, subst, ◌∙◌, arith, length-append, [], ◌∷◌, zero, suc}
+use Rattle.lemmas.specs.Lists.{get_some}
+use Rattle.std.specs.List.{AllByRecursion}
+use Rattle.ir_ast.specs.declared.function.Function.{Function}
+use Rattle.ir_ast.specs.declared.ir_type.IrType.{IrType}
+use Rattle.ir_ast.specs.declared.items_of_module.Declare.{Declare}
+use Rattle.ir_ast.specs.declared.items_of_module.Global.{Global}
+use Rattle.ir_ast.specs.declared.items_of_module.StructType.{StructType}
+use Rattle.ir_ast.specs.declared.module.Module.{Module}
+use Rattle.ir_tokens.specs.Bytes.{Text}
+use Rattle.ir_text.specs.Anew.{start_anew, anew}
+use Rattle.ir_text.specs.Replaced.{tables_of, name_in, with_replacement, IsReplaced}
+use Rattle.name_text.specs.Readings.{AreBytes}
+use Rattle.ir_print_law.specs.PartsWithin.{HasType, HasSymbol}
+use Rattle.ir_print_law.specs.Wholes.{IsWhole}
+use Rattle.ir_print_law.specs.Within.{IsFunctionWithin, IsStructWithin, IsGlobalWithin, IsDeclareWithin, IsWithin}
+use Rattle.ir_print_law.proofs.AnewRead.{IsRead, function_read}
+use Rattle.ir_print_law.proofs.Known.{all_so}
+use Rattle.ir_print_law.proofs.LongerTypes.{with_types}
+use Rattle.ir_print_law.proofs.OpsWithin.{AreSymbolsWithin}
+use Rattle.ir_print_law.proofs.ReplacedWhole.{all_set, edited, read_edits}
+use Rattle.ir_print_law.proofs.Tables.{Begins, stays}
+use Rattle.ir_print_law.proofs.WithinRead.{IsInnerOf}
+use Rattle.ir_print_law.proofs.WithinLonger.{type_longer, declare_longer, function_longer}
+
+-- ---- lists
+
+-- a list that begins with another one is not shorter
+begins_length : {A : Type 0} (xs ys : List A) → Begins xs ys → length xs ≤ length ys
+begins_length xs ys b = let same = ap length b.1 in let sum = length-append xs b.0 in omega (arith, same, sum)
+
+element_at : {A : Type 0} (P : A → Type 0) (xs : List A) (place : ℕ) (x : A) → slice_get xs place ≡ Some x → AllByRecursion P xs → P x
+element_at P [] place x at h = absurd cc
+element_at P (y ∷ xs) zero x at h = let same : y ≡ x = cc in subst P same h.0
+element_at P (y ∷ xs) (suc place) x at h = element_at P xs place x at h.1
+
+module _ (m : Module) (whole : IsWhole m) (within : IsWithin m) (func : ℕ) (old : Function) (at : slice_get m.functions func ≡ Some old) where
+  symbols_have : AreSymbolsWithin m
+  symbols_have = record {
+    globals = all_so (IsGlobalWithin m) (λ (x : Global). HasSymbol m x.symbol) m.globals (λ x h. h.0) within.globals;
+    declares = all_so (IsDeclareWithin m) (λ (x : Declare). HasSymbol m x.symbol) m.declares (λ x h. h.0) within.declares;
+    functions = all_so (IsFunctionWithin m) (λ (x : Function). HasSymbol m x.symbol) m.functions (λ x h. h.symbol) within.functions;
+  }
+
+  edited_within : (types : List IrType) (f : Function) → Begins m.types types → IsFunctionWithin (with_types m types m.functions) f
+      → IsWithin (edited m whole func old at types f)
+  edited_within types f more own =
+      let n = edited m whole func old at types f in
+      let mid = with_types m types m.functions in
+      let more_types : length m.types ≤ length n.types = begins_length m.types types more in
+      let symbols : length m.symbols ≤ length n.symbols = omega arith in
+      let same : length mid.types ≤ length n.types = omega arith in record {
+        structs = all_so (IsStructWithin m) (IsStructWithin n) m.structs (λ (x : StructType) h. (h.0, type_longer m n more_types symbols x.body h.1)) within.structs;
+        globals = all_so (IsGlobalWithin m) (IsGlobalWithin n) m.globals (λ (x : Global) h. (h.0, type_longer m n more_types symbols x.held h.1)) within.globals;
+        declares = all_so (IsDeclareWithin m) (IsDeclareWithin n) m.declares (declare_longer m n more_types symbols) within.declares;
+        functions = all_set (IsFunctionWithin n) m.functions func f
+            (all_so (IsFunctionWithin m) (IsFunctionWithin n) m.functions (function_longer m n more_types symbols) within.functions)
+            (function_longer mid n same symbols f own);
+      }
+
+  -- what was read, as a function of the module
+  function_within : (types : List IrType) (f : Function) → Begins m.types types → f.symbol ≡ old.symbol → IsInnerOf (with_types m types m.functions) f
+      → IsFunctionWithin (with_types m types m.functions) f
+  function_within types f more symbol_is inner =
+      let own = symbols_have in
+      let inside = inner (record { globals = own.globals; declares = own.declares; functions = own.functions }) in
+      let old_within = element_at (λ (x : Function). HasSymbol m x.symbol) m.functions func old at own.functions in
+      record { symbol = subst (HasSymbol m) (sym symbol_is) old_within; returned = inside.0; parameters = inside.1; sorts = inside.2; blocks = inside.3 }
+
+  old_within : (bytes : Text) (n : Module) → AreBytes bytes → IsReplaced m func bytes n → IsWithin n
+  old_within bytes n own h =
+      let text = h.1 in
+      let read = text.3 in
+      let said = subst (λ (name : Text). (anew func name).says (start_anew (tables_of m) func bytes text.1) tt read.0) (ap (name_in m) at) read.1 in
+      let got = function_read m whole.names func old at bytes text.1 read.0 whole.ordered own text.2 said read.2 in
+      let is = got.1 in
+      let end : edited m whole func old at read.0.types got.0 ≡ n = sym (read_edits m whole func old at read.0 got.0 is) ∙ ap (with_replacement m func) read.3 ∙ h.2 in
+      subst IsWithin end (edited_within read.0.types got.0 is.begins (function_within read.0.types got.0 is.begins is.symbol_is is.inner))
+
+-- the module in which a function is replaced
+pub replaced_is_within : (m : Module) (func : ℕ) (bytes : Text) (n : Module) → IsWhole m → IsWithin m → func < length m.functions → AreBytes bytes → IsReplaced m func bytes n → IsWithin n
+replaced_is_within m func bytes n whole within less own h = let old = get_some m.functions func less in old_within m whole within func old.0 old.1 bytes n own h

@@ -1,0 +1,56 @@
+-- Numbers within the tables of a module and of one of its functions: names, types, operands, and what instructions of several families have.
+use Rattle.std.specs.Prelude.{◌≡◌, ℕ, ◌<◌, length, Option, Some, None, slice_get}
+use Rattle.ir_ast.specs.declared.argument.Argument.{Argument}
+use Rattle.ir_ast.specs.declared.function.Function.{Function}
+use Rattle.ir_ast.specs.declared.function.LocalSort.TheVariants as local
+use Rattle.ir_ast.specs.declared.module.Module.{Module}
+use Rattle.ir_ast.specs.declared.operand.Operand.{Operand}
+use Rattle.ir_ast.specs.declared.operand.Operand.TheVariants as operand
+
+-- ---- numbers
+
+-- the table of types has this number
+abbrev pub HasType : Module → (written : ℕ) → Type 0
+HasType m written = written < length m.types
+
+-- the table of names of structs has it
+abbrev pub HasStructName : Module → (name : ℕ) → Type 0
+HasStructName m name = name < length m.struct_names
+
+-- the table of global names has it
+abbrev pub HasSymbol : Module → (symbol : ℕ) → Type 0
+HasSymbol m symbol = symbol < length m.symbols
+
+-- the table of local names has it
+abbrev pub HasLocal : Function → (value : ℕ) → Type 0
+HasLocal f value = value < length f.locals
+
+-- it is the local name of a block, and the function has that block
+abbrev pub HasBlock : Function → (label : ℕ) → Type 0
+HasBlock f label = HasLocal f label × ((block : ℕ) × (slice_get f.sorts label ≡ Some (local.Block block)) × (block < length f.blocks))
+
+-- the number of the value that is given, if one is
+abbrev pub HasResult : Function → Option ℕ → Type 0
+HasResult f None = Unit {0}
+HasResult f (Some value) = HasLocal f value
+
+-- ---- operands
+
+-- what an instruction of this function reads
+abbrev pub IsOperandWithin : Module → Function → Operand → Type 0
+IsOperandWithin m f (operand.Constant x) = Unit {0}
+IsOperandWithin m f (operand.Local value) = HasLocal f value
+IsOperandWithin m f (operand.Global symbol) = HasSymbol m symbol
+IsOperandWithin m f (operand.CastGlobal from symbol to) = HasType m from × HasSymbol m symbol × HasType m to
+
+-- an operand with its type
+abbrev pub IsArgumentWithin : Module → Function → Argument → Type 0
+IsArgumentWithin m f x = HasType m x.written × IsOperandWithin m f x.operand
+
+-- two operands of one type
+abbrev pub ArePairWithin : Module → Function → (written : ℕ) → (first second : Operand) → Type 0
+ArePairWithin m f written first second = HasType m written × IsOperandWithin m f first × IsOperandWithin m f second
+
+-- an operand and another type for it
+abbrev pub IsConvertedWithin : Module → Function → (from : ℕ) → Operand → (to : ℕ) → Type 0
+IsConvertedWithin m f from x to = HasType m from × IsOperandWithin m f x × HasType m to
