@@ -1,6 +1,5 @@
 -- Numbers of instructions are within the tables where the instructions are printable, whatever names come after those of the tables.
-use Rattle.std.proofs.Common.{◌≡◌, ℕ, ◌<◌, List, [], ◌∷◌, ◌++◌, length, map, drop, slice_get, Option, None, Some, sym, ap, subst, ◌∙◌, inl, inr, ◌⊎◌}
-use Rattle.std.proofs.lemmas.List.{map-append}
+use Rattle.std.proofs.Common.{◌≡◌, ℕ, ◌<◌, List, [], ◌∷◌, ◌++◌, length, Option, None, Some, sym, ap, subst, ◌∙◌, inl, inr}
 use Rattle.std.specs.List.{AllByRecursion}
 use Rattle.std.proofs.lemmas.Option.{slice_get_within}
 use Rattle.ir_ast.specs.declared.argument.Argument.{Argument}
@@ -43,11 +42,11 @@ use Rattle.ir_print_law.specs.PartsWithin.{HasType, HasSymbol, HasLocal, HasBloc
 use Rattle.ir_print_law.specs.Printable.{IsOp, IsInstr, IsIncoming, IsPhi, AreCases, IsEnd, IsBlock}
 use Rattle.ir_print_law.specs.Shapes.{IsIn, Shape, Integer, Pointer, Array, Empty, Struct, Named, HasShape, bits_of_shape}
 use Rattle.ir_print_law.specs.Within.{IsOpWithin, IsInstrWithin, IsIncomingWithin, IsPhiWithin, IsCaseWithin, IsEndWithin, IsBlockWithin}
-use Rattle.ir_print_law.proofs.DefinedWithin.{AreDefinedWithin, AreLocalValues, both}
+use Rattle.ir_print_law.proofs.DefinedWithin.{AreDefinedWithin, AreLocalValues}
 use Rattle.ir_print_law.proofs.FoundNames.{found_within, one_place, items_stay, in_all}
 use Rattle.ir_print_law.proofs.FunctionEnds.{whole_of, values_are, labels_are}
 use Rattle.ir_print_law.proofs.LocalNames.{keys_at, in_map, name_stays, names_stay}
-use Rattle.ir_print_law.proofs.Tables.{Begins, begins_with}
+use Rattle.ir_print_law.proofs.Tables.{begins_with}
 
 -- ---- types
 

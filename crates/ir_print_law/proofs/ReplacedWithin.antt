@@ -1,5 +1,5 @@
 -- The numbers of a module are within its tables where one of its functions is replaced.
-use Rattle.std.proofs.Common.{◌≡◌, ℕ, ◌<◌, ◌≤◌, List, ◌++◌, length, slice_get, Some, sym, ap, subst, ◌∙◌, arith, length-append, [], ◌∷◌, zero, suc}
+use Rattle.std.proofs.Common.{◌≡◌, ℕ, ◌<◌, ◌≤◌, List, length, slice_get, Some, sym, ap, subst, ◌∙◌, arith, length-append, [], ◌∷◌, zero, suc}
 use Rattle.lemmas.specs.Lists.{get_some}
 use Rattle.std.specs.List.{AllByRecursion}
 use Rattle.ir_ast.specs.declared.function.Function.{Function}
@@ -12,15 +12,15 @@ use Rattle.ir_tokens.specs.Bytes.{Text}
 use Rattle.ir_text.specs.Anew.{start_anew, anew}
 use Rattle.ir_text.specs.Replaced.{tables_of, name_in, with_replacement, IsReplaced}
 use Rattle.name_text.specs.Readings.{AreBytes}
-use Rattle.ir_print_law.specs.PartsWithin.{HasType, HasSymbol}
+use Rattle.ir_print_law.specs.PartsWithin.{HasSymbol}
 use Rattle.ir_print_law.specs.Wholes.{IsWhole}
 use Rattle.ir_print_law.specs.Within.{IsFunctionWithin, IsStructWithin, IsGlobalWithin, IsDeclareWithin, IsWithin}
-use Rattle.ir_print_law.proofs.AnewRead.{IsRead, function_read}
+use Rattle.ir_print_law.proofs.AnewRead.{function_read}
 use Rattle.ir_print_law.proofs.Known.{all_so}
 use Rattle.ir_print_law.proofs.LongerTypes.{with_types}
 use Rattle.ir_print_law.proofs.OpsWithin.{AreSymbolsWithin}
 use Rattle.ir_print_law.proofs.ReplacedWhole.{all_set, edited, read_edits}
-use Rattle.ir_print_law.proofs.Tables.{Begins, stays}
+use Rattle.ir_print_law.proofs.Tables.{Begins}
 use Rattle.ir_print_law.proofs.WithinRead.{IsInnerOf}
 use Rattle.ir_print_law.proofs.WithinLonger.{type_longer, declare_longer, function_longer}
 

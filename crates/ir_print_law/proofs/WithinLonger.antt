@@ -1,9 +1,8 @@
 -- Numbers that are within the tables of a module are within those of one that has no fewer types and global names.
-use Rattle.std.proofs.Common.{◌≡◌, ℕ, ◌≤◌, List, length, arith, Option}
+use Rattle.std.proofs.Common.{ℕ, ◌≤◌, List, length, arith}
 use Rattle.std.specs.List.{AllByRecursion}
 use Rattle.ir_ast.specs.declared.argument.Argument.{Argument}
 use Rattle.ir_ast.specs.declared.block.Block.{Block}
-use Rattle.ir_ast.specs.declared.choices.Incoming.{Incoming}
 use Rattle.ir_ast.specs.declared.choices.Phi.{Phi}
 use Rattle.ir_ast.specs.declared.ends.End.{End}
 use Rattle.ir_ast.specs.declared.ends.End.TheVariants as end

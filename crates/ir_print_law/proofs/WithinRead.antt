@@ -1,23 +1,19 @@
 -- The numbers of a module that is read are within its tables.
-use Rattle.std.proofs.Common.{◌≡◌, ℕ, ◌<◌, Bool, true, false, List, [], ◌++◌, length, slice_get, Some, refl, sym, subst, inl, inr, ◌⊎◌}
+use Rattle.std.proofs.Common.{◌≡◌, ℕ, Bool, true, false, List, ◌++◌, length, sym, subst, inl, inr, ◌⊎◌}
 use Rattle.std.specs.List.{AllByRecursion}
 use Rattle.ir_ast.specs.declared.function.Function.{Function}
 use Rattle.ir_ast.specs.declared.function.Parameter.{Parameter}
 use Rattle.ir_ast.specs.declared.items_of_module.Declare.{Declare}
 use Rattle.ir_ast.specs.declared.items_of_module.Global.{Global}
-use Rattle.ir_ast.specs.declared.items_of_module.StructType.{StructType}
 use Rattle.ir_ast.specs.declared.items_of_module.SymbolSort.TheVariants as symbol
 use Rattle.ir_ast.specs.declared.module.Module.{Module}
 use Rattle.ir_tokens.specs.Bytes.{Text}
 use Rattle.ir_forms.specs.Cursor.{spelled}
-use Rattle.ir_forms.specs.Names.{with_symbol_use}
-use Rattle.ir_forms.specs.declared.input.Input.{Input}
 use Rattle.ir_text.specs.Read.{IsText}
 use Rattle.name_text.specs.Readings.{AreBytes}
-use Rattle.ir_print_law.specs.Definitions.{defined_globals, functions_of}
 use Rattle.ir_print_law.specs.ModuleNames.{HasModuleNames}
 use Rattle.ir_print_law.specs.Parts.{IsVoid}
-use Rattle.ir_print_law.specs.PartsWithin.{HasType, HasStructName, HasSymbol, HasLocal}
+use Rattle.ir_print_law.specs.PartsWithin.{HasType, HasSymbol, HasLocal}
 use Rattle.ir_print_law.specs.Printable.{IsPassed, IsParameter, IsAnyType, IsStructType, IsGlobal, IsDeclare, IsBlock, IsFunction, IsPrintable}
 use Rattle.ir_print_law.specs.Shapes.{IsIn}
 use Rattle.ir_print_law.specs.Within.{IsParameterWithin, IsBlockWithin, IsFunctionWithin, IsStructWithin, IsGlobalWithin, IsDeclareWithin, IsWithin}
