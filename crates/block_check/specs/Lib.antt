@@ -1,6 +1,6 @@
 pub mod Rows
 pub mod Subject
-pub mod Tables
+pub mod FunctionTables
 pub mod Decided
 pub mod Predecessors
 pub mod Shown

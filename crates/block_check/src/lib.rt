@@ -5,6 +5,7 @@ mod block_set;
 mod breach;
 mod check;
 mod entries;
+mod function_tables;
 mod given;
 mod given_rows;
 mod kept_rows;
@@ -12,7 +13,6 @@ mod phi_operands;
 mod phis;
 mod predecessors;
 mod subject;
-mod tables;
 mod walk;
 mod ways;
 
