@@ -6,6 +6,6 @@ pub mod Predecessors
 pub mod Shown
 pub mod PhiOperands
 pub mod Entries
-pub mod Walk
+pub mod BlockWalk
 pub mod Follows
 pub mod Exact

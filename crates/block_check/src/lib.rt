@@ -2,6 +2,7 @@
 #![tactic(auto)]
 
 mod block_set;
+mod block_walk;
 mod breach;
 mod check;
 mod entries;
@@ -13,7 +14,6 @@ mod phi_operands;
 mod phis;
 mod predecessors;
 mod subject;
-mod walk;
 mod ways;
 
 pub use block_rules::{BlockFault, Breach, Detail, Refusal, Rule};
