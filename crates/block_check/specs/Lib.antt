@@ -1,11 +1,11 @@
 pub mod Rows
 pub mod Subject
-pub mod Tables
+pub mod FunctionTables
 pub mod Decided
 pub mod Predecessors
 pub mod Shown
 pub mod PhiOperands
 pub mod Entries
-pub mod Walk
+pub mod BlockWalk
 pub mod Follows
 pub mod Exact

@@ -5,10 +5,10 @@ ghost use Rattle.block_check.specs.Rows.{AreRowsOf, AreGivenOf};
 ghost use Rattle.block_check.specs.Subject.{IsReady};
 ghost use Rattle.block_rules.specs.Functions.{blocks_in, AreBlocksCertified, IsFunctionCertified, IsFirstInFunction, IsFunctionFault};
 
+use crate::block_walk::BlockWalk;
+use crate::function_tables::FunctionTables;
 use crate::kept_rows::Rows;
 use crate::subject::{Subject, function_of};
-use crate::tables::Tables;
-use crate::walk::Walk;
 use crate::ways::Rooms;
 use block_rules::{BlockFault, Refusal, Scene};
 use certs::Certs;
@@ -79,7 +79,7 @@ fn answer_block(
     ensures { MatchResult result (λ _. BlockCertified program.now certs.now func block) (λ fault. IfRefused fault (FirstRefusal program.now certs.now func block)) }
 {
     let function = function_of(program.module(), func);
-    let tables = Tables::of(alloc, program.module(), function)?;
+    let tables = FunctionTables::of(alloc, program.module(), function)?;
     let scene = Scene {
         program,
         certs,
@@ -120,7 +120,7 @@ fn answer_function(
     let Ok(count) = u32::try_from(function.blocks.len()) else {
         return Err(BlockFault::Memory);
     };
-    let tables = Tables::of(alloc, program.module(), function)?;
+    let tables = FunctionTables::of(alloc, program.module(), function)?;
     let scene = Scene {
         program,
         certs,
@@ -179,7 +179,7 @@ fn answer(
     requires { IsReady subject.now }
     ensures { MatchResult result (λ _. BlockCertified subject.now.scene.program.now subject.now.scene.certs.now subject.now.func block) (λ fault. IfRefused fault (FirstRefusal subject.now.scene.program.now subject.now.scene.certs.now subject.now.func block)) }
 {
-    match Walk::over(subject, block).first_breach(alloc, facts, rooms)? {
+    match BlockWalk::over(subject, block).first_breach(alloc, facts, rooms)? {
         None => Ok(()),
         Some((instr, broken)) => Err(BlockFault::Refused(Refusal {
             func: subject.func,

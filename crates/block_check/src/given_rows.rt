@@ -4,10 +4,10 @@ ghost use Rattle.block_rules.specs.Ways.{given_at};
 ghost use Rattle.block_check.specs.Rows.{given_first, AreRowsOf};
 ghost use Rattle.block_check.specs.Subject.{seen, IsReady};
 
+use crate::function_tables::FunctionTables;
 use crate::given::begin_block;
 use crate::kept_rows::Rows;
 use crate::subject::{Subject, function_of};
-use crate::tables::Tables;
 use block_rules::Scene;
 use certs::Certs;
 use facts::{Facts, KeptFacts};
@@ -30,7 +30,7 @@ pub fn rows(
     let Ok(count) = u32::try_from(function.blocks.len()) else {
         return Err(AllocError);
     };
-    let tables = Tables::of(alloc, program.module(), function)?;
+    let tables = FunctionTables::of(alloc, program.module(), function)?;
     let scene = Scene {
         program,
         certs,

@@ -2,9 +2,11 @@
 #![tactic(auto)]
 
 mod block_set;
+mod block_walk;
 mod breach;
 mod check;
 mod entries;
+mod function_tables;
 mod given;
 mod given_rows;
 mod kept_rows;
@@ -12,8 +14,6 @@ mod phi_operands;
 mod phis;
 mod predecessors;
 mod subject;
-mod tables;
-mod walk;
 mod ways;
 
 pub use block_rules::{BlockFault, Breach, Detail, Refusal, Rule};

@@ -13,8 +13,8 @@ use Rattle.name_text.specs.Numbers.{is_nil}
 use Rattle.name_text.specs.Words.{word_at, past_lines}
 use Rattle.name_text.specs.declared.naming.Sigil.TheVariants as sigil
 use Rattle.edit_text.specs.Lines.{line_ends, is_dot, past_line, past_line_falls, past_line_takes}
-use Rattle.edit_text.specs.declared.found.Found.{Found}
-use Rattle.edit_text.specs.declared.found.Found.TheVariants.{Syntax, Memory}
+use Rattle.edit_text.specs.declared.frame_fault.FrameFault.{FrameFault}
+use Rattle.edit_text.specs.declared.frame_fault.FrameFault.TheVariants.{Syntax, Memory}
 use Rattle.edit_text.specs.declared.part.Part.{Part}
 use Rattle.edit_text.specs.declared.part.Part.TheVariants.{Code, Cert, Both}
 
@@ -24,14 +24,14 @@ left bytes = length bytes
 
 -- a form of a text of edits, of which this is left
 abbrev pub Form : Type 0 → Type 1
-Form A = Grammar Text Found left A
+Form A = Grammar Text FrameFault left A
 
 -- What a function that reads ensures: the outcome, unless memory runs out.
-abbrev pub Reads : {A : Type 0} → Outcome Text Found A → Result A Found → Text → Type 0
+abbrev pub Reads : {A : Type 0} → Outcome Text FrameFault A → Result A FrameFault → Text → Type 0
 Reads = outcome.Reads Memory
 
 -- the fault of what stands next
-abbrev pub here : Text → Found
+abbrev pub here : Text → FrameFault
 here bytes = Syntax (left bytes)
 
 -- ---- words
@@ -54,7 +54,7 @@ pub expect_takes : (wanted : Text) → 0 < length wanted → Takes (expect wante
 unfolding expect skip
 expect_takes wanted some =
     checked_takes (λ bytes. bytes_eq (word_at bytes) wanted) here skip
-    (step_takes Found (λ bytes. bytes_eq (word_at bytes) wanted ≡ true) (λ _. tt) behind_word behind_word_falls (wanted_takes wanted some))
+    (step_takes FrameFault (λ bytes. bytes_eq (word_at bytes) wanted ≡ true) (λ _. tt) behind_word behind_word_falls (wanted_takes wanted some))
 
 -- the part that a word is
 abbrev pub part_of_word : (word : Text) → Option Part
@@ -92,7 +92,7 @@ pub line_takes : Takes line
 unfolding line
 line_takes =
     checked_takes goes_on here (step (λ _. tt) past_line past_line_falls)
-    (step_takes Found (λ bytes. goes_on bytes ≡ true) (λ _. tt) past_line past_line_falls past_line_takes)
+    (step_takes FrameFault (λ bytes. goes_on bytes ≡ true) (λ _. tt) past_line past_line_falls past_line_takes)
 
 -- the lines before the next `.` that stands alone on its line
 unfoldable pub lines : Form (Unit {0})

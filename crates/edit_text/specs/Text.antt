@@ -10,8 +10,8 @@ use Rattle.name_text.specs.Places.{place}
 use Rattle.edit_text.specs.Forms.{Form, expect, expect_takes, part, name, line_end, gap, text}
 use Rattle.edit_text.specs.declared.edit.Edit.{Edit}
 use Rattle.edit_text.specs.declared.edit.Edit.TheVariants as kinds
-use Rattle.edit_text.specs.declared.found.Found.{Found}
-use Rattle.edit_text.specs.declared.found.Found.TheVariants.{Syntax, Memory}
+use Rattle.edit_text.specs.declared.frame_fault.FrameFault.{FrameFault}
+use Rattle.edit_text.specs.declared.frame_fault.FrameFault.TheVariants.{Syntax, Memory}
 use Rattle.edit_text.specs.declared.part.Part.{Part}
 use Rattle.edit_text.specs.declared.part.Part.TheVariants.{Code, Cert, Both}
 use Rattle.certificate.specs.declared.fault.CertFault.{CertFault}
@@ -55,10 +55,10 @@ abbrev pub IsEdits : Text → List Edit → Type 0
 IsEdits bytes listed = (o : Text) × file.says bytes listed o
 
 -- a fault with its place
-abbrev pub placed : Text → Found → CertFault
+abbrev pub placed : Text → FrameFault → CertFault
 placed bytes (Syntax rest) = fault.Syntax (place bytes rest)
 placed bytes Memory = fault.Memory
 
 -- the text is of the format up to a place, where it has this fault
 abbrev pub IsFault : Text → CertFault → Type 0
-IsFault bytes fault = (found : Found) × file.stuck bytes found × (placed bytes found ≡ fault)
+IsFault bytes fault = (found : FrameFault) × file.stuck bytes found × (placed bytes found ≡ fault)

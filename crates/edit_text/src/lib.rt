@@ -3,8 +3,8 @@
 #![tactic(auto)]
 
 mod edit;
-mod found;
-mod input;
+mod edit_input;
+mod frame_fault;
 mod lines;
 mod part;
 mod reader;

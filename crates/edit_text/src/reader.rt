@@ -7,13 +7,13 @@ ghost use Rattle.edit_text.specs.Forms.{Reads};
 ghost use Rattle.edit_text.specs.Text as text;
 ghost use Rattle.edit_text.specs.Text.{IsEdits, IsFault};
 ghost use Rattle.edit_text.specs.declared.edit.Edit.{Edit as AnEdit};
-ghost use Rattle.edit_text.specs.declared.found.Found.TheVariants.{Memory};
+ghost use Rattle.edit_text.specs.declared.frame_fault.FrameFault.TheVariants.{Memory};
 ghost use Rattle.certificate.specs.declared.fault.CertFault.{CertFault as AFault};
 ghost use Rattle.certificate.specs.declared.fault.CertFault.TheVariants as fault;
 
 use crate::edit::Edit;
-use crate::found::Found;
-use crate::input::Input;
+use crate::edit_input::EditInput;
+use crate::frame_fault::FrameFault;
 use crate::part::{Part, part_of_word};
 use certificate::CertFault;
 use items::Items;
@@ -22,11 +22,11 @@ use std::alloc::Global;
 
 /// The word that tells what the edit replaces.
 #[tactic(auto, unfolding(crate::specs::Forms::part, crate::specs::Forms::skip))]
-fn part(input: &mut Input<'_>) -> Result<Part, Found>
+fn part(input: &mut EditInput<'_>) -> Result<Part, FrameFault>
     ensures { Reads (form.part.read input.old) result input.new }
 {
     match part_of_word(input.word()) {
-        None => Err(Found::Syntax(input.left())),
+        None => Err(FrameFault::Syntax(input.left())),
         Some(part) => {
             input.skip();
             Ok(part)
@@ -36,11 +36,11 @@ fn part(input: &mut Input<'_>) -> Result<Part, Found>
 
 /// The name of a function, without its sign.
 #[tactic(auto, unfolding(crate::specs::Forms::name, crate::specs::Forms::skip))]
-fn name(alloc: Global, input: &mut Input<'_>) -> Result<Items<u8>, Found>
+fn name(alloc: Global, input: &mut EditInput<'_>) -> Result<Items<u8>, FrameFault>
     ensures { Reads (form.name.read input.old) result input.new }
 {
     match name_in(alloc, Sigil::Global, input.word())? {
-        None => Err(Found::Syntax(input.left())),
+        None => Err(FrameFault::Syntax(input.left())),
         Some(name) => {
             input.skip();
             Ok(name)
@@ -50,11 +50,11 @@ fn name(alloc: Global, input: &mut Input<'_>) -> Result<Items<u8>, Found>
 
 /// A line, whatever stands on it.
 #[tactic(auto, unfolding(crate::specs::Forms::line))]
-fn line(input: &mut Input<'_>) -> Result<(), Found>
+fn line(input: &mut EditInput<'_>) -> Result<(), FrameFault>
     ensures { Reads (form.line.read input.old) result input.new }
 {
     if input.ended() {
-        return Err(Found::Syntax(input.left()));
+        return Err(FrameFault::Syntax(input.left()));
     }
     input.skip_line();
     Ok(())
@@ -62,7 +62,7 @@ fn line(input: &mut Input<'_>) -> Result<(), Found>
 
 /// The lines before the next `.` that stands alone on its line.
 #[tactic(auto, unfolding(crate::specs::Forms::lines))]
-fn lines(input: &mut Input<'_>) -> Result<(), Found>
+fn lines(input: &mut EditInput<'_>) -> Result<(), FrameFault>
     ensures { Reads (form.lines.read input.old) result input.new }
 {
     for _turn in 0..input.left() + 1 {
@@ -76,7 +76,7 @@ fn lines(input: &mut Input<'_>) -> Result<(), Found>
 
 /// The bytes of the lines before the next `.`, which is read too.
 #[tactic(auto, unfolding(crate::specs::Forms::text))]
-fn text(alloc: Global, input: &mut Input<'_>) -> Result<Items<u8>, Found>
+fn text(alloc: Global, input: &mut EditInput<'_>) -> Result<Items<u8>, FrameFault>
     ensures { Reads (form.text.read input.old) result input.new }
 {
     let begin = input.rest();
@@ -88,7 +88,12 @@ fn text(alloc: Global, input: &mut Input<'_>) -> Result<Items<u8>, Found>
 
 /// An edit after its first line.
 #[tactic(auto, unfolding(crate::specs::Text::edit_of))]
-fn edit_of(alloc: Global, input: &mut Input<'_>, part: Part, name: Items<u8>) -> Result<Edit, Found>
+fn edit_of(
+    alloc: Global,
+    input: &mut EditInput<'_>,
+    part: Part,
+    name: Items<u8>,
+) -> Result<Edit, FrameFault>
     ensures { Reads ((text.edit_of part name).read input.old) result input.new }
 {
     match part {
@@ -114,7 +119,7 @@ fn edit_of(alloc: Global, input: &mut Input<'_>, part: Part, name: Items<u8>) ->
 
 /// An edit, and what may stand between it and the next one.
 #[tactic(auto, unfolding(crate::specs::Text::edit, crate::specs::Forms::gap))]
-fn edit(alloc: Global, input: &mut Input<'_>) -> Result<Edit, Found>
+fn edit(alloc: Global, input: &mut EditInput<'_>) -> Result<Edit, FrameFault>
     ensures { Reads (text.edit.read input.old) result input.new }
 {
     input.expect(b"edit")?;
@@ -128,7 +133,7 @@ fn edit(alloc: Global, input: &mut Input<'_>) -> Result<Edit, Found>
 
 /// The edits up to the text's end.
 #[tactic(auto, unfolding(crate::specs::Text::edits))]
-fn edits(alloc: Global, input: &mut Input<'_>) -> Result<Items<Edit>, Found>
+fn edits(alloc: Global, input: &mut EditInput<'_>) -> Result<Items<Edit>, FrameFault>
     ensures { Reads (text.edits.read input.old) result input.new }
 {
     let mut edits = Items::new(alloc);
@@ -142,21 +147,21 @@ fn edits(alloc: Global, input: &mut Input<'_>) -> Result<Items<Edit>, Found>
 }
 
 #[tactic(auto, unfolding(crate::specs::Text::file, crate::specs::Forms::gap))]
-fn edits_of(alloc: Global, bytes: &[u8]) -> Result<Items<Edit>, Found>
+fn edits_of(alloc: Global, bytes: &[u8]) -> Result<Items<Edit>, FrameFault>
     ensures { Gives Memory result (value_of (text.file.read bytes.now)) }
 {
-    let mut input = Input::new(bytes);
+    let mut input = EditInput::new(bytes);
     input.skip_gap();
     edits(alloc, &mut input)
 }
 
 /// The fault with its line and column.
-fn placed(bytes: &[u8], found: Found) -> CertFault
+fn placed(bytes: &[u8], found: FrameFault) -> CertFault
     ensures { result ≡ text.placed bytes.now found }
 {
     match found {
-        Found::Syntax(rest) => CertFault::Syntax(place(bytes, rest)),
-        Found::Memory => CertFault::Memory,
+        FrameFault::Syntax(rest) => CertFault::Syntax(place(bytes, rest)),
+        FrameFault::Memory => CertFault::Memory,
     }
 }
 

@@ -1,5 +1,5 @@
 -- A run with one more step that its actor may make is a run, and the table that the step leaves meets the rule.
-use Rattle.std.proofs.Common.{◌≡◌, ◌≢◌, ℕ, ◌<◌, ◌==◌, Bool, true, false, List, [], ◌∷◌, length, get_or, set, max, if◌then◌else◌, refl, sym, ap, subst, ◌∙◌, ⊎_elim, arith}
+use Rattle.std.proofs.Common.{◌≡◌, ◌≢◌, ℕ, ◌<◌, ◌==◌, Bool, true, false, List, [], ◌∷◌, length, get_or, set, max, if◌then◌else◌, refl, sym, ap, subst, ◌∙◌, ⊎_elim, arith, true≢false}
 use Rattle.std.proofs.lemmas.List.{get_or-set_same, get_or-set_other}
 use Rattle.std.proofs.Math.ListN.{length-set}
 use mathlib.Core.Option.{some}
@@ -22,9 +22,6 @@ use Rattle.heap_rule.specs.View.{Actor, Share, OfThread, OfCollector, View, IsSe
 use Rattle.heap_rule.specs.Rule.{index, HasPlace, IsShareIn, AreSharesIn, Knows, Ruled, ask_after, MayMake, SaysFound, Happens, IsStepBy, told, MayStep}
 use Rattle.heap_rule.specs.Places.{within, same_self, same_true, one_place}
 use Rattle.heap_rule.specs.Shares.{grows, knows_else, same_actor}
-
-true_false : {b : Bool} → b ≡ true → b ≡ false → ⊥
-true_false x y = cc
 
 -- the operation of the event in the run is the one after its actor's share
 pub ask_is : (s : Setup) (run : List Event) (share : Share) (event : Event) → MayMake s share event → IsShareIn run share → ask_in run event ≡ ask_after share event
@@ -125,7 +122,7 @@ module _ (s : Setup) (share : Share) (event : Event) (ask : Ask) where
         (get_or-set_same table.words at_word (left_by ask p n) 0 wide ∙ (ap (λ (x : ℕ). left_by ask p x) found ∙ sym (after_step s h.run event ask p operation)))
 
     other : (q : Place) → HasPlace s q → same_place p q ≡ false → get_or (set table.words at_word (left_by ask p n)) (index s q) 0 ≡ word_after s (event ∷ h.run) q
-    other q ok e = get_or-set_other table.words at_word (index s q) (left_by ask p n) 0 (λ (x : index s q ≡ at_word). true_false (subst (λ (w : Place). same_place p w ≡ true) (one_place s p q here ok (sym x)) (same_self p)) e)
+    other q ok e = get_or-set_other table.words at_word (index s q) (left_by ask p n) 0 (λ (x : index s q ≡ at_word). true≢false (sym (subst (λ (w : Place). same_place p w ≡ true) (one_place s p q here ok (sym x)) (same_self p)) ∙ e))
         ∙ (h.words q ok ∙ sym (after_step s h.run event ask q operation ∙ left_else ask q (word_after s h.run q) e))
 
 -- a word after an operation on it

@@ -1,5 +1,5 @@
 -- The marks of roots, and the answer.
-use Rattle.std.proofs.Common.{◌≡◌, ◌≢◌, ℕ, zero, suc, ◌+◌, ◌<◌, ◌==◌, ◌^◌, inl, inr, ⊎_elim, Bool, true, false, List, [], ◌∷◌, ◌++◌, take, get_or, length, reverse, if◌then◌else◌, refl, sym, ap, subst, ◌∙◌, append-nil, arith}
+use Rattle.std.proofs.Common.{◌≡◌, ◌≢◌, ℕ, zero, suc, ◌+◌, ◌<◌, ◌==◌, ◌^◌, inl, inr, ⊎_elim, Bool, true, false, List, [], ◌∷◌, ◌++◌, take, get_or, length, reverse, if◌then◌else◌, refl, sym, ap, subst, ◌∙◌, append-nil, arith, true≢false}
 use Rattle.std.specs.Prelude.{IsTrue}
 use Rattle.pools.specs.Heap.{Setup}
 use Rattle.colours.specs.declared.place.Place.TheVariants.{Posted}
@@ -54,9 +54,6 @@ phase_marked s t posted [] log marked h = h
 phase_marked s t posted (zero ∷ roots) log marked h = phase_marked s t posted roots log marked h
 phase_marked s t posted (suc r ∷ roots) log marked h = phase_marked s t posted roots (Mark (suc r) ∷ log) (suc r ∷ marked) (rw h refl)
 
-true_false : {b : Bool} → b ≡ true → b ≡ false → ⊥
-true_false x y = cc
-
 -- ---- one root more
 
 pub marks_more : (roots : List ℕ) (i : ℕ) (log : List Step) → i < length roots → with_marks (take (suc i) roots) log ≡ marks (get_or roots i 0) ++ with_marks (take i roots) log
@@ -94,7 +91,7 @@ answers s t posted roots log h = go (is_async posted) refl
 
     go : (b : Bool) → is_async posted ≡ b → MayFollow s (stage_of (if b then with_marks roots log else log)) (phase_of s t (if b then with_marks roots log else log)) (StoreStage posted roots)
     go true e = subst (λ (p : Phase). MayFollow s (stage_of (with_marks roots log)) p (StoreStage posted roots)) (sym (phase_marked s t posted roots log [] h)) (refl, λ x. named)
-    go false e = subst (λ (p : Phase). MayFollow s (stage_of log) p (StoreStage posted roots)) (sym h) (refl, λ x. absurd (true_false x e))
+    go false e = subst (λ (p : Phase). MayFollow s (stage_of log) p (StoreStage posted roots)) (sym h) (refl, λ x. absurd (true≢false (sym x ∙ e)))
 
 pub use_before : (s : Setup) (posted : ℕ) (roots : List ℕ) (log : List Step) (c : ℕ) → MayUse s log c → MayUse s (before_answer posted roots log) c
 use_before s posted roots log c h = go (is_async posted)

@@ -1,9 +1,9 @@
 ghost use Rattle.std.specs.Prelude.{◌≡◌, ◌<◌, length, slice_set, slice_index};
 ghost use Rattle.moves.specs.Shared.{CanHold, CanTake, with_move, with_number};
 
+use crate::cell_words::CellWords;
 use crate::moves::Move;
 use crate::reference::Reference;
-use crate::rows::Rows;
 use colours::{DONE, Place, claim_at, mark_at};
 use items::Items;
 use trace_sweep::Words;
@@ -20,7 +20,7 @@ pub struct Shared {
     /// How often each cell was claimed.
     pub births: Items<u64>,
     /// The words of each cell.
-    pub words: Rows,
+    pub words: CellWords,
 }
 
 impl Words for Shared {

@@ -16,7 +16,7 @@ use Rattle.program_safety.specs.Safety.{IsCarefulProgram}
 use Rattle.program_runner.specs.Heaps.{heap_of}
 use Rattle.program_runner.specs.Kinds.{FitsThread}
 use Rattle.program_runner.specs.Threads.{ProgramThread, program_machine}
-use Rattle.serving.specs.declared.serving.Outcome.{Outcome}
+use Rattle.serving.specs.declared.serving.ServingEnd.{ServingEnd}
 use Rattle.serving.specs.Serving.{MayBeServed}
 use Rattle.setups.specs.Setups.{begun_at}
 use Rattle.setups.specs.SafeSetups.{begins, is_heap_for}
@@ -60,7 +60,7 @@ may_be_served p setup certs heap t b token careful fits same at is may new =
     }
 
 -- the thread with its token, at the beginning of its function
-pub job_of : (p : LaidOut) (setup : Setup) (certs : List Section) (heap : Shared) (t : ℕ) (b : Start) (token : Holder) (machine : ProgramThread) (late : Bool) (outcome : Outcome)
+pub job_of : (p : LaidOut) (setup : Setup) (certs : List Section) (heap : Shared) (t : ℕ) (b : Start) (token : Holder) (machine : ProgramThread) (late : Bool) (outcome : ServingEnd)
     → IsCarefulProgram p certs → BegunFits → heap.setup ≡ heap_of p setup → slice_get setup.starts t ≡ Some b → IsStartOf p b → MayStart p certs b → IsNew heap t token
     → machine ≡ begun_at p setup (Some b) → late ≡ is_late b.arrival → IsJobOf p setup heap t (record { me = token; machine = machine; is_late = late; outcome = outcome })
 job_of p setup certs heap t b token machine late outcome careful fits same at is may new begun arrives = record {

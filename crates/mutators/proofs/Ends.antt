@@ -1,6 +1,6 @@
 -- What the threads left that were served, and what is told of them.
 use Rattle.std.proofs.Common.{◌≡◌, ◌<◌, ◌≤◌, ℕ, zero, suc, List, [], ◌∷◌, ◌++◌, length, map, Some, slice_get, slice_index_or, refl, sym, ap, subst, ◌∙◌, arith}
-use Rattle.std.proofs.lemmas.List.{append-nil}
+use Rattle.std.proofs.lemmas.List.{append-nil, length-map}
 use Rattle.std.proofs.lemmas.Option.{slice_get_within}
 use Rattle.std.specs.List.{AllByRecursion}
 use Rattle.lemmas.specs.Lists.{get_some}
@@ -30,7 +30,7 @@ use Rattle.trace_text.specs.declared.trace.Setup.{Setup}
 use Rattle.mutators.specs.declared.thread_end.ThreadEnd.{ThreadEnd}
 use Rattle.mutators.specs.Jobs.{IsJobOf, AreJobs}
 use Rattle.mutators.specs.Reports.{IsThreadEnd, IsReport, end_of}
-use Rattle.mutators.proofs.Lists.{get_mapped, read_there, all_places, length_mapped}
+use Rattle.mutators.proofs.Lists.{get_mapped, read_there, all_places}
 use Rattle.mutators.proofs.Runs.{safe_run}
 
 -- the heap may serve them all
@@ -119,7 +119,7 @@ report p setup heap limits before after left first last closed threads turns cyc
       run = run;
       is_run = is_run;
       safe = safe_run s run (kept s) (touched s) is_run;
-      one_each = ap length told ∙ length_mapped end_of left ∙ ap length is ∙ same ∙ count;
+      one_each = ap length told ∙ length-map left end_of ∙ ap length is ∙ same ∙ count;
       threads = thread_ends p setup heap run limits.steps before after threads over same each are have (told ∙ ap (map end_of) is);
       turns = ap length (ends.collector ∙ made.1 ∙ ap (λ log. made.0 ++ log) none ∙ append-nil made.0) ∙ made.2;
       within = within;

@@ -30,11 +30,6 @@ pub all_places : {A : Type 0} {P : A → Type 0} (xs : List A) → ((t : ℕ) (x
 all_places [] each = tt
 all_places (x ∷ xs) each = (each zero x refl, all_places xs (λ t y e. each (suc t) y e))
 
--- a mapped list has as many elements
-pub length_mapped : {A B : Type 0} (f : A → B) (xs : List A) → length (map f xs) ≡ length xs
-length_mapped f [] = refl
-length_mapped f (x ∷ xs) = ap suc (length_mapped f xs)
-
 -- a list of which each element was written again
 pub written_over : {A : Type 0} (n : ℕ) (new old : List A) → length new ≡ length old → n ≡ length old → take n (new ++ drop (length new) old) ≡ new
 written_over zero [] [] same many = refl
@@ -43,8 +38,3 @@ written_over n [] (y ∷ old) same many = absurd (omega (arith, same))
 written_over n (x ∷ new) [] same many = absurd (omega (arith, same))
 written_over zero (x ∷ new) (y ∷ old) same many = absurd (omega (arith, many))
 written_over (suc n) (x ∷ new) (y ∷ old) same many = ap (λ rest. x ∷ rest) (written_over n new old (omega (arith, same)) (omega (arith, many)))
-
--- and one with one element more has one more
-pub length_pushed : {A : Type 0} (xs : List A) (x : A) → length (xs ++ x ∷ []) ≡ suc (length xs)
-length_pushed [] x = refl
-length_pushed (y ∷ xs) x = ap suc (length_pushed xs x)

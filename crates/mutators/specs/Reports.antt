@@ -14,8 +14,8 @@ use Rattle.program_runner.specs.Heaps.{heap_of}
 use Rattle.program_runner.specs.Threads.{ProgramThread, program_machine}
 use Rattle.serving.specs.declared.beside.Job.{Job}
 use Rattle.serving.specs.declared.beside.Limits.{Limits}
-use Rattle.serving.specs.declared.serving.Outcome.{Outcome}
-use Rattle.serving.specs.declared.serving.Outcome.TheVariants as outcome
+use Rattle.serving.specs.declared.serving.ServingEnd.{ServingEnd}
+use Rattle.serving.specs.declared.serving.ServingEnd.TheVariants as outcome
 use Rattle.serving.specs.Endings.{EndsSo}
 use Rattle.setups.specs.Setups.{starts_of}
 use Rattle.trace_text.specs.declared.trace.Setup.{Setup}
@@ -24,7 +24,7 @@ use Rattle.mutators.specs.declared.thread_end.ThreadEnd.{ThreadEnd}
 use Rattle.mutators.specs.declared.thread_end.ThreadEnd.TheVariants.{Returned, Ended, Stopped, Memory, Absent}
 
 -- what is told of a thread that was served so far, and that ends so if it asks for its end
-abbrev pub told : Outcome → Ending → ThreadEnd
+abbrev pub told : ServingEnd → Ending → ThreadEnd
 told outcome.Ended (ending.Returned result) = Returned result
 told outcome.Ended ending.Over = Ended
 told outcome.Stopped e = Stopped
@@ -39,7 +39,7 @@ end_of job = told job.outcome (ending job.machine.program job.machine.state)
 -- or ended went to its end; one that stopped, or never began, made as many moves as the limit says.
 pub record IsThreadEnd (p : LaidOut) (setup : Setup) (limit thread : ℕ) (log : List Step) (end : ThreadEnd) : Type 0 where
   pub left : Left (heap_of p setup) program_machine thread (starts_of p setup thread) log
-  pub outcome : Outcome
+  pub outcome : ServingEnd
   pub state : ProgramThread
   pub ends : EndsSo (heap_of p setup) program_machine thread (starts_of p setup thread) limit outcome state log
   pub told : end ≡ told outcome (ending state.program state.state)

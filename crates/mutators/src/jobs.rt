@@ -12,7 +12,7 @@ use block_rules::promises_in;
 use heap_table::{Heap, Mutator};
 use module_check::Accepted;
 use program_runner::{ProgramThread, begun_law};
-use serving::{Job, Outcome};
+use serving::{Job, ServingEnd};
 use setups::{SetupFault, begun_thread};
 use std::alloc::Global;
 use trace_text::{Setup, Start};
@@ -71,6 +71,6 @@ fn new_job<'a>(
         me,
         machine,
         is_late: begun.arrival.is_late(),
-        outcome: Outcome::Absent,
+        outcome: ServingEnd::Absent,
     })
 }

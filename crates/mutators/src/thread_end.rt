@@ -4,7 +4,7 @@ ghost use Rattle.mutators.specs.Reports.{told, end_of};
 use items::Items;
 use machine::{Ending, Value};
 use program_runner::ProgramThread;
-use serving::{Job, Outcome};
+use serving::{Job, ServingEnd};
 use std::alloc::{AllocError, Global};
 
 /// How a thread of a run ended.
@@ -48,14 +48,14 @@ fn end_of(job: &Job<ProgramThread<'_>>) -> ThreadEnd
 }
 
 /// What is told of a thread that was served so far, and that ends so if it asks for its end.
-fn told(outcome: Outcome, ending: Ending) -> ThreadEnd
+fn told(outcome: ServingEnd, ending: Ending) -> ThreadEnd
     ensures { result ≡ told outcome ending }
 {
     match (outcome, ending) {
-        (Outcome::Ended, Ending::Returned(result)) => ThreadEnd::Returned(result),
-        (Outcome::Ended, Ending::Over) => ThreadEnd::Ended,
-        (Outcome::Stopped, _) => ThreadEnd::Stopped,
-        (Outcome::Memory, _) => ThreadEnd::Memory,
-        (Outcome::Absent, _) => ThreadEnd::Absent,
+        (ServingEnd::Ended, Ending::Returned(result)) => ThreadEnd::Returned(result),
+        (ServingEnd::Ended, Ending::Over) => ThreadEnd::Ended,
+        (ServingEnd::Stopped, _) => ThreadEnd::Stopped,
+        (ServingEnd::Memory, _) => ThreadEnd::Memory,
+        (ServingEnd::Absent, _) => ThreadEnd::Absent,
     }
 }

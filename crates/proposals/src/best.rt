@@ -1,5 +1,5 @@
 //! The lines of a block that no way enters: all that it needs, since it never runs.
-use crate::draft::Listed;
+use crate::draft_lines::BlockLines;
 use crate::ground::Ground;
 use crate::rows::row_or;
 use block_rules::Scene;
@@ -13,9 +13,9 @@ pub fn best_lines(
     scene: &Scene,
     ground: &Ground,
     block: BlockId,
-) -> Result<Listed, AllocError> {
+) -> Result<BlockLines, AllocError> {
     let values = scene.function.locals.count();
-    let mut listed = Listed::new(alloc);
+    let mut listed = BlockLines::new(alloc);
     for number in ground.reading.wanted.group(block.number() as usize) {
         let value = ValueId::new(*number);
         if (*number as usize) < values {

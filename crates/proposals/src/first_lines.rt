@@ -1,5 +1,5 @@
 //! The lines of a block by the first way to it.
-use crate::draft::Listed;
+use crate::draft_lines::BlockLines;
 use crate::ground::Ground;
 use crate::rows::row_or;
 use block_rules::Scene;
@@ -19,7 +19,7 @@ struct Lister<'a> {
     facts: &'a Facts,
     /// What is wanted, in its order.
     wanted: &'a [u32],
-    listed: Listed,
+    listed: BlockLines,
     /// The first value that is listed of each class.
     firsts: IndexMap<usize, ValueId>,
 }
@@ -32,13 +32,13 @@ pub fn first_lines(
     facts: &Facts,
     to: BlockId,
     names: &[ValueId],
-) -> Result<Listed, AllocError> {
+) -> Result<BlockLines, AllocError> {
     let mut lister = Lister {
         scene,
         ground,
         facts,
         wanted: ground.reading.wanted.group(to.number() as usize),
-        listed: Listed::new(alloc),
+        listed: BlockLines::new(alloc),
         firsts: IndexMap::new(alloc),
     };
     match lister.list(alloc, names) {
@@ -58,7 +58,7 @@ impl<'a> Lister<'a> {
         self.slots()
     }
 
-    fn into_listed(self) -> Listed {
+    fn into_listed(self) -> BlockLines {
         self.listed
     }
 

@@ -1,8 +1,8 @@
-use crate::arrivals::Arrivals;
 use crate::buckets::Buckets;
-use crate::deals::Deals;
 use crate::guesses::Guesses;
+use crate::incoming_operands::IncomingOperands;
 use crate::scan::Scan;
+use crate::summaries::Summaries;
 use crate::wanted::wanted_of;
 use facts::Facts;
 use ir_ast::{FuncId, Function, Module};
@@ -22,7 +22,7 @@ pub struct Ground {
 /// What is read in the text of a function.
 #[derive(Drop)]
 pub struct Reading {
-    pub arrivals: Arrivals,
+    pub incoming: IncomingOperands,
     pub guesses: Guesses,
     /// The values and slots that are wanted at each block; a slot's number comes after those of all values.
     pub wanted: Buckets,
@@ -34,10 +34,10 @@ impl Ground {
         module: &Module,
         func: FuncId,
         function: &Function,
-        deals: &Deals,
+        summaries: &Summaries,
     ) -> Result<Ground, AllocError> {
         let slots = Slots::of(alloc, module, function)?;
-        let Ok(reading) = Reading::of(alloc, module, function, &slots, deals) else {
+        let Ok(reading) = Reading::of(alloc, module, function, &slots, summaries) else {
             drop(slots);
             return Err(AllocError);
         };
@@ -61,20 +61,20 @@ impl Reading {
         module: &Module,
         function: &Function,
         slots: &Slots,
-        deals: &Deals,
+        summaries: &Summaries,
     ) -> Result<Reading, AllocError> {
-        let guesses = Guesses::of(alloc, module, function, slots, deals)?;
+        let guesses = Guesses::of(alloc, module, function, slots, summaries)?;
         let Ok(wanted) = wanted_in(alloc, function, slots, &guesses) else {
             drop(guesses);
             return Err(AllocError);
         };
-        let Ok(arrivals) = Arrivals::of(alloc, function) else {
+        let Ok(incoming) = IncomingOperands::of(alloc, function) else {
             drop(guesses);
             drop(wanted);
             return Err(AllocError);
         };
         Ok(Reading {
-            arrivals,
+            incoming,
             guesses,
             wanted,
         })

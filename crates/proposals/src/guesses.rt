@@ -1,7 +1,7 @@
 //! What the text of a function tells of its values before they are known.
 use crate::call_graph::defined;
-use crate::deals::Deals;
 use crate::rows::{put, row_or};
+use crate::summaries::Summaries;
 use block_rules::TypeKind;
 use ir_ast::{
     Argument, Call, Cast, Constant, End, Function, Instr, Module, Op, Operand, Phi, Runtime,
@@ -29,12 +29,12 @@ impl Guesses {
         module: &Module,
         function: &Function,
         slots: &Slots,
-        deals: &Deals,
+        summaries: &Summaries,
     ) -> Result<Guesses, AllocError> {
         let mut guesses = Guesses::before(alloc, module, function, slots.count())?;
         for block in function.blocks.as_slice() {
             for instr in block.body.as_slice() {
-                guesses.note(module, slots, deals, instr);
+                guesses.note(module, slots, summaries, instr);
             }
         }
         for block in function.blocks.as_slice() {
@@ -69,7 +69,7 @@ impl Guesses {
         })
     }
 
-    fn note(&mut self, module: &Module, slots: &Slots, deals: &Deals, instr: &Instr) {
+    fn note(&mut self, module: &Module, slots: &Slots, summaries: &Summaries, instr: &Instr) {
         let Some(value) = instr.result else {
             return;
         };
@@ -84,7 +84,7 @@ impl Guesses {
             Op::Element(element) => self.note_element(at, &element.base),
             Op::Cast(cast) => self.note_cast(at, cast),
             Op::Call(call) => {
-                let layout = layout_called(module, deals, call);
+                let layout = layout_called(module, summaries, call);
                 note_layout(&mut self.layouts, value, layout);
             }
             Op::Number(_) | Op::Memory(_) | Op::Choice(_) => {}
@@ -122,9 +122,9 @@ fn only_layout(module: &Module) -> Option<LayoutId> {
 }
 
 /// The layout of what a call returns.
-fn layout_called(module: &Module, deals: &Deals, call: &Call) -> Option<LayoutId> {
+fn layout_called(module: &Module, summaries: &Summaries, call: &Call) -> Option<LayoutId> {
     if let Some(callee) = defined(module, call.callee) {
-        return deals.result(callee).layout();
+        return summaries.result(callee).layout();
     }
     match runtime_called(module, call.callee) {
         Some(Runtime::Alloc) => layout_allocated(call.arguments.as_slice()),

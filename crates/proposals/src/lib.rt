@@ -2,17 +2,16 @@
 //! changes. Nothing is promised of them but that they are found: the check decides.
 #![tactic(auto)]
 
-mod arrivals;
 mod best;
 mod buckets;
 mod call_graph;
 mod claim;
-mod deals;
-mod draft;
+mod draft_lines;
 mod first_lines;
+mod flow_facts;
 mod ground;
 mod guesses;
-mod knowledge;
+mod incoming_operands;
 mod marks;
 mod needs;
 mod numbers;
@@ -20,6 +19,7 @@ mod order;
 mod proposal;
 mod rows;
 mod scan;
+mod summaries;
 mod walk;
 mod wanted;
 mod weaken;

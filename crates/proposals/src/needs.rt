@@ -1,9 +1,9 @@
 //! What integers have to be below, for the indices that they are.
 use crate::call_graph::defined;
 use crate::claim::smaller;
-use crate::deals::Deals;
 use crate::numbers::bounded_operand;
 use crate::rows::{put, row_or};
+use crate::summaries::Summaries;
 use ir_ast::{Block, Call, Element, Function, Instr, Module, Op, Operand, Phi, TypeId};
 use layout::{Program, Step};
 use std::alloc::{AllocError, Global};
@@ -12,7 +12,7 @@ use std::alloc::{AllocError, Global};
 #[derive(Drop)]
 struct Needs<'a> {
     program: &'a Program,
-    deals: &'a Deals,
+    summaries: &'a Summaries,
     each: Vec<Option<u64>>,
 }
 
@@ -21,11 +21,11 @@ pub fn needs_of(
     alloc: Global,
     program: &Program,
     function: &Function,
-    deals: &Deals,
+    summaries: &Summaries,
 ) -> Result<Vec<Option<u64>>, AllocError> {
     let mut needs = Needs {
         program,
-        deals,
+        summaries,
         each: vec![in alloc; None; function.locals.count()]?,
     };
     for block in function.blocks.as_slice().iter().rev() {
@@ -84,7 +84,7 @@ impl<'a> Needs<'a> {
         };
         let mut place = 0usize;
         for argument in call.arguments.as_slice() {
-            let need = self.deals.parameter(callee, place).below();
+            let need = self.summaries.parameter(callee, place).below();
             self.need(&argument.operand, need);
             place = place.saturating_add(1);
         }

@@ -1,10 +1,10 @@
 //! Certificates that are proposed for a whole module.
 use crate::call_graph::CallGraph;
-pub use crate::deals::Boldness;
-use crate::deals::Deals;
-use crate::draft::Draft;
+use crate::draft_lines::DraftLines;
 use crate::ground::Ground;
-use crate::walk::{Room, Subject};
+pub use crate::summaries::Boldness;
+use crate::summaries::Summaries;
+use crate::walk::{FunctionContext, Room};
 use block_rules::Scene;
 use certs::{Certs, Promise, Section};
 use ir_ast::{FuncId, IrType, Module, TypeId};
@@ -14,7 +14,7 @@ use std::alloc::{AllocError, Global};
 
 /// What all walks look at.
 #[derive(Clone, Copy)]
-struct Shared<'a> {
+struct ModuleContext<'a> {
     program: &'a Program,
     graph: &'a CallGraph,
     /// No certificates.
@@ -37,9 +37,9 @@ fn propose_over(
     graph: &CallGraph,
     boldness: Boldness,
 ) -> Result<Certs, AllocError> {
-    let mut deals = Deals::of(alloc, program, graph, boldness)?;
-    let certs = propose_from(alloc, program, graph, &mut deals);
-    drop(deals);
+    let mut summaries = Summaries::of(alloc, program, graph, boldness)?;
+    let certs = propose_from(alloc, program, graph, &mut summaries);
+    drop(summaries);
     certs
 }
 
@@ -47,21 +47,21 @@ fn propose_from(
     alloc: Global,
     program: &Program,
     graph: &CallGraph,
-    deals: &mut Deals,
+    summaries: &mut Summaries,
 ) -> Result<Certs, AllocError> {
     let mut drafts = drafts_of(alloc, program.module())?;
-    let certs = match walk_all(alloc, program, graph, deals, &mut drafts) {
-        Ok(()) => certs_of(alloc, program.module(), deals, &drafts),
+    let certs = match walk_all(alloc, program, graph, summaries, &mut drafts) {
+        Ok(()) => certs_of(alloc, program.module(), summaries, &drafts),
         Err(refused) => Err(refused),
     };
     drop(drafts);
     certs
 }
 
-fn drafts_of(alloc: Global, module: &Module) -> Result<Vec<Draft>, AllocError> {
+fn drafts_of(alloc: Global, module: &Module) -> Result<Vec<DraftLines>, AllocError> {
     let mut drafts = Vec::new(alloc);
     for function in module.functions.as_slice() {
-        let draft = Draft::new(alloc, function.blocks.len())?;
+        let draft = DraftLines::new(alloc, function.blocks.len())?;
         drafts.push(draft)?;
     }
     Ok(drafts)
@@ -72,18 +72,18 @@ fn walk_all(
     alloc: Global,
     program: &Program,
     graph: &CallGraph,
-    deals: &mut Deals,
-    drafts: &mut [Draft],
+    summaries: &mut Summaries,
+    drafts: &mut [DraftLines],
 ) -> Result<(), AllocError> {
     let lengths = lengths_of(alloc, program.module())?;
     let none = Certs::new(Items::new(alloc));
-    let shared = Shared {
+    let context = ModuleContext {
         program,
         graph,
         none: &none,
         lengths: &lengths,
     };
-    let walked = walk_with(alloc, &shared, deals, drafts);
+    let walked = walk_with(alloc, &context, summaries, drafts);
     drop(none);
     drop(lengths);
     walked
@@ -91,29 +91,29 @@ fn walk_all(
 
 fn walk_with(
     alloc: Global,
-    shared: &Shared,
-    deals: &mut Deals,
-    drafts: &mut [Draft],
+    context: &ModuleContext,
+    summaries: &mut Summaries,
+    drafts: &mut [DraftLines],
 ) -> Result<(), AllocError> {
     let mut room = Room::new(alloc)?;
-    let walked = walk_each(alloc, shared, &mut room, deals, drafts);
+    let walked = walk_each(alloc, context, &mut room, summaries, drafts);
     drop(room);
     walked
 }
 
 fn walk_each(
     alloc: Global,
-    shared: &Shared,
+    context: &ModuleContext,
     room: &mut Room,
-    deals: &mut Deals,
-    drafts: &mut [Draft],
+    summaries: &mut Summaries,
+    drafts: &mut [DraftLines],
 ) -> Result<(), AllocError> {
     for at in 0..usize::MAX {
-        let Some(func) = deals.next(at) else {
+        let Some(func) = summaries.next(at) else {
             break;
         };
-        if deals.may_walk(func) {
-            walk_one(alloc, shared, room, deals, drafts, func)?;
+        if summaries.may_walk(func) {
+            walk_one(alloc, context, room, summaries, drafts, func)?;
         }
     }
     Ok(())
@@ -121,33 +121,33 @@ fn walk_each(
 
 fn walk_one(
     alloc: Global,
-    shared: &Shared,
+    context: &ModuleContext,
     room: &mut Room,
-    deals: &mut Deals,
-    drafts: &mut [Draft],
+    summaries: &mut Summaries,
+    drafts: &mut [DraftLines],
     func: FuncId,
 ) -> Result<(), AllocError> {
     let number = func.number() as usize;
-    let module = shared.program.module();
+    let module = context.program.module();
     let Some(function) = module.functions.get(number) else {
         return Ok(());
     };
     if number >= drafts.len() {
         return Ok(());
     }
-    let ground = Ground::of(alloc, module, func, function, deals)?;
-    let subject = Subject {
+    let ground = Ground::of(alloc, module, func, function, summaries)?;
+    let function_context = FunctionContext {
         scene: Scene {
-            program: shared.program,
-            certs: shared.none,
+            program: context.program,
+            certs: context.none,
             function,
             slots: &ground.slots,
         },
         ground: &ground,
-        graph: shared.graph,
-        lengths: shared.lengths,
+        graph: context.graph,
+        lengths: context.lengths,
     };
-    let walked = room.walk(alloc, &subject, deals, &mut drafts[number]);
+    let walked = room.walk(alloc, &function_context, summaries, &mut drafts[number]);
     drop(ground);
     walked
 }
@@ -179,13 +179,13 @@ fn length_of(module: &Module, written: TypeId) -> Option<u64> {
 fn certs_of(
     alloc: Global,
     module: &Module,
-    deals: &Deals,
-    drafts: &[Draft],
+    summaries: &Summaries,
+    drafts: &[DraftLines],
 ) -> Result<Certs, AllocError> {
     let mut sections = Items::new(alloc);
     let mut number = 0u32;
     for draft in drafts {
-        let section = section_of(alloc, module, deals, FuncId::new(number), draft)?;
+        let section = section_of(alloc, module, summaries, FuncId::new(number), draft)?;
         sections.push(section)?;
         number = number.saturating_add(1);
     }
@@ -195,19 +195,19 @@ fn certs_of(
 fn section_of(
     alloc: Global,
     module: &Module,
-    deals: &Deals,
+    summaries: &Summaries,
     func: FuncId,
-    draft: &Draft,
+    draft: &DraftLines,
 ) -> Result<Section, AllocError> {
     let blocks = draft.each_lines(alloc)?;
-    let Ok(parameters) = promises_of(alloc, module, deals, func) else {
+    let Ok(parameters) = promises_of(alloc, module, summaries, func) else {
         drop(blocks);
         return Err(AllocError);
     };
     Ok(Section {
-        mark: deals.mark(func),
+        mark: summaries.mark(func),
         parameters,
-        result: deals.promised(func),
+        result: summaries.promised(func),
         blocks,
     })
 }
@@ -215,7 +215,7 @@ fn section_of(
 fn promises_of(
     alloc: Global,
     module: &Module,
-    deals: &Deals,
+    summaries: &Summaries,
     func: FuncId,
 ) -> Result<Items<Option<Promise>>, AllocError> {
     let mut promises = Items::new(alloc);
@@ -223,7 +223,7 @@ fn promises_of(
         return Ok(promises);
     };
     for place in 0..function.parameters.len() {
-        promises.push(deals.parameter(func, place).promise())?;
+        promises.push(summaries.parameter(func, place).promise())?;
     }
     Ok(promises)
 }

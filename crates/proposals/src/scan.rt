@@ -61,7 +61,7 @@ impl<'a> Scan<'a> {
 
     fn go(&mut self) -> Result<(), AllocError> {
         self.blocks()?;
-        self.arrivals()
+        self.phis_read()
     }
 
     /// How many values and slots there are.
@@ -194,24 +194,24 @@ impl<'a> Scan<'a> {
     }
 
     /// What comes in to phis is read at the end of the blocks from which it comes.
-    fn arrivals(&mut self) -> Result<(), AllocError> {
+    fn phis_read(&mut self) -> Result<(), AllocError> {
         for block in self.function.blocks.as_slice() {
             for phi in block.phis.as_slice() {
-                self.incoming(phi)?;
+                self.phi_read(phi)?;
             }
         }
         Ok(())
     }
 
-    fn incoming(&mut self, phi: &Phi) -> Result<(), AllocError> {
+    fn phi_read(&mut self, phi: &Phi) -> Result<(), AllocError> {
         for entry in phi.incoming.as_slice() {
-            self.arrival(*entry)?;
+            self.entry_read(*entry)?;
         }
         Ok(())
     }
 
     /// A value is written in one block at most.
-    fn arrival(&mut self, entry: Incoming) -> Result<(), AllocError> {
+    fn entry_read(&mut self, entry: Incoming) -> Result<(), AllocError> {
         if let Some(from) = target_of(self.function, entry.from) {
             self.block = from.number();
             self.operand(&entry.operand)?;

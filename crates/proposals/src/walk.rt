@@ -1,11 +1,11 @@
 //! The walk over one function, until the lines of its blocks do not change.
 use crate::best::best_lines;
 use crate::call_graph::{CallGraph, defined};
-use crate::deals::Deals;
-use crate::draft::{Draft, Listed};
+use crate::draft_lines::{BlockLines, DraftLines};
 use crate::first_lines::first_lines;
+use crate::flow_facts::FlowFacts;
 use crate::ground::Ground;
-use crate::knowledge::Knowledge;
+use crate::summaries::Summaries;
 use crate::weaken::weakened;
 use block_rules::{Scene, TypeKind};
 use certs::Line;
@@ -16,7 +16,7 @@ use types::target_of;
 
 /// What a walk looks at.
 #[derive(Clone, Copy)]
-pub struct Subject<'a> {
+pub struct FunctionContext<'a> {
     pub scene: Scene<'a>,
     pub ground: &'a Ground,
     pub graph: &'a CallGraph,
@@ -27,7 +27,7 @@ pub struct Subject<'a> {
 /// What a walk changes.
 #[derive(Drop)]
 pub struct Room {
-    pub knowledge: Knowledge,
+    pub flow: FlowFacts,
     /// All values of which something may be known in the block that is walked over.
     pub names: Vec<ValueId>,
 }
@@ -42,9 +42,9 @@ struct Way {
 
 impl Room {
     pub fn new(alloc: Global) -> Result<Room, AllocError> {
-        let knowledge = Knowledge::new(alloc)?;
+        let flow = FlowFacts::new(alloc)?;
         Ok(Room {
-            knowledge,
+            flow,
             names: Vec::new(alloc),
         })
     }
@@ -53,12 +53,12 @@ impl Room {
     pub fn walk(
         &mut self,
         alloc: Global,
-        subject: &Subject,
-        deals: &mut Deals,
-        draft: &mut Draft,
+        context: &FunctionContext,
+        summaries: &mut Summaries,
+        draft: &mut DraftLines,
     ) -> Result<(), AllocError> {
         draft.wake_all()?;
-        let blocks = subject.scene.function.blocks.len();
+        let blocks = context.scene.function.blocks.len();
         let limit = blocks.saturating_mul(64).saturating_add(64);
         let mut unseen = 0u32;
         let mut walked = 0usize;
@@ -66,13 +66,13 @@ impl Room {
             match draft.next(walked) {
                 Some(block) => {
                     walked = walked.saturating_add(1);
-                    self.walk_block(alloc, subject, deals, draft, block)?;
+                    self.walk_block(alloc, context, summaries, draft, block)?;
                 }
                 None => {
                     if unseen as usize >= blocks {
                         return Ok(());
                     }
-                    self.seed(alloc, subject, draft, BlockId::new(unseen))?;
+                    self.seed(alloc, context, draft, BlockId::new(unseen))?;
                     unseen = unseen.saturating_add(1);
                 }
             }
@@ -84,12 +84,12 @@ impl Room {
     fn seed(
         &mut self,
         alloc: Global,
-        subject: &Subject,
-        draft: &mut Draft,
+        context: &FunctionContext,
+        draft: &mut DraftLines,
         block: BlockId,
     ) -> Result<(), AllocError> {
         if draft.lines(block).is_none() {
-            let listed = best_lines(alloc, &subject.scene, subject.ground, block)?;
+            let listed = best_lines(alloc, &context.scene, context.ground, block)?;
             draft.set(block, listed);
             draft.wake(block)?;
         }
@@ -99,89 +99,89 @@ impl Room {
     fn walk_block(
         &mut self,
         alloc: Global,
-        subject: &Subject,
-        deals: &mut Deals,
-        draft: &mut Draft,
+        context: &FunctionContext,
+        summaries: &mut Summaries,
+        draft: &mut DraftLines,
         number: BlockId,
     ) -> Result<(), AllocError> {
-        let Some(block) = subject.scene.function.blocks.get(number.number() as usize) else {
+        let Some(block) = context.scene.function.blocks.get(number.number() as usize) else {
             return Ok(());
         };
         let Some(listed) = draft.lines(number) else {
             return Ok(());
         };
-        self.begin(alloc, subject, deals, number, listed)?;
+        self.begin(alloc, context, summaries, number, listed)?;
         for instr in block.body.as_slice() {
-            self.instr(subject, deals, instr)?;
+            self.instr(context, summaries, instr)?;
         }
-        self.end(alloc, subject, deals, draft, number, block)
+        self.end(alloc, context, summaries, draft, number, block)
     }
 
     fn begin(
         &mut self,
         alloc: Global,
-        subject: &Subject,
-        deals: &Deals,
+        context: &FunctionContext,
+        summaries: &Summaries,
         number: BlockId,
-        listed: &Listed,
+        listed: &BlockLines,
     ) -> Result<(), AllocError> {
         self.names.clear();
         if number.number() == 0 {
-            for parameter in subject.scene.function.parameters.as_slice() {
+            for parameter in context.scene.function.parameters.as_slice() {
                 self.names.push(parameter.value)?;
             }
-            self.knowledge
-                .begin_entry(alloc, &subject.scene, subject.ground, deals)
+            self.flow
+                .begin_entry(alloc, &context.scene, context.ground, summaries)
         } else {
             for line in listed.lines.as_slice() {
                 if let Line::Value { value, .. } = *line {
                     self.names.push(value)?;
                 }
             }
-            self.knowledge
-                .begin(alloc, subject.ground, listed.lines.as_slice())
+            self.flow
+                .begin(alloc, context.ground, listed.lines.as_slice())
         }
     }
 
     fn instr(
         &mut self,
-        subject: &Subject,
-        deals: &mut Deals,
+        context: &FunctionContext,
+        summaries: &mut Summaries,
         instr: &Instr,
     ) -> Result<(), AllocError> {
         if let Op::Call(call) = &instr.op {
-            if let Some(callee) = defined(subject.scene.module(), call.callee) {
+            if let Some(callee) = defined(context.scene.module(), call.callee) {
                 let mut place = 0usize;
                 for argument in call.arguments.as_slice() {
-                    let shown = self.shown(subject, argument);
-                    deals.note_argument(callee, place, shown)?;
+                    let shown = self.shown(context, argument);
+                    summaries.note_argument(callee, place, shown)?;
                     place = place.saturating_add(1);
                 }
             }
         }
-        self.knowledge.step(&subject.scene, deals, instr)?;
+        self.flow.step(&context.scene, summaries, instr)?;
         if let Some(value) = instr.result {
             self.names.push(value)?;
         }
         Ok(())
     }
 
-    fn shown(&self, subject: &Subject, argument: &Argument) -> crate::claim::Shown {
-        let kind = TypeKind::of(subject.scene.module(), argument.written);
-        self.knowledge.shown(&argument.operand, kind)
+    fn shown(&self, context: &FunctionContext, argument: &Argument) -> crate::claim::Shown {
+        let kind = TypeKind::of(context.scene.module(), argument.written);
+        self.flow.shown(&argument.operand, kind)
     }
 
     fn end(
         &mut self,
         alloc: Global,
-        subject: &Subject,
-        deals: &mut Deals,
-        draft: &mut Draft,
+        context: &FunctionContext,
+        summaries: &mut Summaries,
+        draft: &mut DraftLines,
         from: BlockId,
         block: &Block,
     ) -> Result<(), AllocError> {
         match &block.end {
-            End::Jump(label) => self.open_way(alloc, subject, draft, from, *label),
+            End::Jump(label) => self.open_way(alloc, context, draft, from, *label),
             End::Branch {
                 condition,
                 taken,
@@ -193,25 +193,25 @@ impl Room {
                     label: *taken,
                     decided: decided_by(condition, true),
                 };
-                self.way(alloc, subject, draft, on)?;
+                self.way(alloc, context, draft, on)?;
                 let off = Way {
                     from,
                     label: *other,
                     decided: decided_by(condition, false),
                 };
-                self.way(alloc, subject, draft, off)
+                self.way(alloc, context, draft, off)
             }
             End::Switch {
                 otherwise,
                 cases,
                 ..
             } => {
-                self.open_way(alloc, subject, draft, from, *otherwise)?;
-                self.cases(alloc, subject, draft, from, cases.as_slice())
+                self.open_way(alloc, context, draft, from, *otherwise)?;
+                self.cases(alloc, context, draft, from, cases.as_slice())
             }
             End::Return(argument) => {
-                let shown = self.shown(subject, argument);
-                deals.note_result(subject.graph, subject.ground.func, shown)
+                let shown = self.shown(context, argument);
+                summaries.note_result(context.graph, context.ground.func, shown)
             }
             End::Unreachable | End::ReturnVoid => Ok(()),
         }
@@ -221,13 +221,13 @@ impl Room {
     fn cases(
         &mut self,
         alloc: Global,
-        subject: &Subject,
-        draft: &mut Draft,
+        context: &FunctionContext,
+        draft: &mut DraftLines,
         from: BlockId,
         cases: &[Case],
     ) -> Result<(), AllocError> {
         let mut gone = IndexSet::new(alloc);
-        let went = self.new_ways(alloc, subject, draft, from, cases, &mut gone);
+        let went = self.new_ways(alloc, context, draft, from, cases, &mut gone);
         drop(gone);
         went
     }
@@ -236,15 +236,15 @@ impl Room {
     fn new_ways(
         &mut self,
         alloc: Global,
-        subject: &Subject,
-        draft: &mut Draft,
+        context: &FunctionContext,
+        draft: &mut DraftLines,
         from: BlockId,
         cases: &[Case],
         gone: &mut IndexSet<u32>,
     ) -> Result<(), AllocError> {
         for case in cases {
             if gone.insert(case.target.number())? {
-                self.open_way(alloc, subject, draft, from, case.target)?;
+                self.open_way(alloc, context, draft, from, case.target)?;
             }
         }
         Ok(())
@@ -254,8 +254,8 @@ impl Room {
     fn open_way(
         &mut self,
         alloc: Global,
-        subject: &Subject,
-        draft: &mut Draft,
+        context: &FunctionContext,
+        draft: &mut DraftLines,
         from: BlockId,
         label: ValueId,
     ) -> Result<(), AllocError> {
@@ -264,26 +264,26 @@ impl Room {
             label,
             decided: None,
         };
-        self.way(alloc, subject, draft, way)
+        self.way(alloc, context, draft, way)
     }
 
     fn way(
         &mut self,
         alloc: Global,
-        subject: &Subject,
-        draft: &mut Draft,
+        context: &FunctionContext,
+        draft: &mut DraftLines,
         way: Way,
     ) -> Result<(), AllocError> {
-        let Some(to) = target_of(subject.scene.function, way.label) else {
+        let Some(to) = target_of(context.scene.function, way.label) else {
             return Ok(());
         };
         if to.number() == 0 {
             return Ok(());
         }
-        let scene = &subject.scene;
-        self.knowledge
-            .enter(alloc, scene, subject.ground, way.from, to, way.decided)?;
-        if let Some(listed) = self.lines_after(alloc, subject, draft, to)? {
+        let scene = &context.scene;
+        self.flow
+            .enter(alloc, scene, context.ground, way.from, to, way.decided)?;
+        if let Some(listed) = self.lines_after(alloc, context, draft, to)? {
             draft.set(to, listed);
             draft.wake(to)?;
         }
@@ -294,20 +294,20 @@ impl Room {
     fn lines_after(
         &mut self,
         alloc: Global,
-        subject: &Subject,
-        draft: &Draft,
+        context: &FunctionContext,
+        draft: &DraftLines,
         to: BlockId,
-    ) -> Result<Option<Listed>, AllocError> {
+    ) -> Result<Option<BlockLines>, AllocError> {
         match draft.lines(to) {
             Some(listed) => weakened(
                 alloc,
-                subject.ground,
-                &mut self.knowledge,
-                subject.lengths,
+                context.ground,
+                &mut self.flow,
+                context.lengths,
                 listed,
             ),
             None => {
-                let lines = self.first_lines_at(alloc, subject, to)?;
+                let lines = self.first_lines_at(alloc, context, to)?;
                 Ok(Some(lines))
             }
         }
@@ -316,14 +316,14 @@ impl Room {
     fn first_lines_at(
         &mut self,
         alloc: Global,
-        subject: &Subject,
+        context: &FunctionContext,
         to: BlockId,
-    ) -> Result<Listed, AllocError> {
+    ) -> Result<BlockLines, AllocError> {
         first_lines(
             alloc,
-            subject.scene,
-            subject.ground,
-            self.knowledge.way(),
+            context.scene,
+            context.ground,
+            self.flow.way(),
             to,
             &self.names,
         )

@@ -6,11 +6,12 @@ use ir_ast::{Block, End, Function, ValueId};
 use std::alloc::{AllocError, Global};
 use types::target_of;
 
-/// The ways back from the blocks that read a value or slot.
+/// The blocks that read and write each value and slot, and the ways between blocks.
 #[derive(Drop)]
-struct Roads {
+struct BlockUses {
+    /// The blocks from which each block is entered.
     predecessors: Buckets,
-    /// The blocks that read each.
+    /// The blocks that read each value and slot.
     reads: Buckets,
     /// The blocks that write each.
     ends: Buckets,
@@ -18,8 +19,8 @@ struct Roads {
 
 /// The way back from the blocks that read one value or slot.
 #[derive(Drop)]
-struct Climb {
-    /// The last name that was climbed from that is written in each block.
+struct BackwardWalk {
+    /// The last value or slot that was looked at and is written in each block.
     ended: Vec<Option<usize>>,
     /// The last one that is wanted at each block.
     seen: Vec<Option<usize>>,
@@ -33,22 +34,22 @@ pub fn wanted_of(
     function: &Function,
     scan: &Scan<'_>,
 ) -> Result<Buckets, AllocError> {
-    let roads = Roads::of(alloc, function, scan)?;
-    let Ok(mut climb) = Climb::new(alloc, function.blocks.len()) else {
-        drop(roads);
+    let uses = BlockUses::of(alloc, function, scan)?;
+    let Ok(mut walk) = BackwardWalk::new(alloc, function.blocks.len()) else {
+        drop(uses);
         return Err(AllocError);
     };
-    let wanted = match climb.go(&roads, scan) {
-        Ok(()) => Buckets::of(alloc, &climb.wanted, function.blocks.len()),
+    let wanted = match walk.go(&uses, scan) {
+        Ok(()) => Buckets::of(alloc, &walk.wanted, function.blocks.len()),
         Err(refused) => Err(refused),
     };
-    drop(climb);
-    drop(roads);
+    drop(walk);
+    drop(uses);
     wanted
 }
 
-impl Roads {
-    fn of(alloc: Global, function: &Function, scan: &Scan<'_>) -> Result<Roads, AllocError> {
+impl BlockUses {
+    fn of(alloc: Global, function: &Function, scan: &Scan<'_>) -> Result<BlockUses, AllocError> {
         let predecessors = predecessors_of(alloc, function)?;
         let Ok(reads) = Buckets::of(alloc, &scan.read, scan.count()) else {
             drop(predecessors);
@@ -59,7 +60,7 @@ impl Roads {
             drop(reads);
             return Err(AllocError);
         };
-        Ok(Roads {
+        Ok(BlockUses {
             predecessors,
             reads,
             ends,
@@ -67,14 +68,14 @@ impl Roads {
     }
 }
 
-impl Climb {
-    fn new(alloc: Global, blocks: usize) -> Result<Climb, AllocError> {
+impl BackwardWalk {
+    fn new(alloc: Global, blocks: usize) -> Result<BackwardWalk, AllocError> {
         let ended = vec![in alloc; None; blocks]?;
         let Ok(seen) = vec![in alloc; None; blocks] else {
             drop(ended);
             return Err(AllocError);
         };
-        Ok(Climb {
+        Ok(BackwardWalk {
             ended,
             seen,
             todo: Vec::new(alloc),
@@ -82,37 +83,37 @@ impl Climb {
         })
     }
 
-    fn go(&mut self, roads: &Roads, scan: &Scan<'_>) -> Result<(), AllocError> {
+    fn go(&mut self, uses: &BlockUses, scan: &Scan<'_>) -> Result<(), AllocError> {
         let Ok(count) = u32::try_from(scan.count()) else {
             return Err(AllocError);
         };
         for number in 0..count {
-            self.from(roads, scan, number)?;
+            self.from(uses, scan, number)?;
         }
         Ok(())
     }
 
-    fn from(&mut self, roads: &Roads, scan: &Scan<'_>, number: u32) -> Result<(), AllocError> {
+    fn from(&mut self, uses: &BlockUses, scan: &Scan<'_>, number: u32) -> Result<(), AllocError> {
         let name = number as usize;
-        for block in roads.ends.group(name) {
+        for block in uses.ends.group(name) {
             put(&mut self.ended, *block as usize, Some(name));
         }
         self.todo.clear();
-        for block in roads.reads.group(name) {
+        for block in uses.reads.group(name) {
             self.todo.push(*block)?;
         }
         for at in 0..usize::MAX {
             let Some(block) = self.todo.get(at).copied() else {
                 break;
             };
-            self.reach(roads, scan, number, block)?;
+            self.reach(uses, scan, number, block)?;
         }
         Ok(())
     }
 
     fn reach(
         &mut self,
-        roads: &Roads,
+        uses: &BlockUses,
         scan: &Scan<'_>,
         number: u32,
         block: u32,
@@ -127,7 +128,7 @@ impl Climb {
         if row_or(&scan.phis, name, None) == Some(block) {
             return Ok(());
         }
-        for from in roads.predecessors.group(at) {
+        for from in uses.predecessors.group(at) {
             if row_or(&self.ended, *from as usize, None) != Some(name) {
                 self.todo.push(*from)?;
             }

@@ -1,7 +1,7 @@
 //! What is left of the lines of a block where another way leads to it.
-use crate::draft::Listed;
+use crate::draft_lines::BlockLines;
+use crate::flow_facts::FlowFacts;
 use crate::ground::Ground;
-use crate::knowledge::Knowledge;
 use crate::rows::row_or;
 use certs::{Age, Fact, Line};
 use facts::{Class, ClassId, Facts, Known};
@@ -19,7 +19,7 @@ const RAISE_LIMIT: u8 = 8;
 
 /// What a line says of a reference.
 #[derive(Clone, Copy)]
-struct Told {
+struct ReferenceLine {
     layout: LayoutId,
     nonnull: bool,
     age: Age,
@@ -37,19 +37,19 @@ struct Left {
 pub fn weakened(
     alloc: Global,
     ground: &Ground,
-    knowledge: &mut Knowledge,
+    flow: &mut FlowFacts,
     lengths: &[u64],
-    listed: &Listed,
-) -> Result<Option<Listed>, AllocError> {
-    knowledge.begin_there(alloc, ground, listed.lines.as_slice())?;
-    if shows_all(ground, knowledge, listed.lines.as_slice()) {
+    listed: &BlockLines,
+) -> Result<Option<BlockLines>, AllocError> {
+    flow.begin_there(alloc, ground, listed.lines.as_slice())?;
+    if shows_all(ground, flow, listed.lines.as_slice()) {
         return Ok(None);
     }
-    let met = met(alloc, ground, knowledge.way(), lengths, listed)?;
+    let met = met(alloc, ground, flow.way(), lengths, listed)?;
     let kept = without_unlisted(alloc, &met);
     drop(met);
     let kept = kept?;
-    let left = without_lost_fresh(alloc, ground, knowledge, &kept);
+    let left = without_lost_fresh(alloc, ground, flow, &kept);
     drop(kept);
     match left {
         Ok(left) => Ok(Some(left)),
@@ -57,9 +57,11 @@ pub fn weakened(
     }
 }
 
-fn shows_all(ground: &Ground, knowledge: &Knowledge, lines: &[Line]) -> bool {
-    let way = knowledge.way();
-    lines.iter().all(|line| way.shows_line(&ground.slots, &knowledge.there, *line))
+fn shows_all(ground: &Ground, flow: &FlowFacts, lines: &[Line]) -> bool {
+    let way = flow.way();
+    lines
+        .iter()
+        .all(|line| way.shows_line(&ground.slots, &flow.there, *line))
 }
 
 /// What both the lines and the way say, line by line.
@@ -68,9 +70,9 @@ fn met(
     ground: &Ground,
     way: &Facts,
     lengths: &[u64],
-    listed: &Listed,
-) -> Result<Listed, AllocError> {
-    let mut met = Listed::new(alloc);
+    listed: &BlockLines,
+) -> Result<BlockLines, AllocError> {
+    let mut met = BlockLines::new(alloc);
     for (line, grown) in listed.lines.as_slice().iter().zip(listed.grown.iter()) {
         if let Some(left) = met_line(ground, way, lengths, *line, *grown) {
             met.add(left.line, left.grown)?;
@@ -103,13 +105,13 @@ fn met_value(way: &Facts, lengths: &[u64], value: ValueId, fact: Fact, grown: u8
             age,
             same,
         } => {
-            let told = Told {
+            let line = ReferenceLine {
                 layout,
                 nonnull,
                 age,
                 same,
             };
-            let fact = met_reference(way, &told, known)?;
+            let fact = met_reference(way, &line, known)?;
             Some(unchanged(value, fact))
         }
         Fact::Address { base, words } => {
@@ -201,21 +203,21 @@ fn met_global(global: SymbolId, known: Known) -> Option<Fact> {
     }
 }
 
-fn met_reference(way: &Facts, told: &Told, known: Known) -> Option<Fact> {
+fn met_reference(way: &Facts, line: &ReferenceLine, known: Known) -> Option<Fact> {
     match known {
         Known::Cell {
             class,
             layout,
             stale,
         } => {
-            if stale || layout != told.layout {
+            if stale || layout != line.layout {
                 None
             } else {
-                Some(met_cell(way, told, class))
+                Some(met_cell(way, line, class))
             }
         }
         Known::Null => Some(Fact::Reference {
-            layout: told.layout,
+            layout: line.layout,
             nonnull: false,
             age: Age::Held,
             same: None,
@@ -224,13 +226,13 @@ fn met_reference(way: &Facts, told: &Told, known: Known) -> Option<Fact> {
     }
 }
 
-fn met_cell(way: &Facts, told: &Told, class: ClassId) -> Fact {
+fn met_cell(way: &Facts, line: &ReferenceLine, class: ClassId) -> Fact {
     let Class { nonnull, fresh } = way.class(class);
     Fact::Reference {
-        layout: told.layout,
-        nonnull: told.nonnull && nonnull,
-        age: if fresh { told.age } else { Age::Held },
-        same: same_in(way, class, told.same),
+        layout: line.layout,
+        nonnull: line.nonnull && nonnull,
+        age: if fresh { line.age } else { Age::Held },
+        same: same_in(way, class, line.same),
     }
 }
 
@@ -306,14 +308,14 @@ fn is_slot_nonnull(way: &Facts, slot: SlotId) -> bool {
 }
 
 /// The lines that are left where a value that they name is not listed.
-fn without_unlisted(alloc: Global, met: &Listed) -> Result<Listed, AllocError> {
+fn without_unlisted(alloc: Global, met: &BlockLines) -> Result<BlockLines, AllocError> {
     let mut references = IndexSet::new(alloc);
     for line in met.lines.as_slice() {
         if let Some(value) = reference_listed(line) {
             references.insert(value.number())?;
         }
     }
-    let mut kept = Listed::new(alloc);
+    let mut kept = BlockLines::new(alloc);
     for (line, grown) in met.lines.as_slice().iter().zip(met.grown.iter()) {
         if let Some(line) = on_listed(&references, *line) {
             kept.add(line, *grown)?;
@@ -407,15 +409,13 @@ fn if_listed(references: &IndexSet<u32>, value: Option<ValueId>) -> Option<Value
 fn without_lost_fresh(
     alloc: Global,
     ground: &Ground,
-    knowledge: &mut Knowledge,
-    kept: &Listed,
-) -> Result<Listed, AllocError> {
-    knowledge.begin_there(alloc, ground, kept.lines.as_slice())?;
-    let mut left = Listed::new(alloc);
+    flow: &mut FlowFacts,
+    kept: &BlockLines,
+) -> Result<BlockLines, AllocError> {
+    flow.begin_there(alloc, ground, kept.lines.as_slice())?;
+    let mut left = BlockLines::new(alloc);
     for (line, grown) in kept.lines.as_slice().iter().zip(kept.grown.iter()) {
-        let shown = knowledge
-            .way()
-            .shows_line(&ground.slots, &knowledge.there, *line);
+        let shown = flow.way().shows_line(&ground.slots, &flow.there, *line);
         let line = if shown { *line } else { held(*line) };
         left.add(line, *grown)?;
     }

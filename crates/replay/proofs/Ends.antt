@@ -1,5 +1,6 @@
 -- The actors after some steps, as the end of a run of schedules.
 use Rattle.std.proofs.Common.{◌≡◌, ℕ, zero, suc, Some, List, [], ◌∷◌, length, map, slice_get, slice_index_or, refl, sym, ap, ◌∙◌, subst}
+use Rattle.std.proofs.lemmas.List.{length-map}
 use Rattle.std.proofs.lemmas.Option.{get_or_from_slice_get}
 use Rattle.colours.specs.declared.place.Place.TheVariants.{Posted, Stage, Colour, Word}
 use Rattle.colours.specs.Runs.{turns_of}
@@ -31,11 +32,6 @@ from_map f [] k b at = absurd cc
 from_map f (x ∷ xs) zero b at = (x, refl, cc)
 from_map f (x ∷ xs) (suc k) b at = from_map f xs k b at
 
--- and a list that was made so is as long
-pub length_of_map : {A B : Type 0} (f : A → B) (xs : List A) → length (map f xs) ≡ length xs
-length_of_map f [] = refl
-length_of_map f (x ∷ xs) = ap suc (length_of_map f xs)
-
 -- a word of the rows is what is in its row
 in_row : (rows : List (List Reference)) (c i : ℕ) (r : Reference) (row : List Reference) → slice_get rows c ≡ Some row → slice_get row i ≡ Some r → word_at rows c i ≡ r
 in_row rows c i r row at within =
@@ -56,7 +52,7 @@ pub is_end_of : (s : heap.Setup) (m : Machine) (Fits : m.State → Type 0) (star
       collector = stands.place;
     })
 is_end_of s m Fits starts run threads shared c e stands = record {
-  count = length_of_map (standing s m) threads ∙ e.count;
+  count = length-map threads (standing s m) ∙ e.count;
   threads = λ t stand at. let found = from_map (standing s m) threads t stand at in subst (λ (x : Standing m.State). StandsBehind s m starts run t x) found.2 (e.stands t found.0 found.1);
   stages = λ t. e.words.behind.words (Stage t);
   posted = e.words.behind.words Posted;

@@ -20,7 +20,7 @@ use Rattle.stepping.specs.declared.gone.Gone.TheVariants.{Blue, Reborn}
 use Rattle.stepping.specs.Reach.{IsFirstGone}
 use Rattle.stepping.specs.declared.happening.Happening.{Happening as Made}
 use Rattle.stepping.specs.declared.happening.Happening.TheVariants.{Thread, Collector}
-use Rattle.stepping.specs.declared.happening.Step.{Step}
+use Rattle.stepping.specs.declared.happening.MadeStep.{MadeStep}
 use Rattle.stepping.specs.declared.loss.Loss.TheVariants.{Nothing}
 use Rattle.stepping.specs.Ends.{IsStepOrNone, Tells}
 use Rattle.replay.specs.Lists.{cause_of_gone}
@@ -93,7 +93,7 @@ frees_told roots (Thread t move) happening tells = ap frees tells
 frees_told roots (Collector turn) happening tells = ap frees tells ∙ turn-frees turn
 
 -- the claims after a step, or none
-pub claims-more : (s : Setup) (m : Machine) (starts : ℕ → m.State) (actor : Actor) (before : List Actor) (made : Option Step) (n : ℕ)
+pub claims-more : (s : Setup) (m : Machine) (starts : ℕ → m.State) (actor : Actor) (before : List Actor) (made : Option MadeStep) (n : ℕ)
     → IsStepOrNone s m starts (run_by s m starts before) actor made → n ≡ count_by claims (run_by s m starts before) → n + cond (claims_cell made) 1 0 ≡ count_by claims (run_by s m starts (actor ∷ before))
 claims-more s m starts actor before None n none is = omega (arith, is, ap (count_by claims) (run-more s m starts actor before None none))
 claims-more s m starts actor before (Some step) n is_step is =
@@ -101,7 +101,7 @@ claims-more s m starts actor before (Some step) n is_step is =
     ∙ ap (count_by claims) (sym (run-more s m starts actor before (Some is_step.happening) is_step.next))
 
 -- the frees
-pub frees-more : (s : Setup) (m : Machine) (starts : ℕ → m.State) (actor : Actor) (before : List Actor) (made : Option Step) (n : ℕ)
+pub frees-more : (s : Setup) (m : Machine) (starts : ℕ → m.State) (actor : Actor) (before : List Actor) (made : Option MadeStep) (n : ℕ)
     → IsStepOrNone s m starts (run_by s m starts before) actor made → n ≡ count_by frees (run_by s m starts before) → n + cond (frees_cell made) 1 0 ≡ count_by frees (run_by s m starts (actor ∷ before))
 frees-more s m starts actor before None n none is = omega (arith, is, ap (count_by frees) (run-more s m starts actor before None none))
 frees-more s m starts actor before (Some step) n is_step is =
@@ -175,11 +175,11 @@ gone_is_cause s m starts run gone none first = go gone first
         earlier (broken.ReachBirth c) goes shows = first.2 c (less c cell 4 goes) shows
 
 -- the cause that is told after a step, or none, is the first
-pub cause_told : (s : Setup) (m : Machine) (starts : ℕ → m.State) (actor : Actor) (before : List Actor) (step : Step) → IsStepOrNone s m starts (run_by s m starts before) actor (Some step) → IsStepCause s m starts (run_by s m starts (actor ∷ before)) step.broke
+pub cause_told : (s : Setup) (m : Machine) (starts : ℕ → m.State) (actor : Actor) (before : List Actor) (step : MadeStep) → IsStepOrNone s m starts (run_by s m starts before) actor (Some step) → IsStepCause s m starts (run_by s m starts (actor ∷ before)) step.broke
 cause_told s m starts actor before step is = subst (λ run. IsStepCause s m starts run step.broke) (sym (run-more s m starts actor before (Some is.happening) is.next)) is.broke
 
 -- a step that loses nothing breaks no run by what is gone
-pub nothing_lost : (s : Setup) (m : Machine) (starts : ℕ → m.State) (actor : Actor) (before : List Actor) (step : Step) → IsStepOrNone s m starts (run_by s m starts before) actor (Some step) → step.loss ≡ Nothing
+pub nothing_lost : (s : Setup) (m : Machine) (starts : ℕ → m.State) (actor : Actor) (before : List Actor) (step : MadeStep) → IsStepOrNone s m starts (run_by s m starts before) actor (Some step) → step.loss ≡ Nothing
     → ¬ IsBroken s m starts (run_by s m starts before) → IsFirstGone s m starts (run_by s m starts (actor ∷ before)) None
 nothing_lost s m starts actor before step is loses unbroken =
     subst (λ run. IsFirstGone s m starts run None) (sym (run-more s m starts actor before (Some is.happening) is.next)) (is.loses loses (none_gone s m starts (run_by s m starts before) unbroken))

@@ -1,5 +1,5 @@
 -- What is told of where the threads of a world are.
-use Rattle.std.proofs.Common.{◌≡◌, ◌<◌, ◌≤◌, ◌⊎◌, inl, inr, ℕ, zero, suc, ◌+◌, Option, Some, List, [], ◌∷◌, ◌++◌, length, slice_get, unwrap_or, refl, sym, ap, ◌∙◌, subst, arith}
+use Rattle.std.proofs.Common.{◌≡◌, ◌<◌, ◌≤◌, ◌⊎◌, inl, inr, ℕ, zero, suc, ◌+◌, Option, Some, List, [], ◌∷◌, ◌++◌, length, slice_get, unwrap_or, refl, sym, ap, ◌∙◌, subst, arith, length-append}
 use Rattle.lemmas.specs.Lists.{get_some, get_end}
 use Rattle.colours.specs.Mutator as order
 use Rattle.colours.specs.Mutator.{stage_of, phase_of}
@@ -30,10 +30,6 @@ at_front [] x k within = absurd (omega arith)
 at_front (y ∷ xs) x zero within = refl
 at_front (y ∷ xs) x (suc k) within = at_front xs x k (omega arith)
 
-longer : {A : Type 0} (xs : List A) (x : A) → length (xs ++ x ∷ []) ≡ suc (length xs)
-longer [] x = refl
-longer (y ∷ xs) x = ap suc (longer xs x)
-
 -- n ends were told
 pub record AreTold (ends : List ThreadEnd) (count : ℕ) (told : ℕ → ThreadEnd) : Type 0 where
   pub many : length ends ≡ count
@@ -42,7 +38,7 @@ pub record AreTold (ends : List ThreadEnd) (count : ℕ) (told : ℕ → ThreadE
 -- one end more
 pub one_more_told : (ends : List ThreadEnd) (count : ℕ) (told : ℕ → ThreadEnd) (last : ThreadEnd) → AreTold ends count told → last ≡ told count → AreTold (ends ++ last ∷ []) (count + 1) told
 one_more_told ends count told last are is = record {
-  many = longer ends last ∙ ap suc are.many ∙ omega arith;
+  many = length-append ends (last ∷ []) ∙ ap (λ n. n + 1) are.many;
   each = λ k lt. elim (below k count lt) [
     | inl l ↦ at_front ends last k (subst (λ (n : ℕ). k < n) (sym are.many) l) ∙ are.each k l
     | inr e ↦ subst (λ (n : ℕ). slice_get (ends ++ last ∷ []) n ≡ Some (told n)) (sym e)

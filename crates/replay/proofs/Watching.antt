@@ -11,13 +11,13 @@ use Rattle.trace_text.specs.Traces.{IsActorOf}
 use Rattle.trace_text.specs.declared.trace.Actor.{Actor as TracedActor}
 use Rattle.trace_text.specs.declared.trace.Setup.{Setup}
 use Rattle.moves.specs.declared.actor.Actor.{Actor}
-use Rattle.stepping.specs.declared.happening.Step.{Step}
+use Rattle.stepping.specs.declared.happening.MadeStep.{MadeStep}
 use Rattle.stepping.specs.Ends.{IsStepOrNone}
 use Rattle.replay.specs.declared.thread_end.ThreadEnd.{ThreadEnd}
 use Rattle.setups.specs.Setups.{starts_of}
 use Rattle.replay.specs.ThreadEnds.{AreEndsOf, AreEndsBehind}
 use Rattle.replay.specs.Worlds.{World, run_of, IsBehind, IsStepBehind, IsBrokenWorld, actor_in}
-use Rattle.replay.specs.declared.outcome.Cause.{Cause}
+use Rattle.replay.specs.declared.outcome.BreakCause.{BreakCause}
 use Rattle.replay.specs.declared.watch.Watch.{Watch}
 use Rattle.replay.specs.Outcomes.{Reports}
 use Rattle.replay.specs.Watched.{IsUnbroken, IsWatched, IsStepped, IsMadeBehind, IsCauseBehind, HasRoomFor, claims_cell, frees_cell}
@@ -31,7 +31,7 @@ unbroken_now p setup [] unbroken = unbroken
 unbroken_now p setup (actor ∷ before) unbroken = unbroken.0
 
 -- a world that made one step tells how it breaks the run
-pub cause_is : (p : LaidOut) (setup : Setup) (before : List Actor) (actor : Actor) (made : Option Step) (w : World) (o : Option Cause) → w.program ≡ p → w.setup ≡ setup
+pub cause_is : (p : LaidOut) (setup : Setup) (before : List Actor) (actor : Actor) (made : Option MadeStep) (w : World) (o : Option BreakCause) → w.program ≡ p → w.setup ≡ setup
     → IsBehind w (actor ∷ before) → IsStepOrNone (heap_of p setup) program_machine (starts_of p setup) (run_of p setup before) actor made → IsUnbroken p setup before
     → ((before : List Actor) (actor : Actor) → IsBehind w (actor ∷ before) → IsMadeBehind w before actor made → ¬ IsBrokenWorld w before → IsCauseBehind w.program w.setup (actor ∷ before) o)
     → IsCauseBehind p setup (actor ∷ before) o
@@ -50,7 +50,7 @@ run_is p setup actors w same_program same_setup behind =
     (subst (λ begun. IsModuleRun (heap_of w.program begun) program_machine (starts_of w.program begun) (run_of w.program begun actors)) same_setup behind.ends.is_run)
 
 -- a step that was counted, and breaks nothing
-pub goes_on : (p : LaidOut) (setup : Setup) (before : List Actor) (actor : Actor) (made : Option Step) (w v : Watch) → IsStepped p setup before actor made w → v.world ≡ w.world
+pub goes_on : (p : LaidOut) (setup : Setup) (before : List Actor) (actor : Actor) (made : Option MadeStep) (w v : Watch) → IsStepped p setup before actor made w → v.world ≡ w.world
     → v.steps ≡ w.steps + 1 → v.claims ≡ w.claims + cond (claims_cell made) 1 0 → v.frees ≡ w.frees + cond (frees_cell made) 1 0
     → ¬ IsBroken (heap_of p setup) program_machine (starts_of p setup) (run_of p setup (actor ∷ before)) → IsWatched p setup (actor ∷ before) v
 goes_on p setup before actor made w v is same steps claims frees unbroken = record {
@@ -118,7 +118,7 @@ reports p setup before w ends posted is ends_are posted_is =
     }
 
 -- a world that made one step more, which is not counted so far
-pub stepped : (p : LaidOut) (setup : Setup) (before : List Actor) (actor : TracedActor) (made : Option Step) (w : Watch) (world : World) → IsWatched p setup before w → (world.program ≡ w.world.program) × (world.setup ≡ w.world.setup)
+pub stepped : (p : LaidOut) (setup : Setup) (before : List Actor) (actor : TracedActor) (made : Option MadeStep) (w : Watch) (world : World) → IsWatched p setup before w → (world.program ≡ w.world.program) × (world.setup ≡ w.world.setup)
     → IsStepBehind w.world before actor made × IsBehind world (actor_in actor ∷ before) → IsStepped p setup before (actor_in actor) made (record w { world = world })
 stepped p setup before actor made w world is same both =
     let Made : LaidOut → Setup → Type 0 = λ q begun. IsStepOrNone (heap_of q begun) program_machine (starts_of q begun) (run_of q begun before) (actor_in actor) made in

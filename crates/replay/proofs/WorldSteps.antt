@@ -1,5 +1,6 @@
 -- A world after one more step.
 use Rattle.std.proofs.Common.{◌≡◌, ◌<◌, ℕ, Bool, Option, Some, List, [], ◌∷◌, length, map, slice_get, refl, sym, ap, ◌∙◌, subst}
+use Rattle.std.proofs.lemmas.List.{length-map}
 use Rattle.layout.specs.Layouts.{LaidOut}
 use Rattle.certs.specs.declared.section.Section.{Section}
 use Rattle.replay.specs.declared.thread_end.ThreadEnd.{ThreadEnd}
@@ -9,7 +10,7 @@ use Rattle.moves.specs.declared.actor.Actor as run
 use Rattle.moves.specs.Runs.{IsActor}
 use Rattle.stepping.specs.declared.acting.Actors.{Actors}
 use Rattle.stepping.specs.declared.beginning.NewThread.{NewThread}
-use Rattle.stepping.specs.declared.happening.Step.{Step}
+use Rattle.stepping.specs.declared.happening.MadeStep.{MadeStep}
 use Rattle.stepping.specs.Ends as stepping
 use Rattle.program_runner.specs.Threads.{CertifiedIsSafe, ProgramThread, program_machine}
 use Rattle.program_runner.specs.Heaps.{heap_of}
@@ -26,7 +27,7 @@ use Rattle.setups.specs.Setups.{HasNoFault, IsCertifiedSetup, AreBegun, begun_at
 use Rattle.replay.specs.Worlds.{World, AreEndings, IsBehind, IsStepBehind, IsBrokenWorld, actor_in, run_of}
 use Rattle.replay.specs.WorldView.{world_seen, IsKept}
 use Rattle.replay.proofs.Endings.{kept, kept_by_collector, none_ended}
-use Rattle.replay.proofs.Ends.{behind, from_map, length_of_map}
+use Rattle.replay.proofs.Ends.{behind, from_map}
 use Rattle.setups.specs.SafeSetups.{certified_setup, each_may_begin}
 use Rattle.setups.specs.SetupHeaps.{is_setup}
 
@@ -37,7 +38,7 @@ are_behind i w before seen kept b =
     subst (λ (v : World). IsBehind v before → stepping.AreBehindSteps (heap_of v.program v.setup) program_machine (FitsThread (heap_of v.program v.setup)) (starts_of v.program v.setup) before i.actors)
     seen
     (λ b. record {
-      plan = kept.plan;
+      schema = kept.schema;
       setup = is_setup i.program.now i.setup.now;
       is_behind = record { are_actors = b.are_actors; is_end = b.ends.is_end };
     })
@@ -61,22 +62,22 @@ abbrev pub stepped : Inside → (actor : Actor) → Actors ProgramThread → Ins
 stepped i actor actors = record i { actors = actors; endings = endings_after actor i.actors.threads.items i.endings }
 
 -- what a step of the actor tells, and where it leads
-abbrev pub IsStepOf : Inside → (before : List run.Actor) → Actor → Option Step → Actors ProgramThread → Type 0
+abbrev pub IsStepOf : Inside → (before : List run.Actor) → Actor → Option MadeStep → Actors ProgramThread → Type 0
 IsStepOf i before actor made actors =
     stepping.IsOneStep (heap_of i.program.now i.setup.now) program_machine (FitsThread (heap_of i.program.now i.setup.now)) (starts_of i.program.now i.setup.now) before (actor_in actor) made actors
 
 -- the world after a step
-pub is_behind : (i : Inside) (actor : Actor) (before : List run.Actor) (made : Option Step) (actors : Actors ProgramThread) → IsKept i → IsBehind (world_seen i) before
+pub is_behind : (i : Inside) (actor : Actor) (before : List run.Actor) (made : Option MadeStep) (actors : Actors ProgramThread) → IsKept i → IsBehind (world_seen i) before
     → IsActorOf (length i.setup.now.starts) actor → IsStepOf i before actor made actors → IsBehind (world_seen (stepped i actor actors)) (actor_in actor ∷ before)
 is_behind i actor before made actors kept b is step =
     behind (world_seen (stepped i actor actors)) (actor_in actor ∷ before) step.behind.is_behind
     (are_endings i.program.now i.setup.now before i.actors i.endings actor (are_behind i (world_seen i) before refl kept b) is b.ends.endings)
 
 -- keeps what a world keeps
-pub is_kept : (i : Inside) (actor : Actor) (made : Option Step) (actors : Actors ProgramThread) → (kept : IsKept i) → IsActorOf (length i.setup.now.starts) actor
+pub is_kept : (i : Inside) (actor : Actor) (made : Option MadeStep) (actors : Actors ProgramThread) → (kept : IsKept i) → IsActorOf (length i.setup.now.starts) actor
     → IsStepOf i kept.made.0 actor made actors → IsKept (stepped i actor actors)
 is_kept i actor made actors kept is step = record {
-  plan = step.behind.plan;
+  schema = step.behind.schema;
   setup = kept.setup;
   no_fault = kept.no_fault;
   made = (actor_in actor ∷ kept.made.0, is_behind i actor kept.made.0 made actors kept kept.made.1 is step);
@@ -88,7 +89,7 @@ pub is_safe : CertifiedIsSafe → (i : Inside) (certs : List Section) (before : 
 is_safe law i certs before kept certified b = certified_setup law i.program.now i.setup.now certs kept.setup kept.no_fault certified (run_of i.program.now i.setup.now before) b.ends.is_run
 
 -- a step of an actor, as the code made it: which actor it was, the actors after it and the endings that are kept
-pub record IsMadeBy (i : Inside) (actor : Actor) (made : Option Step) (actors : Actors ProgramThread) (endings : List ThreadEnd) : Type 0 where
+pub record IsMadeBy (i : Inside) (actor : Actor) (made : Option MadeStep) (actors : Actors ProgramThread) (endings : List ThreadEnd) : Type 0 where
   pub is_actor : IsActorOf (length i.setup.now.starts) actor
   pub endings_are : endings ≡ endings_after actor i.actors.threads.items i.endings
   pub makes : (before : List run.Actor)
@@ -102,14 +103,14 @@ is_thread i w actor t seen is of =
     subst (λ (v : World). t < length v.setup.starts) (sym seen) q
 
 -- the world after it keeps what a world keeps
-pub keeps : (i : Inside) (actor : Actor) (made : Option Step) (actors : Actors ProgramThread) (endings : List ThreadEnd) → IsKept i → IsMadeBy i actor made actors endings
+pub keeps : (i : Inside) (actor : Actor) (made : Option MadeStep) (actors : Actors ProgramThread) (endings : List ThreadEnd) → IsKept i → IsMadeBy i actor made actors endings
     → IsKept (record i { actors = actors; endings = endings })
 keeps i actor made actors endings kept by =
     subst (λ (e : List ThreadEnd). IsKept (record i { actors = actors; endings = e })) (sym by.endings_are)
     (is_kept i actor made actors kept by.is_actor (by.makes kept.made.0 (are_behind i (world_seen i) kept.made.0 refl kept kept.made.1)))
 
 -- the step is told, and the world is the one after it
-pub tells : (i : Inside) (w : World) (given actor : Actor) (made : Option Step) (actors : Actors ProgramThread) (endings : List ThreadEnd) → world_seen i ≡ w → given ≡ actor → IsKept i
+pub tells : (i : Inside) (w : World) (given actor : Actor) (made : Option MadeStep) (actors : Actors ProgramThread) (endings : List ThreadEnd) → world_seen i ≡ w → given ≡ actor → IsKept i
     → IsMadeBy i actor made actors endings → (before : List run.Actor) → IsBehind w before
     → IsStepBehind w before given made × IsBehind (world_seen (record i { actors = actors; endings = endings })) (actor_in given ∷ before)
 tells i w given actor made actors endings seen is kept by before b =
@@ -122,7 +123,7 @@ tells i w given actor made actors endings seen is kept by before b =
     (subst (λ (a : Actor). IsStepBehind w before a made) (sym is) there, subst (λ (a : Actor). IsBehind (world_seen (record i { actors = actors; endings = endings })) (actor_in a ∷ before)) (sym is) leads)
 
 -- and it is not broken where the program is certified
-pub stays_safe : CertifiedIsSafe → (i : Inside) (w : World) (given actor : Actor) (made : Option Step) (actors : Actors ProgramThread) (endings : List ThreadEnd) → world_seen i ≡ w → given ≡ actor → IsKept i
+pub stays_safe : CertifiedIsSafe → (i : Inside) (w : World) (given actor : Actor) (made : Option MadeStep) (actors : Actors ProgramThread) (endings : List ThreadEnd) → world_seen i ≡ w → given ≡ actor → IsKept i
     → IsMadeBy i actor made actors endings → (certs : List Section) (before : List run.Actor) → IsCertifiedSetup w.program w.setup certs → IsBehind w before
     → ¬ IsBrokenWorld (world_seen (record i { actors = actors; endings = endings })) (actor_in given ∷ before)
 stays_safe law i w given actor made actors endings seen is kept by certs before certified b =
@@ -147,7 +148,7 @@ each_begun law p setup threads none are t new at =
 
 -- so there is one for each start
 pub as_many : (p : LaidOut) (setup : Setup) (threads : List (NewThread ProgramThread)) → AreBegun p setup threads → length threads ≡ length setup.starts
-as_many p setup threads are = ap length are ∙ length_of_map (new_thread p setup) setup.starts
+as_many p setup threads are = ap length are ∙ length-map setup.starts (new_thread p setup)
 
 -- whether each of these is late
 lateness : (p : LaidOut) (setup : Setup) (starts : List Start) → map (λ (start : Start). is_late start.arrival) starts ≡ map (λ (new : NewThread ProgramThread). new.is_late) (map (new_thread p setup) starts)

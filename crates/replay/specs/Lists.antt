@@ -14,8 +14,8 @@ use Rattle.stepping.specs.declared.gone.Gone.TheVariants.{Blue, Reborn}
 use Rattle.setups.specs.Setups.{starts_of}
 use Rattle.replay.specs.Worlds.{run_of, actor_in}
 use Rattle.replay.specs.declared.outcome.Break.{Break}
-use Rattle.replay.specs.declared.outcome.Cause.{Cause}
-use Rattle.replay.specs.declared.outcome.Cause.TheVariants.{OfStep, OfReach}
+use Rattle.replay.specs.declared.outcome.BreakCause.{BreakCause}
+use Rattle.replay.specs.declared.outcome.BreakCause.TheVariants.{OfStep, OfReach}
 
 -- the actor of each step of a trace
 abbrev pub actors_of : List Steps → List Actor
@@ -42,7 +42,7 @@ cause_of_gone (Blue cell) = broken.ReachBlue cell
 cause_of_gone (Reborn cell) = broken.ReachBirth cell
 
 -- a cause of the code, as one of a run
-abbrev pub cause_in : Cause → broken.Cause
+abbrev pub cause_in : BreakCause → broken.Cause
 cause_in (OfStep cause) = step.cause_in cause
 cause_in (OfReach gone) = cause_of_gone gone
 

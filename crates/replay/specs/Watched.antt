@@ -12,9 +12,9 @@ use Rattle.moves.specs.declared.moves.Move.TheVariants.{Claims}
 use Rattle.colours.specs.declared.turn.Turn.TheVariants.{Free}
 use Rattle.stepping.specs.declared.happening.Happening.{Happening}
 use Rattle.stepping.specs.declared.happening.Happening.TheVariants.{Thread, Collector}
-use Rattle.stepping.specs.declared.happening.Step.{Step}
+use Rattle.stepping.specs.declared.happening.MadeStep.{MadeStep}
 use Rattle.stepping.specs.Ends.{IsStepOrNone}
-use Rattle.replay.specs.declared.outcome.Cause.{Cause}
+use Rattle.replay.specs.declared.outcome.BreakCause.{BreakCause}
 use Rattle.replay.specs.declared.watch.Watch.{Watch}
 use Rattle.replay.specs.Lists.{IsFirstBreak, cause_in}
 use Rattle.replay.specs.Outcomes.{claims, frees}
@@ -56,27 +56,27 @@ frees_made (Collector (Free cell)) = true
 frees_made happening = false
 
 -- the step claims a cell, if there was one
-abbrev pub claims_cell : Option Step → Bool
+abbrev pub claims_cell : Option MadeStep → Bool
 claims_cell None = false
 claims_cell (Some step) = claims_made step.happening
 
 -- it frees a cell
-abbrev pub frees_cell : Option Step → Bool
+abbrev pub frees_cell : Option MadeStep → Bool
 frees_cell None = false
 frees_cell (Some step) = frees_made step.happening
 
 -- the first cause by which the run of these actors is broken, the newest first, if it is
-abbrev pub IsCauseBehind : LaidOut → Setup → List Actor → Option Cause → Type 0
+abbrev pub IsCauseBehind : LaidOut → Setup → List Actor → Option BreakCause → Type 0
 IsCauseBehind p setup actors None = ¬ IsBroken (heap_of p setup) program_machine (starts_of p setup) (run_of p setup actors)
 IsCauseBehind p setup actors (Some c) = IsCause (heap_of p setup) program_machine (starts_of p setup) (run_of p setup actors) (cause_in c)
 
 -- the step, or none, is that of this actor after those of the world, and says how it breaks the run
-abbrev pub IsMadeBehind : World → (before : List Actor) → Actor → Option Step → Type 0
+abbrev pub IsMadeBehind : World → (before : List Actor) → Actor → Option MadeStep → Type 0
 IsMadeBehind w before actor made =
     IsStepOrNone (heap_of w.program w.setup) program_machine (starts_of w.program w.setup) (run_of w.program w.setup before) actor made
 
 -- the world is the one after one more actor, whose step is not counted so far
-pub record IsStepped (p : LaidOut) (setup : Setup) (before : List Actor) (actor : Actor) (made : Option Step) (w : Watch) : Type 0 where
+pub record IsStepped (p : LaidOut) (setup : Setup) (before : List Actor) (actor : Actor) (made : Option MadeStep) (w : Watch) : Type 0 where
   pub program : w.world.program ≡ p
   pub setup_is : w.world.setup ≡ setup
   pub made_is : IsStepOrNone (heap_of p setup) program_machine (starts_of p setup) (run_of p setup before) actor made

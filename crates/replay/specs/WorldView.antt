@@ -1,6 +1,6 @@
 -- What contracts see of a world, and what it keeps.
 use Rattle.program_runner.specs.Heaps.{heap_of}
-use Rattle.stepping.specs.Reach.{IsPlanOf}
+use Rattle.stepping.specs.Reach.{IsSchemaOf}
 use Rattle.replay.specs.declared.world.World.TheInside.{Inside}
 use Rattle.setups.specs.Setups.{IsSetupOf, HasNoFault}
 use Rattle.replay.specs.Worlds.{World, IsMade}
@@ -18,7 +18,7 @@ world_seen i = record {
 
 -- it is what some actors make of its setup, in which each thread may begin
 pub record IsKept (i : Inside) : Type 0 where
-  pub plan : IsPlanOf (heap_of i.program.now i.setup.now) i.actors.plan
+  pub schema : IsSchemaOf (heap_of i.program.now i.setup.now) i.actors.schema
   pub setup : IsSetupOf i.program.now i.setup.now
   pub no_fault : HasNoFault i.program.now i.setup.now
   pub made : IsMade (world_seen i)

@@ -27,7 +27,7 @@ use Rattle.moves.specs.Runs.{run_by, AreActors}
 use Rattle.moves.specs.Stands.{standing}
 use Rattle.stepping.specs.declared.gone.Gone.{Gone}
 use Rattle.stepping.specs.Reach.{IsFirstGone}
-use Rattle.stepping.specs.declared.happening.Step.{Step}
+use Rattle.stepping.specs.declared.happening.MadeStep.{MadeStep}
 use Rattle.stepping.specs.Ends.{IsEnd, IsStepOrNone}
 use Rattle.replay.specs.declared.thread_end.ThreadEnd.{ThreadEnd}
 use Rattle.replay.specs.declared.thread_end.ThreadEnd.TheVariants as thread
@@ -105,7 +105,7 @@ actor_in (traced_actor.Thread t) = Thread t
 actor_in traced_actor.Collector = Collector
 
 -- the step, or none, is that of the actor after these, and says how it breaks the run
-abbrev pub IsStepBehind : World → (before : List Actor) → traced.Actor → Option Step → Type 0
+abbrev pub IsStepBehind : World → (before : List Actor) → traced.Actor → Option MadeStep → Type 0
 IsStepBehind w before actor made =
     IsStepOrNone (heap_of w.program w.setup) program_machine (starts_of w.program w.setup) (run_of w.program w.setup before) (actor_in actor) made
 

@@ -12,7 +12,7 @@ mod watch;
 mod world;
 
 pub use drawing::drawn_trace;
-pub use outcome::{Break, Cause, Outcome, Report, SeedBreak, SoakOutcome};
+pub use outcome::{Break, BreakCause, Outcome, Report, SeedBreak, SoakOutcome};
 pub use replaying::replay;
 pub use setups::{SetupFault, SetupFault as ReplayFault, setup_law};
 pub use soaking::soak;

@@ -9,23 +9,23 @@ use trace_text::Actor;
 
 /// Why a run is broken after a step.
 #[derive(Clone, Copy, PartialEq, Eq)]
-pub enum Cause {
+pub enum BreakCause {
     /// The step itself went wrong or used a cell that was gone.
     OfStep(moves::Cause),
     /// A cell is gone that can be reached.
     OfReach(Gone),
 }
 
-impl Display for Cause {
+impl Display for BreakCause {
     ghost output = { λ cause. Some (cause_name cause) };
 
     fn fmt<W: Write>(&self, f: &mut Formatter<W>) -> Result<(), Error> {
         match self {
-            Cause::OfStep(moves::Cause::Wrong) => write!(f, "wrong"),
-            Cause::OfStep(moves::Cause::TouchBlue(cell)) => write!(f, "touch-blue {cell}"),
-            Cause::OfStep(moves::Cause::TouchBirth(cell)) => write!(f, "touch-birth {cell}"),
-            Cause::OfReach(Gone::Blue(cell)) => write!(f, "reach-blue {cell}"),
-            Cause::OfReach(Gone::Reborn(cell)) => write!(f, "reach-birth {cell}"),
+            BreakCause::OfStep(moves::Cause::Wrong) => write!(f, "wrong"),
+            BreakCause::OfStep(moves::Cause::TouchBlue(cell)) => write!(f, "touch-blue {cell}"),
+            BreakCause::OfStep(moves::Cause::TouchBirth(cell)) => write!(f, "touch-birth {cell}"),
+            BreakCause::OfReach(Gone::Blue(cell)) => write!(f, "reach-blue {cell}"),
+            BreakCause::OfReach(Gone::Reborn(cell)) => write!(f, "reach-birth {cell}"),
         }
     }
 }
@@ -36,7 +36,7 @@ pub struct Break {
     /// The step's number, from 1.
     pub step: u64,
     pub actor: Actor,
-    pub cause: Cause,
+    pub cause: BreakCause,
 }
 
 /// Where the actors are after a run that no step breaks.

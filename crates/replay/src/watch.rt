@@ -9,14 +9,14 @@ ghost use Rattle.setups.specs.declared.setup_fault.SetupFault.TheVariants as fau
 ghost use Rattle.replay.specs.Outcomes.{Reports};
 ghost use Rattle.replay.specs.Watched.{IsWatched, IsWatchedOn, HasRoomFor, IsMadeBehind, IsStepped, IsCauseBehind, claims_cell, frees_cell};
 
-use crate::outcome::{Break, Cause, Report};
+use crate::outcome::{Break, BreakCause, Report};
 use crate::world::World;
 use colours::Turn;
 use layout::Program;
 use moves::Move;
 use setups::SetupFault;
 use std::alloc::{AllocError, Global};
-use stepping::{Happening, Loss, Step};
+use stepping::{Happening, Loss, MadeStep};
 use trace_text::{Actor, Setup};
 
 /// A world whose run was never broken so far, with what was counted on the way.
@@ -88,7 +88,7 @@ impl<'a> Watch<'a> {
     }
 
     /// What the step that the world has made tells: how it breaks the run, if it does. It is counted.
-    fn told(&mut self, actor: Actor, made: &Option<Step>) -> Result<Option<Break>, AllocError>
+    fn told(&mut self, actor: Actor, made: &Option<MadeStep>) -> Result<Option<Break>, AllocError>
         requires room { (self.old.steps < 2 ^ 63) × (self.old.claims < 2 ^ 63) × (self.old.frees < 2 ^ 63) }
         ensures { (p : LaidOut) (setup : ASetup) (before : List AnActor) → IsStepped p setup before (actor_in actor) made.now self.old
             → IfOk result (IsWatchedOn p setup before (actor_in actor ∷ []) self.new) }
@@ -105,7 +105,7 @@ impl<'a> Watch<'a> {
     }
 
     /// One step more.
-    fn count(&mut self, made: &Option<Step>)
+    fn count(&mut self, made: &Option<MadeStep>)
         requires room { (self.old.steps < 2 ^ 63) × (self.old.claims < 2 ^ 63) × (self.old.frees < 2 ^ 63) }
         ensures world { self.new.world ≡ self.old.world }
         ensures steps { self.new.steps ≡ self.old.steps + 1 }
@@ -123,12 +123,12 @@ impl<'a> Watch<'a> {
 }
 
 /// Whether a step claims a cell.
-fn claims_cell(made: &Option<Step>) -> bool
+fn claims_cell(made: &Option<MadeStep>) -> bool
     ensures { result ≡ claims_cell made.now }
 {
     match made {
         Some(
-            Step {
+            MadeStep {
                 happening: Happening::Thread(_, Move::Claims { won, .. }),
                 ..
             },
@@ -138,12 +138,12 @@ fn claims_cell(made: &Option<Step>) -> bool
 }
 
 /// Whether it frees one.
-fn frees_cell(made: &Option<Step>) -> bool
+fn frees_cell(made: &Option<MadeStep>) -> bool
     ensures { result ≡ frees_cell made.now }
 {
     matches!(
         made,
-        Some(Step {
+        Some(MadeStep {
             happening: Happening::Collector(Turn::Free(_)),
             ..
         })
@@ -151,7 +151,7 @@ fn frees_cell(made: &Option<Step>) -> bool
 }
 
 /// The first cause by which the run is broken after a step, if it is, where it was not broken before it.
-fn cause_after(world: &World<'_>, made: &Option<Step>) -> Result<Option<Cause>, AllocError>
+fn cause_after(world: &World<'_>, made: &Option<MadeStep>) -> Result<Option<BreakCause>, AllocError>
     ensures { (before : List AnActor) (actor : AnActor) → IsBehind world.now (actor ∷ before)
         → IsMadeBehind world.now before actor made.now → ¬ IsBrokenWorld world.now before
         → IfOk result (IsCauseBehind world.now.program world.now.setup (actor ∷ before)) }
@@ -160,13 +160,13 @@ fn cause_after(world: &World<'_>, made: &Option<Step>) -> Result<Option<Cause>, 
         return Ok(None);
     };
     if let Some(cause) = step.broke {
-        return Ok(Some(Cause::OfStep(cause)));
+        return Ok(Some(BreakCause::OfStep(cause)));
     }
     if let Loss::Nothing = step.loss {
         return Ok(None);
     }
     match world.first_gone()? {
         None => Ok(None),
-        Some(gone) => Ok(Some(Cause::OfReach(gone))),
+        Some(gone) => Ok(Some(BreakCause::OfReach(gone))),
     }
 }

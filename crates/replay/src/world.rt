@@ -18,7 +18,7 @@ use program_runner::{ProgramThread, begun_law, program_law};
 use setups::{SetupFault, begun_threads, values_at_start};
 use std::alloc::{AllocError, Global};
 use std::marker::Model;
-use stepping::{Actors, Gone, Plan, Step};
+use stepping::{Actors, Gone, HeapSchema, MadeStep};
 use trace_text::{Actor, Setup};
 
 /// The threads of a program and the collector, after some steps from their setup.
@@ -60,12 +60,12 @@ impl<'a> World<'a> {
         let endings = no_endings(alloc, setup.starts.len())?;
         let threads = begun_threads(alloc, program, setup)?;
         let values = values_at_start(alloc, program.module())?;
-        let plan = Plan {
+        let schema = HeapSchema {
             pools: &setup.pools,
             layouts: program.layouts(),
             globals,
         };
-        let actors = Actors::new(alloc, plan, values.as_slice(), threads)?;
+        let actors = Actors::new(alloc, schema, values.as_slice(), threads)?;
         Ok(World {
             alloc,
             program,
@@ -76,11 +76,11 @@ impl<'a> World<'a> {
     }
 
     /// The actor makes its one next step, if it has one. Without memory nothing changes.
-    pub fn step(&mut self, actor: Actor) -> Result<Option<Step>, AllocError>
+    pub fn step(&mut self, actor: Actor) -> Result<Option<MadeStep>, AllocError>
         requires { IsActorOf (length self.old.setup.starts) actor }
         // The step is the actor's one next step after the run that led here, and the world is the end of the longer run.
         ensures ok { (before : List AnActor) → IsBehind self.old before → IfOk result (λ made. IsStepBehind self.old before actor made × IsBehind self.new (actor_in actor ∷ before)) }
-        ensures plan { (self.new.program ≡ self.old.program) × (self.new.setup ≡ self.old.setup) }
+        ensures same { (self.new.program ≡ self.old.program) × (self.new.setup ≡ self.old.setup) }
         ensures err { OnErr result (self.new ≡ self.old) }
         // Where the program is certified with some certificates, and the threads began with what these promise, the world after the step is not broken.
         ensures safe { (certs : List Section) (before : List AnActor) → IsCertifiedSetup self.old.program self.old.setup certs → IsBehind self.old before

@@ -14,7 +14,7 @@ use Rattle.heap_table.specs.Holders.{Holder, MayCall, MayBegin, IsNow, with_log}
 use Rattle.heap_table.specs.Begins.{Begins}
 use Rattle.serving.specs.Serving.{MayBeServed, MayCallFirst}
 use Rattle.serving.specs.Tries.{HasTried}
-use Rattle.serving.specs.declared.serving.Outcome.{Outcome}
+use Rattle.serving.specs.declared.serving.ServingEnd.{ServingEnd}
 use Rattle.serving.specs.Endings.{IsAbsentAfter, EndsSo}
 
 -- the thread's moves are steps of tries so far, at least this number, and this is its state
@@ -105,7 +105,7 @@ module _ (m : Machine) (Fits : Setup → m.State → Type 0) (heap : Shared) (fi
   pub left_first : (after : Holder) → IsNow token after.log after → (log : List Step) (state : m.State) → state ≡ start → Left after.setup m after.thread state log → Left first.setup m first.thread start log
   left_first after now log state same left = subst (λ (x : m.State). Left first.setup m first.thread x log) same (subst (λ (x : Holder). Left x.setup m x.thread state log) (same_token after now) left)
 
-  pub ends_first : (after : Holder) → IsNow token after.log after → (limit : ℕ) (outcome : Outcome) (last : m.State) (log : List Step) (state : m.State) → state ≡ start
+  pub ends_first : (after : Holder) → IsNow token after.log after → (limit : ℕ) (outcome : ServingEnd) (last : m.State) (log : List Step) (state : m.State) → state ≡ start
       → EndsSo after.setup m after.thread state limit outcome last log → EndsSo first.setup m first.thread start limit outcome last log
   ends_first after now limit outcome last log state same end = subst (λ (x : m.State). EndsSo first.setup m first.thread x limit outcome last log) same
       (subst (λ (x : Holder). EndsSo x.setup m x.thread state limit outcome last log) (same_token after now) end)

@@ -8,7 +8,7 @@ use Rattle.runs.specs.RealThreads.{IsWholeShare, Left, whole}
 use Rattle.heap_words.specs.Tokens.{Shared}
 use Rattle.heap_table.specs.Holders.{Holder, MayCall, IsNow}
 use Rattle.serving.specs.Serving.{Serves, WentOn, IsLeft}
-use Rattle.serving.specs.declared.serving.Outcome.TheVariants.{Ended}
+use Rattle.serving.specs.declared.serving.ServingEnd.TheVariants.{Ended}
 use Rattle.serving.specs.Endings.{IsFinishedAfter, EndsSo}
 use Rattle.serving.proofs.Endings.{ended, cut_off}
 

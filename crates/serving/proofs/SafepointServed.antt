@@ -1,5 +1,5 @@
 -- A safepoint of a thread that is served: the look, the marks of the roots, and the answer.
-use Rattle.std.proofs.Common.{◌≡◌, ◌≢◌, ℕ, zero, suc, ◌==◌, not, inl, inr, Bool, true, false, Some, None, List, [], ◌∷◌, ◌++◌, length, filter, reverse, if◌then◌else◌, refl, sym, ap, subst, ◌∙◌, append_assoc, length-append, arith}
+use Rattle.std.proofs.Common.{◌≡◌, ◌≢◌, ℕ, zero, suc, ◌==◌, not, inl, inr, Bool, true, false, Some, None, List, [], ◌∷◌, ◌++◌, length, filter, reverse, if◌then◌else◌, refl, sym, ap, subst, ◌∙◌, append_assoc, length-append, arith, true≢false}
 use Rattle.std.specs.Prelude.{IsTrue, slice_get}
 use Rattle.colours.specs.Colours.{done, is_async}
 use Rattle.colours.specs.Steps.{Step, Mark, ReadPosted, StoreStage}
@@ -33,9 +33,6 @@ one_more front r rest = sym (append_assoc front (r ∷ []) rest)
 
 longer : (front : List Reference) (r : Reference) → length (front ++ r ∷ []) ≡ suc (length front)
 longer front r = omega (arith, length-append front (r ∷ []))
-
-true_false : {b : Bool} → b ≡ true → b ≡ false → ⊥
-true_false x y = cc
 
 module _ (m : Machine) (start : m.State) (moves : ℕ) (t : Holder) (state : m.State) (posted : ℕ) (async : IsTrue (is_async posted)) where
   -- after the first roots, the marks of the rest lead on
@@ -85,7 +82,7 @@ module _ (m : Machine) (start : m.State) (moves : ℕ) (t : Holder) (state : m.S
           (StoreStage posted (cells_of (m.roots state)) ∷ (if b then with_marks (cells_of (m.roots state)) (ReadPosted posted ∷ t.log) else (ReadPosted posted ∷ t.log)))
       go true a = let all = marked m start moves t state posted a (m.roots state) [] (ReadPosted posted ∷ t.log) [] null refl refl (looked other) in
           stores (with_marks (cells_of (m.roots state)) (ReadPosted posted ∷ t.log)) (pushed (cells_of (m.roots state)) []) all.0 all.1 (λ x. turned (cells_of (m.roots state)) []) running
-      go false a = stores (ReadPosted posted ∷ t.log) [] null (looked other) (λ x. absurd (true_false x a)) running
+      go false a = stores (ReadPosted posted ∷ t.log) [] null (looked other) (λ x. absurd (true≢false (sym x ∙ a))) running
 
 -- the log after an answer
 abbrev answer_log : List Step → (posted : ℕ) → List ℕ → List Step

@@ -1,5 +1,5 @@
 -- A barriered store of a thread that is served.
-use Rattle.std.proofs.Common.{◌≡◌, ◌≢◌, ℕ, zero, suc, Bool, true, false, List, [], ◌∷◌, ◌++◌, if◌then◌else◌, refl, sym, ap, subst, ◌∙◌, arith}
+use Rattle.std.proofs.Common.{◌≡◌, ◌≢◌, ℕ, zero, suc, Bool, true, false, List, [], ◌∷◌, ◌++◌, if◌then◌else◌, refl, sym, ap, subst, ◌∙◌, arith, true≢false}
 use Rattle.std.specs.Prelude.{IsFalse}
 use Rattle.colours.specs.Colours.{is_async}
 use Rattle.colours.specs.Steps.{Step, ReadOldValue, Mark, StoreBehindBarrier}
@@ -16,9 +16,6 @@ use Rattle.heap_table.specs.Writes.{Writes}
 use Rattle.serving.specs.Serving.{Serves, IsServed}
 use Rattle.serving.proofs.UnderWay.{Under, Over, begins, further, last, ends}
 use Rattle.serving.proofs.ReadServed.{at_most}
-
-true_false : {b : Bool} → b ≡ true → b ≡ false → ⊥
-true_false x y = cc
 
 module _ (m : Machine) (start : m.State) (moves : ℕ) (t : Holder) (state : m.State) (v : Serves m start moves t state) (base : Reference) (word new birth : ℕ)
     (ready : phase_of t.setup t.thread t.log ≡ Ready) (e : m.action state ≡ machine.Write base word (record { cell = new; birth = birth })) where
@@ -66,7 +63,7 @@ written m start moves t state v base word zero birth ready e old = go (is_async 
 written m start moves t state v base word (suc n) birth ready e old = go (is_async (stage_of t.log)) refl
   where
     go : (b : Bool) → is_async (stage_of t.log) ≡ b → Over t.setup m t.thread start (m.after_answer state Done) (suc moves) (StoreBehindBarrier base.cell word (suc n) ∷ ((if b then [] else Mark (suc n) ∷ []) ++ (marks old ++ (ReadOldValue base.cell word old ∷ t.log))))
-    go true a = stored m start moves t state v base word (suc n) birth ready e old (λ f. absurd (true_false a f))
+    go true a = stored m start moves t state v base word (suc n) birth ready e old (λ f. absurd (true≢false (sym a ∙ f)))
     go false a = stored_marked m start moves t state v base word (suc n) birth ready e old a (λ z. omega arith)
 
 -- the log after a write

@@ -6,8 +6,8 @@ use Rattle.colours.specs.Steps.{Step, StoreStage}
 use Rattle.colours.specs.Mutator.{Absent, phase_of}
 use Rattle.runs.specs.Machine.{Machine, Answered, End}
 use Rattle.runs.specs.RealThreads.{IsRealShare, IsWholeShare}
-use Rattle.serving.specs.declared.serving.Outcome.{Outcome}
-use Rattle.serving.specs.declared.serving.Outcome.TheVariants.{Ended, Stopped, Memory, Absent as NeverBegan}
+use Rattle.serving.specs.declared.serving.ServingEnd.{ServingEnd}
+use Rattle.serving.specs.declared.serving.ServingEnd.TheVariants.{Ended, Stopped, Memory, Absent as NeverBegan}
 
 -- the log is that of at least this number of moves that lead to this state, and of the step that finishes the thread
 pub record IsFinishedAfter (s : Setup) (m : Machine) (thread : ℕ) (start : m.State) (moves : ℕ) (state : m.State) (log : List Step) : Type 0 where
@@ -23,7 +23,7 @@ pub record IsAbsentAfter (s : Setup) (m : Machine) (thread : ℕ) (start : m.Sta
   pub absent : phase_of s thread log ≡ Absent
 
 -- a thread that ended asked for its end in this state, and its share is whole. One that stopped, or never began, made as many moves as its limit says
-abbrev pub EndsSo : (s : Setup) (m : Machine) (thread : ℕ) (start : m.State) (limit : ℕ) → Outcome → (state : m.State) → List Step → Type 0
+abbrev pub EndsSo : (s : Setup) (m : Machine) (thread : ℕ) (start : m.State) (limit : ℕ) → ServingEnd → (state : m.State) → List Step → Type 0
 EndsSo s m thread start limit Ended state log =
     (m.action state ≡ End) × IsFinishedAfter s m thread start 0 state log × IsWholeShare s m thread start log (m.after_answer state (Answered (Some done)))
 EndsSo s m thread start limit Stopped state log = IsFinishedAfter s m thread start limit state log

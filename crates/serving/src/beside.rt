@@ -8,7 +8,7 @@ ghost use Rattle.serving.specs.Jobs.{MayBegin, WasServed};
 ghost use Rattle.serving.specs.Turns.{MayBeginCycle};
 
 use crate::collecting::collect;
-use crate::serving::{Outcome, serve};
+use crate::serving::{ServingEnd, serve};
 use gate::Gate;
 use heap_table::{Heap, Mutator, Sweeper};
 use moves::Runner;
@@ -23,7 +23,7 @@ pub struct Job<R> {
     pub machine: R,
     pub is_late: bool,
     /// Before it is served, that it has not begun.
-    pub outcome: Outcome,
+    pub outcome: ServingEnd,
 }
 
 /// How many turns the collector makes at most, and how many steps each thread.

@@ -11,4 +11,4 @@ pub use beside::{Job, Limits, serve_beside};
 pub use calls::{alloc_for, read_for, safepoint_for, store_plain_for, write_for};
 pub use closing::close_after;
 pub use collecting::collect;
-pub use serving::{Outcome, serve};
+pub use serving::{ServingEnd, serve};

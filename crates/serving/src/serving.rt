@@ -18,9 +18,9 @@ const ARRIVAL: u64 = 3;
 /// The steps of a try after which it has not.
 const FAILED_TRY: u64 = 4;
 
-/// How far a thread was served.
+/// How the serving of a thread ended.
 #[derive(Clone, Copy, Debug, PartialEq, Eq)]
-pub enum Outcome {
+pub enum ServingEnd {
     /// It asked for its end.
     Ended,
     /// It reached its limit.
@@ -41,7 +41,7 @@ pub fn serve<R: Runner>(
     machine: &mut R,
     is_late: bool,
     limit: u32,
-) -> Outcome
+) -> ServingEnd
     requires { MayBeServed (machine_of R.action R.after_answer R.roots) R.fits heap.now me.old is_late machine.old }
     ensures token { IsNow me.old me.new.log me.new }
     ensures left { Left me.old.setup (machine_of R.action R.after_answer R.roots) me.old.thread machine.old me.new.log }
@@ -62,7 +62,7 @@ fn serve_late<R: Runner>(
     me: &mut Mutator,
     machine: &mut R,
     limit: u64,
-) -> Outcome
+) -> ServingEnd
     requires late { HasTried (machine_of R.action R.after_answer R.roots) R.fits heap.now me.old machine.old 0 me.old }
     requires few { limit < 2 ^ 32 }
     ensures token { IsNow me.old me.new.log me.new }
@@ -75,7 +75,7 @@ fn serve_late<R: Runner>(
             return serve_begun(alloc, heap, me, machine, made, limit);
         }
     }
-    Outcome::Absent
+    ServingEnd::Absent
 }
 
 /// Serves a thread that has begun, after this number of steps.
@@ -86,7 +86,7 @@ fn serve_begun<R: Runner>(
     machine: &mut R,
     made: u64,
     limit: u64,
-) -> Outcome
+) -> ServingEnd
     requires { MayCallFirst (machine_of R.action R.after_answer R.roots) R.fits heap.now me.old machine.old made }
     ensures token { IsNow me.old me.new.log me.new }
     ensures left { Left me.old.setup (machine_of R.action R.after_answer R.roots) me.old.thread machine.old me.new.log }
@@ -95,14 +95,14 @@ fn serve_begun<R: Runner>(
     for _made in made..limit {
         if let Call::End = machine.call() {
             heap.finish(me);
-            return Outcome::Ended;
+            return ServingEnd::Ended;
         }
         if go_on(alloc, heap, me, machine).is_err() {
-            return Outcome::Memory;
+            return ServingEnd::Memory;
         }
     }
     heap.finish(me);
-    Outcome::Stopped
+    ServingEnd::Stopped
 }
 
 /// Makes the call that the thread asks for, and hands it the answer. A thread that has no memory for the answer is finished.

@@ -24,7 +24,7 @@ use Rattle.moves.specs.Rows.{word_at}
 use Rattle.moves.specs.Runs.{collector_behind, run_by}
 use Rattle.moves.specs.Shared.{held_at, StandBehind}
 use Rattle.moves.specs.Stands.{cells_to_try, phase_at, standing}
-use Rattle.stepping.specs.Reach.{IsPlanOf}
+use Rattle.stepping.specs.Reach.{IsSchemaOf}
 use Rattle.run_law.specs.Growth.{IsInHeap}
 use Rattle.stepping.specs.declared.acting.Actors.{Actors}
 use Rattle.stepping.specs.declared.beginning.NewThread.{NewThread}
@@ -211,18 +211,18 @@ stands-first s m starts t thread late e =
       hints = first.hints;
     }
 
--- the collector of a heap with this plan
+-- the collector of a heap with this schema
 pub begun-of : (s : Setup) (threads : ℕ) (layouts : List (List WordKind)) (pools : List ℕ) (globals : List WordKind) → s.threads ≡ threads → s.layouts ≡ layouts → s.pools ≡ pools → s.globals ≡ globals
     → begun (plan threads layouts pools globals) ≡ begun (plan_of s)
 begun-of s threads layouts pools globals a b c d = rw (a, b, c, d) refl
 
 -- the actors before their first step
-pub actors-first : (s : Setup) (m : Machine) (Fits : m.State → Type 0) (starts : ℕ → m.State) (a : Actors m.State) (states : List (NewThread m.State)) → IsPlanOf s a.plan → IsSetup s → s.late ≡ map (λ (thread : NewThread m.State). thread.is_late) states → cells s ≤ 2 ^ 32
+pub actors-first : (s : Setup) (m : Machine) (Fits : m.State → Type 0) (starts : ℕ → m.State) (a : Actors m.State) (states : List (NewThread m.State)) → IsSchemaOf s a.schema → IsSetup s → s.late ≡ map (λ (thread : NewThread m.State). thread.is_late) states → cells s ≤ 2 ^ 32
     → s.threads ≡ length states → ((t : ℕ) (thread : NewThread m.State) → slice_get states t ≡ Some thread → (starts t ≡ thread.machine) × Fits thread.machine)
     → a.threads.items ≡ map (stand_at_start (length s.pools)) states → StandBehind s [] a.shared → a.collector ≡ begun (plan_of s) → AreBehindSteps s m Fits starts [] a
 unfolding collector_behind run_by is_late
-actors-first s m Fits starts a states is_plan setup late few count begin threads words collects = record {
-  plan = is_plan;
+actors-first s m Fits starts a states is_schema setup late few count begin threads words collects = record {
+  schema = is_schema;
   setup = setup;
   is_behind = record {
     are_actors = tt;

@@ -30,7 +30,7 @@ use Rattle.stepping.specs.declared.loss.Loss.{Loss}
 use Rattle.run_law.specs.Growth.{CollectorIsBehind, MotionGrows, with_stored}
 use Rattle.stepping.specs.declared.acting.Actors.{Actors}
 use Rattle.stepping.specs.declared.happening.Happening.TheVariants as made
-use Rattle.stepping.specs.declared.happening.Step.{Step}
+use Rattle.stepping.specs.declared.happening.MadeStep.{MadeStep}
 use Rattle.stepping.specs.Ends.{AreBehindSteps, IsEnd, IsOneStep}
 use Rattle.stepping.proofs.Ends.{run_more, run_same, KeepsAll, is_longer_run}
 
@@ -84,7 +84,7 @@ collected-none s m Fits starts before a b limit =
     record {
       made_is = none;
       behind = record {
-        plan = b.plan;
+        schema = b.schema;
         setup = b.setup;
         is_behind = record {
           are_actors = (tt, b.is_behind.are_actors);
@@ -107,7 +107,7 @@ pub collected : (s : Setup) (m : Machine) (Fits : m.State → Type 0) (starts : 
     → (motion : Motion) (behind : Collecting) → IsStepOn (held_at a.shared) a.collector motion behind → MotionGrows s (run_by s m starts before) a.shared motion behind
     → KeepsAll s m starts → (loss : Loss) → IsTold loss (LosesNothing s m starts (run_by s m starts before) (OfCollector motion.turn))
     → IsOneStep s m Fits starts before Collector (Some (record { happening = made.Collector motion.turn; broke = None; loss = loss }))
-    (record { plan = a.plan; threads = a.threads; shared = with_stored a.shared motion motion.stored; collector = behind })
+    (record { schema = a.schema; threads = a.threads; shared = with_stored a.shared motion motion.stored; collector = behind })
 collected s m Fits starts before a b motion behind x grows keeps loss told =
     let end = b.is_behind.is_end in
     let run = run_by s m starts before in
@@ -133,7 +133,7 @@ collected s m Fits starts before a b motion behind x grows keeps loss told =
             (subst (λ (l : Loss). IsTold l (LosesNothing s m starts run (OfCollector motion.turn))) lossless told) before_it;
       };
       behind = record {
-        plan = b.plan;
+        schema = b.schema;
         setup = b.setup;
         is_behind = record {
           are_actors = (tt, b.is_behind.are_actors);
@@ -158,9 +158,9 @@ stored-none h motion none = go motion.stored refl
     go (Some n) e = absurd (none n e)
 
 -- the actors after the step, with these words
-pub with-words : (s : Setup) (m : Machine) (Fits : m.State → Type 0) (starts : ℕ → m.State) (before : List Actor) (made : Option Step) (a d : Actors m.State) (h k : Shared) (c : Collecting) → k ≡ h
-    → d ≡ record { plan = a.plan; threads = a.threads; shared = h; collector = c }
-    → IsOneStep s m Fits starts before Collector made (record { plan = a.plan; threads = a.threads; shared = k; collector = c }) → IsOneStep s m Fits starts before Collector made d
+pub with-words : (s : Setup) (m : Machine) (Fits : m.State → Type 0) (starts : ℕ → m.State) (before : List Actor) (made : Option MadeStep) (a d : Actors m.State) (h k : Shared) (c : Collecting) → k ≡ h
+    → d ≡ record { schema = a.schema; threads = a.threads; shared = h; collector = c }
+    → IsOneStep s m Fits starts before Collector made (record { schema = a.schema; threads = a.threads; shared = k; collector = c }) → IsOneStep s m Fits starts before Collector made d
 with-words s m Fits starts before made a d h k c e is x =
     subst (λ (v : Actors m.State). IsOneStep s m Fits starts before Collector made v) (sym is)
-    (subst (λ (v : Shared). IsOneStep s m Fits starts before Collector made (record { plan = a.plan; threads = a.threads; shared = v; collector = c })) e x)
+    (subst (λ (v : Shared). IsOneStep s m Fits starts before Collector made (record { schema = a.schema; threads = a.threads; shared = v; collector = c })) e x)

@@ -1,4 +1,4 @@
-pub mod Plans
+pub mod Schemas
 pub mod Meetings
 pub mod Wholes
 pub mod Exact

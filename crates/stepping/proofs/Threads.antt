@@ -90,10 +90,10 @@ next-by-thread s m Fits starts before a b t stand is =
 
 -- the actors with a thread put back that was there
 pub same-actors : {State : Type 0} (a : Actors State) (t : ℕ) (stand : Stand State) → slice_set a.threads.items t stand ≡ a.threads.items
-    → record { plan = a.plan; threads = with_item a.threads t stand; shared = a.shared; collector = a.collector } ≡ a
+    → record { schema = a.schema; threads = with_item a.threads t stand; shared = a.shared; collector = a.collector } ≡ a
 same-actors {State} a t stand e =
     let e' : with_item a.threads t stand ≡ a.threads = put-back a.threads t stand e in
-    λ i. record { plan = a.plan; threads = e' i; shared = a.shared; collector = a.collector }
+    λ i. record { schema = a.schema; threads = e' i; shared = a.shared; collector = a.collector }
 
 -- ---- a thread that has ended
 
@@ -106,7 +106,7 @@ moved-none s m Fits starts before a b t lt stand is ended =
     record {
       made_is = none;
       behind = record {
-        plan = b.plan;
+        schema = b.schema;
         setup = b.setup;
         is_behind = record {
           are_actors = (lt, b.is_behind.are_actors);
@@ -192,7 +192,7 @@ pub moved-on : (s : Setup) (m : Machine) (Fits : m.State → Type 0) (starts : �
     → (broke : Option Cause) → Breaks a.shared made broke
     → KeepsAll s m starts → (loss : Loss) → IsTold loss (AddsNothing (move_in (m.roots stand.state) made) × (m.roots behind.state ≡ m.roots stand.state))
     → IsOneStep s m Fits starts before (Thread t) (Some (record { happening = happening.Thread t made; broke = broke; loss = loss }))
-    (record { plan = a.plan; threads = with_item a.threads t behind; shared = with_move a.shared t stand.stage made; collector = a.collector })
+    (record { schema = a.schema; threads = with_item a.threads t behind; shared = with_move a.shared t stand.stage made; collector = a.collector })
 moved-on s m Fits starts before a b t lt stand is made asked grows behind behind_is broke breaks keeps loss told =
     let end = b.is_behind.is_end in
     let run = run_by s m starts before in
@@ -213,7 +213,7 @@ moved-on s m Fits starts before a b t lt stand is made asked grows behind behind
             (subst (λ (l : Loss). IsTold l (LosesNothing s m starts run (OfThread t move))) lossless told_of) before_it;
       };
       behind = record {
-        plan = b.plan;
+        schema = b.schema;
         setup = b.setup;
         is_behind = record {
           are_actors = (lt, b.is_behind.are_actors);

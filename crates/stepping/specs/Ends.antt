@@ -16,13 +16,13 @@ use Rattle.moves.specs.Causes.{IsStepCause}
 use Rattle.moves.specs.Runs.{collector_behind, next_by, run_by, AreActors}
 use Rattle.moves.specs.Shared.{StandBehind}
 use Rattle.moves.specs.Stands.{standing}
-use Rattle.stepping.specs.Reach.{IsPlanOf, IsFirstGone, LosesNothing}
+use Rattle.stepping.specs.Reach.{IsSchemaOf, IsFirstGone, LosesNothing}
 use Rattle.stepping.specs.Loss.{IsTold}
 use Rattle.run_law.specs.Growth.{IsInHeap}
 use Rattle.stepping.specs.declared.acting.Actors.{Actors}
 use Rattle.stepping.specs.declared.happening.Happening.{Happening}
 use Rattle.stepping.specs.declared.happening.Happening.TheVariants.{Thread, Collector}
-use Rattle.stepping.specs.declared.happening.Step.{Step}
+use Rattle.stepping.specs.declared.happening.MadeStep.{MadeStep}
 use Rattle.stepping.specs.declared.loss.Loss.TheVariants.{Nothing}
 
 -- the threads, the shared words and the collector at the end of this run
@@ -44,7 +44,7 @@ pub record IsBehind (s : Setup) (m : Machine) (Fits : m.State → Type 0) (start
 
 -- the same for the actors of the code
 pub record AreBehindSteps (s : Setup) (m : Machine) (Fits : m.State → Type 0) (starts : ℕ → m.State) (before : List Actor) (actors : Actors m.State) : Type 0 where
-  pub plan : IsPlanOf s actors.plan
+  pub schema : IsSchemaOf s actors.schema
   pub setup : IsSetup s
   pub is_behind : IsBehind s m Fits starts before actors.threads.items actors.shared actors.collector
 
@@ -56,7 +56,7 @@ Tells roots (Thread t made) happening = happening ≡ OfThread t (move_in (roots
 Tells roots (Collector turn) happening = happening ≡ OfCollector turn
 
 -- the step says what the actor made after this run, and how it breaks the run
-pub record IsStep (s : Setup) (m : Machine) (starts : ℕ → m.State) (run : List runs.Happening) (actor : Actor) (step : Step) : Type 0 where
+pub record IsStep (s : Setup) (m : Machine) (starts : ℕ → m.State) (run : List runs.Happening) (actor : Actor) (step : MadeStep) : Type 0 where
   pub happening : runs.Happening
   pub next : next_by s m starts run actor ≡ Some happening
   pub tells : Tells (λ t. m.roots (moves.state_after s m t (starts t) (share_of t run))) step.happening happening
@@ -67,11 +67,11 @@ pub record IsStep (s : Setup) (m : Machine) (starts : ℕ → m.State) (run : Li
   pub loses : step.loss ≡ Nothing → IsFirstGone s m starts run None → IsFirstGone s m starts (happening ∷ run) None
 
 -- where no step was made, the actor has no next step
-abbrev pub IsStepOrNone : (s : Setup) (m : Machine) (starts : ℕ → m.State) → List runs.Happening → Actor → Option Step → Type 0
+abbrev pub IsStepOrNone : (s : Setup) (m : Machine) (starts : ℕ → m.State) → List runs.Happening → Actor → Option MadeStep → Type 0
 IsStepOrNone s m starts run actor None = next_by s m starts run actor ≡ None
 IsStepOrNone s m starts run actor (Some step) = IsStep s m starts run actor step
 
 -- what the actor made after these is returned, and the actors are those after it
-pub record IsOneStep (s : Setup) (m : Machine) (Fits : m.State → Type 0) (starts : ℕ → m.State) (before : List Actor) (actor : Actor) (made : Option Step) (actors : Actors m.State) : Type 0 where
+pub record IsOneStep (s : Setup) (m : Machine) (Fits : m.State → Type 0) (starts : ℕ → m.State) (before : List Actor) (actor : Actor) (made : Option MadeStep) (actors : Actors m.State) : Type 0 where
   pub made_is : IsStepOrNone s m starts (run_by s m starts before) actor made
   pub behind : AreBehindSteps s m Fits starts (actor ∷ before) actors

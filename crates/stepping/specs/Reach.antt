@@ -9,13 +9,13 @@ use Rattle.runs.specs.ModuleRuns.{Happening, OfThread, OfCollector, share_of}
 use Rattle.runs.specs.Broken.{IsRoot, IsReachable, IsGone, Shows, ReachBlue, ReachBirth}
 use Rattle.stepping.specs.declared.gone.Gone.{Gone}
 use Rattle.stepping.specs.declared.gone.Gone.TheVariants.{Blue, Reborn}
-use Rattle.stepping.specs.declared.gone.Plan.{Plan}
+use Rattle.stepping.specs.declared.gone.HeapSchema.{HeapSchema}
 
 -- the heap has these pools, layouts and globals
-pub record IsPlanOf (s : Setup) (plan : Plan) : Type 0 where
-  pub pools : s.pools ≡ plan.pools.now
-  pub layouts : s.layouts ≡ plan.layouts.now
-  pub globals : s.globals ≡ plan.globals.now
+pub record IsSchemaOf (s : Setup) (schema : HeapSchema) : Type 0 where
+  pub pools : s.pools ≡ schema.pools.now
+  pub layouts : s.layouts ≡ schema.layouts.now
+  pub globals : s.globals ≡ schema.globals.now
 
 -- these are the roots of the threads under way, and cells of the heap, perhaps with nulls between them
 pub record AreRoots (s : Setup) (m : Machine) (starts : ℕ → m.State) (run : List Happening) (roots : List Reference) : Type 0 where

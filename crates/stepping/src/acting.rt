@@ -5,12 +5,12 @@ ghost use Rattle.runs.specs.Machine.{machine_of};
 ghost use Rattle.moves.specs.declared.actor.Actor.{Actor as AnActor};
 ghost use Rattle.moves.specs.declared.actor.Actor.TheVariants as actor;
 ghost use Rattle.moves.specs.Runs.{run_by, IsActor};
-ghost use Rattle.stepping.specs.Reach.{IsPlanOf, IsFirstGone};
+ghost use Rattle.stepping.specs.Reach.{IsSchemaOf, IsFirstGone};
 ghost use Rattle.stepping.specs.Ends.{AreBehindSteps, IsOneStep};
 
 use crate::beginning::{NewThread, shared_at_start, stands_at_start};
-use crate::gone::{Gone, Plan, first_gone};
-use crate::happening::{Happening, Step};
+use crate::gone::{Gone, HeapSchema, first_gone};
+use crate::happening::{Happening, MadeStep};
 use crate::laws::loss_law;
 use crate::loss::{loss_of_move, loss_of_turn};
 use crate::roots::roots_under_way;
@@ -22,7 +22,7 @@ use trace_sweep::Collector;
 /// Threads of a machine and the collector over one heap, between two steps.
 #[derive(Drop)]
 pub struct Actors<'a, M> {
-    plan: Plan<'a>,
+    schema: HeapSchema<'a>,
     threads: Vec<Stand<M>>,
     shared: Shared,
     collector: Collector<'a>,
@@ -32,22 +32,22 @@ impl<'a, M: Runner + Drop> Actors<'a, M> {
     /// The actors before their first step. The globals hold these values.
     pub fn new(
         alloc: Global,
-        plan: Plan<'a>,
+        schema: HeapSchema<'a>,
         values: &[u64],
         threads: Vec<NewThread<M>>,
     ) -> Result<Self, AllocError>
-        requires globals { length plan.globals.now < 2 ^ 32 }
-        requires words { All (λ words. length words < 2 ^ 32) plan.layouts.now }
-        requires pools { length plan.pools.now ≡ length plan.layouts.now }
-        ensures { (s : Setup) (starts : ℕ → M) → IsPlanOf s plan.entry → IsSetup s → s.late ≡ map (λ (thread : NewThread M). thread.is_late) threads.items → s.threads ≡ length threads.items → s.values ≡ values.now
+        requires globals { length schema.globals.now < 2 ^ 32 }
+        requires words { All (λ words. length words < 2 ^ 32) schema.layouts.now }
+        requires pools { length schema.pools.now ≡ length schema.layouts.now }
+        ensures { (s : Setup) (starts : ℕ → M) → IsSchemaOf s schema.entry → IsSetup s → s.late ≡ map (λ (thread : NewThread M). thread.is_late) threads.items → s.threads ≡ length threads.items → s.values ≡ values.now
             → ((t : ℕ) (thread : NewThread M) → slice_get threads.items t ≡ Some thread → (starts t ≡ thread.machine) × M.fits s thread.machine)
             → IfOk result (AreBehindSteps s (machine_of M.action M.after_answer M.roots) (M.fits s) starts []) }
     {
-        let shared = shared_at_start(alloc, plan, values, threads.as_slice())?;
-        let collector = Collector::new(plan.pools, plan.layouts, plan.globals, threads.len());
-        let threads = stands_at_start(alloc, plan.layouts.count(), threads)?;
+        let shared = shared_at_start(alloc, schema, values, threads.as_slice())?;
+        let collector = Collector::new(schema.pools, schema.layouts, schema.globals, threads.len());
+        let threads = stands_at_start(alloc, schema.layouts.count(), threads)?;
         Ok(Actors {
-            plan,
+            schema,
             threads,
             shared,
             collector,
@@ -76,7 +76,7 @@ impl<'a, M: Runner + Drop> Actors<'a, M> {
     }
 
     /// The actor makes its one next step, if it has one. Without memory nothing changes.
-    pub fn step(&mut self, actor: Actor) -> Result<Option<Step>, AllocError>
+    pub fn step(&mut self, actor: Actor) -> Result<Option<MadeStep>, AllocError>
         requires { (s : Setup) × (starts : ℕ → M) × (before : List AnActor) × AreBehindSteps s (machine_of M.action M.after_answer M.roots) (M.fits s) starts before self.old × IsActor s.threads actor }
         ensures ok { (s : Setup) (starts : ℕ → M) (before : List AnActor) → AreBehindSteps s (machine_of M.action M.after_answer M.roots) (M.fits s) starts before self.old
             → IsActor s.threads actor
@@ -90,7 +90,7 @@ impl<'a, M: Runner + Drop> Actors<'a, M> {
     }
 
     /// The collector makes its next step; none at the limit of the cycles.
-    fn step_of_collector(&mut self) -> Option<Step>
+    fn step_of_collector(&mut self) -> Option<MadeStep>
         requires { (s : Setup) × (starts : ℕ → M) × (before : List AnActor) × AreBehindSteps s (machine_of M.action M.after_answer M.roots) (M.fits s) starts before self.old }
         ensures { (s : Setup) (starts : ℕ → M) (before : List AnActor) → AreBehindSteps s (machine_of M.action M.after_answer M.roots) (M.fits s) starts before self.old
             → IsOneStep s (machine_of M.action M.after_answer M.roots) (M.fits s) starts before actor.Collector result self.new }
@@ -102,7 +102,7 @@ impl<'a, M: Runner + Drop> Actors<'a, M> {
         if let Some(number) = motion.stored {
             self.shared.put(motion.place, number);
         }
-        Some(Step {
+        Some(MadeStep {
             happening: Happening::Collector(motion.turn),
             broke: None,
             loss,
@@ -110,7 +110,7 @@ impl<'a, M: Runner + Drop> Actors<'a, M> {
     }
 
     /// The thread makes its next step; none where it has ended. Without memory nothing changes.
-    fn step_of_thread(&mut self, thread: u32) -> Result<Option<Step>, AllocError>
+    fn step_of_thread(&mut self, thread: u32) -> Result<Option<MadeStep>, AllocError>
         requires { (s : Setup) × (starts : ℕ → M) × (before : List AnActor) × AreBehindSteps s (machine_of M.action M.after_answer M.roots) (M.fits s) starts before self.old × (thread < s.threads) }
         ensures ok { (s : Setup) (starts : ℕ → M) (before : List AnActor) → AreBehindSteps s (machine_of M.action M.after_answer M.roots) (M.fits s) starts before self.old
             → thread < s.threads
@@ -121,15 +121,15 @@ impl<'a, M: Runner + Drop> Actors<'a, M> {
         loss_law::<M>();
         let index = thread as usize;
         let stand = &self.threads[index];
-        let Some(made) = next_move(&self.shared, self.plan.pools, stand)? else {
+        let Some(made) = next_move(&self.shared, self.schema.pools, stand)? else {
             return Ok(None);
         };
         let broke = broken_by(&self.shared, &made);
         let stage = stand.stage;
-        let roots_after = go_on(self.plan.pools, &mut self.threads[index], &made)?;
+        let roots_after = go_on(self.schema.pools, &mut self.threads[index], &made)?;
         let loss = loss_of_move(&made, roots_after);
         self.shared.apply(index, stage, &made);
-        Ok(Some(Step {
+        Ok(Some(MadeStep {
             happening: Happening::Thread(thread, made),
             broke,
             loss,
@@ -142,6 +142,6 @@ impl<'a, M: Runner + Drop> Actors<'a, M> {
             → IfOk result (IsFirstGone s (machine_of M.action M.after_answer M.roots) starts (run_by s (machine_of M.action M.after_answer M.roots) starts before)) }
     {
         let roots = roots_under_way(alloc, self.threads.as_slice())?;
-        first_gone::<M>(alloc, self.plan, &self.shared, roots.as_slice())
+        first_gone::<M>(alloc, self.schema, &self.shared, roots.as_slice())
     }
 }

@@ -1,14 +1,14 @@
 ghost use Rattle.std.specs.Prelude.{ℕ, ◌≡◌, ◌<◌, ◌≤◌, ◌^◌, [], length, map, slice_index, IfOk};
 ghost use Rattle.pools.specs.Heap.{Setup, IsSetup, cells_in, cells};
-ghost use Rattle.stepping.specs.Reach.{IsPlanOf};
+ghost use Rattle.stepping.specs.Reach.{IsSchemaOf};
 ghost use Rattle.moves.specs.Shared.{StandBehind};
 ghost use Rattle.stepping.specs.Starts as starts;
 ghost use Rattle.stepping.specs.Starts.{IsRowAtStart, AreRowsAtStart};
 
-use crate::gone::Plan;
+use crate::gone::HeapSchema;
 use colours::DONE;
 use items::Items;
-use moves::{NULL, Reference, Rows, Shared, Stance, Stand};
+use moves::{CellWords, NULL, Reference, Shared, Stance, Stand};
 use std::alloc::{AllocError, Global};
 
 /// A thread before the first step.
@@ -23,14 +23,14 @@ pub struct NewThread<M> {
 /// The shared words before the first step: all cells are free but that of the globals, and hold null or 0.
 pub(crate) fn shared_at_start<M>(
     alloc: Global,
-    plan: Plan<'_>,
+    schema: HeapSchema<'_>,
     values: &[u64],
     threads: &[NewThread<M>],
 ) -> Result<Shared, AllocError>
-    ensures behind { (s : Setup) → IsPlanOf s plan.entry → IsSetup s → s.late ≡ map (λ (thread : NewThread M). thread.is_late) threads.now → s.threads ≡ length threads.now → s.values ≡ values.now → IfOk result (StandBehind s []) }
-    ensures limit { cells_in plan.entry.pools.now ≤ 2 ^ 20 }
+    ensures behind { (s : Setup) → IsSchemaOf s schema.entry → IsSetup s → s.late ≡ map (λ (thread : NewThread M). thread.is_late) threads.now → s.threads ≡ length threads.now → s.values ≡ values.now → IfOk result (StandBehind s []) }
+    ensures limit { cells_in schema.entry.pools.now ≤ 2 ^ 20 }
 {
-    let cells = plan.pools.cells();
+    let cells = schema.pools.cells();
     let mut colours = zeros(alloc, cells as usize)?;
     colours.set(0, 1);
     Ok(Shared {
@@ -38,7 +38,7 @@ pub(crate) fn shared_at_start<M>(
         stages: stages_at_start(alloc, threads)?,
         colours,
         births: zeros(alloc, cells as usize)?,
-        words: rows_at_start(alloc, plan, values)?,
+        words: rows_at_start(alloc, schema, values)?,
     })
 }
 
@@ -66,12 +66,16 @@ fn zeros(alloc: Global, count: usize) -> Result<Items<u64>, AllocError>
 }
 
 /// The words of all cells before the first step.
-fn rows_at_start(alloc: Global, plan: Plan<'_>, values: &[u64]) -> Result<Rows, AllocError>
-    ensures { (s : Setup) → IsPlanOf s plan.entry → IsSetup s → s.values ≡ values.now → IfOk result (λ rows. AreRowsAtStart s (cells s) rows) }
+fn rows_at_start(
+    alloc: Global,
+    schema: HeapSchema<'_>,
+    values: &[u64],
+) -> Result<CellWords, AllocError>
+    ensures { (s : Setup) → IsSchemaOf s schema.entry → IsSetup s → s.values ≡ values.now → IfOk result (λ rows. AreRowsAtStart s (cells s) rows) }
 {
-    let mut rows = Rows::new(alloc);
-    for cell in 0..plan.pools.cells() {
-        rows.push(row_at_start(alloc, plan, values, cell)?)?;
+    let mut rows = CellWords::new(alloc);
+    for cell in 0..schema.pools.cells() {
+        rows.push(row_at_start(alloc, schema, values, cell)?)?;
     }
     Ok(rows)
 }
@@ -79,15 +83,15 @@ fn rows_at_start(alloc: Global, plan: Plan<'_>, values: &[u64]) -> Result<Rows, 
 /// The words of a cell before the first step.
 fn row_at_start(
     alloc: Global,
-    plan: Plan<'_>,
+    schema: HeapSchema<'_>,
     values: &[u64],
     cell: u32,
 ) -> Result<Items<Reference>, AllocError>
-    requires { cell < cells_in plan.pools.now }
-    ensures { (s : Setup) → IsPlanOf s plan.entry → IsSetup s → s.values ≡ values.now → IfOk result (IsRowAtStart s cell) }
+    requires { cell < cells_in schema.pools.now }
+    ensures { (s : Setup) → IsSchemaOf s schema.entry → IsSetup s → s.values ≡ values.now → IfOk result (IsRowAtStart s cell) }
 {
     let mut row = Items::new(alloc);
-    for word in 0..plan.words(cell).len() {
+    for word in 0..schema.words(cell).len() {
         row.push(Reference {
             cell: value_at_start(values, cell, word),
             birth: 0,

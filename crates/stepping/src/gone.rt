@@ -3,7 +3,7 @@ ghost use Rattle.pools.specs.Heap.{Setup, cells_in, words_of_cell};
 ghost use Rattle.runs.specs.Machine.{machine_of};
 ghost use Rattle.runs.specs.ModuleRuns.{Happening};
 ghost use Rattle.moves.specs.Shared.{StandBehind};
-ghost use Rattle.stepping.specs.Reach.{IsPlanOf, AreRoots, IsFirstGone, gone_of};
+ghost use Rattle.stepping.specs.Reach.{IsSchemaOf, AreRoots, IsFirstGone, gone_of};
 
 use crate::walk::walk_from;
 use moves::{Reference, Shared};
@@ -22,18 +22,18 @@ pub enum Gone {
 
 /// What is known of a heap's cells that stays as it is.
 #[derive(Clone, Copy)]
-pub struct Plan<'a> {
+pub struct HeapSchema<'a> {
     pub pools: &'a Pools,
     pub layouts: &'a Layouts,
     /// The words of the globals' cell.
     pub globals: &'a [WordKind],
 }
 
-impl<'a> Plan<'a> {
+impl<'a> HeapSchema<'a> {
     /// The words of a cell.
     pub fn words(&self, cell: u32) -> &'a [WordKind]
         requires { cell < cells_in self.now.pools.now }
-        ensures { (s : Setup) → IsPlanOf s self.now → result.now ≡ words_of_cell s cell }
+        ensures { (s : Setup) → IsSchemaOf s self.now → result.now ≡ words_of_cell s cell }
     {
         if cell == 0 {
             return self.globals;
@@ -46,15 +46,15 @@ impl<'a> Plan<'a> {
 /// after a run, and the roots are those of the threads under way.
 pub fn first_gone<M: Machine>(
     alloc: Global,
-    plan: Plan<'_>,
+    schema: HeapSchema<'_>,
     shared: &Shared,
     roots: &[Reference],
 ) -> Result<Option<Gone>, AllocError>
-    ensures { (s : Setup) (starts : ℕ → M) (run : List Happening) → IsPlanOf s plan.entry → StandBehind s run shared.now
+    ensures { (s : Setup) (starts : ℕ → M) (run : List Happening) → IsSchemaOf s schema.entry → StandBehind s run shared.now
         → AreRoots s (machine_of M.action M.after_answer M.roots) starts run roots.now
         → IfOk result (IsFirstGone s (machine_of M.action M.after_answer M.roots) starts run) }
 {
-    let walk = walk_from(alloc, plan, shared, roots)?;
+    let walk = walk_from(alloc, schema, shared, roots)?;
     Ok(first_of(walk.blue, walk.reborn))
 }
 

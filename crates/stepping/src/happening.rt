@@ -11,7 +11,7 @@ pub enum Happening {
 
 /// A step that an actor made.
 #[derive(Clone, Copy, PartialEq, Eq)]
-pub struct Step {
+pub struct MadeStep {
     pub happening: Happening,
     /// The cause by which the step itself breaks the run: it is wrong, or uses a cell that was gone before it.
     pub broke: Option<Cause>,

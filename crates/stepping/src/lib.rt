@@ -12,7 +12,7 @@ mod walk;
 
 pub use acting::Actors;
 pub use beginning::NewThread;
-pub use gone::{Gone, Plan, first_gone};
-pub use happening::{Happening, Step};
+pub use gone::{Gone, HeapSchema, first_gone};
+pub use happening::{Happening, MadeStep};
 pub use laws::loss_law;
 pub use loss::Loss;

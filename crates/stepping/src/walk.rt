@@ -1,11 +1,11 @@
 ghost use Rattle.std.specs.Prelude.{◌≡◌, ◌<◌, ◌≤◌, ◌^◌, ◌+◌, [], length, true, slice_index_or, IsTrue, IsFalse, IfOk, OnOk};
 ghost use Rattle.pools.specs.Heap.{Setup, cells_in, words_of_cell};
 ghost use Rattle.runs.specs.Moves.{null};
-ghost use Rattle.stepping.specs.Reach.{IsPlanOf};
+ghost use Rattle.stepping.specs.Reach.{IsSchemaOf};
 ghost use Rattle.stepping.specs.Walks as walks;
 ghost use Rattle.stepping.specs.Walks.{meeting, following, looking_at, looking, IsWhole};
 
-use crate::gone::Plan;
+use crate::gone::HeapSchema;
 use items::Items;
 use moves::{NULL, Reference, Shared};
 use pools::WordKind;
@@ -95,14 +95,19 @@ impl Walk {
     }
 
     /// What the reference words of a cell hold can be reached too.
-    fn look_into(&mut self, plan: Plan<'_>, shared: &Shared, cell: u32) -> Result<(), AllocError>
-        requires is_cell { cell < cells_in plan.pools.now }
+    fn look_into(
+        &mut self,
+        schema: HeapSchema<'_>,
+        shared: &Shared,
+        cell: u32,
+    ) -> Result<(), AllocError>
+        requires is_cell { cell < cells_in schema.pools.now }
         requires few { length self.old.met ≤ 2 ^ 20 }
-        ensures { (s : Setup) → IsPlanOf s plan.entry
+        ensures { (s : Setup) → IsSchemaOf s schema.entry
             → OnOk result (self.new ≡ looking shared.now (words_of_cell s cell) (slice_index_or shared.now.words cell []) self.old (length (words_of_cell s cell))) }
     {
         let row = shared.words.row(u64::from(cell));
-        for (word, kind) in plan.words(cell).iter().enumerate() {
+        for (word, kind) in schema.words(cell).iter().enumerate() {
             self.look_at(shared, *kind, reference_at(row, word))?;
         }
         Ok(())
@@ -140,20 +145,20 @@ fn reference_at(row: &[Reference], at: usize) -> Reference
 /// The whole walk from the globals and from these roots.
 pub(crate) fn walk_from(
     alloc: Global,
-    plan: Plan<'_>,
+    schema: HeapSchema<'_>,
     shared: &Shared,
     roots: &[Reference],
 ) -> Result<Walk, AllocError>
-    ensures { (s : Setup) → IsPlanOf s plan.entry → IfOk result (λ walk. (length walk.met ≡ cells_in s.pools) × IsWhole s shared.now roots.now walk) }
+    ensures { (s : Setup) → IsSchemaOf s schema.entry → IfOk result (λ walk. (length walk.met ≡ cells_in s.pools) × IsWhole s shared.now roots.now walk) }
 {
-    let mut walk = Walk::new(alloc, plan.pools.cells())?;
+    let mut walk = Walk::new(alloc, schema.pools.cells())?;
     walk.meet(shared, NULL)?;
     for root in roots {
         walk.follow(shared, *root)?;
     }
     let mut looked = 0;
     while let Some(cell) = walk.order.get(looked).copied() {
-        walk.look_into(plan, shared, cell)?;
+        walk.look_into(schema, shared, cell)?;
         looked += 1;
     }
     Ok(walk)

@@ -5,7 +5,7 @@ use Rattle.grammar.specs.Turns.{one_more, no_more}
 use Rattle.name_text.specs.Numbers.{is_nil}
 use Rattle.edit_text.specs.Text.{edit, edits}
 use Rattle.edit_text.specs.declared.edit.Edit.{Edit}
-use Rattle.edit_text.specs.declared.found.Found.{Found}
+use Rattle.edit_text.specs.declared.frame_fault.FrameFault.{FrameFault}
 use Rattle.edit_text.proofs.Collected.{list_ends, list_goes, list_breaks, no_list}
 use Rattle.edit_text.proofs.reader.edits.Goals as goal
 
@@ -19,7 +19,7 @@ pub returns-in_err-edit : goal.returns-in_err-edit
 unfolding edits
 returns-in_err-edit c =
     let e = one_more (λ n. many_from is_nil edit.read n c.loop-turn.edits c.loop-turn.input) _ c.loop-turn._turn c.loop-turn-test.true c.loop-turn.invariant in
-    let breaks = λ (x : Found). list_breaks is_nil edit.read (c.left-turn-end.result + 1 - (c.loop-turn._turn + 1)) c.loop-turn.edits c.loop-turn.input x (sym c.ended.ensures ∙ c.if-ended.false) in
+    let breaks = λ (x : FrameFault). list_breaks is_nil edit.read (c.left-turn-end.result + 1 - (c.loop-turn._turn + 1)) c.loop-turn.edits c.loop-turn.input x (sym c.ended.ensures ∙ c.if-ended.false) in
     first_of (search rules, grind (arith, common_steps))
 
 pub loop-turn-preserved : goal.loop-turn-preserved

@@ -1,6 +1,6 @@
 use Rattle.grammar.specs.Whole.{found, only, no_fault, no_value, has_fault, only_fault}
 use Rattle.edit_text.specs.Text.{file, placed}
-use Rattle.edit_text.specs.declared.found.Found.TheVariants.{Memory}
+use Rattle.edit_text.specs.declared.frame_fault.FrameFault.TheVariants.{Memory}
 use Rattle.edit_text.proofs.reader.read_edits.Goals as goal
 
 pub returns-in-Ok-clause-found : goal.returns-in-Ok-clause-found

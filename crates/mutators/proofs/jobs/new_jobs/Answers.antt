@@ -1,10 +1,9 @@
-use Rattle.std.proofs.Common.{◌≡◌, ◌<◌, List, Some, length, slice_get, refl, sym, ap, subst, arith, add-one}
+use Rattle.std.proofs.Common.{◌≡◌, ◌<◌, List, [], ◌∷◌, Some, length, slice_get, refl, sym, ap, subst, arith, add-one, length-append}
 use Rattle.std.proofs.lemmas.Option.{slice_get_read}
 use Rattle.std.proofs.lemmas.Result.{err_from_is_err_and}
 use Rattle.setups.specs.SafeSetups.{one_more}
 use Rattle.trace_text.specs.declared.trace.Start.{Start}
 use Rattle.mutators.specs.Jobs.{AreJobs}
-use Rattle.mutators.proofs.Lists.{length_pushed}
 use Rattle.mutators.proofs.Tokens.{first_token, other_tokens, one_job_more, no_jobs}
 use Rattle.mutators.proofs.jobs.new_jobs.Goals as goal
 
@@ -54,7 +53,7 @@ loop-number-preserved c =
       starts = c.as_slice-begun-items.ensures;
       fresh = rw add-one others.0;
       rest = omega (arith, c.loop-number.invariant.rest, others.1);
-      count = omega (arith, ap length c.in_ok-push.ensures.items, length_pushed jobs job, c.loop-number.invariant.count);
+      count = omega (arith, ap length c.in_ok-push.ensures.items, length-append jobs (job ∷ []), c.loop-number.invariant.count);
       jobs = subst (AreJobs p setup heap) (sym c.in_ok-push.ensures.items) (one_job_more p setup heap jobs job number c.loop-number.invariant.count c.loop-number.invariant.jobs c.in_ok-job.ensures.ok);
       begun = rw add-one (one_more setup.starts number c.begun-item.result c.loop-number.invariant.begun at c.in_ok-job.ensures.no_fault);
     }

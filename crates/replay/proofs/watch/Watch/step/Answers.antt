@@ -12,4 +12,4 @@ pub returns-in-Ok : goal.returns-in-Ok
 returns-in-Ok c p setup before is =
     let w = c.args.self.now in
     let both = subst (λ r. IfOk r (λ made. IsStepBehind w.world before c.args.actor made × IsBehind c.step-made.new.self (actor_in c.args.actor ∷ before))) c.in-Ok.is (c.step-made.ensures.ok before is.behind) in
-    c.told.ensures p setup before (stepped p setup before c.args.actor c.in-Ok.made w c.step-made.new.self is c.step-made.ensures.plan both)
+    c.told.ensures p setup before (stepped p setup before c.args.actor c.in-Ok.made w c.step-made.new.self is c.step-made.ensures.same both)

@@ -23,7 +23,7 @@ invariant_of-result c =
     (each_begun c.begun_law.ensures p setup threads c.in_ok-threads.ensures.no_fault c.in_ok-threads.ensures.ok) in
     let many = c.in_ok-endings.ensures ∙ c.len.ensures in
     record {
-      plan = b.plan;
+      schema = b.schema;
       setup = c.requires;
       no_fault = c.in_ok-threads.ensures.no_fault;
       made = ([], is_first (record { alloc = c.args.alloc; program = c.args.program; setup = c.args.setup; actors = c.in_ok-actors.actors; endings = c.in_ok-endings.endings }) b many);

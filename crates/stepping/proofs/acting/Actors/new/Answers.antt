@@ -8,11 +8,11 @@ use Rattle.stepping.proofs.Beginnings.{begun-of, actors-first}
 use Rattle.stepping.proofs.acting.Actors.new.Goals as goal
 
 pub returns : goal.returns
-returns g c s starts plan setup late count values begin =
+returns g c s starts schema setup late count values begin =
     let m = machine_of g.M.Machine.action g.M.Machine.after_answer g.M.Machine.roots in
-    let few : cells_in c.args.plan.pools.now ≤ 2 ^ 32 = omega (arith, c.shared_at_start.ensures.limit) in
+    let few : cells_in c.args.schema.pools.now ≤ 2 ^ 32 = omega (arith, c.shared_at_start.ensures.limit) in
     actors-first s m (g.M.Runner.fits s) starts
-    (record { plan = c.args.plan; threads = c.in_ok-threads.threads; shared = c.in_ok-shared.shared; collector = c.new-collector.result }) c.args.threads.items
-    plan setup late (subst (λ pools. cells_in pools ≤ 2 ^ 32) (sym plan.pools) few) count begin (c.in_ok-threads.ensures ∙ ap (λ (layouts : ℕ). map (stand_at_start layouts) c.args.threads.items) (c.count.ensures ∙ sym c.requires.pools ∙ ap length (sym plan.pools)))
-    (c.in_ok-shared.ensures.behind s plan setup (late ∙ ap (map (λ (thread : NewThread g.row.M.Denot). thread.is_late)) (sym c.as_slice.ensures.value)) (count ∙ ap length (sym c.as_slice.ensures.value)) values)
-    (c.new-collector.ensures.begun ∙ begun-of s c.len.result c.args.plan.layouts.now c.args.plan.pools.now c.args.plan.globals.now (count ∙ sym c.args.threads.ok.0 ∙ sym c.len.ensures) plan.layouts plan.pools plan.globals)
+    (record { schema = c.args.schema; threads = c.in_ok-threads.threads; shared = c.in_ok-shared.shared; collector = c.new-collector.result }) c.args.threads.items
+    schema setup late (subst (λ pools. cells_in pools ≤ 2 ^ 32) (sym schema.pools) few) count begin (c.in_ok-threads.ensures ∙ ap (λ (layouts : ℕ). map (stand_at_start layouts) c.args.threads.items) (c.count.ensures ∙ sym c.requires.pools ∙ ap length (sym schema.pools)))
+    (c.in_ok-shared.ensures.behind s schema setup (late ∙ ap (map (λ (thread : NewThread g.row.M.Denot). thread.is_late)) (sym c.as_slice.ensures.value)) (count ∙ ap length (sym c.as_slice.ensures.value)) values)
+    (c.new-collector.ensures.begun ∙ begun-of s c.len.result c.args.schema.layouts.now c.args.schema.pools.now c.args.schema.globals.now (count ∙ sym c.args.threads.ok.0 ∙ sym c.len.ensures) schema.layouts schema.pools schema.globals)

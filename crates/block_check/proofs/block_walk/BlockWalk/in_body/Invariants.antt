@@ -2,7 +2,7 @@ use Rattle.std.proofs.Common.{take}
 use Rattle.block_rules.specs.Ways.{given_at}
 use Rattle.block_rules.specs.Certified.{phi_count, Follows}
 use Rattle.block_check.specs.Subject.{seen}
-use Rattle.block_check.proofs.walk.Walk.in_body.Given as goal
+use Rattle.block_check.proofs.block_walk.BlockWalk.in_body.Given as goal
 
 abbrev pub invariant-loop-index : goal.invariant-loop-index
 invariant-loop-index l =

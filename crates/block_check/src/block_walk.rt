@@ -4,7 +4,7 @@ ghost use Rattle.block_rules.specs.Standing.{phis_of, body_of, head_in, begins_c
 ghost use Rattle.block_rules.specs.Ways.{given_at};
 ghost use Rattle.block_rules.specs.Certified.{stands, phi_count, PhisPass, Follows, IsCertified, BreaksAt};
 ghost use Rattle.block_check.specs.Subject.{seen, IsReady};
-ghost use Rattle.block_check.specs.Walk.{IsFound};
+ghost use Rattle.block_check.specs.BlockWalk.{IsFound};
 
 use crate::breach::{breach, end_breach, phi_breach};
 use crate::given::begin_block;
@@ -17,7 +17,7 @@ use std::alloc::{AllocError, Global};
 
 /// A block that is walked over, with what is found of it once.
 #[derive(Clone, Copy)]
-pub struct Walk<'a> {
+pub struct BlockWalk<'a> {
     subject: &'a Subject<'a>,
     block: BlockId,
     /// How far the head goes.
@@ -26,14 +26,14 @@ pub struct Walk<'a> {
     begins: bool,
 }
 
-impl<'a> Walk<'a> {
-    pub fn over(subject: &'a Subject<'a>, block: BlockId) -> Walk<'a>
+impl<'a> BlockWalk<'a> {
+    pub fn over(subject: &'a Subject<'a>, block: BlockId) -> BlockWalk<'a>
         requires { IsReady subject.now }
         ensures found { IsFound result }
         ensures subject { result.subject.now ≡ subject.now }
         ensures block { result.block ≡ block }
     {
-        Walk {
+        BlockWalk {
             subject,
             block,
             head: head_in(subject, block),

@@ -4,7 +4,7 @@ use Rattle.block_rules.specs.Standing.{end_of}
 use Rattle.block_rules.specs.Certified.{stands, end_breach, end_place, phi_count, BreaksAt}
 use Rattle.block_check.specs.Subject.{seen}
 use Rattle.block_check.specs.Follows.{breaks_at_end}
-use Rattle.block_check.proofs.walk.Walk.at_end.Goals as goal
+use Rattle.block_check.proofs.block_walk.BlockWalk.at_end.Goals as goal
 
 pub returns-in-Some-2 : goal.returns-in-Some-2
 returns-in-Some-2 c =

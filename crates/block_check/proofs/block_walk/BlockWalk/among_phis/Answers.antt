@@ -2,7 +2,7 @@ use Rattle.std.proofs.Common.{◌≡◌, Some, None, arith}
 use Rattle.block_rules.specs.Certified.{stands, phi_breach}
 use Rattle.block_check.specs.Subject.{seen}
 use Rattle.block_check.specs.Follows.{phi_here, breaks_at_phi}
-use Rattle.block_check.proofs.walk.Walk.among_phis.Goals as goal
+use Rattle.block_check.proofs.block_walk.BlockWalk.among_phis.Goals as goal
 
 pub loop-place-preserved : goal.loop-place-preserved
 loop-place-preserved c =

@@ -1,8 +1,8 @@
 //! What is known at a place of a function, and how it goes on, by the rules.
 use crate::call_graph::defined;
 use crate::claim::Shown;
-use crate::deals::Deals;
 use crate::ground::Ground;
+use crate::summaries::Summaries;
 use block_rules::{Scene, TypeKind, advance, below_next, given_by, known_of};
 use certs::{Line, Mark};
 use facts::{Entry, Facts, Known};
@@ -10,42 +10,42 @@ use ir_ast::{BlockId, Call, Constant, Instr, Op, Operand, ValueId};
 use items::Items;
 use std::alloc::{AllocError, Global};
 
-/// Where that stands which is known on a way.
+/// Which facts are those of the way that was entered.
 #[derive(Clone, Copy)]
-enum Road {
-    /// The way changes nothing: it is what is known where it begins.
-    Straight,
-    /// In room of its own.
-    Bent,
+enum WayFacts {
+    /// Those where it begins, since the way changes nothing.
+    Unchanged,
+    /// Those in `changed`.
+    Changed,
 }
 
 /// What is known at a place of a block, on a way out of it, and where the block to which the way leads begins.
 #[derive(Drop)]
-pub struct Knowledge {
+pub struct FlowFacts {
     pub here: Facts,
     pub there: Facts,
-    road: Road,
-    bent: Facts,
+    way_facts: WayFacts,
+    changed: Facts,
     entries: Items<Entry>,
 }
 
-impl Knowledge {
-    pub fn new(alloc: Global) -> Result<Knowledge, AllocError> {
+impl FlowFacts {
+    pub fn new(alloc: Global) -> Result<FlowFacts, AllocError> {
         let here = Facts::new(alloc, 0, 0)?;
-        let Ok(bent) = Facts::new(alloc, 0, 0) else {
+        let Ok(changed) = Facts::new(alloc, 0, 0) else {
             drop(here);
             return Err(AllocError);
         };
         let Ok(there) = Facts::new(alloc, 0, 0) else {
             drop(here);
-            drop(bent);
+            drop(changed);
             return Err(AllocError);
         };
-        Ok(Knowledge {
+        Ok(FlowFacts {
             here,
             there,
-            road: Road::Straight,
-            bent,
+            way_facts: WayFacts::Unchanged,
+            changed,
             entries: Items::new(alloc),
         })
     }
@@ -56,13 +56,13 @@ impl Knowledge {
         alloc: Global,
         scene: &Scene,
         ground: &Ground,
-        deals: &Deals,
+        summaries: &Summaries,
     ) -> Result<(), AllocError> {
         self.here.set_from(alloc, &ground.blank)?;
         let mut place = 0usize;
         for parameter in scene.function.parameters.as_slice() {
             let given = given_by(TypeKind::of(scene.module(), parameter.written));
-            let promise = deals.parameter(ground.func, place).promise();
+            let promise = summaries.parameter(ground.func, place).promise();
             self.here.receive(parameter.value, given, promise)?;
             place = place.saturating_add(1);
         }
@@ -92,14 +92,19 @@ impl Knowledge {
     }
 
     /// Goes past an instruction.
-    pub fn step(&mut self, scene: &Scene, deals: &Deals, instr: &Instr) -> Result<(), AllocError> {
+    pub fn step(
+        &mut self,
+        scene: &Scene,
+        summaries: &Summaries,
+        instr: &Instr,
+    ) -> Result<(), AllocError> {
         if let Op::Call(call) = &instr.op {
             if let Some(callee) = defined(scene.module(), call.callee) {
                 self.drop_arguments(call)?;
-                if deals.mark(callee) == Mark::May {
+                if summaries.mark(callee) == Mark::May {
                     self.here.make_stale()?;
                 }
-                return self.receive_result(scene, instr.result, call, deals.promised(callee));
+                return self.receive_result(scene, instr.result, call, summaries.promised(callee));
             }
         }
         advance(scene, &mut self.here, instr)
@@ -166,24 +171,24 @@ impl Knowledge {
         decided: Option<(ValueId, bool)>,
     ) -> Result<(), AllocError> {
         if decided.is_none() && !has_phis(scene, to) {
-            self.road = Road::Straight;
+            self.way_facts = WayFacts::Unchanged;
             return Ok(());
         }
-        self.road = Road::Bent;
-        self.bent.set_from(alloc, &self.here)?;
+        self.way_facts = WayFacts::Changed;
+        self.changed.set_from(alloc, &self.here)?;
         if let Some((value, taken)) = decided {
-            let test = self.bent.test(value);
-            self.bent.learn_test(test, taken)?;
+            let test = self.changed.test(value);
+            self.changed.learn_test(test, taken)?;
         }
         self.note_entries(scene, ground, from, to)?;
-        self.bent.after_phis(self.entries.as_slice())
+        self.changed.after_phis(self.entries.as_slice())
     }
 
     /// What is known on the way that was entered.
     pub fn way(&self) -> &Facts {
-        match self.road {
-            Road::Straight => &self.here,
-            Road::Bent => &self.bent,
+        match self.way_facts {
+            WayFacts::Unchanged => &self.here,
+            WayFacts::Changed => &self.changed,
         }
     }
 
@@ -201,8 +206,8 @@ impl Knowledge {
         let mut place = 0usize;
         for phi in block.phis.as_slice() {
             let kind = TypeKind::of(scene.module(), phi.written);
-            let operand = ground.reading.arrivals.operand(to, place, from);
-            let known = comes_in(&self.bent, kind, &operand);
+            let operand = ground.reading.incoming.operand(to, place, from);
+            let known = comes_in(&self.changed, kind, &operand);
             self.entries.push(Entry {
                 phi: phi.value,
                 known,

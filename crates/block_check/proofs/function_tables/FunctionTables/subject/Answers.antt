@@ -1,6 +1,6 @@
 use Rattle.std.proofs.Common.{◌∙◌}
 use Rattle.block_check.proofs.GivenLists.{given_seen}
-use Rattle.block_check.proofs.tables.Tables.subject.Goals as goal
+use Rattle.block_check.proofs.function_tables.FunctionTables.subject.Goals as goal
 
 pub returns-clause-ready : goal.returns-clause-ready
 returns-clause-ready c = record {

@@ -2,19 +2,19 @@ use std::alloc::AllocError;
 
 /// A fault of the frame, with how much of the text is left where it is found.
 #[derive(Clone, Copy, PartialEq, Eq)]
-pub enum Found {
+pub enum FrameFault {
     /// No form continues with this word, line end or end of the text.
     Syntax(usize),
     Memory,
 }
 
-impl From<AllocError> for Found {
+impl From<AllocError> for FrameFault {
     ghost use Rattle.std.specs.Prelude.{◌≡◌};
-    ghost use Rattle.edit_text.specs.declared.found.Found.TheVariants.{Memory};
+    ghost use Rattle.edit_text.specs.declared.frame_fault.FrameFault.TheVariants.{Memory};
 
     ghost from_gives = { λ _ e. e ≡ Memory };
 
-    fn from(_refused: AllocError) -> Found {
-        Found::Memory
+    fn from(_refused: AllocError) -> FrameFault {
+        FrameFault::Memory
     }
 }

@@ -5,7 +5,7 @@ use types::target_of;
 
 /// Where an operand comes in: to the phi at a place of a block, from another block.
 #[derive(Clone, Copy, PartialEq, Eq, Hash)]
-struct Arrival {
+struct PhiEdge {
     to: u32,
     place: usize,
     from: u32,
@@ -13,19 +13,19 @@ struct Arrival {
 
 /// The operands that come in to the phis of a function's blocks.
 #[derive(Drop)]
-pub struct Arrivals {
-    each: IndexMap<Arrival, Operand>,
+pub struct IncomingOperands {
+    each: IndexMap<PhiEdge, Operand>,
 }
 
-impl Arrivals {
-    pub fn of(alloc: Global, function: &Function) -> Result<Arrivals, AllocError> {
-        let mut arrivals = Arrivals {
+impl IncomingOperands {
+    pub fn of(alloc: Global, function: &Function) -> Result<IncomingOperands, AllocError> {
+        let mut operands = IncomingOperands {
             each: IndexMap::new(alloc),
         };
-        match arrivals.note_blocks(function) {
-            Ok(()) => Ok(arrivals),
+        match operands.note_blocks(function) {
+            Ok(()) => Ok(operands),
             Err(refused) => {
-                drop(arrivals);
+                drop(operands);
                 Err(refused)
             }
         }
@@ -42,12 +42,12 @@ impl Arrivals {
 
     /// The operand that comes in to the phi at a place of a block from another.
     pub fn operand(&self, to: BlockId, place: usize, from: BlockId) -> Option<Operand> {
-        let arrival = Arrival {
+        let edge = PhiEdge {
             to: to.number(),
             place,
             from: from.number(),
         };
-        self.each.get(&arrival).copied()
+        self.each.get(&edge).copied()
     }
 
     fn note_block(
@@ -88,13 +88,13 @@ impl Arrivals {
         let Some(from) = target_of(function, entry.from) else {
             return Ok(());
         };
-        let arrival = Arrival {
+        let edge = PhiEdge {
             to,
             place,
             from: from.number(),
         };
-        if self.each.get(&arrival).is_none() {
-            self.each.insert(arrival, entry.operand)?;
+        if self.each.get(&edge).is_none() {
+            self.each.insert(edge, entry.operand)?;
         }
         Ok(())
     }

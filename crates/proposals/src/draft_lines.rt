@@ -6,24 +6,24 @@ use std::alloc::{AllocError, Global};
 
 /// The lines of a block, and how often the bound of each has grown.
 #[derive(Drop)]
-pub struct Listed {
+pub struct BlockLines {
     pub lines: Items<Line>,
     pub grown: Vec<u8>,
 }
 
 /// The lines of a function's blocks, as far as they were found.
 #[derive(Drop)]
-pub struct Draft {
+pub struct DraftLines {
     /// None where no way to the block was walked.
-    blocks: Vec<Option<Listed>>,
+    blocks: Vec<Option<BlockLines>>,
     /// The blocks that are to be walked over, in this order; those from the front were.
     queue: Vec<u32>,
     waiting: Vec<bool>,
 }
 
-impl Listed {
-    pub fn new(alloc: Global) -> Listed {
-        Listed {
+impl BlockLines {
+    pub fn new(alloc: Global) -> BlockLines {
+        BlockLines {
             lines: Items::new(alloc),
             grown: Vec::new(alloc),
         }
@@ -47,25 +47,25 @@ impl Listed {
     }
 }
 
-impl Draft {
+impl DraftLines {
     /// No way to any of `count` blocks was walked, but to the first one.
-    pub fn new(alloc: Global, count: usize) -> Result<Draft, AllocError> {
+    pub fn new(alloc: Global, count: usize) -> Result<DraftLines, AllocError> {
         let blocks = no_lines(alloc, count)?;
         let Ok(waiting) = vec![in alloc; false; count] else {
             drop(blocks);
             return Err(AllocError);
         };
-        let mut draft = Draft {
+        let mut draft = DraftLines {
             blocks,
             queue: Vec::new(alloc),
             waiting,
         };
-        draft.set(BlockId::new(0), Listed::new(alloc));
+        draft.set(BlockId::new(0), BlockLines::new(alloc));
         Ok(draft)
     }
 
     /// The lines of a block, if a way to it was walked.
-    pub fn lines(&self, block: BlockId) -> Option<&Listed> {
+    pub fn lines(&self, block: BlockId) -> Option<&BlockLines> {
         match self.blocks.get(block.number() as usize) {
             Some(Some(listed)) => Some(listed),
             _ => None,
@@ -73,7 +73,7 @@ impl Draft {
     }
 
     /// These are the lines of a block.
-    pub fn set(&mut self, block: BlockId, listed: Listed) {
+    pub fn set(&mut self, block: BlockId, listed: BlockLines) {
         let at = block.number() as usize;
         if at < self.blocks.len() {
             self.blocks[at] = Some(listed);
@@ -120,7 +120,7 @@ impl Draft {
     }
 }
 
-fn lines_in(alloc: Global, listed: &Option<Listed>) -> Result<Items<Line>, AllocError> {
+fn lines_in(alloc: Global, listed: &Option<BlockLines>) -> Result<Items<Line>, AllocError> {
     match listed {
         Some(listed) => Items::from_slice(alloc, listed.lines.as_slice()),
         None => Ok(Items::new(alloc)),
@@ -128,7 +128,7 @@ fn lines_in(alloc: Global, listed: &Option<Listed>) -> Result<Items<Line>, Alloc
 }
 
 /// No lines are found of `count` blocks.
-fn no_lines(alloc: Global, count: usize) -> Result<Vec<Option<Listed>>, AllocError> {
+fn no_lines(alloc: Global, count: usize) -> Result<Vec<Option<BlockLines>>, AllocError> {
     let mut blocks = Vec::new(alloc);
     for _ in 0..count {
         blocks.push(None)?;

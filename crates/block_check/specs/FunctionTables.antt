@@ -6,10 +6,10 @@ use Rattle.shadow_stack.specs.Slots.{slots_of}
 use Rattle.facts.specs.Facts.{nothing_known}
 use Rattle.block_check.specs.Predecessors.{ArePredecessors}
 use Rattle.block_check.specs.PhiOperands.{AreOperandTables}
-use Rattle.block_check.specs.declared.tables.Tables.{Tables}
+use Rattle.block_check.specs.declared.function_tables.FunctionTables.{FunctionTables}
 
 -- its slots, facts where nothing is known, its predecessors, and what comes in to its phis
-pub record IsOf (m : Module) (f : Function) (tables : Tables) : Type 0 where
+pub record IsOf (m : Module) (f : Function) (tables : FunctionTables) : Type 0 where
   pub slots : tables.slots ≡ slots_of m f
   pub blank : tables.blank ≡ nothing_known (length f.locals) (length tables.slots.held)
   pub predecessors : ArePredecessors f tables.predecessors

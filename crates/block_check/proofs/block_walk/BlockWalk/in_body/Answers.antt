@@ -3,7 +3,7 @@ use Rattle.block_rules.specs.Certified.{stands, breach, phi_count, BreaksAt}
 use Rattle.block_rules.specs.Ways.{given_at}
 use Rattle.block_check.specs.Subject.{seen}
 use Rattle.block_check.specs.Follows.{step_here, breaks_in_body}
-use Rattle.block_check.proofs.walk.Walk.in_body.Goals as goal
+use Rattle.block_check.proofs.block_walk.BlockWalk.in_body.Goals as goal
 
 pub loop-index-preserved : goal.loop-index-preserved
 loop-index-preserved c =

@@ -27,7 +27,7 @@ const WALK_LIMIT: u8 = 16;
 
 /// What is promised of the functions of a module, as far as it was found.
 #[derive(Drop)]
-pub struct Deals {
+pub struct Summaries {
     marks: Vec<Mark>,
     /// Where the parameters of each function begin.
     firsts: Vec<usize>,
@@ -39,15 +39,15 @@ pub struct Deals {
     walks: Vec<u8>,
 }
 
-impl Deals {
+impl Summaries {
     /// What is promised at first, and all functions are to be walked over.
     pub fn of(
         alloc: Global,
         program: &Program,
         graph: &CallGraph,
         boldness: Boldness,
-    ) -> Result<Deals, AllocError> {
-        let mut deals = Deals {
+    ) -> Result<Summaries, AllocError> {
+        let mut summaries = Summaries {
             marks: Vec::new(alloc),
             firsts: Vec::new(alloc),
             parameters: Vec::new(alloc),
@@ -56,10 +56,10 @@ impl Deals {
             waiting: Vec::new(alloc),
             walks: Vec::new(alloc),
         };
-        match deals.fill(alloc, program, graph, boldness) {
-            Ok(()) => Ok(deals),
+        match summaries.fill(alloc, program, graph, boldness) {
+            Ok(()) => Ok(summaries),
             Err(refused) => {
-                drop(deals);
+                drop(summaries);
                 Err(refused)
             }
         }

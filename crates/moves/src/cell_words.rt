@@ -9,11 +9,11 @@ use std::marker::Model;
 
 /// The words of each cell.
 #[derive(Drop)]
-pub struct Rows {
+pub struct CellWords {
     rows: Vec<Items<Reference>>,
 }
 
-impl Model for Rows {
+impl Model for CellWords {
     ghost use Rattle.std.specs.Prelude.{List};
     ghost use Rattle.runs.specs.Machine.{Reference};
 
@@ -22,12 +22,12 @@ impl Model for Rows {
     ghost view = { λ rows. rows.rows.items };
 }
 
-impl Rows {
+impl CellWords {
     /// No cell.
     pub fn new(alloc: Global) -> Self
         ensures { result ≡ [] }
     {
-        Rows {
+        CellWords {
             rows: Vec::new(alloc),
         }
     }

@@ -1,7 +1,7 @@
 ghost use Rattle.std.specs.Prelude.{◌≡◌, Some, slice_get, IfOk};
 ghost use Rattle.block_rules.specs.Certified.{scene_of};
 ghost use Rattle.block_check.specs.Rows.{AreGiven};
-ghost use Rattle.block_check.specs.Tables.{IsOf};
+ghost use Rattle.block_check.specs.FunctionTables.{IsOf};
 ghost use Rattle.block_check.specs.Subject.{IsReady};
 
 use crate::phi_operands::{PhiOperands, operands_of};
@@ -15,22 +15,26 @@ use std::alloc::{AllocError, Global};
 
 /// What is found of a function once, for all its blocks.
 #[derive(Drop)]
-pub struct Tables {
+pub struct FunctionTables {
     pub slots: Slots,
     pub blank: Facts,
     pub predecessors: Predecessors,
     pub operands: Vec<PhiOperands>,
 }
 
-impl Tables {
-    pub fn of(alloc: Global, module: &Module, function: &Function) -> Result<Tables, AllocError>
+impl FunctionTables {
+    pub fn of(
+        alloc: Global,
+        module: &Module,
+        function: &Function,
+    ) -> Result<FunctionTables, AllocError>
         ensures { IfOk result (IsOf «module».now function.now) }
     {
         let operands = operands_of(alloc, function)?;
         let predecessors = Predecessors::of(alloc, function)?;
         let slots = Slots::of(alloc, module, function)?;
         let blank = Facts::new(alloc, function.locals.count(), slots.count())?;
-        Ok(Tables {
+        Ok(FunctionTables {
             slots,
             blank,
             predecessors,

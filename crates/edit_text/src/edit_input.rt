@@ -7,18 +7,18 @@ ghost use Rattle.edit_text.specs.Lines as lines;
 ghost use Rattle.edit_text.specs.Forms as form;
 ghost use Rattle.edit_text.specs.Forms.{Reads};
 
-use crate::found::Found;
+use crate::frame_fault::FrameFault;
 use crate::lines::{is_dot, line_ends, past_line};
 use name_text::{past_blanks, past_lines, past_word, word};
 use std::marker::Model;
 
 /// The bytes of a text that are left.
 #[derive(Drop)]
-pub struct Input<'a> {
+pub struct EditInput<'a> {
     rest: &'a [u8],
 }
 
-impl<'a> Model for Input<'a> {
+impl<'a> Model for EditInput<'a> {
     ghost use Rattle.std.specs.Prelude.{List, ℕ};
 
     ghost Value = { List ℕ };
@@ -26,11 +26,11 @@ impl<'a> Model for Input<'a> {
     ghost view = { λ input. input.rest.now };
 }
 
-impl<'a> Input<'a> {
-    pub fn new(bytes: &'a [u8]) -> Input<'a>
+impl<'a> EditInput<'a> {
+    pub fn new(bytes: &'a [u8]) -> EditInput<'a>
         ensures { result ≡ bytes.now }
     {
-        Input { rest: bytes }
+        EditInput { rest: bytes }
     }
 
     /// What is left of the text.
@@ -92,11 +92,11 @@ impl<'a> Input<'a> {
 
     /// Reads this word.
     #[tactic(auto, unfolding(crate::specs::Forms::expect, crate::specs::Forms::skip))]
-    pub fn expect(&mut self, wanted: &[u8]) -> Result<(), Found>
+    pub fn expect(&mut self, wanted: &[u8]) -> Result<(), FrameFault>
         ensures { Reads ((form.expect wanted.now).read self.old) result self.new }
     {
         if self.word() != wanted {
-            return Err(Found::Syntax(self.left()));
+            return Err(FrameFault::Syntax(self.left()));
         }
         self.skip();
         Ok(())
@@ -104,11 +104,11 @@ impl<'a> Input<'a> {
 
     /// Reads the end of a line or of the text.
     #[tactic(auto, unfolding(crate::specs::Forms::line_end))]
-    pub fn line_end(&mut self) -> Result<(), Found>
+    pub fn line_end(&mut self) -> Result<(), FrameFault>
         ensures { Reads (form.line_end.read self.old) result self.new }
     {
         if !line_ends(self.rest) {
-            return Err(Found::Syntax(self.left()));
+            return Err(FrameFault::Syntax(self.left()));
         }
         self.skip_line();
         Ok(())
