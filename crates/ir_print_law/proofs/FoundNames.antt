@@ -8,8 +8,8 @@ use Rattle.ir_ast.specs.Names.{place_of}
 use Rattle.ir_tokens.specs.Bytes.{Text}
 use Rattle.ir_print.specs.Names.{name_at}
 use Rattle.ir_print_law.specs.Shapes.{IsIn}
-use Rattle.ir_print_law.proofs.LocalNames.{name_stays}
-use Rattle.ir_print_law.proofs.Tables.{Begins}
+use Rattle.ir_print_law.proofs.LocalNames.{keys_at, in_map, name_stays}
+use Rattle.ir_print_law.proofs.Tables.{Begins, begins_with}
 
 -- ---- a text that is none of the keys
 
@@ -64,7 +64,7 @@ found_within names keys n found = by (nat_lt n (length names)) refl where
       absurd (omega (arith, most, size))
 
 -- names of which each is at its first place have different places
-pub one_place : (names : List Text) (n k : ℕ) → ((n : ℕ) (key : Text) → slice_get names n ≡ Some key → place_of key names ≡ Some n) → n < length names → k < length names
+one_place : (names : List Text) (n k : ℕ) → ((n : ℕ) (key : Text) → slice_get names n ≡ Some key → place_of key names ≡ Some n) → n < length names → k < length names
     → name_at names n ≡ name_at names k → n ≡ k
 one_place names n k places less within same =
     let here = slice_get-get_or names n [] less in
@@ -74,6 +74,33 @@ one_place names n k places less within same =
     let first : place_of (get_or names k []) names ≡ Some n = places n (get_or names k []) (here ∙ ap Some one) in
     let second : place_of (get_or names k []) names ≡ Some k = places k (get_or names k []) there in
     cc
+
+-- so it is one of the numbers of which it has a key
+pub found_number : (names : List Text) (ns : List ℕ) (n : ℕ) → ((k : ℕ) → IsIn ns k → k < length names)
+    → ((n : ℕ) (key : Text) → slice_get names n ≡ Some key → place_of key names ≡ Some n) → ((more : List Text) → IsIn (keys_at names ns) (name_at (names ++ more) n)) → IsIn ns n
+found_number names ns n within places found =
+    let less = found_within names (keys_at names ns) n found in
+    let here = subst (IsIn (keys_at names ns)) (name_stays names (names ++ []) n less (begins_with names [])) (found []) in
+    let p = in_map (name_at names) ns (name_at names n) here in
+    subst (IsIn ns) (one_place names p.0 n places (within p.0 p.1) less p.2) p.1
+
+-- ---- places
+
+-- an element has a place
+pub place_in : {A : Type 0} (xs : List A) (y : A) → IsIn xs y → (place : ℕ) × (slice_get xs place ≡ Some y)
+place_in [] y there = absurd there
+place_in (x ∷ xs) y (inl e) = (0, ap Some e)
+place_in (x ∷ xs) y (inr there) = let p = place_in xs y there in (suc p.0, p.1)
+
+-- one after the first is there
+pub in_all : {A : Type 0} (xs : List A) (y : A) → IsIn (drop 1 xs) y → IsIn xs y
+in_all [] y there = there
+in_all (x ∷ xs) y there = inr there
+
+-- and has a place after the first
+pub place_after : {A : Type 0} (xs : List A) (y : A) → IsIn (drop 1 xs) y → (place : ℕ) × (slice_get xs (suc place) ≡ Some y)
+place_after [] y there = absurd there
+place_after (x ∷ xs) y there = place_in xs y there
 
 -- ---- names of items
 
@@ -85,8 +112,3 @@ items_stay number (x ∷ xs) names more within b =
     let e = name_stays names more (number x) within.0 b in
     let r = items_stay number xs names more within.1 b in
     ap (λ (y : Text). y ∷ map (λ x. name_at more (number x)) xs) e ∙ ap (λ (l : List Text). name_at names (number x) ∷ l) r
-
--- what is after the first is there
-pub in_all : {A : Type 0} (xs : List A) (y : A) → IsIn (drop 1 xs) y → IsIn xs y
-in_all [] y there = there
-in_all (x ∷ xs) y there = inr there

@@ -1,5 +1,5 @@
 -- Numbers of instructions are within the tables where the instructions are printable, whatever names come after those of the tables.
-use Rattle.std.proofs.Common.{◌≡◌, ℕ, ◌<◌, List, [], ◌∷◌, ◌++◌, length, Option, None, Some, sym, ap, subst, ◌∙◌, inl, inr}
+use Rattle.std.proofs.Common.{◌≡◌, ℕ, suc, ◌<◌, arith, drop, List, [], ◌∷◌, ◌++◌, length, Option, None, Some, sym, ap, subst, ◌∙◌, inl, inr}
 use Rattle.std.specs.List.{AllByRecursion}
 use Rattle.std.proofs.lemmas.Option.{slice_get_within}
 use Rattle.ir_ast.specs.declared.argument.Argument.{Argument}
@@ -38,14 +38,14 @@ use Rattle.ir_print_law.specs.Elements.{IsElement, IsElementWithin}
 use Rattle.ir_print_law.specs.Memory.{IsMemoryOp, IsMemoryOpWithin}
 use Rattle.ir_print_law.specs.Numbers.{IsNumberOp, IsNumberOpWithin}
 use Rattle.ir_print_law.specs.Parts.{IsType, IsVoid, IsPointer, IsOperand, IsArgument, ArePair, IsConverted, IsReturned}
-use Rattle.ir_print_law.specs.PartsWithin.{HasType, HasSymbol, HasLocal, HasBlock, HasResult, IsOperandWithin, IsArgumentWithin, ArePairWithin, IsConvertedWithin}
+use Rattle.ir_print_law.specs.PartsWithin.{HasType, HasSymbol, HasLocal, HasValue, HasBlock, HasTarget, HasResult, IsOperandWithin, IsArgumentWithin, ArePairWithin, IsConvertedWithin}
 use Rattle.ir_print_law.specs.Printable.{IsOp, IsInstr, IsIncoming, IsPhi, AreCases, IsEnd, IsBlock}
 use Rattle.ir_print_law.specs.Shapes.{IsIn, Shape, Integer, Pointer, Array, Empty, Struct, Named, HasShape, bits_of_shape}
 use Rattle.ir_print_law.specs.Within.{IsOpWithin, IsInstrWithin, IsIncomingWithin, IsPhiWithin, IsCaseWithin, IsEndWithin, IsBlockWithin}
 use Rattle.ir_print_law.proofs.DefinedWithin.{AreDefinedWithin, AreLocalValues}
-use Rattle.ir_print_law.proofs.FoundNames.{found_within, one_place, items_stay, in_all}
-use Rattle.ir_print_law.proofs.FunctionEnds.{whole_of, values_are, labels_are}
-use Rattle.ir_print_law.proofs.LocalNames.{keys_at, in_map, name_stays, names_stay}
+use Rattle.ir_print_law.proofs.FoundNames.{found_within, found_number, in_all, place_in, place_after, items_stay}
+use Rattle.ir_print_law.proofs.FunctionEnds.{whole_of, values_are, labels_are, rest_keys}
+use Rattle.ir_print_law.proofs.LocalNames.{keys_at, names_stay}
 use Rattle.ir_print_law.proofs.Tables.{begins_with}
 
 -- ---- types
@@ -103,38 +103,34 @@ abbrev pub wide : Function → (more : List Text) → Function
 wide f more = record f { locals = f.locals ++ more }
 
 module _ (f : Function) (h : AreDefinedWithin f) where
-  local_within : (value : ℕ) → ((more : List Text) → IsIn (value_keys (wide f more)) (name_at (f.locals ++ more) value)) → HasLocal f value
-  local_within value found = found_within f.locals (keys_at f.locals ns) value (λ more. subst (λ (l : List Text). IsIn l (name_at (f.locals ++ more) value)) (same more) (found more))
-    where
-      ns : List ℕ
-      ns = (whole_of f).values
+  value_within : (value : ℕ) → ((more : List Text) → IsIn (value_keys (wide f more)) (name_at (f.locals ++ more) value)) → HasValue f value
+  value_within value found =
+      let ns = (whole_of f).values in
+      let within : (n : ℕ) → IsIn ns n → HasLocal f n = λ n there. (h.values n there).0 in
+      let same : (more : List Text) → value_keys (wide f more) ≡ keys_at f.locals ns =
+      λ more. sym (values_are (wide f more)) ∙ names_stay ns f.locals (f.locals ++ more) within (begins_with f.locals more) in
+      h.values value (found_number f.locals ns value within h.places (λ more. subst (λ (l : List Text). IsIn l (name_at (f.locals ++ more) value)) (same more) (found more)))
 
-      same : (more : List Text) → value_keys (wide f more) ≡ keys_at f.locals ns
-      same more = sym (values_are (wide f more)) ∙ names_stay ns f.locals (f.locals ++ more) h.values (begins_with f.locals more)
+  labels_stay : (more : List Text) → label_keys (wide f more) ≡ keys_at f.locals (whole_of f).labels
+  labels_stay more = sym (labels_are (wide f more)) ∙ names_stay (whole_of f).labels f.locals (f.locals ++ more) h.within (begins_with f.locals more)
 
   block_within : (label : ℕ) → ((more : List Text) → IsIn (label_keys (wide f more)) (name_at (f.locals ++ more) label)) → HasBlock f label
-  block_within label found = subst (HasBlock f) same_place (h.labels p.0 p.1) where
-    ns : List ℕ
-    ns = (whole_of f).labels
+  block_within label found =
+      let ns = (whole_of f).labels in
+      let there = found_number f.locals ns label h.within h.places (λ more. subst (λ (l : List Text). IsIn l (name_at (f.locals ++ more) label)) (labels_stay more) (found more)) in
+      let place = place_in ns label there in
+      let block = h.labels place.0 label place.1 in
+      (h.within label there, (place.0, block.0, block.1))
 
-    same : (more : List Text) → label_keys (wide f more) ≡ keys_at f.locals ns
-    same more = sym (labels_are (wide f more)) ∙ names_stay ns f.locals (f.locals ++ more) (λ n there. (h.labels n there).0) (begins_with f.locals more)
-
-    here : (more : List Text) → IsIn (keys_at f.locals ns) (name_at (f.locals ++ more) label)
-    here more = subst (λ (l : List Text). IsIn l (name_at (f.locals ++ more) label)) (same more) (found more)
-
-    less : label < length f.locals
-    less = found_within f.locals (keys_at f.locals ns) label here
-
-    p : (n : ℕ) × IsIn ns n × (name_at f.locals n ≡ name_at f.locals label)
-    p = in_map (name_at f.locals) ns (name_at f.locals label)
-        (subst (IsIn (keys_at f.locals ns)) (name_stays f.locals (f.locals ++ []) label less (begins_with f.locals [])) (here []))
-
-    same_place : p.0 ≡ label
-    same_place = one_place f.locals p.0 label h.places (h.labels p.0 p.1).0 less p.2
-
-  target_within : (label : ℕ) → ((more : List Text) → IsIn (target_keys (wide f more)) (name_at (f.locals ++ more) label)) → HasBlock f label
-  target_within label found = block_within label (λ more. in_all (label_keys (wide f more)) (name_at (f.locals ++ more) label) (found more))
+  target_within : (label : ℕ) → ((more : List Text) → IsIn (target_keys (wide f more)) (name_at (f.locals ++ more) label)) → HasTarget f label
+  target_within label found =
+      let ns = (whole_of f).labels in
+      let within : (n : ℕ) → IsIn (drop 1 ns) n → HasLocal f n = λ n there. h.within n (in_all ns n there) in
+      let same : (more : List Text) → target_keys (wide f more) ≡ keys_at f.locals (drop 1 ns) = λ more. ap (drop 1) (labels_stay more) ∙ sym (rest_keys f.locals ns) in
+      let there = found_number f.locals (drop 1 ns) label within h.places (λ more. subst (λ (l : List Text). IsIn l (name_at (f.locals ++ more) label)) (same more) (found more)) in
+      let place = place_after ns label there in
+      let block = h.labels (suc place.0) label place.1 in
+      (within label there, (suc place.0, block.0, omega arith, block.1))
 
 -- ---- lists
 
@@ -159,7 +155,7 @@ module _ (m : Module) (f : Function) (own : AreSymbolsWithin m) (h : AreDefinedW
 
   operand_within : (x : Operand) → Wide (λ m f. (bits : Option ℕ) × IsOperand m f bits x) → IsOperandWithin m f x
   operand_within (operand.Constant x) is = tt
-  operand_within (operand.Local value) is = local_within f h value (λ more. (is more).1)
+  operand_within (operand.Local value) is = value_within f h value (λ more. (is more).1)
   operand_within (operand.Global symbol) is = global_within m own symbol (λ more. (is more).1.0)
   operand_within (operand.CastGlobal from symbol to) is =
       (pointer_within from [] (is []).1.0, global_within m own symbol (λ more. (is more).1.1.0), pointer_within to [] (is []).1.2)
@@ -275,7 +271,7 @@ module _ (m : Module) (f : Function) (own : AreSymbolsWithin m) (h : AreDefinedW
   end_within end.ReturnVoid is = tt
   end_within (end.Return x) is = argument_within x is
 
-  phis_within : (xs : List Phi) → Wide (λ m f. AllByRecursion (IsPhi m f) xs) → AllByRecursion (λ (x : Phi). HasLocal f x.value) xs → AllByRecursion (IsPhiWithin m f) xs
+  phis_within : (xs : List Phi) → Wide (λ m f. AllByRecursion (IsPhi m f) xs) → AllByRecursion (λ (x : Phi). HasValue f x.value) xs → AllByRecursion (IsPhiWithin m f) xs
   phis_within [] is own = tt
   phis_within (x ∷ xs) is own = let here = phi_within x (λ more. (is more).0) in ((own.0, here.0, here.1), phis_within xs (λ more. (is more).1) own.1)
 

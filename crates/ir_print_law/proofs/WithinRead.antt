@@ -13,7 +13,7 @@ use Rattle.ir_text.specs.Read.{IsText}
 use Rattle.name_text.specs.Readings.{AreBytes}
 use Rattle.ir_print_law.specs.ModuleNames.{HasModuleNames}
 use Rattle.ir_print_law.specs.Parts.{IsVoid}
-use Rattle.ir_print_law.specs.PartsWithin.{HasType, HasSymbol, HasLocal}
+use Rattle.ir_print_law.specs.PartsWithin.{HasType, HasSymbol, HasValue}
 use Rattle.ir_print_law.specs.Printable.{IsPassed, IsParameter, IsAnyType, IsStructType, IsGlobal, IsDeclare, IsBlock, IsFunction, IsPrintable}
 use Rattle.ir_print_law.specs.Shapes.{IsIn}
 use Rattle.ir_print_law.specs.Within.{IsParameterWithin, IsBlockWithin, IsFunctionWithin, IsStructWithin, IsGlobalWithin, IsDeclareWithin, IsWithin}
@@ -77,11 +77,11 @@ returned_has : (m : Module) (t : ℕ) → IsVoid m t ⊎ IsPassed m t → HasTyp
 returned_has m t (inl void) = void_within m t void
 returned_has m t (inr is) = shape_within m.types m.struct_names is.0 t is.1.0
 
-parameters_have : (m : Module) (f : Function) (xs : List Parameter) → AllByRecursion (IsParameter m) xs → AllByRecursion (λ (x : Parameter). HasLocal f x.value) xs
+parameters_have : (m : Module) (f : Function) (xs : List Parameter) → AllByRecursion (IsParameter m) xs → AllByRecursion (λ (x : Parameter). HasValue f x.value) xs
     → AllByRecursion (IsParameterWithin m f) xs
 parameters_have m f xs is own =
-    all_so (λ (x : Parameter). IsParameter m x × HasLocal f x.value) (IsParameterWithin m f) xs (λ x h. (shape_within m.types m.struct_names h.0.0 x.written h.0.1.0, h.1))
-    (both (IsParameter m) (λ (x : Parameter). HasLocal f x.value) xs is own)
+    all_so (λ (x : Parameter). IsParameter m x × HasValue f x.value) (IsParameterWithin m f) xs (λ x h. (shape_within m.types m.struct_names h.0.0 x.written h.0.1.0, h.1))
+    (both (IsParameter m) (λ (x : Parameter). HasValue f x.value) xs is own)
 
 -- so it is where the items of the module have global names
 abbrev pub IsInnerOf : Module → Function → Type 0
