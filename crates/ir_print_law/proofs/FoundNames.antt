@@ -104,6 +104,23 @@ place_after (x ∷ xs) y there = place_in xs y there
 
 -- ---- names of items
 
+-- an item with this number has a place
+pub item_in : {A : Type 0} (number : A → ℕ) (xs : List A) (n : ℕ) → IsIn (map number xs) n → (place : ℕ) × (x : A) × (slice_get xs place ≡ Some x) × (number x ≡ n)
+item_in number [] n there = absurd there
+item_in number (x ∷ xs) n (inl e) = (0, x, refl, e)
+item_in number (x ∷ xs) n (inr there) = let p = item_in number xs n there in (suc p.0, p.1, p.2, p.3)
+
+-- what holds of the numbers of all items holds of each number among them
+pub each_number : {A : Type 0} (number : A → ℕ) (P : ℕ → Type 0) (xs : List A) (n : ℕ) → AllByRecursion (λ x. P (number x)) xs → IsIn (map number xs) n → P n
+each_number number P [] n all there = absurd there
+each_number number P (x ∷ xs) n all (inl e) = subst P e all.0
+each_number number P (x ∷ xs) n all (inr there) = each_number number P xs n all.1 there
+
+-- the names of items are those of their numbers
+pub item_keys : {A : Type 0} (number : A → ℕ) (xs : List A) (names : List Text) → map (λ x. name_at names (number x)) xs ≡ keys_at names (map number xs)
+item_keys number [] names = refl
+item_keys number (x ∷ xs) names = ap (λ (l : List Text). name_at names (number x) ∷ l) (item_keys number xs names)
+
 -- the names of items whose numbers are within stay where more names come
 pub items_stay : {A : Type 0} (number : A → ℕ) (xs : List A) (names more : List Text) → AllByRecursion (λ x. number x < length names) xs → Begins names more
     → map (λ x. name_at more (number x)) xs ≡ map (λ x. name_at names (number x)) xs
