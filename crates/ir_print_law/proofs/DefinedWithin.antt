@@ -1,20 +1,25 @@
--- The names that a function defines are within its table, and those of its blocks mean them.
-use Rattle.std.proofs.Common.{◌≡◌, ℕ, suc, List, [], ◌∷◌, ◌++◌, length, map, slice_get, Option, None, Some, refl, ap, subst, ◌∙◌, inl, inr}
+-- The names that a function defines are within its table, those of its values mean values, and those of its blocks mean them.
+use Rattle.std.proofs.Common.{◌≡◌, ℕ, suc, ◌<◌, true, arith, List, [], ◌∷◌, ◌++◌, length, map, slice_get, Option, None, Some, refl, ap, ◌∙◌, inl, inr}
 use Rattle.std.specs.List.{AllByRecursion}
+use Rattle.std.proofs.lemmas.List.{length-map}
 use Rattle.std.proofs.lemmas.Option.{slice_get_within}
 use Rattle.ir_ast.specs.Names.{place_of}
 use Rattle.ir_ast.specs.declared.block.Block.{Block}
 use Rattle.ir_ast.specs.declared.choices.Phi.{Phi}
 use Rattle.ir_ast.specs.declared.function.Function.{Function}
+use Rattle.ir_ast.specs.declared.function.LocalSort.{LocalSort}
+use Rattle.ir_ast.specs.declared.function.LocalSort.TheVariants as local
 use Rattle.ir_ast.specs.declared.function.Parameter.{Parameter}
 use Rattle.ir_ast.specs.declared.instr.Instr.{Instr}
 use Rattle.ir_forms.specs.declared.uses.LocalUse.{LocalUse}
+use Rattle.ir_forms.specs.Names.{is_local}
 use Rattle.ir_tokens.specs.Bytes.{Text}
 use Rattle.ir_print_law.specs.FunctionNames.{HasNames}
-use Rattle.ir_print_law.specs.PartsWithin.{HasLocal, HasBlock, HasResult}
+use Rattle.ir_print_law.specs.PartsWithin.{HasLocal, IsOfValue, HasValue, HasBlock, HasResult}
 use Rattle.ir_print_law.specs.Shapes.{IsIn}
 use Rattle.ir_print_law.proofs.Blocks.{with_block, with_blocks, with_parameters}
 use Rattle.ir_print_law.proofs.Choices.{with_phis}
+use Rattle.ir_print_law.proofs.DefinedLocals.{in_list}
 use Rattle.ir_print_law.proofs.FunctionEnds.{nothing, whole_of}
 use Rattle.ir_print_law.proofs.FunctionNames.{blocks_labels}
 use Rattle.ir_print_law.proofs.FunctionPlaces.{Places}
@@ -40,50 +45,44 @@ pub both : {A : Type 0} (P Q : A → Type 0) (xs : List A) → AllByRecursion P 
 both P Q [] p q = tt
 both P Q (x ∷ xs) p q = ((p.0, q.0), both P Q xs p.1 q.1)
 
--- what holds of the numbers of all elements holds of each number among them
-pub each_number : {A : Type 0} (number : A → ℕ) (P : ℕ → Type 0) (xs : List A) (n : ℕ) → AllByRecursion (λ x. P (number x)) xs → IsIn (map number xs) n → P n
-each_number number P [] n all there = absurd there
-each_number number P (x ∷ xs) n all (inl e) = subst P e all.0
-each_number number P (x ∷ xs) n all (inr there) = each_number number P xs n all.1 there
-
 -- ---- what was defined stays
 
-values_more : {A : Type 0} (value_of : A → ℕ) (g : Progress) (xs : List A) (n : ℕ) → IsIn g.names n → IsIn (with_values value_of g xs).names n
+values_more : {A : Type 0} (value_of : A → ℕ) (g : Progress) (xs : List A) (n : ℕ) → IsIn g.values n → IsIn (with_values value_of g xs).values n
 values_more value_of g [] n h = h
-values_more value_of g (x ∷ xs) n h = values_more value_of (with_named_value g (value_of x)) xs n (in_longer g.names (value_of x) n h)
+values_more value_of g (x ∷ xs) n h = values_more value_of (with_named_value g (value_of x)) xs n (in_longer g.values (value_of x) n h)
 
-result_more : (g : Progress) (r : Option ℕ) (n : ℕ) → IsIn g.names n → IsIn (with_result g r).names n
+result_more : (g : Progress) (r : Option ℕ) (n : ℕ) → IsIn g.values n → IsIn (with_result g r).values n
 result_more g None n h = h
-result_more g (Some value) n h = in_longer g.names value n h
+result_more g (Some value) n h = in_longer g.values value n h
 
-results_more : (g : Progress) (xs : List Instr) (n : ℕ) → IsIn g.names n → IsIn (with_results g xs).names n
+results_more : (g : Progress) (xs : List Instr) (n : ℕ) → IsIn g.values n → IsIn (with_results g xs).values n
 results_more g [] n h = h
 results_more g (x ∷ xs) n h = results_more (with_result g x.result) xs n (result_more g x.result n h)
 
-block_more : (g : Progress) (x : Block) (n : ℕ) → IsIn (with_named_label g x.label).names n → IsIn (with_block g x).names n
+block_more : (g : Progress) (x : Block) (n : ℕ) → IsIn g.values n → IsIn (with_block g x).values n
 block_more g x n h =
     results_more (with_phis (with_named_label g x.label) x.phis) x.body n (values_more (λ (y : Phi). y.value) (with_named_label g x.label) x.phis n h)
 
-blocks_more : (g : Progress) (xs : List Block) (n : ℕ) → IsIn g.names n → IsIn (with_blocks g xs).names n
+blocks_more : (g : Progress) (xs : List Block) (n : ℕ) → IsIn g.values n → IsIn (with_blocks g xs).values n
 blocks_more g [] n h = h
-blocks_more g (x ∷ xs) n h = blocks_more (with_block g x) xs n (block_more g x n (in_longer g.names x.label n h))
+blocks_more g (x ∷ xs) n h = blocks_more (with_block g x) xs n (block_more g x n h)
 
 -- ---- what is defined in the end
 
 module _ (f : Function) where
-  -- each of these is within the table of names
+  -- each of these is the name of a value
   abbrev AreLocal : Progress → Type 0
-  AreLocal g = (n : ℕ) → IsIn g.names n → HasLocal f n
+  AreLocal g = (n : ℕ) → IsIn g.values n → HasValue f n
 
-  values_local : {A : Type 0} (value_of : A → ℕ) (g : Progress) (xs : List A) → AreLocal (with_values value_of g xs) → AllByRecursion (λ x. HasLocal f (value_of x)) xs
+  values_local : {A : Type 0} (value_of : A → ℕ) (g : Progress) (xs : List A) → AreLocal (with_values value_of g xs) → AllByRecursion (λ x. HasValue f (value_of x)) xs
   values_local value_of g [] h = tt
   values_local value_of g (x ∷ xs) h =
       let next = with_named_value g (value_of x) in
-      (h (value_of x) (values_more value_of next xs (value_of x) (in_at_end g.names (value_of x))), values_local value_of next xs h)
+      (h (value_of x) (values_more value_of next xs (value_of x) (in_at_end g.values (value_of x))), values_local value_of next xs h)
 
   result_local : (g : Progress) (r : Option ℕ) → AreLocal (with_result g r) → HasResult f r
   result_local g None h = tt
-  result_local g (Some value) h = h value (in_at_end g.names value)
+  result_local g (Some value) h = h value (in_at_end g.values value)
 
   results_local : (g : Progress) (xs : List Instr) → AreLocal (with_results g xs) → AllByRecursion (λ x. HasResult f x.result) xs
   results_local g [] h = tt
@@ -93,7 +92,7 @@ module _ (f : Function) where
 
   -- the values of a block
   abbrev pub AreLocalValues : Block → Type 0
-  AreLocalValues x = AllByRecursion (λ (y : Phi). HasLocal f y.value) x.phis × AllByRecursion (λ (y : Instr). HasResult f y.result) x.body
+  AreLocalValues x = AllByRecursion (λ (y : Phi). HasValue f y.value) x.phis × AllByRecursion (λ (y : Instr). HasResult f y.result) x.body
 
   block_local : (g : Progress) (x : Block) → AreLocal (with_block g x) → AreLocalValues x
   block_local g x h =
@@ -109,9 +108,10 @@ module _ (f : Function) where
   pub record AreDefinedWithin : Type 0 where
     pub sorts : length f.sorts ≡ length f.locals
     pub places : (n : ℕ) (key : Text) → slice_get f.locals n ≡ Some key → place_of key f.locals ≡ Some n
-    pub values : (n : ℕ) → IsIn (whole_of f).values n → HasLocal f n
-    pub labels : (n : ℕ) → IsIn (whole_of f).labels n → HasBlock f n
-    pub parameters : AllByRecursion (λ (x : Parameter). HasLocal f x.value) f.parameters
+    pub values : (n : ℕ) → IsIn (whole_of f).values n → HasValue f n
+    pub within : (n : ℕ) → IsIn (whole_of f).labels n → HasLocal f n
+    pub labels : (block n : ℕ) → slice_get (whole_of f).labels block ≡ Some n → (slice_get f.sorts n ≡ Some (local.Block block)) × (block < length f.blocks)
+    pub parameters : AllByRecursion (λ (x : Parameter). HasValue f x.value) f.parameters
     pub block_values : AllByRecursion AreLocalValues f.blocks
     pub block_labels : AllByRecursion (λ (x : Block). HasBlock f x.label) f.blocks
 
@@ -121,18 +121,34 @@ module _ (f : Function) where
       (λ k x e u. let label = h.labels k x e in (label.0, (k, label.1, slice_get_within f.blocks k x e)))
       (any_all f.blocks)
 
+  -- what a name of a value stands for
+  value_is : (unnamed n : ℕ) (uses : List LocalUse) → Locals (whole_of f) None (record { names = f.locals; sorts = f.sorts }) unnamed
+      → Places (whole_of f) None (record { names = f.locals; sorts = f.sorts }) uses → IsIn (whole_of f).values n → IsOfValue (slice_get f.sorts n)
+  value_is unnamed n uses names places there = elim (names.known n (places.value_names n there)) [
+    | inl known ↦ by (slice_get f.sorts n) refl known
+    | inr none ↦ absurd cc
+  ] where
+    by : (x : Option LocalSort) → slice_get f.sorts n ≡ x → is_local x ≡ true → IsOfValue x
+    by None same is = absurd cc
+    by (Some local.Unknown) same is = absurd cc
+    by (Some (local.Value t)) same is = tt
+    by (Some (local.Element block place)) same is = tt
+    by (Some (local.Block b)) same is = absurd (places.disjoint n there (in_list (whole_of f).labels b n (names.sorted n (local.Block b) same)))
+
   pub defined_within : (uses : List LocalUse) (unnamed : ℕ) → HasNames f → Locals (whole_of f) None (record { names = f.locals; sorts = f.sorts }) unnamed
       → Places (whole_of f) None (record { names = f.locals; sorts = f.sorts }) uses → AreDefinedWithin
   defined_within uses unnamed own names places =
       let start = with_parameters nothing f.parameters in
-      let here = labels_here own in
       let labels = blocks_labels start f.blocks ∙ ap (λ (l : List ℕ). l ++ map (λ block. block.label) f.blocks) (parameters_labels nothing f.parameters) in
-      record {
+      let count : length (whole_of f).labels ≡ length f.blocks = ap length labels ∙ length-map f.blocks (λ block. block.label) in
+      let values : (n : ℕ) → IsIn (whole_of f).values n → HasValue f n =
+      λ n there. (names.within n (places.value_names n there), value_is unnamed n uses names places there) in record {
         sorts = names.same;
         places = names.places;
-        values = λ n there. names.within n (places.value_names n there);
-        labels = λ n there. each_number (λ (x : Block). x.label) (HasBlock f) f.blocks n here (subst (λ (l : List ℕ). IsIn l n) labels there);
-        parameters = values_local (λ (x : Parameter). x.value) nothing f.parameters (λ n there. names.within n (blocks_more start f.blocks n there));
-        block_values = blocks_local start f.blocks names.within;
-        block_labels = here;
+        values = values;
+        within = λ n there. names.within n (places.label_names n there);
+        labels = λ block n e. (places.labels block n e, let less = slice_get_within (whole_of f).labels block n e in omega (arith, less, count));
+        parameters = values_local (λ (x : Parameter). x.value) nothing f.parameters (λ n there. values n (blocks_more start f.blocks n there));
+        block_values = blocks_local start f.blocks values;
+        block_labels = labels_here own;
       }

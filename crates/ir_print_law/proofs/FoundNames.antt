@@ -8,8 +8,8 @@ use Rattle.ir_ast.specs.Names.{place_of}
 use Rattle.ir_tokens.specs.Bytes.{Text}
 use Rattle.ir_print.specs.Names.{name_at}
 use Rattle.ir_print_law.specs.Shapes.{IsIn}
-use Rattle.ir_print_law.proofs.LocalNames.{name_stays}
-use Rattle.ir_print_law.proofs.Tables.{Begins}
+use Rattle.ir_print_law.proofs.LocalNames.{keys_at, in_map, name_stays}
+use Rattle.ir_print_law.proofs.Tables.{Begins, begins_with}
 
 -- ---- a text that is none of the keys
 
@@ -64,7 +64,7 @@ found_within names keys n found = by (nat_lt n (length names)) refl where
       absurd (omega (arith, most, size))
 
 -- names of which each is at its first place have different places
-pub one_place : (names : List Text) (n k : ℕ) → ((n : ℕ) (key : Text) → slice_get names n ≡ Some key → place_of key names ≡ Some n) → n < length names → k < length names
+one_place : (names : List Text) (n k : ℕ) → ((n : ℕ) (key : Text) → slice_get names n ≡ Some key → place_of key names ≡ Some n) → n < length names → k < length names
     → name_at names n ≡ name_at names k → n ≡ k
 one_place names n k places less within same =
     let here = slice_get-get_or names n [] less in
@@ -75,7 +75,51 @@ one_place names n k places less within same =
     let second : place_of (get_or names k []) names ≡ Some k = places k (get_or names k []) there in
     cc
 
+-- so it is one of the numbers of which it has a key
+pub found_number : (names : List Text) (ns : List ℕ) (n : ℕ) → ((k : ℕ) → IsIn ns k → k < length names)
+    → ((n : ℕ) (key : Text) → slice_get names n ≡ Some key → place_of key names ≡ Some n) → ((more : List Text) → IsIn (keys_at names ns) (name_at (names ++ more) n)) → IsIn ns n
+found_number names ns n within places found =
+    let less = found_within names (keys_at names ns) n found in
+    let here = subst (IsIn (keys_at names ns)) (name_stays names (names ++ []) n less (begins_with names [])) (found []) in
+    let p = in_map (name_at names) ns (name_at names n) here in
+    subst (IsIn ns) (one_place names p.0 n places (within p.0 p.1) less p.2) p.1
+
+-- ---- places
+
+-- an element has a place
+pub place_in : {A : Type 0} (xs : List A) (y : A) → IsIn xs y → (place : ℕ) × (slice_get xs place ≡ Some y)
+place_in [] y there = absurd there
+place_in (x ∷ xs) y (inl e) = (0, ap Some e)
+place_in (x ∷ xs) y (inr there) = let p = place_in xs y there in (suc p.0, p.1)
+
+-- one after the first is there
+pub in_all : {A : Type 0} (xs : List A) (y : A) → IsIn (drop 1 xs) y → IsIn xs y
+in_all [] y there = there
+in_all (x ∷ xs) y there = inr there
+
+-- and has a place after the first
+pub place_after : {A : Type 0} (xs : List A) (y : A) → IsIn (drop 1 xs) y → (place : ℕ) × (slice_get xs (suc place) ≡ Some y)
+place_after [] y there = absurd there
+place_after (x ∷ xs) y there = place_in xs y there
+
 -- ---- names of items
+
+-- an item with this number has a place
+pub item_in : {A : Type 0} (number : A → ℕ) (xs : List A) (n : ℕ) → IsIn (map number xs) n → (place : ℕ) × (x : A) × (slice_get xs place ≡ Some x) × (number x ≡ n)
+item_in number [] n there = absurd there
+item_in number (x ∷ xs) n (inl e) = (0, x, refl, e)
+item_in number (x ∷ xs) n (inr there) = let p = item_in number xs n there in (suc p.0, p.1, p.2, p.3)
+
+-- what holds of the numbers of all items holds of each number among them
+pub each_number : {A : Type 0} (number : A → ℕ) (P : ℕ → Type 0) (xs : List A) (n : ℕ) → AllByRecursion (λ x. P (number x)) xs → IsIn (map number xs) n → P n
+each_number number P [] n all there = absurd there
+each_number number P (x ∷ xs) n all (inl e) = subst P e all.0
+each_number number P (x ∷ xs) n all (inr there) = each_number number P xs n all.1 there
+
+-- the names of items are those of their numbers
+pub item_keys : {A : Type 0} (number : A → ℕ) (xs : List A) (names : List Text) → map (λ x. name_at names (number x)) xs ≡ keys_at names (map number xs)
+item_keys number [] names = refl
+item_keys number (x ∷ xs) names = ap (λ (l : List Text). name_at names (number x) ∷ l) (item_keys number xs names)
 
 -- the names of items whose numbers are within stay where more names come
 pub items_stay : {A : Type 0} (number : A → ℕ) (xs : List A) (names more : List Text) → AllByRecursion (λ x. number x < length names) xs → Begins names more
@@ -85,8 +129,3 @@ items_stay number (x ∷ xs) names more within b =
     let e = name_stays names more (number x) within.0 b in
     let r = items_stay number xs names more within.1 b in
     ap (λ (y : Text). y ∷ map (λ x. name_at more (number x)) xs) e ∙ ap (λ (l : List Text). name_at names (number x) ∷ l) r
-
--- what is after the first is there
-pub in_all : {A : Type 0} (xs : List A) (y : A) → IsIn (drop 1 xs) y → IsIn xs y
-in_all [] y there = there
-in_all (x ∷ xs) y there = inr there

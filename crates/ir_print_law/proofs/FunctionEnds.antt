@@ -43,7 +43,7 @@ in_keys names (x ∷ ns) n (inl e) = inl (ap (name_at names) e)
 in_keys names (x ∷ ns) n (inr e) = inr (in_keys names ns n e)
 in_keys names [] n e = absurd e
 
-rest_keys : (names : List Text) (ns : List ℕ) → keys_at names (drop 1 ns) ≡ drop 1 (keys_at names ns)
+pub rest_keys : (names : List Text) (ns : List ℕ) → keys_at names (drop 1 ns) ≡ drop 1 (keys_at names ns)
 rest_keys names [] = refl
 rest_keys names (n ∷ ns) = refl
 

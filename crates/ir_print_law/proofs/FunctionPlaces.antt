@@ -31,6 +31,7 @@ pub record Places (g : Progress) (pending : Option ℕ) (t : Table LocalSort) (u
   pub value_names : (n : ℕ) → IsIn g.values n → IsIn g.names n
   pub label_names : (n : ℕ) → IsIn g.labels n → IsIn g.names n
   pub apart : (n : ℕ) → pending ≡ Some n → IsIn g.labels n → ⊥
+  pub disjoint : (n : ℕ) → IsIn g.values n → IsIn g.labels n → ⊥
   pub labels : (b n : ℕ) → slice_get g.labels b ≡ Some n → slice_get t.sorts n ≡ Some (local.Block b)
   pub covered : (n : ℕ) → n < length t.names → IsIn g.names n ⊎ IsUsed uses n
   -- as long as no name is used, names have their numbers in the order in which they are defined
@@ -98,6 +99,7 @@ use_places g pending t uses key u is h = record {
   value_names = h.value_names;
   label_names = h.label_names;
   apart = h.apart;
+  disjoint = h.disjoint;
   labels = λ b n e. stays t.sorts (sorts_with (place_of key t.names) local.Unknown t.sorts) n (local.Block b) (sorts_begin (place_of key t.names) t.sorts) (h.labels b n e);
   covered = λ n less. elim (old_or_key key t.names n less) [
     | inl old ↦ elim (h.covered n old) [
@@ -146,6 +148,10 @@ value_places g t uses key h fresh =
       ];
       label_names = λ k there. in_longer g.names n k (h.label_names k there);
       apart = λ k is there. let same : k ≡ n = cc in fresh (subst (IsIn g.names) same (h.label_names k there));
+      disjoint = λ k is there. elim (in_or_end g.values n k is) [
+        | inl old ↦ h.disjoint k old there
+        | inr new ↦ fresh (subst (IsIn g.names) (sym new) (h.label_names k there))
+      ];
       labels = λ b k e. stays t.sorts (sorts_with (place_of key t.names) local.Unknown t.sorts) k (local.Block b) (sorts_begin (place_of key t.names) t.sorts) (h.labels b k e);
       covered = covered_more g t uses key h;
       first = first_next g t uses key h fresh;
@@ -164,6 +170,7 @@ sort_places g n t uses sort h = record {
   value_names = h.value_names;
   label_names = h.label_names;
   apart = λ k is there. absurd cc;
+  disjoint = h.disjoint;
   labels = λ b k e.
       let other : n ≡ k → ⊥ = λ same. h.apart n refl (subst (IsIn g.labels) (sym same) (in_list g.labels b k e)) in
       sorted_as n sort t (λ sorts. slice_get sorts k ≡ Some (local.Block b)) (h.labels b k e) (set_other t.sorts n sort k other ∙ h.labels b k e);
@@ -188,6 +195,10 @@ label_places g t uses key h fresh same =
         | inr new ↦ subst (IsIn (g.names ++ n ∷ [])) new (in_at_end g.names n)
       ];
       apart = λ k is there. absurd cc;
+      disjoint = λ k is there. elim (in_or_end g.labels n k there) [
+        | inl old ↦ h.disjoint k is old
+        | inr new ↦ fresh (subst (IsIn g.names) (sym new) (h.value_names k is))
+      ];
       labels = λ b k e. elim (at_end_or_before g.labels n b k e) [
         | inl old ↦
             let before = stays t.sorts next.sorts k (local.Block b) (sorts_begin (place_of key t.names) t.sorts) (h.labels b k old) in

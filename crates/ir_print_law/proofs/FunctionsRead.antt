@@ -103,6 +103,7 @@ no_places = record {
   value_names = λ n there. there;
   label_names = λ n there. there;
   apart = λ n is there. there;
+  disjoint = λ n is there. there;
   labels = λ b n e. absurd cc;
   covered = λ n less. absurd (omega (arith, less));
   first = λ none. (refl, λ place n e. absurd cc);

@@ -1,10 +1,9 @@
 -- The numbers of a module are within its tables where one of its functions is replaced.
-use Rattle.std.proofs.Common.{◌≡◌, ℕ, ◌<◌, ◌≤◌, List, length, slice_get, Some, sym, ap, subst, ◌∙◌, arith, length-append, [], ◌∷◌, zero, suc}
+use Rattle.std.proofs.Common.{◌≡◌, ℕ, ◌<◌, ◌≤◌, List, length, slice_get, Some, sym, ap, subst, ◌∙◌, arith, length-append, [], ◌∷◌, zero, suc, inl, inr}
 use Rattle.lemmas.specs.Lists.{get_some}
 use Rattle.std.specs.List.{AllByRecursion}
 use Rattle.ir_ast.specs.declared.function.Function.{Function}
 use Rattle.ir_ast.specs.declared.ir_type.IrType.{IrType}
-use Rattle.ir_ast.specs.declared.items_of_module.Declare.{Declare}
 use Rattle.ir_ast.specs.declared.items_of_module.Global.{Global}
 use Rattle.ir_ast.specs.declared.items_of_module.StructType.{StructType}
 use Rattle.ir_ast.specs.declared.module.Module.{Module}
@@ -12,17 +11,19 @@ use Rattle.ir_tokens.specs.Bytes.{Text}
 use Rattle.ir_text.specs.Anew.{start_anew, anew}
 use Rattle.ir_text.specs.Replaced.{tables_of, name_in, with_replacement, IsReplaced}
 use Rattle.name_text.specs.Readings.{AreBytes}
+use Rattle.ir_print_law.specs.ModuleNames.{HasModuleNames}
 use Rattle.ir_print_law.specs.PartsWithin.{HasSymbol}
 use Rattle.ir_print_law.specs.Wholes.{IsWhole}
 use Rattle.ir_print_law.specs.Within.{IsFunctionWithin, IsStructWithin, IsGlobalWithin, IsDeclareWithin, IsWithin}
 use Rattle.ir_print_law.proofs.AnewRead.{function_read}
 use Rattle.ir_print_law.proofs.Known.{all_so}
 use Rattle.ir_print_law.proofs.LongerTypes.{with_types}
-use Rattle.ir_print_law.proofs.OpsWithin.{AreSymbolsWithin}
+use Rattle.ir_print_law.proofs.LocalNames.{set_length}
+use Rattle.ir_print_law.proofs.OpsWithin.{functions_have}
 use Rattle.ir_print_law.proofs.ReplacedWhole.{all_set, edited, read_edits}
 use Rattle.ir_print_law.proofs.Tables.{Begins}
 use Rattle.ir_print_law.proofs.WithinRead.{IsInnerOf}
-use Rattle.ir_print_law.proofs.WithinLonger.{type_longer, declare_longer, function_longer}
+use Rattle.ir_print_law.proofs.WithinLonger.{MeansAsMuch, type_longer, declare_longer, function_longer}
 
 -- ---- lists
 
@@ -36,12 +37,41 @@ element_at P (y ∷ xs) zero x at h = let same : y ≡ x = cc in subst P same h.
 element_at P (y ∷ xs) (suc place) x at h = element_at P xs place x at h.1
 
 module _ (m : Module) (whole : IsWhole m) (within : IsWithin m) (func : ℕ) (old : Function) (at : slice_get m.functions func ≡ Some old) where
-  symbols_have : AreSymbolsWithin m
-  symbols_have = record {
-    globals = all_so (IsGlobalWithin m) (λ (x : Global). HasSymbol m x.symbol) m.globals (λ x h. h.0) within.globals;
-    declares = all_so (IsDeclareWithin m) (λ (x : Declare). HasSymbol m x.symbol) m.declares (λ x h. h.0) within.declares;
-    functions = all_so (IsFunctionWithin m) (λ (x : Function). HasSymbol m x.symbol) m.functions (λ x h. h.symbol) within.functions;
-  }
+  -- the names mean what they mean in the module, whatever its types are
+  names_again : (types : List IrType) → HasModuleNames (with_types m types m.functions)
+  names_again types =
+      let n = whole.names in record {
+        struct_names = n.struct_names;
+        structs = n.structs;
+        layouts = n.layouts;
+        symbols = n.symbols;
+        sorts = n.sorts;
+        globals = n.globals;
+        declares = n.declares;
+        functions = n.functions;
+        named_globals = n.named_globals;
+        named_declares = n.named_declares;
+        named_functions = n.named_functions;
+        own = n.own;
+      }
+
+  -- and so they do where a function is replaced
+  means : (types : List IrType) (f : Function) → MeansAsMuch (with_types m types m.functions) (edited m whole func old at types f)
+  means types f =
+      let same = set_length m.functions func f in record {
+        symbols = λ symbol h. h;
+        globals = λ symbol h. h;
+        functions = λ symbol h. (
+          h.0,
+          elim h.1 [
+            | inl declared ↦ inl declared
+            | inr defined ↦ inr (defined.0, defined.1, let less = defined.2 in omega (arith, less, same))
+          ],
+        );
+      }
+
+  means_still : (types : List IrType) (f : Function) → MeansAsMuch m (edited m whole func old at types f)
+  means_still types f = let more = means types f in record { symbols = λ symbol h. h; globals = λ symbol h. h; functions = λ symbol h. more.functions symbol h }
 
   edited_within : (types : List IrType) (f : Function) → Begins m.types types → IsFunctionWithin (with_types m types m.functions) f
       → IsWithin (edited m whole func old at types f)
@@ -49,23 +79,22 @@ module _ (m : Module) (whole : IsWhole m) (within : IsWithin m) (func : ℕ) (ol
       let n = edited m whole func old at types f in
       let mid = with_types m types m.functions in
       let more_types : length m.types ≤ length n.types = begins_length m.types types more in
-      let symbols : length m.symbols ≤ length n.symbols = omega arith in
+      let names = means_still types f in
       let same : length mid.types ≤ length n.types = omega arith in record {
-        structs = all_so (IsStructWithin m) (IsStructWithin n) m.structs (λ (x : StructType) h. (h.0, type_longer m n more_types symbols x.body h.1)) within.structs;
-        globals = all_so (IsGlobalWithin m) (IsGlobalWithin n) m.globals (λ (x : Global) h. (h.0, type_longer m n more_types symbols x.held h.1)) within.globals;
-        declares = all_so (IsDeclareWithin m) (IsDeclareWithin n) m.declares (declare_longer m n more_types symbols) within.declares;
+        structs = all_so (IsStructWithin m) (IsStructWithin n) m.structs (λ (x : StructType) h. (h.0, type_longer m n more_types names x.body h.1)) within.structs;
+        globals = all_so (IsGlobalWithin m) (IsGlobalWithin n) m.globals (λ (x : Global) h. (h.0, type_longer m n more_types names x.held h.1)) within.globals;
+        declares = all_so (IsDeclareWithin m) (IsDeclareWithin n) m.declares (declare_longer m n more_types names) within.declares;
         functions = all_set (IsFunctionWithin n) m.functions func f
-            (all_so (IsFunctionWithin m) (IsFunctionWithin n) m.functions (function_longer m n more_types symbols) within.functions)
-            (function_longer mid n same symbols f own);
+            (all_so (IsFunctionWithin m) (IsFunctionWithin n) m.functions (function_longer m n more_types names) within.functions)
+            (function_longer mid n same (means types f) f own);
       }
 
   -- what was read, as a function of the module
   function_within : (types : List IrType) (f : Function) → Begins m.types types → f.symbol ≡ old.symbol → IsInnerOf (with_types m types m.functions) f
       → IsFunctionWithin (with_types m types m.functions) f
   function_within types f more symbol_is inner =
-      let own = symbols_have in
-      let inside = inner (record { globals = own.globals; declares = own.declares; functions = own.functions }) in
-      let old_within = element_at (λ (x : Function). HasSymbol m x.symbol) m.functions func old at own.functions in
+      let inside = inner (names_again types) in
+      let old_within = element_at (λ (x : Function). HasSymbol m x.symbol) m.functions func old at (functions_have m whole.names) in
       record { symbol = subst (HasSymbol m) (sym symbol_is) old_within; returned = inside.0; parameters = inside.1; sorts = inside.2; blocks = inside.3 }
 
   old_within : (bytes : Text) (n : Module) → AreBytes bytes → IsReplaced m func bytes n → IsWithin n

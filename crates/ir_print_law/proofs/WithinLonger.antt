@@ -1,4 +1,4 @@
--- Numbers that are within the tables of a module are within those of one that has no fewer types and global names.
+-- Numbers that are within the tables of a module are within those of one that has no fewer types, and whose names mean what they mean there.
 use Rattle.std.proofs.Common.{ℕ, ◌≤◌, List, length, arith}
 use Rattle.std.specs.List.{AllByRecursion}
 use Rattle.ir_ast.specs.declared.argument.Argument.{Argument}
@@ -21,26 +21,29 @@ use Rattle.ir_ast.specs.declared.operand.Operand.{Operand}
 use Rattle.ir_ast.specs.declared.operand.Operand.TheVariants as operand
 use Rattle.ir_print_law.specs.Memory.{IsMemoryOpWithin}
 use Rattle.ir_print_law.specs.Numbers.{IsNumberOpWithin}
-use Rattle.ir_print_law.specs.PartsWithin.{HasType, HasSymbol, IsOperandWithin, IsArgumentWithin, ArePairWithin, IsConvertedWithin}
+use Rattle.ir_print_law.specs.PartsWithin.{HasType, HasSymbol, HasGlobal, HasFunction, IsOperandWithin, IsArgumentWithin, ArePairWithin, IsConvertedWithin}
 use Rattle.ir_print_law.specs.Within.{IsOpWithin, IsInstrWithin, IsIncomingWithin, IsPhiWithin, IsEndWithin, IsBlockWithin, IsParameterWithin, IsFunctionWithin, IsDeclareWithin}
 use Rattle.ir_print_law.proofs.Known.{all_so}
 
-module _ (m n : Module) (types : length m.types ≤ length n.types) (symbols : length m.symbols ≤ length n.symbols) where
+-- Whatever is the name of something in the first module is so in the second.
+pub record MeansAsMuch (m n : Module) : Type 0 where
+  pub symbols : (symbol : ℕ) → HasSymbol m symbol → HasSymbol n symbol
+  pub globals : (symbol : ℕ) → HasGlobal m symbol → HasGlobal n symbol
+  pub functions : (symbol : ℕ) → HasFunction m symbol → HasFunction n symbol
+
+module _ (m n : Module) (types : length m.types ≤ length n.types) (names : MeansAsMuch m n) where
   pub type_longer : (t : ℕ) → HasType m t → HasType n t
   type_longer t h = omega (arith, types, h)
 
-  pub symbol_longer : (symbol : ℕ) → HasSymbol m symbol → HasSymbol n symbol
-  symbol_longer symbol h = omega (arith, symbols, h)
-
   pub declare_longer : (x : Declare) → IsDeclareWithin m x → IsDeclareWithin n x
-  declare_longer x h = (symbol_longer x.symbol h.0, type_longer x.returned h.1, all_so (HasType m) (HasType n) x.parameters type_longer h.2)
+  declare_longer x h = (names.symbols x.symbol h.0, type_longer x.returned h.1, all_so (HasType m) (HasType n) x.parameters type_longer h.2)
 
   module _ (f : Function) where
     operand_longer : (x : Operand) → IsOperandWithin m f x → IsOperandWithin n f x
     operand_longer (operand.Constant x) h = tt
     operand_longer (operand.Local value) h = h
-    operand_longer (operand.Global symbol) h = symbol_longer symbol h
-    operand_longer (operand.CastGlobal from symbol to) h = (type_longer from h.0, symbol_longer symbol h.1, type_longer to h.2)
+    operand_longer (operand.Global symbol) h = names.globals symbol h
+    operand_longer (operand.CastGlobal from symbol to) h = (type_longer from h.0, names.globals symbol h.1, type_longer to h.2)
 
     argument_longer : (x : Argument) → IsArgumentWithin m f x → IsArgumentWithin n f x
     argument_longer x h = (type_longer x.written h.0, operand_longer x.operand h.1)
@@ -71,7 +74,7 @@ module _ (m n : Module) (types : length m.types ≤ length n.types) (symbols : l
     op_longer (op.Element x) h = (type_longer x.source h.0, type_longer x.base_type h.1, operand_longer x.base h.2, arguments_longer x.indices h.3)
     op_longer (op.Cast x) h = converted_longer x.from x.operand x.to h
     op_longer (op.Choice x) h = (type_longer x.condition_type h.0, operand_longer x.condition h.1, pair_longer x.written x.chosen x.other h.2)
-    op_longer (op.Call x) h = (type_longer x.returned h.0, symbol_longer x.callee h.1, arguments_longer x.arguments h.2)
+    op_longer (op.Call x) h = (type_longer x.returned h.0, names.functions x.callee h.1, arguments_longer x.arguments h.2)
 
     instr_longer : (x : Instr) → IsInstrWithin m f x → IsInstrWithin n f x
     instr_longer x h = (h.0, op_longer x.op h.1)
@@ -101,7 +104,7 @@ module _ (m n : Module) (types : length m.types ≤ length n.types) (symbols : l
 
     pub function_longer : IsFunctionWithin m f → IsFunctionWithin n f
     function_longer h = record {
-      symbol = symbol_longer f.symbol h.symbol;
+      symbol = names.symbols f.symbol h.symbol;
       returned = type_longer f.returned h.returned;
       parameters = all_so (IsParameterWithin m f) (IsParameterWithin n f) f.parameters (λ (x : Parameter) is. (type_longer x.written is.0, is.1)) h.parameters;
       sorts = h.sorts;

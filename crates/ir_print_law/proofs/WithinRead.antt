@@ -5,7 +5,6 @@ use Rattle.ir_ast.specs.declared.function.Function.{Function}
 use Rattle.ir_ast.specs.declared.function.Parameter.{Parameter}
 use Rattle.ir_ast.specs.declared.items_of_module.Declare.{Declare}
 use Rattle.ir_ast.specs.declared.items_of_module.Global.{Global}
-use Rattle.ir_ast.specs.declared.items_of_module.SymbolSort.TheVariants as symbol
 use Rattle.ir_ast.specs.declared.module.Module.{Module}
 use Rattle.ir_tokens.specs.Bytes.{Text}
 use Rattle.ir_forms.specs.Cursor.{spelled}
@@ -13,8 +12,8 @@ use Rattle.ir_text.specs.Read.{IsText}
 use Rattle.name_text.specs.Readings.{AreBytes}
 use Rattle.ir_print_law.specs.ModuleNames.{HasModuleNames}
 use Rattle.ir_print_law.specs.Parts.{IsVoid}
-use Rattle.ir_print_law.specs.PartsWithin.{HasType, HasSymbol, HasLocal}
-use Rattle.ir_print_law.specs.Printable.{IsPassed, IsParameter, IsAnyType, IsStructType, IsGlobal, IsDeclare, IsBlock, IsFunction, IsPrintable}
+use Rattle.ir_print_law.specs.PartsWithin.{HasType, HasSymbol, HasValue}
+use Rattle.ir_print_law.specs.Printable.{IsPassed, IsParameter, IsAnyType, IsStructType, IsGlobal, IsDeclare, IsBlock, IsPrintable}
 use Rattle.ir_print_law.specs.Shapes.{IsIn}
 use Rattle.ir_print_law.specs.Within.{IsParameterWithin, IsBlockWithin, IsFunctionWithin, IsStructWithin, IsGlobalWithin, IsDeclareWithin, IsWithin}
 use Rattle.ir_print_law.proofs.DefinedWithin.{all_at, both, defined_within}
@@ -22,7 +21,7 @@ use Rattle.ir_print_law.proofs.FunctionNames.{function_names}
 use Rattle.ir_print_law.proofs.FunctionsRead.{function_parts}
 use Rattle.ir_print_law.proofs.Known.{all_so}
 use Rattle.ir_print_law.proofs.ModuleRead.{FunctionKeeps, read_so, read_is_printable, read_has_names}
-use Rattle.ir_print_law.proofs.OpsWithin.{AreSymbolsWithin, wide_module, wide, globals_stay, functions_stay, shape_within, void_within, blocks_within}
+use Rattle.ir_print_law.proofs.OpsWithin.{wide_module, wide, globals_have, declares_have, functions_have, globals_stay, functions_stay, shape_within, void_within, blocks_within}
 use Rattle.ir_print_law.proofs.Outside.{Outside}
 use Rattle.ir_print_law.proofs.Reading.{Reading, used_symbols}
 use Rattle.ir_print_law.proofs.Tables.{begins_itself, begins_further, begins_with}
@@ -30,7 +29,7 @@ use Rattle.ir_print_law.proofs.Uses.{local_right}
 
 -- ---- a module with more global names
 
-module _ {m : Module} (own : AreSymbolsWithin m) (more : List Text) where
+module _ {m : Module} (own : HasModuleNames m) (more : List Text) where
   uses_stay : (is_call : Bool) → used_symbols m is_call ≡ used_symbols (wide_module m more) is_call
   uses_stay true = sym (functions_stay m own more)
   uses_stay false = sym (globals_stay m own more)
@@ -77,15 +76,15 @@ returned_has : (m : Module) (t : ℕ) → IsVoid m t ⊎ IsPassed m t → HasTyp
 returned_has m t (inl void) = void_within m t void
 returned_has m t (inr is) = shape_within m.types m.struct_names is.0 t is.1.0
 
-parameters_have : (m : Module) (f : Function) (xs : List Parameter) → AllByRecursion (IsParameter m) xs → AllByRecursion (λ (x : Parameter). HasLocal f x.value) xs
+parameters_have : (m : Module) (f : Function) (xs : List Parameter) → AllByRecursion (IsParameter m) xs → AllByRecursion (λ (x : Parameter). HasValue f x.value) xs
     → AllByRecursion (IsParameterWithin m f) xs
 parameters_have m f xs is own =
-    all_so (λ (x : Parameter). IsParameter m x × HasLocal f x.value) (IsParameterWithin m f) xs (λ x h. (shape_within m.types m.struct_names h.0.0 x.written h.0.1.0, h.1))
-    (both (IsParameter m) (λ (x : Parameter). HasLocal f x.value) xs is own)
+    all_so (λ (x : Parameter). IsParameter m x × HasValue f x.value) (IsParameterWithin m f) xs (λ x h. (shape_within m.types m.struct_names h.0.0 x.written h.0.1.0, h.1))
+    (both (IsParameter m) (λ (x : Parameter). HasValue f x.value) xs is own)
 
--- so it is where the items of the module have global names
+-- so it is where the names of the module mean its items
 abbrev pub IsInnerOf : Module → Function → Type 0
-IsInnerOf m f = AreSymbolsWithin m → IsInner m f
+IsInnerOf m f = HasModuleNames m → IsInner m f
 
 pub inner_keeps : FunctionKeeps IsInnerOf
 inner_keeps m w symbol returned ps c bs i i1 i2 i3 i4 i5 i6 o s1 s2 s3 s4 s5 s6 s7 locals uses values unnamed fore =
@@ -109,13 +108,6 @@ inner_keeps m w symbol returned ps c bs i i1 i2 i3 i4 i5 i6 o s1 s2 s3 s4 s5 s6 
 -- ---- the items of a module
 
 module _ (m : Module) (names : HasModuleNames m) where
-  symbols_within : IsPrintable m → AreSymbolsWithin m
-  symbols_within h = record {
-    globals = all_at (IsGlobal m) (λ (x : Global). HasSymbol m x.symbol) m.globals (λ k x e is. names.sorts x.symbol (symbol.Global k) (names.globals k x e)) h.globals;
-    declares = all_at (IsDeclare m) (λ (x : Declare). HasSymbol m x.symbol) m.declares (λ k x e is. names.sorts x.symbol (symbol.Declared k) (names.declares k x e)) h.declares;
-    functions = all_at (IsFunction m) (λ (x : Function). HasSymbol m x.symbol) m.functions (λ k x e is. names.sorts x.symbol (symbol.Defined k) (names.functions k x e)) h.functions;
-  }
-
   result_has : (t : ℕ) → IsVoid m t ⊎ IsAnyType m t → HasType m t
   result_has t (inl void) = void_within m t void
   result_has t (inr is) = shape_within m.types m.struct_names is.0 t is.1.0
@@ -123,22 +115,22 @@ module _ (m : Module) (names : HasModuleNames m) where
   -- where its functions are within its tables, so is the module
   pub all_within : IsPrintable m → AllByRecursion (IsInnerOf m) m.functions → IsWithin m
   all_within h inner =
-      let own = symbols_within h in record {
+      record {
         structs = all_at (IsStructType m) (IsStructWithin m) m.structs
             (λ k x e is. ((names.layouts k x.name (names.structs k x e)).1, shape_within m.types m.struct_names is.0 x.body is.1.0)) h.structs;
         globals = all_so (λ (x : Global). HasSymbol m x.symbol × IsGlobal m x) (IsGlobalWithin m) m.globals
             (λ x is. (is.0, shape_within m.types m.struct_names is.1.0 x.held is.1.1.0))
-            (both (λ (x : Global). HasSymbol m x.symbol) (IsGlobal m) m.globals own.globals h.globals);
+            (both (λ (x : Global). HasSymbol m x.symbol) (IsGlobal m) m.globals (globals_have m names) h.globals);
         declares = all_so (λ (x : Declare). HasSymbol m x.symbol × IsDeclare m x) (IsDeclareWithin m) m.declares
             (λ x is. (
               is.0,
               result_has x.returned is.1.0,
               all_so (IsAnyType m) (HasType m) x.parameters (λ t any. shape_within m.types m.struct_names any.0 t any.1.0) is.1.1,
             ))
-            (both (λ (x : Declare). HasSymbol m x.symbol) (IsDeclare m) m.declares own.declares h.declares);
+            (both (λ (x : Declare). HasSymbol m x.symbol) (IsDeclare m) m.declares (declares_have m names) h.declares);
         functions = all_so (λ (x : Function). HasSymbol m x.symbol × IsInnerOf m x) (IsFunctionWithin m) m.functions
-            (λ x is. let inside = is.1 own in record { symbol = is.0; returned = inside.0; parameters = inside.1; sorts = inside.2; blocks = inside.3 })
-            (both (λ (x : Function). HasSymbol m x.symbol) (IsInnerOf m) m.functions own.functions inner);
+            (λ x is. let inside = is.1 names in record { symbol = is.0; returned = inside.0; parameters = inside.1; sorts = inside.2; blocks = inside.3 })
+            (both (λ (x : Function). HasSymbol m x.symbol) (IsInnerOf m) m.functions (functions_have m names) inner);
       }
 
 -- a module that is read

@@ -9,7 +9,7 @@ use Rattle.ir_print.specs.Names.{name_at}
 use Rattle.ir_print_law.specs.Shapes.{IsIn}
 use Rattle.ir_print_law.specs.Definitions.{functions_of}
 use Rattle.ir_print_law.specs.Parts.{IsArgument, IsReturned}
-use Rattle.ir_print_law.specs.PartsWithin.{HasType, HasSymbol, IsArgumentWithin}
+use Rattle.ir_print_law.specs.PartsWithin.{HasType, HasFunction, IsArgumentWithin}
 use Rattle.ir_print_law.specs.PartsAgain.{AreAlike, IsNameAgain, IsResultAgain, IsArgumentAgain}
 
 -- a call
@@ -18,7 +18,7 @@ IsCall m f x = IsReturned m x.returned × IsIn (functions_of m) (name_at m.symbo
 
 -- a call whose numbers are within the tables
 abbrev pub IsCallWithin : Module → Function → Call → Type 0
-IsCallWithin m f x = HasType m x.returned × HasSymbol m x.callee × AllByRecursion (IsArgumentWithin m f) x.arguments
+IsCallWithin m f x = HasType m x.returned × HasFunction m x.callee × AllByRecursion (IsArgumentWithin m f) x.arguments
 
 -- Two modules, and the names of a function in each.
 module _ (m n : Module) (locals others : List Text) where

@@ -1,4 +1,4 @@
--- Modules whose numbers are within their tables. A consumer of such a module finds an entry wherever it follows a number.
+-- Modules whose numbers are within their tables: who follows a number finds an entry.
 use Rattle.std.specs.Prelude.{◌≡◌, length, ◌<◌, ℕ}
 use Rattle.std.specs.List.{AllByRecursion}
 use Rattle.ir_ast.specs.declared.block.Block.{Block}
@@ -20,7 +20,7 @@ use Rattle.ir_tokens.specs.Bytes.{Text}
 use Rattle.ir_text.specs.Read.{IsText}
 use Rattle.ir_text.specs.Replaced.{IsReplaced}
 use Rattle.name_text.specs.Readings.{AreBytes}
-use Rattle.ir_print_law.specs.PartsWithin.{HasType, HasStructName, HasSymbol, HasLocal, HasBlock, HasResult, IsOperandWithin, IsArgumentWithin}
+use Rattle.ir_print_law.specs.PartsWithin.{HasType, HasStructName, HasSymbol, HasValue, HasBlock, HasTarget, HasResult, IsOperandWithin, IsArgumentWithin}
 use Rattle.ir_print_law.specs.Numbers.{IsNumberOpWithin}
 use Rattle.ir_print_law.specs.Memory.{IsMemoryOpWithin}
 use Rattle.ir_print_law.specs.Elements.{IsElementWithin}
@@ -52,19 +52,19 @@ IsIncomingWithin m f x = IsOperandWithin m f x.operand × HasBlock f x.from
 
 -- a phi
 abbrev pub IsPhiWithin : Module → Function → Phi → Type 0
-IsPhiWithin m f x = HasLocal f x.value × HasType m x.written × AllByRecursion (IsIncomingWithin m f) x.incoming
+IsPhiWithin m f x = HasValue f x.value × HasType m x.written × AllByRecursion (IsIncomingWithin m f) x.incoming
 
 -- a case of a switch
 abbrev pub IsCaseWithin : Function → Case → Type 0
-IsCaseWithin f x = HasBlock f x.target
+IsCaseWithin f x = HasTarget f x.target
 
 -- how a block ends
 abbrev pub IsEndWithin : Module → Function → End → Type 0
-IsEndWithin m f (end.Jump target) = HasBlock f target
+IsEndWithin m f (end.Jump target) = HasTarget f target
 IsEndWithin m f (end.Branch condition_type condition taken other) =
-    HasType m condition_type × IsOperandWithin m f condition × HasBlock f taken × HasBlock f other
+    HasType m condition_type × IsOperandWithin m f condition × HasTarget f taken × HasTarget f other
 IsEndWithin m f (end.Switch written value otherwise cases) =
-    HasType m written × IsOperandWithin m f value × HasBlock f otherwise × AllByRecursion (IsCaseWithin f) cases
+    HasType m written × IsOperandWithin m f value × HasTarget f otherwise × AllByRecursion (IsCaseWithin f) cases
 IsEndWithin m f end.Unreachable = Unit {0}
 IsEndWithin m f end.ReturnVoid = Unit {0}
 IsEndWithin m f (end.Return x) = IsArgumentWithin m f x
@@ -78,9 +78,9 @@ IsBlockWithin m f x =
 
 -- a parameter of a defined function
 abbrev pub IsParameterWithin : Module → Function → Parameter → Type 0
-IsParameterWithin m f x = HasType m x.written × HasLocal f x.value
+IsParameterWithin m f x = HasType m x.written × HasValue f x.value
 
--- a defined function, in which each local name means something
+-- a defined function; it notes of each local name what it stands for
 pub record IsFunctionWithin (m : Module) (f : Function) : Type 0 where
   pub symbol : HasSymbol m f.symbol
   pub returned : HasType m f.returned
