@@ -12,3 +12,4 @@ mod Stale
 mod Shows
 mod Slots
 mod KeptRows
+mod Ties

@@ -1,6 +1,7 @@
 pub mod Facts
 pub mod Contents
 pub mod Lines
+pub mod Ties
 pub mod Sheets
 pub mod Numbered
 pub mod Values

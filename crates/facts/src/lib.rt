@@ -2,6 +2,7 @@
 #![tactic(auto)]
 
 mod class_id;
+mod class_set;
 mod contents;
 mod edges;
 mod facts;
