@@ -3,6 +3,7 @@ pub mod Contents
 pub mod Lines
 pub mod Ties
 pub mod Sheets
+pub mod SlotRows
 pub mod Numbered
 pub mod Values
 pub mod Uses

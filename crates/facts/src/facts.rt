@@ -348,8 +348,7 @@ impl Facts {
         ensures ok { OnOk result (self.new ≡ set_slot s slot self.old) }
         ensures err { OnErr result (self.new ≡ self.old) }
     {
-        Rc::make_mut(&mut self.contents)?.set_slot(s, slot);
-        Ok(())
+        Rc::make_mut(&mut self.contents)?.set_slot(s, slot)
     }
 
     fn set_test(&mut self, v: ValueId, test: Option<Test>) -> Result<(), AllocError>
@@ -435,6 +434,6 @@ impl Facts {
     {
         let (here, there) = (&self.contents, &there.contents);
         here.values.covers(&there.values, c, d)
-            && rows::covers_slots(&here.slots, &there.slots, c, d)
+            && rows::covers_slots(here.slots.as_slice(), there.slots.as_slice(), c, d)
     }
 }

@@ -15,6 +15,8 @@ mod row;
 pub mod rows;
 mod sheet;
 mod shown;
+mod slot_rows;
+mod slot_sweeps;
 mod sweeps;
 mod uses;
 mod values;
