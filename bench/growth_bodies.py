@@ -116,6 +116,15 @@ def row_class(n):
     return function(body, lines_of, "%Node* %x")
 
 
+@kind("one class, listed backwards in a row")
+def back_class(n):
+    """References that are all the same, each listed as the same as the next one."""
+    body = ("  %y0 = bitcast %Node* %x to %Node*\n" + lines(n, lambda i: f"  %y{i + 1} = bitcast %Node* %y{i} to %Node*")
+            + "  br label %next\nnext:\n  ret void\n")
+    lines_of = "block %next\n" + lines(n, lambda i: f"%y{i} ref Node same %y{i + 1}") + f"%y{n} ref Node\n"
+    return function(body, lines_of, "%Node* %x")
+
+
 @kind("classes of two")
 def classes(n):
     """Pairs of references that are the same."""

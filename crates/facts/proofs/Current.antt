@@ -1,5 +1,5 @@
 -- Which rows a safepoint changes.
-use Rattle.std.proofs.Common.{◌≡◌, ◌<◌, ◌≤◌, ◌⊎◌, ℕ, length, List, [], ◌∷◌, ◌++◌, map, refl, sym, ap, subst, inl, inr, ◌∙◌, ◌+◌, add-one, drop-cons, drop, get_or, true, false, Bool, slice_set}
+use Rattle.std.proofs.Common.{◌≡◌, ◌<◌, ◌⊎◌, ℕ, length, List, [], ◌∷◌, ◌++◌, refl, sym, ap, subst, inl, inr, ◌∙◌, ◌+◌, add-one, drop-cons, drop, get_or, true, false, Bool, slice_set}
 use Rattle.std.proofs.lemmas.Bool.{cases_lt}
 use Rattle.std.proofs.lemmas.List.{get_or_past, get_or-set_other}
 use Rattle.std.specs.Prelude.{not, ◌&&◌, ◌==◌, if◌then◌else◌, replicate}
@@ -9,8 +9,8 @@ use Rattle.facts.specs.declared.known.Class.{Class}
 use Rattle.facts.specs.declared.known.Known.{Known}
 use Rattle.facts.specs.declared.known.Known.TheVariants.{Nothing, Number, Cell, Null, Address, GlobalAddress}
 use Rattle.facts.specs.declared.row.Row.{Row}
-use Rattle.facts.specs.Facts.{class_at, is_of, is_on, off_base, stale_of}
-use Rattle.facts.specs.Lines.{moved, move}
+use Rattle.facts.specs.Facts.{class_at, is_of, off_base, stale_of}
+use Rattle.facts.specs.Lines.{move}
 use Rattle.facts.specs.Sheets.{blank, row_at, IsOne, OnlyMarked, OnlyCurrent, EachRow, each, is_settled_as, is_settled, with_current, known_nonnull, settled_class, off_row, move_row, keep_row, settle_row, stale_row, row_is_of, with_row_of}
 use Rattle.facts.proofs.Sets.{set_is}
 use Rattle.facts.proofs.Sheets.{same_or_not, length_each, each_row, one_more, one_last, blank_at}

@@ -1,4 +1,3 @@
-pub mod Loops
 pub mod Sets
 mod Sheets
 mod Current
@@ -11,4 +10,6 @@ mod Classes
 mod Stale
 mod Shows
 mod Slots
+mod SlotLists
 mod KeptRows
+mod Ties

@@ -1,11 +1,9 @@
 -- What rows say once some are changed.
-use Rattle.std.proofs.Common.{◌≡◌, ◌<◌, ◌≤◌, ◌⊎◌, ℕ, length, List, ◌++◌, get_or, map, refl, sym, ap, subst, inl, inr, ◌∙◌, true, false, Option, Some, None, slice_set, ◌-◌, Result, Ok, Err, OnErr}
+use Rattle.std.proofs.Common.{◌≡◌, ◌<◌, ◌≤◌, ℕ, length, List, ◌++◌, get_or, map, refl, sym, ap, ◌∙◌, Option, None, slice_set, ◌-◌, Result, Ok, Err, OnErr}
 use Rattle.std.proofs.Math.ListN.{get_or-map}
-use Rattle.std.proofs.lemmas.Bool.{cases_lt}
 use Rattle.std.proofs.lemmas.List.{ext_get_or, get_or_past, get_or-set_same, get_or-set_other, map-set, length-map, length-set, set-append_left, set-append_right}
 use Rattle.std.proofs.lemmas.List as lists
 use Rattle.std.proofs.Math.Seq.{map-set_same}
-use Rattle.std.specs.Prelude.{◌||◌, replicate}
 use Rattle.facts.specs.declared.known.Class.{Class}
 use Rattle.facts.specs.declared.known.Known.{Known}
 use Rattle.facts.specs.declared.known.Known.TheVariants.{Nothing}

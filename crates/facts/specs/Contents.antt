@@ -4,4 +4,4 @@ use Rattle.facts.specs.Facts.{FactSet}
 
 -- what is known by these rows
 abbrev pub set_of : Contents → FactSet
-set_of contents = record { values = contents.values.values; slots = contents.slots.items; classes = contents.values.classes; tests = contents.values.tests }
+set_of contents = record { values = contents.values.values; slots = contents.slots; classes = contents.values.classes; tests = contents.values.tests }

@@ -1,7 +1,9 @@
 pub mod Facts
 pub mod Contents
 pub mod Lines
+pub mod Ties
 pub mod Sheets
+pub mod SlotRows
 pub mod Numbered
 pub mod Values
 pub mod Uses

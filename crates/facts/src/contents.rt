@@ -6,7 +6,7 @@ ghost use Rattle.facts.specs.Contents.{set_of};
 use crate::class_id::ClassId;
 use crate::kept::KeptFacts;
 use crate::known::{Known, SlotFact};
-use crate::rows;
+use crate::slot_rows::SlotRows;
 use crate::values::Values;
 use ir_ast::ValueId;
 use shadow_stack::SlotId;
@@ -16,7 +16,7 @@ use std::alloc::{AllocError, Global};
 #[derive(Drop)]
 pub(crate) struct Contents {
     pub values: Values,
-    pub slots: Vec<SlotFact>,
+    pub slots: SlotRows,
 }
 
 impl Clone for Contents {
@@ -26,7 +26,7 @@ impl Clone for Contents {
 
     fn clone(&self) -> Result<Contents, AllocError> {
         let values = self.values.clone()?;
-        let slots = Vec::from_slice(*self.slots.allocator(), &self.slots)?;
+        let slots = self.slots.clone()?;
         Ok(Contents { values, slots })
     }
 }
@@ -37,37 +37,36 @@ impl Contents {
         ensures { IfOk result (λ contents. set_of contents ≡ nothing_known values slots) }
     {
         let values = Values::new(alloc, values)?;
-        let slots = rows::open_slots(alloc, slots)?;
+        let slots = SlotRows::new(alloc, slots)?;
         Ok(Contents { values, slots })
     }
 
     /// What is known of a slot.
     pub fn slot(&self, s: SlotId) -> SlotFact
-        ensures { result ≡ slot_at self.now.slots.items s }
+        ensures { result ≡ slot_at self.now.slots s }
     {
-        match self.slots.get(s.number()) {
-            Some(slot) => *slot,
-            None => SlotFact::open(),
-        }
+        self.slots.slot(s)
     }
 
     /// Nothing is known any more.
     pub fn clear(&mut self)
-        ensures { set_of self.new ≡ nothing_known (length self.old.values.values) (length self.old.slots.items) }
+        ensures { set_of self.new ≡ nothing_known (length self.old.values.values) (length self.old.slots) }
     {
         self.values.clear();
-        rows::open_each(&mut self.slots);
+        self.slots.clear();
     }
 
     /// What is known elsewhere of as many values and slots.
     pub fn copy(&mut self, alloc: Global, other: &Contents) -> Result<(), AllocError>
         requires values { length self.old.values.values ≡ length other.now.values.values }
-        requires slots { length self.old.slots.items ≡ length other.now.slots.items }
+        requires slots { length self.old.slots ≡ length other.now.slots }
         ensures ok { OnOk result (set_of self.new ≡ set_of other.now) }
         ensures err { OnErr result (set_of self.new ≡ set_of self.old) }
     {
+        let filled = other.slots.filled(alloc)?;
+        let holding = other.slots.holding(alloc)?;
         self.values.set_from(alloc, &other.values)?;
-        self.slots.copy_from_slice(&other.slots);
+        self.slots.set_from(filled, holding, &other.slots);
         Ok(())
     }
 
@@ -76,19 +75,21 @@ impl Contents {
         ensures { IfOk result (λ kept. kept ≡ set_of self.now) }
     {
         let values = self.values.keep(alloc)?;
-        let slots = Vec::from_slice(alloc, &self.slots)?;
+        let slots = self.slots.clone()?;
         Ok(KeptFacts { values, slots })
     }
 
     /// What was kept of as many values and slots, in place of what is known here.
     pub fn open(&mut self, alloc: Global, kept: &KeptFacts) -> Result<(), AllocError>
         requires values { length self.old.values.values ≡ length kept.now.values }
-        requires slots { length self.old.slots.items ≡ length kept.now.slots }
+        requires slots { length self.old.slots ≡ length kept.now.slots }
         ensures ok { OnOk result (set_of self.new ≡ kept.now) }
         ensures err { OnErr result (set_of self.new ≡ set_of self.old) }
     {
+        let filled = kept.slots.filled(alloc)?;
+        let holding = kept.slots.holding(alloc)?;
         self.values.open(alloc, &kept.values)?;
-        self.slots.copy_from_slice(&kept.slots);
+        self.slots.set_from(filled, holding, &kept.slots);
         Ok(())
     }
 
@@ -106,25 +107,23 @@ impl Contents {
     /// The slots hold the class of a value that was forgotten on only while another value is of it.
     fn let_go(&mut self, c: ClassId)
         ensures values { self.new.values ≡ self.old.values }
-        ensures slots { self.new.slots.items ≡ slots_of_class c self.old.values.values self.old.values.classes self.old.slots.items }
+        ensures slots { self.new.slots ≡ slots_of_class c self.old.values.values self.old.values.classes self.old.slots }
     {
-        if !rows::any_holds(&self.slots, c) {
+        if !self.slots.any_holds(c) {
             return;
         }
         if !self.values.any_of(c) {
             let nonnull = self.values.class(c).nonnull;
-            rows::let_go_each(&mut self.slots, c, nonnull);
+            self.slots.let_go_each(c, nonnull);
         }
     }
 
     /// This is known of a slot.
-    pub fn set_slot(&mut self, s: SlotId, slot: SlotFact)
-        ensures { set_of self.new ≡ set_slot s slot (set_of self.old) }
+    pub fn set_slot(&mut self, s: SlotId, slot: SlotFact) -> Result<(), AllocError>
+        ensures ok { OnOk result (set_of self.new ≡ set_slot s slot (set_of self.old)) }
+        ensures err { OnErr result (set_of self.new ≡ set_of self.old) }
     {
-        let at = s.number();
-        if at < self.slots.len() {
-            self.slots[at] = slot;
-        }
+        self.slots.set(s, slot)
     }
 
     /// What was known of a slot ends, and it may go on to hold it.
@@ -135,21 +134,14 @@ impl Contents {
         if let Some(c) = slot.holds {
             self.values.drop_fresh(c);
         }
-        self.set_slot(
-            s,
-            SlotFact {
-                nonnull: false,
-                holds: None,
-                ..slot
-            },
-        );
+        self.slots.empty(s);
     }
 
     /// A safepoint: each reference is stale, and the slots hold what nobody else is known to name.
     pub fn make_stale(&mut self)
         ensures { set_of self.new ≡ make_stale (set_of self.old) }
     {
-        rows::end_holds(&mut self.slots, &self.values);
+        self.slots.end_holds(&self.values);
         self.values.make_stale();
     }
 }

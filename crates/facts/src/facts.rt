@@ -1,8 +1,10 @@
-ghost use Rattle.std.specs.Prelude.{◌≡◌, ◌==◌, ◌&&◌, length, map, slice_set, IfOk, OnOk, OnErr};
-ghost use Rattle.facts.specs.Facts.{FactSet, known_at, slot_at, class_at, test_at, nothing_known, forget, define, define_new, define_test, set_known, add_class, set_class, drop_fresh, drop_fresh_of, learn_nonnull, set_slot, clear_slot, end_slot, root_slot, hold, store_slot, load_held, load_slot, make_stale, slot_nonnull};
+ghost use Rattle.std.specs.Prelude.{◌≡◌, true, ◌==◌, ◌&&◌, length, map, slice_set, IfOk, OnOk, OnErr};
+ghost use Rattle.facts.specs.Facts.{FactSet, known_at, slot_at, class_at, test_at, is_of, nothing_known, forget, define, define_new, define_test, set_known, add_class, set_class, drop_fresh, drop_fresh_of, learn_nonnull, set_slot, clear_slot, end_slot, root_slot, hold, store_slot, load_held, load_slot, make_stale, slot_nonnull};
 ghost use Rattle.facts.specs.Lines.{join, move, covers};
+ghost use Rattle.facts.specs.Ties.{AreOwn};
 
 use crate::class_id::ClassId;
+use crate::class_set::ClassSet;
 use crate::contents::Contents;
 use crate::kept::KeptFacts;
 use crate::known::{Class, Known, SlotFact, Test};
@@ -346,8 +348,7 @@ impl Facts {
         ensures ok { OnOk result (self.new ≡ set_slot s slot self.old) }
         ensures err { OnErr result (self.new ≡ self.old) }
     {
-        Rc::make_mut(&mut self.contents)?.set_slot(s, slot);
-        Ok(())
+        Rc::make_mut(&mut self.contents)?.set_slot(s, slot)
     }
 
     fn set_test(&mut self, v: ValueId, test: Option<Test>) -> Result<(), AllocError>
@@ -357,9 +358,22 @@ impl Facts {
         Rc::make_mut(&mut self.contents)?.values.set_test(v, test)
     }
 
-    fn move_class(&mut self, from: ClassId, to: ClassId) -> Result<(), AllocError>
+    /// The references of the class of `v` are of another: `v` alone, if no others joined it.
+    fn move_class(
+        &mut self,
+        joined: &ClassSet,
+        v: ValueId,
+        from: ClassId,
+        to: ClassId,
+    ) -> Result<(), AllocError>
+        requires own { AreOwn joined.now self.old.values }
+        requires of { is_of from (known_at self.old.values v) ≡ true }
         ensures { OnOk result (self.new ≡ record self.old { values = map (move from to) self.old.values }) }
     {
+        if !joined.has(from) {
+            let known = rows::move_known(from, to, self.known(v));
+            return self.set_known(v, known);
+        }
         Rc::make_mut(&mut self.contents)?
             .values
             .move_class(from, to)
@@ -388,13 +402,23 @@ impl Facts {
         rows::slot_nonnull(&self.contents.values, slot)
     }
 
-    /// Two classes are one.
-    pub(crate) fn join(&mut self, from: ClassId, to: ClassId) -> Result<(), AllocError>
-        ensures { OnOk result (self.new ≡ join from to self.old) }
+    /// Two classes are one: that of `v` and another.
+    pub(crate) fn join(
+        &mut self,
+        joined: &mut ClassSet,
+        v: ValueId,
+        from: ClassId,
+        to: ClassId,
+    ) -> Result<(), AllocError>
+        requires own { AreOwn joined.old self.old.values }
+        requires of { is_of from (known_at self.old.values v) ≡ true }
+        ensures tied { OnOk result (self.new ≡ join from to self.old) }
+        ensures own { OnOk result (AreOwn joined.new self.new.values) }
     {
         let one = self.class(from);
         let other = self.class(to);
-        self.move_class(from, to)?;
+        self.move_class(joined, v, from, to)?;
+        joined.add(to)?;
         self.set_class(
             to,
             Class {
@@ -410,6 +434,6 @@ impl Facts {
     {
         let (here, there) = (&self.contents, &there.contents);
         here.values.covers(&there.values, c, d)
-            && rows::covers_slots(&here.slots, &there.slots, c, d)
+            && rows::covers_slots(here.slots.as_slice(), there.slots.as_slice(), c, d)
     }
 }

@@ -1,8 +1,9 @@
 //! What is known at a place, kept in as much room as it fills.
 ghost use Rattle.std.specs.Prelude.{◌≡◌, length};
 
-use crate::known::{Class, SlotFact};
+use crate::known::Class;
 use crate::numbered::Numbered;
+use crate::slot_rows::SlotRows;
 use crate::uses::Use;
 use std::marker::Model;
 
@@ -69,7 +70,7 @@ impl Model for KeptValues {
 #[derive(Drop)]
 pub struct KeptFacts {
     pub(crate) values: KeptValues,
-    pub(crate) slots: Vec<SlotFact>,
+    pub(crate) slots: SlotRows,
 }
 
 impl Model for KeptFacts {
@@ -77,5 +78,5 @@ impl Model for KeptFacts {
 
     ghost Value = { FactSet };
 
-    ghost view = { λ kept. record { values = kept.values.values; slots = kept.slots.items; classes = kept.values.classes; tests = kept.values.tests } };
+    ghost view = { λ kept. record { values = kept.values.values; slots = kept.slots; classes = kept.values.classes; tests = kept.values.tests } };
 }

@@ -2,6 +2,7 @@
 #![tactic(auto)]
 
 mod class_id;
+mod class_set;
 mod contents;
 mod edges;
 mod facts;
@@ -14,6 +15,8 @@ mod row;
 pub mod rows;
 mod sheet;
 mod shown;
+mod slot_rows;
+mod slot_sweeps;
 mod sweeps;
 mod uses;
 mod values;

@@ -1,9 +1,11 @@
 //! What the lines of a block give where it begins.
-ghost use Rattle.std.specs.Prelude.{◌≡◌, length, map, OnOk};
-ghost use Rattle.facts.specs.Facts.{nothing_known, set_known};
+ghost use Rattle.std.specs.Prelude.{◌≡◌, true, [], length, map, OnOk};
+ghost use Rattle.facts.specs.Facts.{known_at, is_of, nothing_known, set_known};
 ghost use Rattle.facts.specs.Lines.{is_stale, is_fresh, list_value, list_slot, list_line, list_lines, move, join, join_known, join_values, tie_value, tie_fact, tie_line, tie_lines, hold_known, hold_value, hold_line, hold_lines, facts_of_lines, promised_below, promised_nonnull, promised_layout, receive_reference, receive};
+ghost use Rattle.facts.specs.Ties.{AreOwn};
 
 use crate::class_id::ClassId;
+use crate::class_set::ClassSet;
 use crate::facts::Facts;
 use crate::known::{Class, Given, Known, SlotFact};
 use certs::{Age, Fact, Line, Promise};
@@ -19,7 +21,7 @@ impl Facts {
     {
         self.clear(alloc)?;
         self.list_lines(table, lines)?;
-        self.tie_lines(lines)?;
+        self.tie_lines(alloc, lines)?;
         self.hold_lines(table, lines)
     }
 
@@ -134,60 +136,93 @@ impl Facts {
         }
     }
 
-    fn tie_lines(&mut self, lines: &[Line]) -> Result<(), AllocError>
+    fn tie_lines(&mut self, alloc: Global, lines: &[Line]) -> Result<(), AllocError>
+        requires { AreOwn [] self.old.values }
         ensures { OnOk result (self.new ≡ tie_lines lines.now self.old) }
     {
+        let mut joined = ClassSet::new(alloc);
         for line in lines {
-            self.tie_line(*line)?;
+            self.tie_line(&mut joined, *line)?;
         }
         Ok(())
     }
 
-    fn tie_line(&mut self, line: Line) -> Result<(), AllocError>
-        ensures { OnOk result (self.new ≡ tie_line line self.old) }
+    fn tie_line(&mut self, joined: &mut ClassSet, line: Line) -> Result<(), AllocError>
+        requires { AreOwn joined.old self.old.values }
+        ensures tied { OnOk result (self.new ≡ tie_line line self.old) }
+        ensures own { OnOk result (AreOwn joined.new self.new.values) }
     {
         match line {
-            Line::Value { value, fact } => self.tie_fact(value, fact),
+            Line::Value { value, fact } => self.tie_fact(joined, value, fact),
             Line::Slot { .. } => Ok(()),
         }
     }
 
-    fn tie_fact(&mut self, v: ValueId, fact: Fact) -> Result<(), AllocError>
-        ensures { OnOk result (self.new ≡ tie_fact v fact self.old) }
+    fn tie_fact(&mut self, joined: &mut ClassSet, v: ValueId, fact: Fact) -> Result<(), AllocError>
+        requires { AreOwn joined.old self.old.values }
+        ensures tied { OnOk result (self.new ≡ tie_fact v fact self.old) }
+        ensures own { OnOk result (AreOwn joined.new self.new.values) }
     {
         match fact {
-            Fact::Reference { same, .. } => self.tie_value(v, same),
+            Fact::Reference { same, .. } => self.tie_value(joined, v, same),
             _ => Ok(()),
         }
     }
 
-    fn tie_value(&mut self, v: ValueId, same: Option<ValueId>) -> Result<(), AllocError>
-        ensures { OnOk result (self.new ≡ tie_value v same self.old) }
+    fn tie_value(
+        &mut self,
+        joined: &mut ClassSet,
+        v: ValueId,
+        same: Option<ValueId>,
+    ) -> Result<(), AllocError>
+        requires { AreOwn joined.old self.old.values }
+        ensures tied { OnOk result (self.new ≡ tie_value v same self.old) }
+        ensures own { OnOk result (AreOwn joined.new self.new.values) }
     {
         match same {
             Some(w) => {
                 let known = self.known(v);
                 let other = self.known(w);
-                self.join_values(known, other)
+                self.join_values(joined, v, known, other)
             }
             None => Ok(()),
         }
     }
 
-    fn join_values(&mut self, known: Known, other: Known) -> Result<(), AllocError>
-        ensures { OnOk result (self.new ≡ join_values known other self.old) }
+    /// What is known of `v`, and of another.
+    fn join_values(
+        &mut self,
+        joined: &mut ClassSet,
+        v: ValueId,
+        known: Known,
+        other: Known,
+    ) -> Result<(), AllocError>
+        requires own { AreOwn joined.old self.old.values }
+        requires known { known ≡ known_at self.old.values v }
+        ensures tied { OnOk result (self.new ≡ join_values known other self.old) }
+        ensures own { OnOk result (AreOwn joined.new self.new.values) }
     {
         match known {
-            Known::Cell { class, .. } => self.join_known(class, other),
+            Known::Cell { class, .. } => self.join_known(joined, v, class, other),
             _ => Ok(()),
         }
     }
 
-    fn join_known(&mut self, from: ClassId, other: Known) -> Result<(), AllocError>
-        ensures { OnOk result (self.new ≡ join_known from other self.old) }
+    /// The class of `v`, and what is known of another.
+    fn join_known(
+        &mut self,
+        joined: &mut ClassSet,
+        v: ValueId,
+        from: ClassId,
+        other: Known,
+    ) -> Result<(), AllocError>
+        requires own { AreOwn joined.old self.old.values }
+        requires of { is_of from (known_at self.old.values v) ≡ true }
+        ensures tied { OnOk result (self.new ≡ join_known from other self.old) }
+        ensures own { OnOk result (AreOwn joined.new self.new.values) }
     {
         match other {
-            Known::Cell { class, .. } => self.join(from, class),
+            Known::Cell { class, .. } => self.join(joined, v, from, class),
             _ => Ok(()),
         }
     }

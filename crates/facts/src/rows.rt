@@ -1,5 +1,5 @@
 //! What changes in whole rows of facts.
-ghost use Rattle.std.specs.Prelude.{◌≡◌, map, length, replicate, IfOk};
+ghost use Rattle.std.specs.Prelude.{◌≡◌, replicate, IfOk};
 ghost use Rattle.std.specs.List.{list_any, list_all, zip};
 ghost use Rattle.facts.specs.Facts.{open_slot, class_at, is_of, holds, let_go, is_on, off_base, off_test, slot_nonnull, held_nonnull, stale_of, end_hold, holds_class};
 ghost use Rattle.facts.specs.Lines.{moved, move, covers_value, covers_slot};
@@ -20,17 +20,6 @@ pub fn open_slots(alloc: Global, count: usize) -> Result<Vec<SlotFact>, AllocErr
         holds: None
     }; count]?;
     Ok(rows)
-}
-
-/// Nothing is known of these slots.
-pub fn open_each(slots: &mut [SlotFact])
-    ensures { slots.new ≡ replicate (length slots.old) open_slot }
-{
-    slots.fill(SlotFact {
-        rooted: false,
-        nonnull: false,
-        holds: None,
-    });
 }
 
 /// What is known of a class.
@@ -60,22 +49,15 @@ pub fn any_holds(slots: &[SlotFact], c: ClassId) -> bool
     slots.iter().any(|slot| holds(c, *slot))
 }
 
-fn holds(c: ClassId, slot: SlotFact) -> bool
+/// Whether a slot holds this class.
+pub fn holds(c: ClassId, slot: SlotFact) -> bool
     ensures { result ≡ holds c slot }
 {
     holds_class(c, slot.holds)
 }
 
-/// No slot holds the class.
-pub fn let_go_each(slots: &mut [SlotFact], c: ClassId, nonnull: bool)
-    ensures { slots.new ≡ map (let_go c nonnull) slots.old }
-{
-    for slot in slots.iter_mut() {
-        *slot = let_go(c, nonnull, *slot);
-    }
-}
-
-fn let_go(c: ClassId, nonnull: bool, slot: SlotFact) -> SlotFact
+/// A slot does not hold the class.
+pub fn let_go(c: ClassId, nonnull: bool, slot: SlotFact) -> SlotFact
     ensures { result ≡ let_go c nonnull slot }
 {
     match slot.holds {
@@ -115,16 +97,8 @@ pub fn off_test(v: ValueId, test: Option<Test>) -> Option<Test>
     }
 }
 
-/// No slot holds a class.
-pub fn end_holds(slots: &mut [SlotFact], values: &Values)
-    ensures { slots.new ≡ map (end_hold values.now.classes) slots.old }
-{
-    for slot in slots.iter_mut() {
-        *slot = end_hold(values, *slot);
-    }
-}
-
-fn end_hold(values: &Values, slot: SlotFact) -> SlotFact
+/// A slot holds no class.
+pub fn end_hold(values: &Values, slot: SlotFact) -> SlotFact
     ensures { result ≡ end_hold values.now.classes slot }
 {
     let nonnull = slot.nonnull || held_nonnull(values, slot.holds);
@@ -189,7 +163,7 @@ fn moved(from: ClassId, to: ClassId, c: ClassId) -> ClassId
     if c == from { to } else { c }
 }
 
-/// Whether a slot holds this class.
+/// Whether this is the class that a slot holds.
 pub fn holds_class(c: ClassId, holds: Option<ClassId>) -> bool
     ensures { result ≡ holds_class c holds }
 {

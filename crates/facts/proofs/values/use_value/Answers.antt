@@ -1,10 +1,10 @@
-use Rattle.std.proofs.Common.{◌≡◌, ◌<◌, ◌∙◌, ◌++◌, [], ◌∷◌, ap, sym, subst, refl, arith, List, ℕ, length, slice_set, Option, Some}
+use Rattle.std.proofs.Common.{◌≡◌, ◌<◌, ◌∙◌, ◌++◌, [], ◌∷◌, ap, sym, subst, arith, List, ℕ, length, slice_set, Option, Some}
 use Rattle.std.proofs.lemmas.List.{length-set}
 use Rattle.facts.specs.declared.row.Row.{Row}
 use Rattle.facts.specs.declared.uses.Use.{Use}
 use Rattle.facts.specs.Sheets.{row_at}
 use Rattle.facts.specs.Values.{facts_of_rows}
-use Rattle.facts.specs.Uses.{IsUser, OnlyUsers, SayTheSame, use_more, use_row}
+use Rattle.facts.specs.Uses.{IsUser, OnlyUsers, use_more, use_row}
 use Rattle.facts.proofs.Users.{users_kept, use_users, use_noted, use_same}
 use Rattle.facts.proofs.values.use_value.Goals as goal
 use Rattle.facts.proofs.values.use_value.Goals.{In_ok-set}

@@ -1,4 +1,4 @@
-use Rattle.std.proofs.Common.{◌≡◌, sym, subst, refl, List, ℕ}
+use Rattle.std.proofs.Common.{sym, subst, refl, List, ℕ}
 use Rattle.facts.specs.declared.row.Row.{Row}
 use Rattle.facts.specs.declared.sweeps.Change.TheVariants.{Off}
 use Rattle.facts.specs.Sheets.{EachRow, OnlyMarked, changed}

@@ -1,0 +1,226 @@
+-- Slots of which few are filled, and of which few hold a class.
+use Rattle.std.proofs.Common.{◌≡◌, ◌<◌, ◌≤◌, ◌⊎◌, inl, inr, ℕ, List, [], ◌∷◌, ◌++◌, zero, suc, ◌+◌, length, map, refl, sym, ap, ◌∙◌, subst, arith, true, false, Bool, Option, Some, None, slice_set}
+use Rattle.std.specs.Prelude.{◌||◌, if◌then◌else◌, replicate}
+use Rattle.std.specs.List.{list_any}
+use Rattle.std.proofs.lemmas.Bool.{cases_lt}
+use Rattle.std.proofs.lemmas.List.{ext_get_or, get_or_past, get_or-set_same, get_or-set_other, length-set, length-map, length-replicate, get_or-replicate}
+use Rattle.lemmas.specs.Bools.{or_false}
+use Rattle.lemmas.specs.Lists.{at_map}
+use Rattle.facts.specs.declared.known.Class.{Class}
+use Rattle.facts.specs.declared.known.SlotFact.{SlotFact}
+use Rattle.facts.specs.Facts.{open_slot, slot_at, holds_class, slot_nonnull, held_nonnull, holds, let_go, end_hold}
+use Rattle.facts.specs.Sheets.{IsOne}
+use Rattle.facts.specs.SlotRows.{is_open, OnlyFilled, OnlyHolding, NamesAll, with_filled, with_holding, empty_slot, each_slot, copied_slot, holds_at}
+use Rattle.facts.proofs.Sets.{set_is, found}
+use Rattle.facts.proofs.Sheets.{same_or_not, one_more, one_last}
+
+-- ---- a change of the slots that are listed
+
+pub length_each : (change : ℕ → SlotFact → SlotFact) (listed : List ℕ) (slots : List SlotFact) → length (each_slot change listed slots) ≡ length slots
+length_each change [] slots = refl
+length_each change (s ∷ listed) slots = length_each change listed (slice_set slots s (change s (slot_at slots s))) ∙ length-set slots s (change s (slot_at slots s))
+
+module _ (change : ℕ → SlotFact → SlotFact) (twice : (s : ℕ) (slot : SlotFact) → change s (change s slot) ≡ change s slot) where
+  -- a change that the slots that are not listed do not see is one of all slots
+  pub each_at : (listed : List ℕ) (slots : List SlotFact) → ((s : ℕ) → s < length slots → IsOne s listed ⊎ (change s (slot_at slots s) ≡ slot_at slots s)) → (w : ℕ) → w < length slots → slot_at (each_slot change listed slots) w ≡ change w (slot_at slots w)
+  each_at [] slots h w lt = elim (h w lt) [ inl one ↦ absurd one | inr e ↦ sym e ]
+  each_at (s ∷ listed) slots h w lt = each_at listed next more w (rw length-set lt) ∙ now where
+    next : List SlotFact
+    next = slice_set slots s (change s (slot_at slots s))
+
+    changed : s < length slots → slot_at next s ≡ change s (slot_at slots s)
+    changed at = get_or-set_same slots s (change s (slot_at slots s)) open_slot at
+
+    kept : (u : ℕ) → (s ≡ u → ⊥) → slot_at next u ≡ slot_at slots u
+    kept u ne = get_or-set_other slots s u (change s (slot_at slots s)) open_slot (λ e. ne (sym e))
+
+    more : (u : ℕ) → u < length next → IsOne u listed ⊎ (change u (slot_at next u) ≡ slot_at next u)
+    more u at = pick (same_or_not s u) where
+      pick : (s ≡ u) ⊎ (s ≡ u → ⊥) → IsOne u listed ⊎ (change u (slot_at next u) ≡ slot_at next u)
+      pick (inl e) = inr (subst (λ x. change x (slot_at next x) ≡ slot_at next x) e (ap (change s) (changed here) ∙ twice s (slot_at slots s) ∙ sym (changed here))) where
+        here : s < length slots
+        here = rw (← length-set slots s (change s (slot_at slots s))) (subst (λ x. x < length next) (sym e) at)
+      pick (inr ne) = elim (h u (rw (← length-set slots s (change s (slot_at slots s))) at)) [
+        | inl (inl e) ↦ absurd (ne e)
+        | inl (inr one) ↦ inl one
+        | inr e ↦ inr (ap (change u) (kept u ne) ∙ e ∙ sym (kept u ne))
+      ]
+
+    now : change w (slot_at next w) ≡ change w (slot_at slots w)
+    now = pick (same_or_not s w) where
+      pick : (s ≡ w) ⊎ (s ≡ w → ⊥) → change w (slot_at next w) ≡ change w (slot_at slots w)
+      pick (inl e) = subst (λ x. change x (slot_at next x) ≡ change x (slot_at slots x)) e (ap (change s) (changed (subst (λ x. x < length slots) (sym e) lt)) ∙ twice s (slot_at slots s))
+      pick (inr ne) = ap (change w) (kept w ne)
+
+-- all slots that are filled are open
+pub wiped_all : (filled : List ℕ) (slots : List SlotFact) → OnlyFilled filled slots → each_slot (copied_slot []) filled slots ≡ replicate (length slots) open_slot
+wiped_all filled slots only = ext_get_or open_slot (each_slot (copied_slot []) filled slots) (replicate (length slots) open_slot) (length_each (copied_slot []) filled slots ∙ sym (length-replicate (length slots) open_slot))
+    (λ s lt. each_at (copied_slot []) (λ u slot. refl) filled slots seen s (rw (← length_each (copied_slot []) filled slots) lt) ∙ sym (get_or-replicate (length slots) s open_slot open_slot (rw (← length_each (copied_slot []) filled slots) lt)))
+  where
+    seen : (s : ℕ) → s < length slots → IsOne s filled ⊎ (open_slot ≡ slot_at slots s)
+    seen s lt = elim (only s) [ inl one ↦ inl one | inr e ↦ inr (sym e) ]
+
+-- open slots become those of another list
+pub copied_all : (filled : List ℕ) (slots others : List SlotFact) → OnlyFilled filled others → slots ≡ replicate (length others) open_slot → each_slot (copied_slot others) filled slots ≡ others
+copied_all filled slots others only empty = ext_get_or open_slot (each_slot (copied_slot others) filled slots) others long
+    (λ s lt. each_at (copied_slot others) (λ u slot. refl) filled slots seen s (rw (← length_each (copied_slot others) filled slots) lt))
+  where
+    same : length slots ≡ length others
+    same = ap length empty ∙ length-replicate (length others) open_slot
+
+    long : length (each_slot (copied_slot others) filled slots) ≡ length others
+    long = length_each (copied_slot others) filled slots ∙ same
+
+    seen : (s : ℕ) → s < length slots → IsOne s filled ⊎ (slot_at others s ≡ slot_at slots s)
+    seen s lt = elim (only s) [ inl one ↦ inl one | inr e ↦ inr (e ∙ sym (ap (λ l. slot_at l s) empty ∙ get_or-replicate (length others) s open_slot open_slot (rw (← same) lt))) ]
+
+module _ (change : SlotFact → SlotFact) (opens : change open_slot ≡ open_slot) where
+  changed_filled : (filled : List ℕ) (slots : List SlotFact) → OnlyFilled filled slots → OnlyFilled filled (map change slots)
+  changed_filled filled slots only s = elim (only s) [ inl one ↦ inl one | inr e ↦ inr (at_map change slots s open_slot opens ∙ ap change e ∙ opens) ]
+
+  changed_all : ((slot : SlotFact) → change (change slot) ≡ change slot) → (listed : List ℕ) (slots : List SlotFact) → ((s : ℕ) → IsOne s listed ⊎ (change (slot_at slots s) ≡ slot_at slots s)) → each_slot (λ s. change) listed slots ≡ map change slots
+  changed_all twice listed slots seen = ext_get_or open_slot (each_slot (λ s. change) listed slots) (map change slots) (length_each (λ s. change) listed slots ∙ sym (length-map slots change))
+      (λ s lt. each_at (λ u. change) (λ u. twice) listed slots (λ u at. seen u) s (rw (← length_each (λ u. change) listed slots) lt) ∙ sym (at_map change slots s open_slot opens))
+
+-- ---- a slot that holds no class any more
+
+module _ (c : ℕ) (nonnull : Bool) where
+  let_go_twice : (slot : SlotFact) → let_go c nonnull (let_go c nonnull slot) ≡ let_go c nonnull slot
+  let_go_twice slot = pick (holds_class c slot.holds) refl where
+    pick : (b : Bool) → holds_class c slot.holds ≡ b → let_go c nonnull (let_go c nonnull slot) ≡ let_go c nonnull slot
+    pick true e = rw e refl
+    pick false e = rw (e, e) refl
+
+  let_go_free : (slot : SlotFact) → slot.holds ≡ None → let_go c nonnull slot ≡ slot
+  let_go_free slot e = ap (λ (h : Option ℕ). if holds_class c h then record slot { nonnull = slot.nonnull || nonnull; holds = None } else slot) e
+
+  pub let_go_all : (holding : List ℕ) (slots : List SlotFact) → OnlyHolding holding slots → each_slot (λ s. let_go c nonnull) holding slots ≡ map (let_go c nonnull) slots
+  let_go_all holding slots only = changed_all (let_go c nonnull) refl let_go_twice holding slots (λ s. elim (only s) [ inl one ↦ inl one | inr e ↦ inr (let_go_free (slot_at slots s) e) ])
+
+  pub let_go_filled : (filled : List ℕ) (slots : List SlotFact) → OnlyFilled filled slots → OnlyFilled filled (map (let_go c nonnull) slots)
+  let_go_filled = changed_filled (let_go c nonnull) refl
+
+  pub let_go_holding : (holding : List ℕ) (slots : List SlotFact) → OnlyHolding holding slots → OnlyHolding holding (map (let_go c nonnull) slots)
+  let_go_holding holding slots only s = elim (only s) [ inl one ↦ inl one | inr e ↦ inr (ap (λ (slot : SlotFact). slot.holds) (at_map (let_go c nonnull) slots s open_slot refl ∙ let_go_free (slot_at slots s) e) ∙ e) ]
+
+module _ (classes : List Class) where
+  end_twice : (slot : SlotFact) → end_hold classes (end_hold classes slot) ≡ end_hold classes slot
+  end_twice slot = ap (λ (b : Bool). record slot { nonnull = b; holds = None }) (or_false (slot_nonnull classes slot))
+
+  end_free : (slot : SlotFact) → slot.holds ≡ None → end_hold classes slot ≡ slot
+  end_free slot e = ap (λ (h : Option ℕ). record slot { nonnull = slot.nonnull || held_nonnull classes h; holds = None }) e ∙ ap (λ (b : Bool). record slot { nonnull = b; holds = None }) (or_false slot.nonnull) ∙ ap (λ (h : Option ℕ). record slot { holds = h }) (sym e)
+
+  pub end_all : (holding : List ℕ) (slots : List SlotFact) → OnlyHolding holding slots → each_slot (λ s. end_hold classes) holding slots ≡ map (end_hold classes) slots
+  end_all holding slots only = changed_all (end_hold classes) refl end_twice holding slots (λ s. elim (only s) [ inl one ↦ inl one | inr e ↦ inr (end_free (slot_at slots s) e) ])
+
+  pub end_filled : (filled : List ℕ) (slots : List SlotFact) → OnlyFilled filled slots → OnlyFilled filled (map (end_hold classes) slots)
+  end_filled = changed_filled (end_hold classes) refl
+
+  pub end_none : (slots : List SlotFact) → OnlyHolding [] (map (end_hold classes) slots)
+  end_none slots s = inr (ap (λ (slot : SlotFact). slot.holds) (at_map (end_hold classes) slots s open_slot refl))
+
+-- ---- open slots
+
+open_at : (count s : ℕ) → slot_at (replicate count open_slot) s ≡ open_slot
+open_at zero s = refl
+open_at (suc count) zero = refl
+open_at (suc count) (suc s) = open_at count s
+
+-- where all slots are open it does not matter which are listed
+pub all_open : (filled : List ℕ) (count : ℕ) (slots : List SlotFact) → slots ≡ replicate count open_slot → OnlyFilled filled slots
+all_open filled count slots e s = inr (ap (λ l. slot_at l s) e ∙ open_at count s)
+
+pub none_holding : (holding : List ℕ) (count : ℕ) (slots : List SlotFact) → slots ≡ replicate count open_slot → OnlyHolding holding slots
+none_holding holding count slots e s = inr (ap (λ (slot : SlotFact). slot.holds) (ap (λ l. slot_at l s) e ∙ open_at count s))
+
+-- ---- a slot that is written
+
+pub more_filled : (s : ℕ) (before : SlotFact) (filled : List ℕ) (slots : List SlotFact) → OnlyFilled filled slots → OnlyFilled (with_filled s before filled) slots
+more_filled s before filled slots only u = elim (only u) [ inl one ↦ inl (pick (is_open before) one) | inr e ↦ inr e ] where
+  pick : (b : Bool) → IsOne u filled → IsOne u (if b then filled ++ s ∷ [] else filled)
+  pick true one = one_more u s filled one
+  pick false one = one
+
+module _ (s : ℕ) (slot : SlotFact) (slots : List SlotFact) where
+  as_before : (u : ℕ) → (s ≡ u → ⊥) → slot_at (slice_set slots s slot) u ≡ slot_at slots u
+  as_before u ne = get_or-set_other slots s u slot open_slot (λ x. ne (sym x))
+
+  pub set_filled : (filled : List ℕ) → OnlyFilled filled slots → OnlyFilled (with_filled s (slot_at slots s) filled) (slice_set slots s slot)
+  set_filled filled only u = pick (is_open (slot_at slots s)) refl (same_or_not s u) (only u) where
+    pick : (b : Bool) → is_open (slot_at slots s) ≡ b → (s ≡ u) ⊎ (s ≡ u → ⊥) → IsOne u filled ⊎ (slot_at slots u ≡ open_slot) → IsOne u (with_filled s (slot_at slots s) filled) ⊎ (slot_at (slice_set slots s slot) u ≡ open_slot)
+    pick true e (inl same) was = inl (rw e (subst (λ x. IsOne x (filled ++ s ∷ [])) same (one_last s filled)))
+    pick true e (inr ne) (inl one) = inl (rw e (one_more u s filled one))
+    pick false e (inl same) (inl one) = inl (rw e one)
+    pick false e (inl same) (inr empty) = let full : is_open (slot_at slots u) ≡ true = ap is_open empty in let here : is_open (slot_at slots s) ≡ is_open (slot_at slots u) = ap (λ x. is_open (slot_at slots x)) same in absurd cc
+    pick false e (inr ne) (inl one) = inl (rw e one)
+    pick b e (inr ne) (inr empty) = inr (as_before u ne ∙ empty)
+
+  pub set_holding : (holding : List ℕ) → OnlyHolding holding slots → OnlyHolding (with_holding s slot.holds holding) (slice_set slots s slot)
+  set_holding holding only u = pick slot.holds refl (same_or_not s u) (only u) where
+    pick : (h : Option ℕ) → slot.holds ≡ h → (s ≡ u) ⊎ (s ≡ u → ⊥) → IsOne u holding ⊎ ((slot_at slots u).holds ≡ None) → IsOne u (with_holding s h holding) ⊎ ((slot_at (slice_set slots s slot) u).holds ≡ None)
+    pick None e (inl same) was = inr (subst (λ x. (slot_at (slice_set slots s slot) x).holds ≡ None) same (set_is (λ (x : SlotFact). x.holds) slots s slot open_slot None e refl))
+    pick (Some c) e (inl same) was = inl (subst (λ x. IsOne x (holding ++ s ∷ [])) same (one_last s holding))
+    pick None e (inr ne) (inl one) = inl one
+    pick (Some c) e (inr ne) (inl one) = inl (one_more u s holding one)
+    pick h e (inr ne) (inr free) = inr (ap (λ (x : SlotFact). x.holds) (as_before u ne) ∙ free)
+
+module _ (s : ℕ) (slots : List SlotFact) where
+  abbrev emptied : List SlotFact
+  emptied = slice_set slots s (empty_slot (slot_at slots s))
+
+  pub empty_filled : (filled : List ℕ) → OnlyFilled filled slots → OnlyFilled filled emptied
+  empty_filled filled only u = pick (same_or_not s u) where
+    pick : (s ≡ u) ⊎ (s ≡ u → ⊥) → IsOne u filled ⊎ (slot_at emptied u ≡ open_slot)
+    pick (inl same) = elim (only s) [
+      | inl one ↦ inl (subst (λ x. IsOne x filled) same one)
+      | inr e ↦ inr (subst (λ x. slot_at emptied x ≡ open_slot) same (set_is (λ (x : SlotFact). x) slots s (empty_slot (slot_at slots s)) open_slot open_slot (ap empty_slot e) refl))
+    ]
+    pick (inr ne) = elim (only u) [ inl one ↦ inl one | inr e ↦ inr (as_before s (empty_slot (slot_at slots s)) slots u ne ∙ e) ]
+
+  pub empty_holding : (holding : List ℕ) → OnlyHolding holding slots → OnlyHolding holding emptied
+  empty_holding holding only u = pick (same_or_not s u) where
+    pick : (s ≡ u) ⊎ (s ≡ u → ⊥) → IsOne u holding ⊎ ((slot_at emptied u).holds ≡ None)
+    pick (inl same) = inr (subst (λ x. (slot_at emptied x).holds ≡ None) same (set_is (λ (x : SlotFact). x.holds) slots s (empty_slot (slot_at slots s)) open_slot None refl refl))
+    pick (inr ne) = elim (only u) [ inl one ↦ inl one | inr e ↦ inr (ap (λ (x : SlotFact). x.holds) (as_before s (empty_slot (slot_at slots s)) slots u ne) ∙ e) ]
+
+-- ---- whether some slot holds a class
+
+module _ (c : ℕ) (slots : List SlotFact) where
+  any_there : (listed : List ℕ) → list_any (holds_at c slots) listed ≡ true → list_any (holds c) slots ≡ true
+  any_there [] e = absurd cc
+  any_there (s ∷ listed) e = pick (any_there listed) (holds_at c slots s) refl e where
+    pick : (list_any (holds_at c slots) listed ≡ true → list_any (holds c) slots ≡ true) → (b : Bool) → holds_at c slots s ≡ b → (b || list_any (holds_at c slots) listed) ≡ true → list_any (holds c) slots ≡ true
+    pick more true is e = found (holds c) slots s open_slot refl is
+    pick more false is e = more e
+
+  none_there : (listed : List ℕ) → list_any (holds_at c slots) listed ≡ false → (u : ℕ) → IsOne u listed → holds_at c slots u ≡ false
+  none_there [] e u one = absurd one
+  none_there (w ∷ listed) e u one = pick (λ i. none_there listed i u) (holds_at c slots w) refl e one where
+    pick : (list_any (holds_at c slots) listed ≡ false → IsOne u listed → holds_at c slots u ≡ false) → (b : Bool) → holds_at c slots w ≡ b → (b || list_any (holds_at c slots) listed) ≡ false → IsOne u (w ∷ listed) → holds_at c slots u ≡ false
+    pick more true is e one = absurd cc
+    pick more false is e (inl same) = subst (λ x. holds_at c slots x ≡ false) same is
+    pick more false is e (inr one) = more e one
+
+none_found : (c : ℕ) (slots : List SlotFact) → ((u : ℕ) → holds c (slot_at slots u) ≡ false) → list_any (holds c) slots ≡ false
+none_found c [] h = refl
+none_found c (slot ∷ slots) h = rw (h zero) (none_found c slots (λ u. h (suc u)))
+
+pub any_holding : (c : ℕ) (holding : List ℕ) (slots : List SlotFact) → OnlyHolding holding slots → list_any (holds_at c slots) holding ≡ list_any (holds c) slots
+any_holding c holding slots only = pick (list_any (holds_at c slots) holding) refl where
+  pick : (b : Bool) → list_any (holds_at c slots) holding ≡ b → list_any (holds_at c slots) holding ≡ list_any (holds c) slots
+  pick true e = e ∙ sym (any_there c slots holding e)
+  pick false e = e ∙ sym (none_found c slots (λ u. elim (only u) [ inl one ↦ none_there c slots holding e u one | inr free ↦ ap (holds_class c) free ]))
+
+-- ---- lists that name all that others list
+
+pub names_filled : (filled names : List ℕ) (slots : List SlotFact) → NamesAll (length slots) filled names → OnlyFilled filled slots → OnlyFilled names slots
+names_filled filled names slots all only s = elim (cases_lt s (length slots)) [
+  | inl lt ↦ elim (only s) [ inl one ↦ inl (all s lt one) | inr e ↦ inr e ]
+  | inr past ↦ inr (get_or_past slots s open_slot past)
+]
+
+pub names_holding : (holding names : List ℕ) (slots : List SlotFact) → NamesAll (length slots) holding names → OnlyHolding holding slots → OnlyHolding names slots
+names_holding holding names slots all only s = elim (cases_lt s (length slots)) [
+  | inl lt ↦ elim (only s) [ inl one ↦ inl (all s lt one) | inr e ↦ inr e ]
+  | inr past ↦ inr (ap (λ (slot : SlotFact). slot.holds) (get_or_past slots s open_slot past))
+]

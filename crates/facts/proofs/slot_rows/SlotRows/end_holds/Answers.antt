@@ -1,0 +1,22 @@
+use Rattle.std.proofs.Common.{◌≡◌, ◌∙◌, ap, sym, subst, map, List, ℕ, []}
+use Rattle.facts.specs.declared.known.SlotFact.{SlotFact}
+use Rattle.facts.specs.Facts.{end_hold}
+use Rattle.facts.specs.SlotRows.{OnlyFilled, OnlyHolding, each_slot}
+use Rattle.facts.proofs.SlotLists.{end_all, end_filled, end_none}
+use Rattle.facts.proofs.slot_rows.SlotRows.end_holds.Goals as goal
+
+module _ (c : goal.After-clear) where
+  abbrev before : List SlotFact
+  before = c.self.inside.slots.items
+
+  is : c.end_holds.new.slots.items ≡ map (end_hold c.args.values.now.classes) before
+  is = c.end_holds.ensures ∙ ap (λ (us : List ℕ). each_slot (λ s. end_hold c.args.values.now.classes) us before) c.deref.ensures.value ∙ end_all c.args.values.now.classes c.self.inside.holding.items before c.self.invariant.1
+
+pub invariant_of-self : goal.invariant_of-self
+invariant_of-self c = (
+  subst (OnlyFilled c.self.inside.filled.items) (sym (is c)) (end_filled c.args.values.now.classes c.self.inside.filled.items (before c) c.self.invariant.0),
+  subst (λ (us : List ℕ). OnlyHolding us c.end_holds.new.slots.items) (sym c.clear.ensures.items) (subst (OnlyHolding []) (sym (is c)) (end_none c.args.values.now.classes (before c))),
+)
+
+pub returns : goal.returns
+returns c = is c ∙ ap (map (end_hold c.args.values.now.classes)) c.self.view_is

@@ -1,0 +1,52 @@
+-- The slots of a function, of which few are filled, and of which few hold a class.
+use Rattle.std.specs.Prelude.{◌≡◌, ◌<◌, ◌⊎◌, ℕ, Bool, true, false, not, ◌&&◌, if◌then◌else◌, List, [], ◌∷◌, ◌++◌, slice_set, Option, Some, None}
+use Rattle.facts.specs.declared.known.SlotFact.{SlotFact}
+use Rattle.facts.specs.Facts.{open_slot, slot_at, holds}
+use Rattle.facts.specs.Sheets.{IsOne}
+
+-- a slot holds no class
+abbrev pub is_free : (holds : Option ℕ) → Bool
+is_free None = true
+is_free (Some c) = false
+
+-- nothing is known of a slot
+abbrev pub is_open : SlotFact → Bool
+is_open slot = not slot.rooted && not slot.nonnull && is_free slot.holds
+
+-- each slot that is not listed is open
+abbrev pub OnlyFilled : (filled : List ℕ) → List SlotFact → Type 0
+OnlyFilled filled slots = (s : ℕ) → IsOne s filled ⊎ (slot_at slots s ≡ open_slot)
+
+-- each slot that is not listed holds no class
+abbrev pub OnlyHolding : (holding : List ℕ) → List SlotFact → Type 0
+OnlyHolding holding slots = (s : ℕ) → IsOne s holding ⊎ ((slot_at slots s).holds ≡ None)
+
+-- each number below `count` that is listed is among the names
+abbrev pub NamesAll : (count : ℕ) → (listed names : List ℕ) → Type 0
+NamesAll count listed names = (s : ℕ) → s < count → IsOne s listed → IsOne s names
+
+-- the filled slots once one more is, of which this was known
+abbrev pub with_filled : (s : ℕ) → SlotFact → (filled : List ℕ) → List ℕ
+with_filled s before filled = if is_open before then filled ++ s ∷ [] else filled
+
+-- the slots that may hold a class once one holds this
+abbrev pub with_holding : (s : ℕ) → (holds : Option ℕ) → (holding : List ℕ) → List ℕ
+with_holding s None holding = holding
+with_holding s (Some c) holding = holding ++ s ∷ []
+
+-- a slot of whose reference nothing is known
+abbrev pub empty_slot : SlotFact → SlotFact
+empty_slot slot = record slot { nonnull = false; holds = None }
+
+-- a change of each slot that is listed
+abbrev pub each_slot : (ℕ → SlotFact → SlotFact) → (listed : List ℕ) → List SlotFact → List SlotFact
+each_slot change [] slots = slots
+each_slot change (s ∷ listed) slots = each_slot change listed (slice_set slots s (change s (slot_at slots s)))
+
+-- a slot is as another list has it
+abbrev pub copied_slot : List SlotFact → ℕ → SlotFact → SlotFact
+copied_slot others s slot = slot_at others s
+
+-- this slot holds this class
+abbrev pub holds_at : (c : ℕ) → List SlotFact → ℕ → Bool
+holds_at c slots s = holds c (slot_at slots s)
