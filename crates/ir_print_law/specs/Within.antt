@@ -100,7 +100,7 @@ IsGlobalWithin m x = HasSymbol m x.symbol × HasType m x.held
 abbrev pub IsDeclareWithin : Module → Declare → Type 0
 IsDeclareWithin m x = HasSymbol m x.symbol × HasType m x.returned × AllByRecursion (HasType m) x.parameters
 
--- Each number of an item is within the table that it belongs to.
+-- What the items of a module name by number is there.
 pub record IsWithin (m : Module) : Type 0 where
   pub structs : AllByRecursion (IsStructWithin m) m.structs
   pub globals : AllByRecursion (IsGlobalWithin m) m.globals

@@ -7,7 +7,7 @@ pub fn one_type_law()
     ensures { HaveOneTypes }
 {}
 
-/// The numbers of a module that is read from a text are within its tables, and still where one function is replaced.
+/// What items and instructions of a module that is read from a text name by number is there, and still where one function of it is replaced.
 pub fn within_law()
     ensures read { AreWithin }
     ensures replaced { AreReplacedWithin }
