@@ -1,5 +1,5 @@
 -- Slots of which few are filled, and of which few hold a class.
-use Rattle.std.proofs.Common.{◌≡◌, ◌<◌, ◌≤◌, ◌⊎◌, inl, inr, ℕ, List, [], ◌∷◌, ◌++◌, zero, suc, ◌+◌, length, map, refl, sym, ap, ◌∙◌, subst, arith, true, false, Bool, Option, Some, None, slice_set}
+use Rattle.std.proofs.Common.{◌≡◌, ◌<◌, ◌⊎◌, inl, inr, ℕ, List, [], ◌∷◌, ◌++◌, zero, suc, length, map, refl, sym, ap, ◌∙◌, subst, true, false, Bool, Option, Some, None, slice_set}
 use Rattle.std.specs.Prelude.{◌||◌, if◌then◌else◌, replicate}
 use Rattle.std.specs.List.{list_any}
 use Rattle.std.proofs.lemmas.Bool.{cases_lt}

@@ -1,4 +1,4 @@
-use Rattle.std.proofs.Common.{◌≡◌, ◌∙◌, ap, sym, false}
+use Rattle.std.proofs.Common.{◌≡◌, ◌∙◌, sym, false}
 use Rattle.std.specs.List.{list_any}
 use Rattle.facts.specs.Facts.{holds}
 use Rattle.facts.proofs.Slots.{free_slots}

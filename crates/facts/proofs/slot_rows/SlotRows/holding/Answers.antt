@@ -1,4 +1,4 @@
-use Rattle.std.proofs.Common.{◌≡◌, ◌<◌, arith, length, sym, subst, ℕ}
+use Rattle.std.proofs.Common.{◌≡◌, ◌<◌, arith, length, sym, subst}
 use Rattle.std.proofs.lemmas.Result.{IfOk-weaker}
 use Rattle.facts.specs.Sheets.{IsOne}
 use Rattle.facts.specs.SlotRows.{OnlyHolding}
