@@ -14,7 +14,7 @@ ghost use Rattle.recheck.specs.declared.edit_fault.EditFault.{EditFault as AFaul
 ghost use Rattle.recheck.specs.declared.edit_fault.EditFault.TheVariants.{Memory};
 
 use crate::edit_fault::EditFault;
-use crate::put::{Put, answered_anew, put_in_place, read_text};
+use crate::put::{Put, answered_anew, function_at, put_in_place, read_text};
 use crate::tables::same_tables;
 use block_rules::Refusal;
 use certs::Certs;
@@ -108,7 +108,7 @@ fn put_anew(
         }
     };
     let past = certs.replace(func, section);
-    let old = &program.module().functions.as_slice()[func.number() as usize];
+    let old = function_at(program.module(), func);
     match answered_anew(alloc, &anew, certs, func, old, &past) {
         Ok(put) => {
             *program = anew;

@@ -1,5 +1,5 @@
 //! What an edit makes of a module and its certificates.
-ghost use Rattle.std.specs.Prelude.{◌≡◌, ◌≢◌, ◌<◌, ℕ, length, slice_get, IfOk, IfErr, OnErr};
+ghost use Rattle.std.specs.Prelude.{◌≡◌, ◌≢◌, ◌<◌, ℕ, Some, length, slice_get, IfOk, IfErr, OnErr};
 ghost use Rattle.answers.specs.Answers.{AreAnswers};
 ghost use Rattle.recheck.specs.Edits as spec;
 ghost use Rattle.recheck.specs.Edits.{IsEdited, IsEditFault, IsRefusedFor, IsTaken, IsRefusedBy};
@@ -11,10 +11,10 @@ ghost use Rattle.recheck.specs.declared.edit_fault.EditFault.TheVariants.{Memory
 use crate::code::put_code;
 use crate::edit_fault::EditFault;
 use crate::named::function_named;
-use crate::put::{Put, put_section_of};
+use crate::put::{Put, function_at, put_section_of};
 use block_rules::Refusal;
 use certificate::print_section;
-use certs::Certs;
+use certs::{Certs, Section};
 use edit_text::Edit;
 use ir_ast::FuncId;
 use layout::Program;
@@ -41,6 +41,14 @@ fn no_function(edit: &Edit) -> EditFault
     }
 }
 
+/// The section of the function with this number.
+fn section_at(certs: &Certs, func: FuncId) -> &Section
+    requires { func < length certs.now }
+    ensures { slice_get certs.now func ≡ Some result.now }
+{
+    &certs.sections()[func.number() as usize]
+}
+
 /// The text of a function's section, as it is printed with the code that is there.
 fn kept_text(
     alloc: Global,
@@ -53,8 +61,8 @@ fn kept_text(
     ensures { IfOk result (λ text. text.items ≡ spec.text_with program.now.of_module (slice_get program.now.of_module.functions func) (slice_get certs.now func)) }
 {
     let of_module = program.module();
-    let function = &of_module.functions.as_slice()[func.number() as usize];
-    let section = &certs.sections()[func.number() as usize];
+    let function = function_at(of_module, func);
+    let section = section_at(certs, func);
     print_section(alloc, section, of_module, function)
 }
 

@@ -1,5 +1,5 @@
 //! One function with its section, put in the place of another.
-ghost use Rattle.std.specs.Prelude.{◌≡◌, ◌≢◌, ◌<◌, List, Some, length, slice_set, IfOk, IfErr, OnOk, OnErr};
+ghost use Rattle.std.specs.Prelude.{◌≡◌, ◌≢◌, ◌<◌, List, Some, length, slice_get, slice_set, IfOk, IfErr, OnOk, OnErr};
 ghost use Rattle.answers.specs.Answers.{AreAnswers};
 ghost use Rattle.certificate.specs.Anew.{IsSection};
 ghost use Rattle.certs.specs.declared.section.Section.{Section as ASection};
@@ -27,6 +27,14 @@ use std::alloc::{AllocError, Global};
 pub struct Put {
     pub answers: Items<Option<Refusal>>,
     pub rechecked: u64,
+}
+
+/// The function with this number.
+pub fn function_at(module: &Module, func: FuncId) -> &Function
+    requires { func < length «module».now.functions }
+    ensures { slice_get «module».now.functions func ≡ Some result.now }
+{
+    &module.functions.as_slice()[func.number() as usize]
 }
 
 /// The answers where the tables and all other functions and sections are the same: only this function is checked, and its
@@ -166,6 +174,6 @@ pub fn put_section_of(
     ensures only { (section : ASection) → IsSection text.now program.now.of_module func section → IsTaken result }
     ensures only_fault { (e : AFault) → HasSectionFault program.now.of_module func text.now e → IsRefusedBy result e }
 {
-    let old = &program.module().functions.as_slice()[func.number() as usize];
+    let old = function_at(program.module(), func);
     put_section(alloc, program, certs, func, old, text, before)
 }

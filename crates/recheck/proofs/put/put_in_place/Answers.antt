@@ -1,10 +1,18 @@
-use Rattle.std.proofs.Common.{ap, sym, subst}
+use Rattle.std.proofs.Common.{◌<◌, ℕ, sym, subst, ◌∙◌}
 use Rattle.ir_ast.specs.declared.module.Module.{Module}
 use Rattle.certificate.specs.Anew.{IsSection}
 use Rattle.layout.specs.Layouts.{LaidOut}
 use Rattle.recheck.specs.Edits.{HasSectionFault}
-use Rattle.recheck.proofs.Puts.{with_other, program_back}
+use Rattle.recheck.proofs.Puts.{with_other, program_back, as_many_functions}
 use Rattle.recheck.proofs.put.put_in_place.Goals as goal
+
+pub put_section-requires-clause-answers : goal.put_section-requires-clause-answers
+put_section-requires-clause-answers c =
+    c.requires.answers.one_each ∙ sym (as_many_functions c.args.program.now c.replace_function-old.new.self c.args.func c.args.function c.replace_function-old.ensures.new)
+
+pub replace_function-requires : goal.replace_function-requires
+replace_function-requires c =
+    subst (λ (n : ℕ). c.args.func < n) (sym (as_many_functions c.args.program.now c.replace_function-old.new.self c.args.func c.args.function c.replace_function-old.ensures.new)) c.requires.function
 
 pub returns-in-Ok-clause-put : goal.returns-in-Ok-clause-put
 returns-in-Ok-clause-put c =
