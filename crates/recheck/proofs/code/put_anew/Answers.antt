@@ -37,12 +37,12 @@ returns-in-Err-read_text-clause-only_fault c =
 pub returns-in-Err-new-clause-fault : goal.returns-in-Err-new-clause-fault
 returns-in-Err-new-clause-fault c =
     let read = the_code c.args.program.now.of_module c.module.result.now c.module.ensures.of_module c.args.func c.args.code.now c.in-Ok.of_module c.in-Ok.ensures.found c.in-Ok.ensures.only c.in-Ok.ensures.only_fault in
-    λ differs. inr (layout_refused c.args.program.now.of_module c.args.func c.args.code.now c.args.text.now c.in-Ok.of_module read c.in-Ok-read_text.section c.in-Err-new.refused.fault c.from-3.result c.in-Ok-read_text.ensures.found c.from-3.ensures c.in-Err-new.ensures.fault differs)
+    λ differs. inr (layout_refused c.args.program.now.of_module c.args.func c.args.code.now c.args.text.now c.in-Ok.of_module read c.in-Ok-read_text.section c.in-Err-new.refused.fault c.from-in-Err-new.result c.in-Ok-read_text.ensures.found c.from-in-Err-new.ensures c.in-Err-new.ensures.fault differs)
 
 pub returns-in-Err-new-clause-only : goal.returns-in-Err-new-clause-only
 returns-in-Err-new-clause-only c =
     let read = the_code c.args.program.now.of_module c.module.result.now c.module.ensures.of_module c.args.func c.args.code.now c.in-Ok.of_module c.in-Ok.ensures.found c.in-Ok.ensures.only c.in-Ok.ensures.only_fault in
-    λ n section words is _ laid. layout_taken c.args.program.now.of_module c.args.func c.args.code.now c.args.text.now c.in-Ok.of_module read c.in-Err-new.refused.fault c.from-3.result c.from-3.ensures c.in-Err-new.ensures.refused_only_so n words is laid
+    λ n section words is _ laid. layout_taken c.args.program.now.of_module c.args.func c.args.code.now c.args.text.now c.in-Ok.of_module read c.in-Err-new.refused.fault c.from-in-Err-new.result c.from-in-Err-new.ensures c.in-Err-new.ensures.refused_only_so n words is laid
 
 pub returns-in-Err-new-clause-only_fault : goal.returns-in-Err-new-clause-only_fault
 returns-in-Err-new-clause-only_fault c =
@@ -64,10 +64,10 @@ returns-in-Ok-answered_anew-clause-only_fault c =
     let read = the_code c.args.program.now.of_module c.module.result.now c.module.ensures.of_module c.args.func c.args.code.now c.in-Ok.of_module c.in-Ok.ensures.found c.in-Ok.ensures.only c.in-Ok.ensures.only_fault in
     λ e h. c.in-Ok-read_text.ensures.only_fault e (only_section c.args.program.now.of_module c.args.func c.args.code.now c.args.text.now c.in-Ok.of_module read e h)
 
-pub replace-requires-2 : goal.replace-requires-2
-replace-requires-2 c =
+pub replace-requires-in-Err-answered_anew : goal.replace-requires-in-Err-answered_anew
+replace-requires-in-Err-answered_anew c =
     subst (λ (n : ℕ). c.args.func < n) (sym (as_many_sections c.args.certs.now c.replace-past.new.self c.args.func c.in-Ok-read_text.section c.replace-past.ensures.new)) c.requires.section
 
 pub returns-in-Err-answered_anew-clause-kept : goal.returns-in-Err-answered_anew-clause-kept
 returns-in-Err-answered_anew-clause-kept c =
-    (refl, certs_back c.args.certs.now c.replace-past.new.self c.replace.new.self c.args.func c.replace-past.result c.in-Ok-read_text.section c.replace-past.ensures.new c.replace-past.ensures.given_back c.replace.ensures.new)
+    (refl, certs_back c.args.certs.now c.replace-past.new.self c.replace-in-Err-answered_anew.new.self c.args.func c.replace-past.result c.in-Ok-read_text.section c.replace-past.ensures.new c.replace-past.ensures.given_back c.replace-in-Err-answered_anew.ensures.new)

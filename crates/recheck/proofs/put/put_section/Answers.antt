@@ -7,8 +7,8 @@ use Rattle.recheck.proofs.Faults.{of_section, to_section}
 use Rattle.recheck.proofs.Puts.{with_section, put_so, certs_back, as_many_sections}
 use Rattle.recheck.proofs.put.put_section.Goals as goal
 
-pub replace-requires-2 : goal.replace-requires-2
-replace-requires-2 c =
+pub replace-requires : goal.replace-requires
+replace-requires c =
     subst (λ (n : ℕ). c.args.func < n) (sym (as_many_sections c.args.certs.now c.replace-past.new.self c.args.func c.in-Ok.section c.replace-past.ensures.new)) c.requires.section
 
 pub returns-in-Ok-answered-clause-put : goal.returns-in-Ok-answered-clause-put
