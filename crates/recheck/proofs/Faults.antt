@@ -1,15 +1,14 @@
 -- Faults of texts as faults of edits.
 use Rattle.std.proofs.Common.{◌≡◌, ◌≢◌, ℕ, Result, Ok, Err, ap, sym, subst, ◌∙◌}
+use Rattle.std.specs.Prelude.{IsErrAnd}
 use Rattle.grammar.specs.Outcome.{Gives}
 use Rattle.ir_ast.specs.declared.module.Module.{Module}
 use Rattle.ir_tokens.specs.Bytes.{Text}
-use Rattle.ir_text.specs.declared.read_fault.ReadFault.{ReadFault}
-use Rattle.ir_text.specs.declared.read_fault.ReadFault.TheVariants as read
 use Rattle.certs.specs.declared.section.Section.{Section}
 use Rattle.certificate.specs.Anew.{IsSection, IsSectionFault}
 use Rattle.certificate.specs.declared.fault.CertFault.{CertFault}
 use Rattle.certificate.specs.declared.fault.CertFault.TheVariants as cert
-use Rattle.recheck.specs.Edits.{code_fault, section_fault, HasSectionFault}
+use Rattle.recheck.specs.Edits.{IsRefusedBy, section_fault, HasSectionFault}
 use Rattle.recheck.specs.declared.edit_fault.EditFault.{EditFault}
 use Rattle.recheck.specs.declared.edit_fault.EditFault.TheVariants.{Memory}
 use Rattle.recheck.proofs.Results.{same_err, ok_or_err, err_or_ok}
@@ -43,17 +42,22 @@ module _ (m n : Module) (same : n ≡ m) (func : ℕ) (text : Text) where
 
   -- a text with a fault is not read
   pub section_unread : (section : Section) → ((f : CertFault) → IsSectionFault text n func f → Gives cert.Memory (Ok section) (Err f)) → (e : EditFault) → HasSectionFault m func text e → ⊥
-  section_unread section only e h = err_or_ok section h.0 (only h.0 (to_fault h.0 h.1.0))
+  section_unread section only e h = err_or_ok section h.0 (only h.0 (to_fault h.0 h.1))
 
   -- it is refused for its fault
-  pub section_same : (g : CertFault) (e : EditFault) → e ≡ section_fault g → ((f : CertFault) → IsSectionFault text n func f → Gives cert.Memory {X = Section} (Err g) (Err f))
+  pub section_same : (g : CertFault) (e : EditFault) → e ≡ section_fault g → ((f : CertFault) → IsSectionFault text n func f → Gives {X = Section} cert.Memory (Err g) (Err f))
       → (x : EditFault) → HasSectionFault m func text x → e ≢ Memory → e ≡ x
   section_same g e is only x h differs =
-      let one : h.0 ≡ g = same_err {X = Section} h.0 g (only h.0 (to_fault h.0 h.1.0) (section_differs g e is differs)) in
-      is ∙ ap section_fault (sym one) ∙ h.1.1
+      let one : h.0 ≡ g = same_err {X = Section} h.0 g (only h.0 (to_fault h.0 h.1) (section_differs g e is differs)) in
+      is ∙ ap section_fault (sym one) ∙ h.2
 
 -- ---- memory
 
 -- what is refused for memory is refused for no other reason
 pub for_memory : {A : Type 0} (e : EditFault) → e ≡ Memory → e ≢ Memory → A
 for_memory e is differs = absurd (differs is)
+
+-- so it is where memory was refused
+pub refused_for_memory : {X : Type 0} (r : Result X EditFault) (f : EditFault) → IsErrAnd r (λ e. e ≡ Memory) → IsRefusedBy r f
+refused_for_memory (Ok x) f h = absurd h
+refused_for_memory (Err e) f h = for_memory e h

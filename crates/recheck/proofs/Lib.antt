@@ -1,6 +1,7 @@
 pub mod Lists
 pub mod Results
 pub mod Verdicts
+pub mod Same
 pub mod Looks
 pub mod Faults
 pub mod Puts

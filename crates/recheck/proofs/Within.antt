@@ -32,7 +32,7 @@ pub record AreTables (m : Module) (t : Tables) : Type 0 where
 
 -- what the names stand for stays
 sorts_stay : (t : Tables) (func : ℕ) (name bytes : Text) (a : Replacement) → IsTextAnew t func name bytes a → a.tables.sorts ≡ t.sorts
-sorts_stay t func name bytes a h = ap (λ (x : Replacement). x.tables.sorts) (sym h.1.1.1.1.1.1)
+sorts_stay t func name bytes a h = ap (λ (x : Replacement). x.tables.sorts) (sym h.3.3)
 
 module _ (m : Module) (func : ℕ) (bytes : Text) (tables : Tables) (name : Text) (are_its : tables ≡ tables_of m) (is_its : name ≡ name_of m func) where
   of_module : (a : Replacement) → IsTextAnew tables func name bytes a → IsTextAnew (tables_of m) func (name_of m func) bytes a
@@ -74,8 +74,8 @@ module _ (m : Module) (func : ℕ) (bytes : Text) (tables : Tables) (name : Text
   pub within_one : (a : Replacement) (f : Function) → IsTextAnew tables func name bytes a → AreTables m a.tables → Some f ≡ slice_get a.functions 0
       → ((b : Replacement) → IsTextAnew tables func name bytes b → Gives (Ok a) (Ok b)) → (n : Module) → IsReplaced m func bytes n → n ≡ with_function m func f
   within_one a f h are at reads n is =
-      let same : is.0 ≡ a = same_ok {E = ReadFault} is.0 a (reads is.0 (to_tables is.0 is.1.0)) in
-      sym is.1.1 ∙ ap (with_replacement m func) same ∙ module_same a f h are at
+      let same : is.0 ≡ a = same_ok {E = ReadFault} is.0 a (reads is.0 (to_tables is.0 is.1)) in
+      sym is.2 ∙ ap (with_replacement m func) same ∙ module_same a f h are at
 
   -- the same of what is read, if it is a function
   pub some_found : (a : Replacement) (o : Option Function) → IsTextAnew tables func name bytes a → AreTables m a.tables → o ≡ slice_get a.functions 0 → IfSome o (λ f. IsReplaced m func bytes (with_function m func f))
@@ -94,7 +94,7 @@ module _ (m : Module) (func : ℕ) (bytes : Text) (tables : Tables) (name : Text
   -- ---- what is refused
 
   pub within_taken : (f : ReadFault) (e : EditFault) → e ≡ code_fault f → ((b : Replacement) → IsTextAnew tables func name bytes b → Gives (Err f) (Ok b)) → (n : Module) → IsReplaced m func bytes n → e ≢ Memory → ⊥
-  within_taken f e is reads n h differs = ok_or_err h.0 f (reads h.0 (to_tables h.0 h.1.0) (code_differs f e is differs))
+  within_taken f e is reads n h differs = ok_or_err h.0 f (reads h.0 (to_tables h.0 h.1) (code_differs f e is differs))
 
   pub within_refused : (f : ReadFault) (e : EditFault) → e ≡ code_fault f → (f ≢ read.Memory → IsFaultAnew tables func name bytes f) → e ≢ Memory → (g : ReadFault) × IsReplaceFault m func bytes g × (code_fault g ≡ e)
   within_refused f e is fault differs = (f, of_fault f (fault (code_differs f e is differs)), sym is)

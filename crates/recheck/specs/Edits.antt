@@ -47,7 +47,7 @@ kept_text s func = text_with (module_in s) (code_in s func) (section_in s func)
 
 -- ---- what is taken
 
--- the session after an edit of one function: its module is this one, with the layouts of that; this section stands in the place of the function's; and so many functions were checked
+-- The session after an edit of one function. Its module is `m`, with the layouts and sizes of `m`. `section` is in the place of the function's section. Its count is the number of functions that were checked again.
 pub record IsPut (s : State) (func : ℕ) (m : Module) (section : Section) (t : State) : Type 0 where
   pub of_module : t.program.of_module ≡ m
   pub laid_out : AreLayouts t.program.of_module t.program.layouts
@@ -55,15 +55,15 @@ pub record IsPut (s : State) (func : ℕ) (m : Module) (section : Section) (t : 
   pub certs : t.certs ≡ slice_set s.certs func section
   pub rechecked : t.rechecked ≡ rechecked_by t.program.of_module t.certs func (code_in s func) (section_in s func)
 
--- the session in which the module is this one, and the section of the function is that of this text
+-- the session after an edit that gives the module `m` and a text of the function's section
 abbrev pub IsSectionPut : State → (func : ℕ) → Module → Text → State → Type 0
 IsSectionPut s func m text t = (section : Section) × IsSection text m func section × IsPut s func m section t
 
--- the session in which the code of the function is that of this text, and its section that of the other
+-- the session after an edit that gives a text of the function's code, and a text of its section
 abbrev pub IsCodePut : State → (func : ℕ) → (code text : Text) → State → Type 0
 IsCodePut s func code text t = (m : Module) × IsReplaced (module_in s) func code m × IsSectionPut s func m text t
 
--- what the texts of an edit make of one function. Where the section is not given, its text is the one that it has with the code that is there.
+-- The session after an edit of one function. Where the edit gives no section, the text is that of the present section, printed with the present code.
 abbrev pub IsEditedAt : State → (func : ℕ) → Edit → State → Type 0
 IsEditedAt s func (edit.Code name code) t = IsCodePut s func code (kept_text s func) t
 IsEditedAt s func (edit.Cert name section) t = IsSectionPut s func (module_in s) section t
@@ -81,12 +81,12 @@ IsEdited s e t = (func : ℕ) × (function_named (module_in s) (name_in e) ≡ S
 
 -- ---- what is refused
 
--- what was asked for is done, unless memory runs out
+-- the edit is taken, unless memory runs out
 abbrev pub IsTaken : {X : Type 0} → Result X EditFault → Type 0
 IsTaken (Ok x) = Unit {0}
 IsTaken (Err e) = e ≢ fault.Memory → ⊥
 
--- what was asked for is refused for this fault, unless memory runs out
+-- the edit is refused for this fault, unless memory runs out
 abbrev pub IsRefusedBy : {X : Type 0} → Result X EditFault → EditFault → Type 0
 IsRefusedBy (Ok x) f = ⊥
 IsRefusedBy (Err e) f = e ≢ fault.Memory → e ≡ f
@@ -137,7 +137,7 @@ abbrev pub HasLayoutFault : Module → (func : ℕ) → (code text : Text) → E
 HasLayoutFault m func code text e =
     (n : Module) × IsReplaced m func code n × ((section : Section) × IsSection text n func section) × ((f : LayoutFault) × IsLayoutFault n f × (layout_fault f ≡ e))
 
--- the same of the texts of an edit of one function
+-- the module after an edit of one function has this fault in its layouts
 abbrev pub HasLayoutFaultAt : State → (func : ℕ) → Edit → EditFault → Type 0
 HasLayoutFaultAt s func (edit.Code name code) e = HasLayoutFault (module_in s) func code (kept_text s func) e
 HasLayoutFaultAt s func (edit.Cert name section) e = ⊥

@@ -32,17 +32,17 @@ pub record IsWithSection (certs others : List Section) (func : ℕ) (past : Sect
   pub others_same : (other : ℕ) → other ≢ func → slice_get others other ≡ slice_get certs other
   pub section : slice_get certs func ≡ Some past
 
--- the section stands in the place of the function's, these are the answers, and so many functions were checked
+-- `section` is in the place of the function's section, `put` has the answers to all functions, and its count is the number of functions that were checked again
 pub record IsPutWith (p : LaidOut) (certs : List Section) (func : ℕ) (section : Section) (q : LaidOut) (others : List Section) (put : Put) : Type 0 where
   pub certs_are : others ≡ slice_set certs func section
   pub answers : AreAnswers q others put.answers
   pub rechecked : put.rechecked ≡ rechecked_by q.of_module others func (slice_get p.of_module.functions func) (slice_get certs func)
 
--- the same, with the section of this text
+-- the section of this text is in the place of the function's, with the answers and the count
 abbrev pub IsTextPut : (p : LaidOut) (certs : List Section) (func : ℕ) → Text → (q : LaidOut) (others : List Section) → Put → Type 0
 IsTextPut p certs func text q others put = (section : Section) × IsSection text q.of_module func section × IsPutWith p certs func section q others put
 
--- the same, in a program that is laid out, and whose module has the function of this code
+-- The function of this code and the section of this text are in the place of the function's, with the answers and the count. The program is laid out.
 pub record IsBothPut (p : LaidOut) (certs : List Section) (func : ℕ) (code text : Text) (q : LaidOut) (others : List Section) (put : Put) : Type 0 where
   pub of_code : IsReplaced p.of_module func code q.of_module
   pub laid_out : AreLayouts q.of_module q.layouts

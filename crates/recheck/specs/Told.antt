@@ -1,6 +1,7 @@
 -- What the callers of a function are told of it, and which other functions call it.
-use Rattle.std.specs.Prelude.{ℕ, zero, suc, ◌+◌, ◌==◌, ◌&&◌, Bool, true, false, not, if◌then◌else◌, List, length, slice_get, Option, Some, None}
+use Rattle.std.specs.Prelude.{ℕ, zero, suc, ◌+◌, ◌==◌, ◌&&◌, Bool, true, false, not, if◌then◌else◌, List, length, slice_get, Option, Some, None, nat_eq}
 use Rattle.std.specs.List.{list_all, zip}
+use Rattle.std.specs.Option.{option_eq, option_or}
 use Rattle.ir_ast.specs.declared.function.Function.{Function}
 use Rattle.ir_ast.specs.declared.function.Parameter.{Parameter}
 use Rattle.ir_ast.specs.declared.module.Module.{Module}
@@ -13,27 +14,21 @@ use Rattle.answers.specs.Edited.{calls}
 
 -- ---- types and marks
 
--- the same number, or none
-abbrev pub same_number : (one other : Option ℕ) → Bool
-same_number None None = true
-same_number (Some one) (Some other) = one == other
-same_number _ _ = false
-
--- the same truth value
+-- both are true, or both are false
 abbrev pub same_truth : (one other : Bool) → Bool
 same_truth one other = if one then other else not other
 
--- the same mark
+-- both are the same mark
 abbrev pub same_mark : (one other : Mark) → Bool
 same_mark mark.May mark.May = true
 same_mark mark.None mark.None = true
 same_mark _ _ = false
 
--- two parameters are written with one type
+-- two parameters are of one type
 abbrev pub same_written : Parameter × Parameter → Bool
 same_written p = p.0.written == p.1.written
 
--- so are all parameters, one by one
+-- the parameters of two lists are of the same types, one by one, as far as both lists go
 abbrev pub all_written : (one other : List Parameter) → Bool
 all_written one other = list_all same_written (zip one other)
 
@@ -41,56 +36,30 @@ all_written one other = list_all same_written (zip one other)
 abbrev pub same_types : (one other : Function) → Bool
 same_types one other = (one.returned == other.returned) && (length one.parameters == length other.parameters) && all_written one.parameters other.parameters
 
--- ---- promises, by their words
-
--- the same promise
-abbrev pub same_promise : (one other : Promise) → Bool
-same_promise one other = same_number one.layout other.layout && same_truth one.nonnull other.nonnull && same_number one.below other.below
-
--- the same promise, or none
-abbrev pub same_promised : (one other : Option Promise) → Bool
-same_promised None None = true
-same_promised (Some one) (Some other) = same_promise one other
-same_promised _ _ = false
-
--- the same promises, or none, one by one, as far as both lists go
-abbrev pub all_promised : (one other : List (Option Promise)) → Bool
-all_promised one other = list_all (λ p. same_promised p.0 p.1) (zip one other)
-
--- the same promises, or none, one by one
-abbrev pub same_promises : (one other : List (Option Promise)) → Bool
-same_promises one other = (length one == length other) && all_promised one other
-
--- two functions with their sections look the same to a caller, word by word
-abbrev pub looks_same : (old new : Function) → (past next : Section) → Bool
-looks_same old new past next =
-    same_types old new && same_mark past.mark next.mark && same_promises past.parameters next.parameters && same_promised past.result next.result
-
 -- ---- promises, by what they say
 
--- a layout that is promised, or else the one that the type says
-abbrev pub layout_or : (promised by_type : Option ℕ) → Option ℕ
-layout_or None by_type = by_type
-layout_or (Some layout) by_type = Some layout
+-- two promises have the same layout, or none; both say nonnull or neither does; and they have the same bound, or none
+abbrev pub same_promise : (one other : Promise) → Bool
+same_promise one other = option_eq nat_eq one.layout other.layout && same_truth one.nonnull other.nonnull && option_eq nat_eq one.below other.below
 
--- what is said of a value of a type: nothing is promised, so it is what the type says; or the promise, with the layout of the type where it has none
+-- What is said of a value of a type: nothing is promised, so it is what the type says; or the promise, with the layout of the type where it has none.
 abbrev pub told : Module → (written : ℕ) → Option Promise → Promise
 told m written None = record { layout = layout_of_kind (kind_of m written); nonnull = false; below = None }
-told m written (Some promise) = record { layout = layout_or promise.layout (layout_of_kind (kind_of m written)); nonnull = promise.nonnull; below = promise.below }
+told m written (Some promise) = record { layout = option_or promise.layout (layout_of_kind (kind_of m written)); nonnull = promise.nonnull; below = promise.below }
 
 -- two promises say the same of a value of a type
 abbrev pub says_same : Module → (written : ℕ) → (one other : Option Promise) → Bool
 says_same m written one other = same_promise (told m written one) (told m written other)
 
--- so do two promises of a parameter
+-- two promises of one parameter say the same
 abbrev pub says_same_of : Module → Parameter × (Option Promise × Option Promise) → Bool
 says_same_of m p = says_same m p.0.written p.1.0 p.1.1
 
--- so do the promises of all parameters
+-- the promises of all parameters say the same
 abbrev pub all_said : Module → List Parameter → (one other : List (Option Promise)) → Bool
 all_said m parameters one other = list_all (says_same_of m) (zip parameters (zip one other))
 
--- two functions with their sections tell their callers the same: by types, marks, and what is said of parameters and result
+-- Two functions with their sections tell their callers the same: by their types, their marks, and what is promised of parameters and result.
 abbrev pub tells_same : Module → (old new : Function) → (past next : Section) → Bool
 tells_same m old new past next =
     same_types old new && same_mark past.mark next.mark && all_said m new.parameters past.parameters next.parameters && says_same m new.returned past.result next.result
@@ -102,7 +71,7 @@ is_told_same m _ _ _ _ = false
 
 -- ---- callers
 
--- a function calls this one, if it is there
+-- a function, if there is one, calls this one
 abbrev pub calls_it : Module → (func : ℕ) → Option Function → Bool
 calls_it m func None = false
 calls_it m func (Some f) = calls m func f
@@ -111,16 +80,16 @@ calls_it m func (Some f) = calls m func f
 abbrev pub is_caller : Module → (func other : ℕ) → Bool
 is_caller m func other = not (other == func) && calls_it m func (slice_get m.functions other)
 
--- how many of the first functions, but for this one, call it
+-- how many of the first `count` functions call this one, which is not counted itself
 abbrev pub callers_before : Module → (func : ℕ) → (count : ℕ) → ℕ
 callers_before m func zero = 0
 callers_before m func (suc count) = callers_before m func count + (if is_caller m func count then 1 else 0)
 
--- how many functions an edit makes be checked: the function itself, and where they are told something else those that call it
+-- how many functions are checked after an edit of this one: it alone where its callers are told the same, and else it and all that call it
 abbrev pub checked_again : (told_same : Bool) → Module → (func : ℕ) → ℕ
 checked_again true m func = 1
 checked_again false m func = 1 + callers_before m func (length m.functions)
 
--- so many after the edit of a function, of which this was the code and the section before
+-- how many functions are checked after an edit of this one, which had the old code and the past section before
 abbrev pub rechecked_by : Module → (certs : List Section) → (func : ℕ) → (old : Option Function) → (past : Option Section) → ℕ
 rechecked_by m certs func old past = checked_again (is_told_same m old (slice_get m.functions func) past (slice_get certs func)) m func

@@ -6,46 +6,9 @@ ghost use Rattle.recheck.specs.Told as spec;
 
 use answers::{Callers, calls};
 use block_rules::TypeKind;
-use certs::{Certs, Mark, Promise, Section};
+use certs::{Certs, Promise, Section};
 use ir_ast::{FuncId, Function, Module, Parameter, TypeId};
-use pools::LayoutId;
 use std::alloc::AllocError;
-
-fn same_layout(one: Option<LayoutId>, other: Option<LayoutId>) -> bool
-    ensures { result ≡ spec.same_number one other }
-{
-    match (one, other) {
-        (None, None) => true,
-        (Some(one), Some(other)) => one == other,
-        _ => false,
-    }
-}
-
-fn same_below(one: Option<u64>, other: Option<u64>) -> bool
-    ensures { result ≡ spec.same_number one other }
-{
-    match (one, other) {
-        (None, None) => true,
-        (Some(one), Some(other)) => one == other,
-        _ => false,
-    }
-}
-
-fn same_truth(one: bool, other: bool) -> bool
-    ensures { result ≡ spec.same_truth one other }
-{
-    if one { other } else { !other }
-}
-
-fn same_mark(one: Mark, other: Mark) -> bool
-    ensures { result ≡ spec.same_mark one other }
-{
-    match (one, other) {
-        (Mark::May, Mark::May) => true,
-        (Mark::None, Mark::None) => true,
-        _ => false,
-    }
-}
 
 fn all_written(one: &[Parameter], other: &[Parameter]) -> bool
     ensures { result ≡ spec.all_written one.now other.now }
@@ -63,46 +26,22 @@ fn same_types(one: &Function, other: &Function) -> bool
         && all_written(one.parameters.as_slice(), other.parameters.as_slice())
 }
 
-fn same_promise(one: Promise, other: Promise) -> bool
-    ensures { result ≡ spec.same_promise one other }
+/// Whether two sections promise the same in the same words, with the same mark.
+fn same_words(past: &Section, next: &Section) -> bool
+    ensures mark { result ≡ true → next.now.mark ≡ past.now.mark }
+    ensures parameters { result ≡ true → next.now.parameters ≡ past.now.parameters }
+    ensures promised { result ≡ true → next.now.result ≡ past.now.result }
 {
-    same_layout(one.layout, other.layout)
-        && same_truth(one.nonnull, other.nonnull)
-        && same_below(one.below, other.below)
-}
-
-fn same_promised(one: Option<Promise>, other: Option<Promise>) -> bool
-    ensures { result ≡ spec.same_promised one other }
-{
-    match (one, other) {
-        (None, None) => true,
-        (Some(one), Some(other)) => same_promise(one, other),
-        _ => false,
-    }
-}
-
-fn all_promised(one: &[Option<Promise>], other: &[Option<Promise>]) -> bool
-    ensures { result ≡ spec.all_promised one.now other.now }
-{
-    one.iter()
-        .zip(other.iter())
-        .all(|(one, other)| same_promised(*one, *other))
-}
-
-fn same_promises(one: &[Option<Promise>], other: &[Option<Promise>]) -> bool
-    ensures { result ≡ spec.same_promises one.now other.now }
-{
-    one.len() == other.len() && all_promised(one, other)
+    past.mark == next.mark
+        && past.result == next.result
+        && past.parameters.as_slice() == next.parameters.as_slice()
 }
 
 /// Whether two functions with their sections look the same to a caller, word by word.
 fn looks_same(old: &Function, new: &Function, past: &Section, next: &Section) -> bool
-    ensures { result ≡ spec.looks_same old.now new.now past.now next.now }
+    ensures { result ≡ true → interface_of (Some new.now) (Some next.now) ≡ interface_of (Some old.now) (Some past.now) }
 {
-    same_types(old, new)
-        && same_mark(past.mark, next.mark)
-        && same_promises(past.parameters.as_slice(), next.parameters.as_slice())
-        && same_promised(past.result, next.result)
+    same_types(old, new) && same_words(past, next)
 }
 
 /// Whether the callers of a function see that it was replaced.
@@ -122,15 +61,6 @@ pub fn seen(module: &Module, certs: &Certs, func: FuncId, old: &Function, past: 
     }
 }
 
-fn layout_or(promised: Option<LayoutId>, by_type: Option<LayoutId>) -> Option<LayoutId>
-    ensures { result ≡ spec.layout_or promised by_type }
-{
-    match promised {
-        None => by_type,
-        Some(layout) => Some(layout),
-    }
-}
-
 /// What is said of a value of a type with this promise.
 fn told(module: &Module, written: TypeId, promised: Option<Promise>) -> Promise
     ensures { result ≡ spec.told «module».now written promised }
@@ -143,11 +73,17 @@ fn told(module: &Module, written: TypeId, promised: Option<Promise>) -> Promise
             below: None,
         },
         Some(promise) => Promise {
-            layout: layout_or(promise.layout, by_type),
+            layout: promise.layout.or(by_type),
             nonnull: promise.nonnull,
             below: promise.below,
         },
     }
+}
+
+fn same_promise(one: Promise, other: Promise) -> bool
+    ensures { result ≡ spec.same_promise one other }
+{
+    one == other
 }
 
 fn says_same(module: &Module, written: TypeId, one: Option<Promise>, other: Option<Promise>) -> bool
@@ -185,7 +121,7 @@ fn tells_same(
     let parameters = new.parameters.as_slice();
     let promises = past.parameters.as_slice();
     same_types(old, new)
-        && same_mark(past.mark, next.mark)
+        && past.mark == next.mark
         && all_said(module, parameters, promises, next.parameters.as_slice())
         && says_same(module, new.returned, past.result, next.result)
 }
