@@ -1,0 +1,342 @@
+-- What is put in the place of a function's code and section is what the edit asks for, and what is refused is refused for its first fault.
+use Rattle.std.proofs.Common.{◌≡◌, ◌≢◌, ◌⊎◌, inl, inr, ◌<◌, ℕ, List, length, slice_get, Option, Some, None, Result, Ok, Err, refl, ap, sym, subst, ◌∙◌}
+use Rattle.std.specs.Prelude.{slice_set, IfOk, IfErr, OnOk, IfSome}
+use Rattle.ir_ast.specs.declared.function.Function.{Function}
+use Rattle.ir_ast.specs.declared.module.Module.{Module}
+use Rattle.ir_tokens.specs.Bytes.{Text}
+use Rattle.ir_text.specs.Read.{Gives}
+use Rattle.ir_text.specs.Replaced.{IsReplaced, IsReplaceFault, put_function, with_replacement}
+use Rattle.ir_text.specs.declared.read_fault.ReadFault.{ReadFault}
+use Rattle.ir_text.specs.declared.read_fault.ReadFault.TheVariants as read
+use Rattle.certs.specs.declared.section.Section.{Section}
+use Rattle.certificate.specs.Anew.{IsSection}
+use Rattle.layout.specs.Functions.{laid_with}
+use Rattle.layout.specs.Grown.{LayoutsStay}
+use Rattle.layout.specs.Layouts.{LaidOut, AreLayouts, AreSizes, IsLayoutFault}
+use Rattle.layout.specs.declared.fault.LayoutFault.{LayoutFault}
+use Rattle.layout.specs.declared.fault.LayoutFault.TheVariants as layout
+use Rattle.pools.specs.declared.word_kind.WordKind.{WordKind}
+use Rattle.block_rules.specs.declared.block_fault.Refusal.{Refusal}
+use Rattle.answers.specs.Answers.{AreAnswers}
+use Rattle.edit_text.specs.declared.edit.Edit.{Edit}
+use Rattle.edit_text.specs.declared.edit.Edit.TheVariants as edit
+use Rattle.recheck.specs.Edits.{IsPut, IsSectionPut, IsCodePut, IsEditedAt, IsEdited, HasSectionFault, HasCodeFault, HasLayoutFault, HasLayoutFaultAt, IsFaultAt, IsEditFault, IsRefusedAt, IsRefusedFor, IsTaken, IsRefusedBy, code_fault, layout_fault, name_in, no_function, text_with}
+use Rattle.recheck.specs.Named.{function_named}
+use Rattle.recheck.specs.Put.{state, with_function, IsTextPut, IsBothPut}
+use Rattle.recheck.specs.Session.{State, IsAnswered}
+use Rattle.recheck.specs.Told.{rechecked_by}
+use Rattle.recheck.specs.declared.edit_fault.EditFault.{EditFault}
+use Rattle.recheck.specs.declared.edit_fault.EditFault.TheVariants.{Memory}
+use Rattle.recheck.specs.declared.put.Put.{Put}
+use Rattle.recheck.proofs.Lists.{length_set}
+use Rattle.recheck.proofs.Puts.{put_so}
+use Rattle.recheck.proofs.Results.{same_ok, same_err, ok_or_err, err_or_ok}
+use Rattle.recheck.proofs.Sizes.{sizes_with, layouts_with}
+use Rattle.recheck.proofs.Within.{code_differs}
+
+-- ---- code that is read as a module
+
+-- the module with what was read has as many functions
+length_put : (func : ℕ) (f : Option Function) (fs : List Function) → length (put_function func f fs) ≡ length fs
+length_put func None fs = refl
+length_put func (Some f) fs = length_set fs func f
+
+replaced_length : (m : Module) (func : ℕ) (code : Text) (n : Module) → IsReplaced m func code n → length n.functions ≡ length m.functions
+replaced_length m func code n is = ap (λ (x : Module). length x.functions) (sym is.2) ∙ length_put func (slice_get is.0.functions 0) m.functions
+
+module _ (m same_m : Module) (same : same_m ≡ m) (func : ℕ) (code : Text) where
+  pub of_code : (n : Module) → IsReplaced same_m func code n → IsReplaced m func code n
+  of_code n h = subst (λ (x : Module). IsReplaced x func code n) same h
+
+  pub to_code : (n : Module) → IsReplaced m func code n → IsReplaced same_m func code n
+  to_code n h = subst (λ (x : Module). IsReplaced x func code n) (sym same) h
+
+  of_code_fault : (f : ReadFault) → IsReplaceFault same_m func code f → IsReplaceFault m func code f
+  of_code_fault f h = subst (λ (x : Module). IsReplaceFault x func code f) same h
+
+  to_code_fault : (f : ReadFault) → IsReplaceFault m func code f → IsReplaceFault same_m func code f
+  to_code_fault f h = subst (λ (x : Module). IsReplaceFault x func code f) (sym same) h
+
+  module _ (f : ReadFault) (e : EditFault) (is : e ≡ code_fault f) where
+    -- what is refused is no code
+    pub code_taken : ((n : Module) → IsReplaced same_m func code n → Gives (Err f) (Ok n)) → (n : Module) → IsReplaced m func code n → e ≢ Memory → ⊥
+    code_taken only n h differs = ok_or_err n f (only n (to_code n h) (code_differs f e is differs))
+
+    -- it has the fault
+    pub code_refused : (f ≢ read.Memory → IsReplaceFault same_m func code f) → e ≢ Memory → (g : ReadFault) × IsReplaceFault m func code g × (code_fault g ≡ e)
+    code_refused fault differs = (f, of_code_fault f (fault (code_differs f e is differs)), sym is)
+
+    -- and no other one
+    pub code_same : ((n : Module) → IsReplaced same_m func code n → Gives (Err f) (Ok n)) → ((g : ReadFault) → IsReplaceFault same_m func code g → Gives {X = Module} (Err f) (Err g))
+        → (text : Text) (x : EditFault) → HasCodeFault m func code text x → e ≢ Memory → e ≡ x
+    code_same only fails text x (inl h) differs =
+        let one : h.0 ≡ f = same_err {X = Module} h.0 f (fails h.0 (to_code_fault h.0 h.1) (code_differs f e is differs)) in
+        is ∙ ap code_fault (sym one) ∙ h.2
+    code_same only fails text x (inr h) differs = absurd (code_taken only h.0 h.1 differs)
+
+-- this is the module of the code, which has no fault
+pub record IsTheCode (m : Module) (func : ℕ) (code : Text) (n : Module) : Type 0 where
+  pub is_read : IsReplaced m func code n
+  pub one : (o : Module) → IsReplaced m func code o → o ≡ n
+  pub unread : (f : ReadFault) → IsReplaceFault m func code f → ⊥
+
+pub the_code : (m same_m : Module) → same_m ≡ m → (func : ℕ) (code : Text) (n : Module) → IsReplaced same_m func code n → ((o : Module) → IsReplaced same_m func code o → Gives (Ok n) (Ok o))
+    → ((f : ReadFault) → IsReplaceFault same_m func code f → Gives (Ok n) (Err f)) → IsTheCode m func code n
+the_code m same_m same func code n found only fails = record {
+  is_read = of_code m same_m same func code n found;
+  one = λ o h. same_ok {E = ReadFault} o n (only o (to_code m same_m same func code o h));
+  unread = λ f h. err_or_ok n f (fails f (to_code_fault m same_m same func code f h));
+}
+
+-- ---- code that is read, with the section of a text
+
+module _ (m : Module) (func : ℕ) (code text : Text) (n : Module) (is : IsTheCode m func code n) where
+  -- a fault of the two is one of the section
+  pub only_section : (e : EditFault) → HasCodeFault m func code text e → HasSectionFault n func text e
+  only_section e (inl h) = absurd (is.unread h.0 h.1)
+  only_section e (inr h) = subst (λ (o : Module). HasSectionFault o func text e) (is.one h.0 h.1) h.2
+
+  -- a fault of the section is one of the two
+  pub section_of_code : (e : EditFault) → HasSectionFault n func text e → HasCodeFault m func code text e
+  section_of_code e h = inr (n, is.is_read, h)
+
+  -- a section with the code is one with the module that was read
+  pub with_code : (o : Module) (section : Section) → IsReplaced m func code o → IsSection text o func section → IsSection text n func section
+  with_code o section h of_text = subst (λ (x : Module). IsSection text x func section) (is.one o h) of_text
+
+  -- the module that was read has this fault in its layouts
+  pub layout_refused : (section : Section) (f : LayoutFault) (e : EditFault) → IsSection text n func section → e ≡ layout_fault f → (f ≢ layout.Memory → IsLayoutFault n f) → e ≢ Memory
+      → HasLayoutFault m func code text e
+  layout_refused section f e of_text same fault differs = (n, is.is_read, (section, of_text), (f, fault (λ h. differs (same ∙ ap layout_fault h)), sym same))
+
+  -- where it has layouts, it is refused for memory
+  pub layout_taken : (f : LayoutFault) (e : EditFault) → e ≡ layout_fault f → ((words : List (List WordKind)) → AreLayouts n words → f ≡ layout.Memory)
+      → (o : Module) (words : List (List WordKind)) → IsReplaced m func code o → AreLayouts o words → e ≢ Memory → ⊥
+  layout_taken f e same memory o words h laid differs = differs (same ∙ ap layout_fault (memory words (subst (λ (x : Module). AreLayouts x words) (is.one o h) laid)))
+
+-- a program made anew, with the function and the section that were read
+pub both_anew : (p q : LaidOut) (certs others : List Section) (func : ℕ) (old : Function) (past section : Section) (n : Module) (code text : Text) (put : Put)
+    → IsReplaced p.of_module func code n → IsSection text n func section → (q.of_module ≡ n) × AreLayouts n q.layouts × AreSizes n q.sizes
+    → others ≡ slice_set certs func section → slice_get p.of_module.functions func ≡ Some old → slice_get certs func ≡ Some past → AreAnswers q others put.answers
+    → put.rechecked ≡ rechecked_by q.of_module others func (Some old) (Some past) → IsBothPut p certs func code text q others put
+both_anew p q certs others func old past section n code text put is_read is laid e at past_at answers count = record {
+  of_code = subst (λ (m : Module). IsReplaced p.of_module func code m) (sym laid.0) is_read;
+  laid_out = subst (λ (m : Module). AreLayouts m q.layouts) (sym laid.0) laid.1;
+  sized = subst (λ (m : Module). AreSizes m q.sizes) (sym laid.0) laid.2;
+  of_text = put_so p certs q others func old past section text put (subst (λ (m : Module). IsSection text m func section) (sym laid.0) is) e at past_at answers count;
+}
+
+-- ---- the function in the place of the old one
+
+at_some : {A : Type 0} (P : A → Type 0) (o : Option A) (x : A) → o ≡ Some x → IfSome o P → P x
+at_some P None x e h = absurd cc
+at_some P (Some y) x e h = let same : y ≡ x = cc in subst P same h
+
+module _ (m same_m : Module) (same : same_m ≡ m) (func : ℕ) (code : Text) where
+  -- a function was read, so the module with it is the one of the code
+  pub the_place : (r : Result (Option Function) EditFault) (f : Function) → r ≡ Ok (Some f)
+      → IfOk r (λ o. IfSome o (λ g. IsReplaced same_m func code (with_function same_m func g)))
+      → ((n : Module) → IsReplaced same_m func code n → IfOk r (λ o. IfSome o (λ g. n ≡ with_function same_m func g)))
+      → ((g : ReadFault) → IsReplaceFault same_m func code g → IsRefusedBy r (code_fault g)) → IsTheCode m func code (with_function m func f)
+  the_place (Err e) f is found one fails = absurd cc
+  the_place (Ok o) f is found one fails =
+      let some : o ≡ Some f = cc in
+      record {
+        is_read = subst (λ (x : Module). IsReplaced x func code (with_function x func f)) same (at_some (λ g. IsReplaced same_m func code (with_function same_m func g)) o f some found);
+        one = λ n h.
+            subst (λ (x : Module). n ≡ with_function x func f) same (at_some (λ g. n ≡ with_function same_m func g) o f some (one n (to_code m same_m same func code n h)));
+        unread = λ g h. fails g (to_code_fault m same_m same func code g h);
+      }
+
+  -- the code has the fault for which it is refused
+  pub within_fault : (e : EditFault) → (f : ReadFault) × IsReplaceFault same_m func code f × (code_fault f ≡ e) → (f : ReadFault) × IsReplaceFault m func code f × (code_fault f ≡ e)
+  within_fault e h = (h.0, of_code_fault m same_m same func code h.0 h.1, h.2)
+
+  -- and no other one
+  pub within_refused : (e : EditFault) → ((n : Module) → IsReplaced same_m func code n → e ≢ Memory → ⊥) → ((f : ReadFault) → IsReplaceFault same_m func code f → e ≢ Memory → e ≡ code_fault f)
+      → (text : Text) (x : EditFault) → HasCodeFault m func code text x → e ≢ Memory → e ≡ x
+  within_refused e only fails text x (inl h) differs = fails h.0 (to_code_fault m same_m same func code h.0 h.1) differs ∙ h.2
+  within_refused e only fails text x (inr h) differs = absurd (only h.0 (to_code m same_m same func code h.0 h.1) differs)
+
+both_in_place : LayoutsStay → (p q : LaidOut) (certs others : List Section) (func : ℕ) (f : Function) (code text : Text) (put : Put)
+    → q ≡ laid_with p (slice_set p.of_module.functions func f) → IsReplaced p.of_module func code (with_function p.of_module func f) → AreLayouts p.of_module p.layouts → AreSizes p.of_module p.sizes
+    → IsTextPut p certs func text q others put → IsBothPut p certs func code text q others put
+both_in_place stay p q certs others func f code text put e is_read laid sized of_text = record {
+  of_code = subst (λ (r : LaidOut). IsReplaced p.of_module func code r.of_module) (sym e) is_read;
+  laid_out = subst (λ (r : LaidOut). AreLayouts r.of_module r.layouts) (sym e) (layouts_with stay p.of_module (slice_set p.of_module.functions func f) p.layouts laid);
+  sized = subst (λ (r : LaidOut). AreSizes r.of_module r.sizes) (sym e) (sizes_with p.of_module (slice_set p.of_module.functions func f) p.sizes sized);
+  of_text = of_text;
+}
+
+-- the program with the function in the place of the old one, if it is taken
+pub place_put : LayoutsStay → (p q : LaidOut) (certs others : List Section) (func : ℕ) (f : Function) (code text : Text) (r : Result Put EditFault)
+    → OnOk r (q ≡ laid_with p (slice_set p.of_module.functions func f)) → IsReplaced p.of_module func code (with_function p.of_module func f) → AreLayouts p.of_module p.layouts → AreSizes p.of_module p.sizes
+    → IfOk r (λ put. IsTextPut p certs func text q others put) → IfOk r (λ put. IsBothPut p certs func code text q others put)
+place_put stay p q certs others func f code text (Ok put) e is_read laid sized of_text = both_in_place stay p q certs others func f code text put e is_read laid sized of_text
+place_put stay p q certs others func f code text (Err x) e is_read laid sized of_text = tt
+
+-- the faults for which it is refused
+pub place_fault : (m : Module) (func : ℕ) (code text : Text) (n : Module) (r : Result Put EditFault) → IsReplaced m func code n → IfErr r (λ e. e ≢ Memory → HasSectionFault n func text e)
+    → IfErr r (λ e. e ≢ Memory → HasCodeFault m func code text e ⊎ HasLayoutFault m func code text e)
+place_fault m func code text n (Ok put) is_read h = tt
+place_fault m func code text n (Err e) is_read h = λ differs. inl (inr (n, is_read, h differs))
+
+-- ---- one function
+
+-- the edit gives this code, and this text of a section with it
+abbrev pub IsOfCode : LaidOut → (certs : List Section) → (func : ℕ) → Edit → (code text : Text) → Type 0
+IsOfCode p certs func e code text =
+    ((name : Text) × (e ≡ edit.Code name code) × (text ≡ text_with p.of_module (slice_get p.of_module.functions func) (slice_get certs func)))
+    ⊎ ((name : Text) × (e ≡ edit.Both name code text))
+
+-- a section is in its place, and the answers go with it
+section_answered : (p : LaidOut) (certs others : List Section) (func : ℕ) (text : Text) (before : List (Option Refusal)) (put : Put) → IsAnswered p certs before → IsTextPut p certs func text p others put → IsAnswered p others put.answers
+section_answered p certs others func text before put kept h = record {
+  laid_out = kept.laid_out;
+  sized = kept.sized;
+  one_each = ap length h.2.certs_are ∙ length_set certs func h.0 ∙ kept.one_each;
+  are_answers = h.2.answers;
+}
+
+-- so it is where the code is another one too
+code_answered : (p q : LaidOut) (certs others : List Section) (func : ℕ) (code text : Text) (before : List (Option Refusal)) (put : Put) → IsAnswered p certs before → IsBothPut p certs func code text q others put
+    → IsAnswered q others put.answers
+code_answered p q certs others func code text before put kept h = record {
+  laid_out = h.laid_out;
+  sized = h.sized;
+  one_each = ap length h.of_text.2.certs_are ∙ length_set certs func h.of_text.0 ∙ kept.one_each ∙ sym (replaced_length p.of_module func code q.of_module h.of_code);
+  are_answers = h.of_text.2.answers;
+}
+
+module _ (p : LaidOut) (certs : List Section) (before : List (Option Refusal)) (kept : IsAnswered p certs before) (func : ℕ) (e : Edit) where
+  -- ---- of a section
+
+  module _ (name text : Text) (is : e ≡ edit.Cert name text) where
+    pub section_edited : (others : List Section) (r : Result Put EditFault) → IfOk r (λ put. IsTextPut p certs func text p others put)
+        → (n : ℕ) → IfOk r (λ put. IsEditedAt (state p certs n) func e (state p others put.rechecked))
+    section_edited others (Ok put) h n =
+        subst (λ (x : Edit). IsEditedAt (state p certs n) func x (state p others put.rechecked)) (sym is)
+        (h.0, h.1, record { of_module = refl; laid_out = kept.laid_out; sized = kept.sized; certs = h.2.certs_are; rechecked = h.2.rechecked })
+    section_edited others (Err x) h n = tt
+
+    pub section_kept : (others : List Section) (r : Result Put EditFault) → IfOk r (λ put. IsTextPut p certs func text p others put) → IfOk r (λ put. IsAnswered p others put.answers)
+    section_kept others (Ok put) h = section_answered p certs others func text before put kept h
+    section_kept others (Err x) h = tt
+
+    pub section_fault_at : (r : Result Put EditFault) → IfErr r (λ f. f ≢ Memory → HasSectionFault p.of_module func text f) → (n : ℕ) → IfErr r (λ f. f ≢ Memory → IsRefusedAt (state p certs n) func e f)
+    section_fault_at (Ok put) h n = tt
+    section_fault_at (Err f) h n = λ differs. inl (subst (λ (x : Edit). IsFaultAt (state p certs n) func x f) (sym is) (h differs))
+
+    pub section_taken_at : (r : Result Put EditFault) → ((section : Section) → IsSection text p.of_module func section → IsTaken r) → (n : ℕ) (t : State) → IsEditedAt (state p certs n) func e t → IsTaken r
+    section_taken_at r only n t h = let at : IsSectionPut (state p certs n) func p.of_module text t = subst (λ (x : Edit). IsEditedAt (state p certs n) func x t) is h in only at.0 at.1
+
+    pub section_refused_at : (r : Result Put EditFault) → ((f : EditFault) → HasSectionFault p.of_module func text f → IsRefusedBy r f) → (n : ℕ) (f : EditFault) → IsFaultAt (state p certs n) func e f → IsRefusedBy r f
+    section_refused_at r only n f h = only f (subst (λ (x : Edit). IsFaultAt (state p certs n) func x f) is h)
+
+  -- ---- of code
+
+  module _ (code text : Text) (is : IsOfCode p certs func e code text) where
+    to_code_put : (n : ℕ) (t : State) → IsEditedAt (state p certs n) func e t → IsCodePut (state p certs n) func code text t
+    to_code_put n t h = elim is [
+      | inl x ↦ subst (λ (y : Text). IsCodePut (state p certs n) func code y t) (sym x.2) (subst (λ (y : Edit). IsEditedAt (state p certs n) func y t) x.1 h)
+      | inr x ↦ subst (λ (y : Edit). IsEditedAt (state p certs n) func y t) x.1 h
+    ]
+
+    of_code_put : (n : ℕ) (t : State) → IsCodePut (state p certs n) func code text t → IsEditedAt (state p certs n) func e t
+    of_code_put n t h = elim is [
+      | inl x ↦ subst (λ (y : Edit). IsEditedAt (state p certs n) func y t) (sym x.1) (subst (λ (y : Text). IsCodePut (state p certs n) func code y t) x.2 h)
+      | inr x ↦ subst (λ (y : Edit). IsEditedAt (state p certs n) func y t) (sym x.1) h
+    ]
+
+    to_fault_put : (n : ℕ) (f : EditFault) → IsFaultAt (state p certs n) func e f → HasCodeFault p.of_module func code text f
+    to_fault_put n f h = elim is [
+      | inl x ↦ subst (λ (y : Text). HasCodeFault p.of_module func code y f) (sym x.2) (subst (λ (y : Edit). IsFaultAt (state p certs n) func y f) x.1 h)
+      | inr x ↦ subst (λ (y : Edit). IsFaultAt (state p certs n) func y f) x.1 h
+    ]
+
+    of_fault_put : (n : ℕ) (f : EditFault) → HasCodeFault p.of_module func code text f → IsFaultAt (state p certs n) func e f
+    of_fault_put n f h = elim is [
+      | inl x ↦ subst (λ (y : Edit). IsFaultAt (state p certs n) func y f) (sym x.1) (subst (λ (y : Text). HasCodeFault p.of_module func code y f) x.2 h)
+      | inr x ↦ subst (λ (y : Edit). IsFaultAt (state p certs n) func y f) (sym x.1) h
+    ]
+
+    of_layout_put : (n : ℕ) (f : EditFault) → HasLayoutFault p.of_module func code text f → HasLayoutFaultAt (state p certs n) func e f
+    of_layout_put n f h = elim is [
+      | inl x ↦ subst (λ (y : Edit). HasLayoutFaultAt (state p certs n) func y f) (sym x.1) (subst (λ (y : Text). HasLayoutFault p.of_module func code y f) x.2 h)
+      | inr x ↦ subst (λ (y : Edit). HasLayoutFaultAt (state p certs n) func y f) (sym x.1) h
+    ]
+
+    pub code_edited : (q : LaidOut) (others : List Section) (r : Result Put EditFault) → IfOk r (λ put. IsBothPut p certs func code text q others put)
+        → (n : ℕ) → IfOk r (λ put. IsEditedAt (state p certs n) func e (state q others put.rechecked))
+    code_edited q others (Ok put) h n =
+        of_code_put n (state q others put.rechecked)
+        (q.of_module, h.of_code, (h.of_text.0, h.of_text.1, record { of_module = refl; laid_out = h.laid_out; sized = h.sized; certs = h.of_text.2.certs_are; rechecked = h.of_text.2.rechecked }))
+    code_edited q others (Err x) h n = tt
+
+    pub code_kept : (q : LaidOut) (others : List Section) (r : Result Put EditFault) → IfOk r (λ put. IsBothPut p certs func code text q others put) → IfOk r (λ put. IsAnswered q others put.answers)
+    code_kept q others (Ok put) h = code_answered p q certs others func code text before put kept h
+    code_kept q others (Err x) h = tt
+
+    pub code_fault_at : (r : Result Put EditFault) → IfErr r (λ f. f ≢ Memory → HasCodeFault p.of_module func code text f ⊎ HasLayoutFault p.of_module func code text f)
+        → (n : ℕ) → IfErr r (λ f. f ≢ Memory → IsRefusedAt (state p certs n) func e f)
+    code_fault_at (Ok put) h n = tt
+    code_fault_at (Err f) h n = λ differs. elim (h differs) [
+      | inl x ↦ inl (of_fault_put n f x)
+      | inr x ↦ inr (of_layout_put n f x)
+    ]
+
+    pub code_taken_at : (r : Result Put EditFault)
+        → ((m : Module) (section : Section) (words : List (List WordKind)) → IsReplaced p.of_module func code m → IsSection text m func section → AreLayouts m words → IsTaken r)
+        → (n : ℕ) (t : State) → IsEditedAt (state p certs n) func e t → IsTaken r
+    code_taken_at r only n t h =
+        let at = to_code_put n t h in
+        let put = at.2.2 in
+        only at.0 at.2.0 t.program.layouts at.1 at.2.1 (subst (λ (x : Module). AreLayouts x t.program.layouts) put.of_module put.laid_out)
+
+    pub code_refused_at : (r : Result Put EditFault) → ((f : EditFault) → HasCodeFault p.of_module func code text f → IsRefusedBy r f) → (n : ℕ) (f : EditFault) → IsFaultAt (state p certs n) func e f → IsRefusedBy r f
+    code_refused_at r only n f h = only f (to_fault_put n f h)
+
+-- ---- the function that is named
+
+-- what the name in an edit stands for
+pub named_here : (m same_m : Module) → same_m ≡ m → (e : Edit) (name : Text) → name ≡ name_in e → (found named : Option ℕ) → found ≡ function_named same_m name → found ≡ named → function_named m (name_in e) ≡ named
+named_here m same_m same e name is found named number there =
+    ap (λ (x : Module). function_named x (name_in e)) (sym same) ∙ ap (function_named same_m) (sym is) ∙ sym number ∙ there
+
+module _ (p : LaidOut) (certs : List Section) (func : ℕ) (e : Edit) (named : function_named p.of_module (name_in e) ≡ Some func) where
+  pub named_edited : (q : LaidOut) (others : List Section) (r : Result Put EditFault) → ((n : ℕ) → IfOk r (λ put. IsEditedAt (state p certs n) func e (state q others put.rechecked)))
+      → (n : ℕ) → IfOk r (λ put. IsEdited (state p certs n) e (state q others put.rechecked))
+  named_edited q others (Ok put) h n = (func, named, h n)
+  named_edited q others (Err x) h n = tt
+
+  pub named_fault : (r : Result Put EditFault) → ((n : ℕ) → IfErr r (λ f. f ≢ Memory → IsRefusedAt (state p certs n) func e f)) → (n : ℕ) → IfErr r (λ f. f ≢ Memory → IsRefusedFor (state p certs n) e f)
+  named_fault (Ok put) h n = tt
+  named_fault (Err f) h n = λ differs. inr (func, named, h n differs)
+
+  one_name : (other : ℕ) → function_named p.of_module (name_in e) ≡ Some other → other ≡ func
+  one_name other is = let same : Some other ≡ Some func = sym is ∙ named in cc
+
+  pub named_taken : (r : Result Put EditFault) → ((n : ℕ) (t : State) → IsEditedAt (state p certs n) func e t → IsTaken r) → (n : ℕ) (t : State) → IsEdited (state p certs n) e t → IsTaken r
+  named_taken r only n t h = only n t (subst (λ (f : ℕ). IsEditedAt (state p certs n) f e t) (one_name h.0 h.1) h.2)
+
+  pub named_refused : (r : Result Put EditFault) → ((n : ℕ) (f : EditFault) → IsFaultAt (state p certs n) func e f → IsRefusedBy r f) → (n : ℕ) (f : EditFault) → IsEditFault (state p certs n) e f → IsRefusedBy r f
+  named_refused r only n f (inl h) = absurd (neither (sym h.0 ∙ named)) where
+    neither : ◌≡◌ {A = Option ℕ} None (Some func) → ⊥
+    neither h = absurd cc
+  named_refused r only n f (inr h) = only n f (subst (λ (g : ℕ). IsFaultAt (state p certs n) g e f) (one_name h.0 h.1) h.2)
+
+-- ---- where no function is named
+
+module _ (p : LaidOut) (certs : List Section) (e : Edit) (none : function_named p.of_module (name_in e) ≡ None) (f : EditFault) (is : f ≡ no_function e) where
+  pub none_fault : (n : ℕ) → f ≢ Memory → IsRefusedFor (state p certs n) e f
+  none_fault n differs = inl (none, sym is)
+
+  some_named : (func : ℕ) → function_named p.of_module (name_in e) ≡ Some func → ⊥
+  some_named func h = absurd (let both : ◌≡◌ {A = Option ℕ} None (Some func) = sym none ∙ h in cc)
+
+  pub none_taken : (n : ℕ) (t : State) → IsEdited (state p certs n) e t → f ≢ Memory → ⊥
+  none_taken n t h differs = some_named h.0 h.1
+
+  pub none_refused : (n : ℕ) (g : EditFault) → IsEditFault (state p certs n) e g → f ≢ Memory → f ≡ g
+  none_refused n g (inl h) differs = is ∙ h.1
+  none_refused n g (inr h) differs = absurd (some_named h.0 h.1)

@@ -1,0 +1,10 @@
+pub mod Lists
+pub mod Results
+pub mod Verdicts
+pub mod Same
+pub mod Looks
+pub mod Faults
+pub mod Puts
+pub mod Within
+pub mod Sizes
+pub mod Edited

@@ -1,0 +1,39 @@
+use Rattle.std.proofs.Common.{◌<◌, ℕ, sym, subst, ◌∙◌}
+use Rattle.ir_ast.specs.declared.module.Module.{Module}
+use Rattle.certificate.specs.Anew.{IsSection}
+use Rattle.layout.specs.Layouts.{LaidOut}
+use Rattle.recheck.specs.Edits.{HasSectionFault}
+use Rattle.recheck.proofs.Puts.{with_other, program_back, as_many_functions}
+use Rattle.recheck.proofs.put.put_in_place.Goals as goal
+
+pub put_section-requires-clause-answers : goal.put_section-requires-clause-answers
+put_section-requires-clause-answers c =
+    c.requires.answers.one_each ∙ sym (as_many_functions c.args.program.now c.replace_function-old.new.self c.args.func c.args.function c.replace_function-old.ensures.new)
+
+pub replace_function-requires : goal.replace_function-requires
+replace_function-requires c =
+    subst (λ (n : ℕ). c.args.func < n) (sym (as_many_functions c.args.program.now c.replace_function-old.new.self c.args.func c.args.function c.replace_function-old.ensures.new)) c.requires.function
+
+pub returns-in-Ok-clause-put : goal.returns-in-Ok-clause-put
+returns-in-Ok-clause-put c =
+    c.in-Ok.ensures.put c.args.program.now c.requires.answers
+    (with_other c.args.program.now c.replace_function-old.new.self c.args.func c.replace_function-old.result c.args.function c.replace_function-old.ensures.new c.replace_function-old.ensures.given_back)
+
+pub returns-in-Ok-clause-only_fault : goal.returns-in-Ok-clause-only_fault
+returns-in-Ok-clause-only_fault c = λ e h.
+    c.in-Ok.ensures.only_fault e (subst (λ (q : LaidOut). HasSectionFault q.of_module c.args.func c.args.text.now e) (sym c.replace_function-old.ensures.new) h)
+
+pub returns-in-Err-clause-kept : goal.returns-in-Err-clause-kept
+returns-in-Err-clause-kept c = (
+  program_back c.args.program.now c.replace_function-old.new.self c.replace_function.new.self c.args.func c.replace_function-old.result c.args.function c.replace_function-old.ensures.new c.replace_function-old.ensures.given_back c.replace_function.ensures.new,
+  c.in-Err.ensures.kept,
+)
+
+pub returns-in-Err-clause-fault : goal.returns-in-Err-clause-fault
+returns-in-Err-clause-fault c = λ differs. subst (λ (q : LaidOut). HasSectionFault q.of_module c.args.func c.args.text.now c.in-Err.fault) c.replace_function-old.ensures.new (c.in-Err.ensures.fault differs)
+
+pub returns-in-Err-clause-only : goal.returns-in-Err-clause-only
+returns-in-Err-clause-only c = λ section is. c.in-Err.ensures.only section (subst (λ (q : LaidOut). IsSection c.args.text.now q.of_module c.args.func section) (sym c.replace_function-old.ensures.new) is)
+
+pub returns-in-Err-clause-only_fault : goal.returns-in-Err-clause-only_fault
+returns-in-Err-clause-only_fault c = λ e h. c.in-Err.ensures.only_fault e (subst (λ (q : LaidOut). HasSectionFault q.of_module c.args.func c.args.text.now e) (sym c.replace_function-old.ensures.new) h)

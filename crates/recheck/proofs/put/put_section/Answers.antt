@@ -1,0 +1,35 @@
+use Rattle.std.proofs.Common.{◌<◌, ℕ, subst, sym}
+use Rattle.ir_ast.specs.declared.module.Module.{Module}
+use Rattle.certs.specs.declared.section.Section.{Section}
+use Rattle.certificate.specs.Anew.{IsSection}
+use Rattle.recheck.specs.Edits.{HasSectionFault}
+use Rattle.recheck.proofs.Faults.{of_section, to_section}
+use Rattle.recheck.proofs.Puts.{with_section, put_so, certs_back, as_many_sections}
+use Rattle.recheck.proofs.put.put_section.Goals as goal
+
+pub replace-requires : goal.replace-requires
+replace-requires c =
+    subst (λ (n : ℕ). c.args.func < n) (sym (as_many_sections c.args.certs.now c.replace-past.new.self c.args.func c.in-Ok.section c.replace-past.ensures.new)) c.requires.section
+
+pub returns-in-Ok-answered-clause-put : goal.returns-in-Ok-answered-clause-put
+returns-in-Ok-answered-clause-put c = λ p are code.
+    let section = with_section c.args.certs.now c.replace-past.new.self c.args.func c.replace-past.result c.in-Ok.section c.replace-past.ensures.new c.replace-past.ensures.given_back in
+    put_so p c.args.certs.now c.args.program.now c.replace-past.new.self c.args.func c.args.old.now c.replace-past.result c.in-Ok.section c.args.text.now c.in-Ok-answered.put
+    (of_section c.args.program.now.of_module c.module.result.now c.module.ensures.of_module c.args.func c.args.text.now c.in-Ok.section c.in-Ok.ensures.found)
+    c.replace-past.ensures.new code.code c.replace-past.ensures.given_back (c.in-Ok-answered.ensures.answers p c.args.certs.now are code section) c.in-Ok-answered.ensures.count
+
+pub returns-in-Ok-answered-clause-only_fault : goal.returns-in-Ok-answered-clause-only_fault
+returns-in-Ok-answered-clause-only_fault c = λ e h.
+    c.in-Ok.ensures.only_fault e (subst (λ (m : Module). HasSectionFault m c.args.func c.args.text.now e) (sym c.module.ensures.of_module) h)
+
+pub returns-in-Err-clause-only : goal.returns-in-Err-clause-only
+returns-in-Err-clause-only c = λ section is. c.in-Err.ensures.only section (to_section c.args.program.now.of_module c.module.result.now c.module.ensures.of_module c.args.func c.args.text.now section is)
+
+pub returns-in-Err-clause-fault : goal.returns-in-Err-clause-fault
+returns-in-Err-clause-fault c = λ differs. subst (λ (m : Module). HasSectionFault m c.args.func c.args.text.now c.in-Err.fault) c.module.ensures.of_module (c.in-Err.ensures.fault differs)
+
+pub returns-in-Err-clause-only_fault : goal.returns-in-Err-clause-only_fault
+returns-in-Err-clause-only_fault c = λ e h. c.in-Err.ensures.only_fault e (subst (λ (m : Module). HasSectionFault m c.args.func c.args.text.now e) (sym c.module.ensures.of_module) h)
+
+pub returns-in-Err-answered-clause-kept : goal.returns-in-Err-answered-clause-kept
+returns-in-Err-answered-clause-kept c = certs_back c.args.certs.now c.replace-past.new.self c.replace.new.self c.args.func c.replace-past.result c.in-Ok.section c.replace-past.ensures.new c.replace-past.ensures.given_back c.replace.ensures.new

@@ -1,0 +1,9 @@
+use Rattle.std.proofs.Common.{slice_get, ap, sym, ◌∙◌}
+use Rattle.std.specs.Option.{option_copied}
+use Rattle.recheck.proofs.Looks.{seen_same}
+use Rattle.recheck.proofs.told.seen.Goals as goal
+
+pub returns-then-looks_same : goal.returns-then-looks_same
+returns-then-looks_same c =
+    seen_same (slice_get c.args.module.now.functions c.args.func) (slice_get c.args.certs.now c.args.func) c.args.old.now c.in-Some.new.now c.args.past.now c.in-Some-section.next.now
+    (ap (slice_get c.args.module.now.functions) (sym c.number.ensures) ∙ sym c.get.ensures.value ∙ ap option_copied c.in-Some.is) (sym c.section.ensures ∙ ap option_copied c.in-Some-section.is) (c.looks_same.ensures c.if-looks_same.true)

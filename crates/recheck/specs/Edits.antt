@@ -1,0 +1,153 @@
+-- What an edit makes of a session, and which fault it has first.
+use Rattle.std.specs.Prelude.{◌≡◌, ◌≢◌, ◌⊎◌, ℕ, List, [], slice_get, slice_set, Option, Some, None, Result, Ok, Err}
+use Rattle.ir_ast.specs.declared.function.Function.{Function}
+use Rattle.ir_ast.specs.declared.module.Module.{Module}
+use Rattle.ir_tokens.specs.Bytes.{Text}
+use Rattle.ir_text.specs.Replaced.{IsReplaced, IsReplaceFault}
+use Rattle.ir_text.specs.declared.read_fault.ReadFault.{ReadFault}
+use Rattle.ir_text.specs.declared.read_fault.ReadFault.TheVariants as read
+use Rattle.certs.specs.declared.section.Section.{Section}
+use Rattle.certificate.specs.Anew.{IsSection, IsSectionFault}
+use Rattle.certificate.specs.Print.{section_text}
+use Rattle.certificate.specs.declared.fault.CertFault.{CertFault}
+use Rattle.certificate.specs.declared.fault.CertFault.TheVariants as cert
+use Rattle.layout.specs.Layouts.{AreLayouts, AreSizes, IsLayoutFault}
+use Rattle.layout.specs.declared.fault.LayoutFault.{LayoutFault}
+use Rattle.layout.specs.declared.fault.LayoutFault.TheVariants as layout
+use Rattle.edit_text.specs.declared.edit.Edit.{Edit}
+use Rattle.edit_text.specs.declared.edit.Edit.TheVariants as edit
+use Rattle.recheck.specs.Named.{function_named}
+use Rattle.recheck.specs.Session.{State}
+use Rattle.recheck.specs.Told.{rechecked_by}
+use Rattle.recheck.specs.declared.edit_fault.EditFault.{EditFault}
+use Rattle.recheck.specs.declared.edit_fault.EditFault.TheVariants as fault
+
+-- ---- parts of a session
+
+-- the module of a session
+abbrev pub module_in : State → Module
+module_in s = s.program.of_module
+
+-- the code of a function in a session
+abbrev pub code_in : State → (func : ℕ) → Option Function
+code_in s func = slice_get s.program.of_module.functions func
+
+-- the section of a function in a session
+abbrev pub section_in : State → (func : ℕ) → Option Section
+section_in s func = slice_get s.certs func
+
+-- a section's text with this code of its function
+abbrev pub text_with : Module → Option Function → Option Section → Text
+text_with m (Some f) (Some section) = section_text m f section
+text_with m _ _ = []
+
+-- the text of a function's section in a session, as it is printed with the code that is there
+abbrev pub kept_text : State → (func : ℕ) → Text
+kept_text s func = text_with (module_in s) (code_in s func) (section_in s func)
+
+-- ---- what is taken
+
+-- The session after an edit of one function. Its module is `m`, with the layouts and sizes of `m`. `section` is in the place of the function's section. Its count is the number of functions that were checked again.
+pub record IsPut (s : State) (func : ℕ) (m : Module) (section : Section) (t : State) : Type 0 where
+  pub of_module : t.program.of_module ≡ m
+  pub laid_out : AreLayouts t.program.of_module t.program.layouts
+  pub sized : AreSizes t.program.of_module t.program.sizes
+  pub certs : t.certs ≡ slice_set s.certs func section
+  pub rechecked : t.rechecked ≡ rechecked_by t.program.of_module t.certs func (code_in s func) (section_in s func)
+
+-- the session after an edit that gives the module `m` and a text of the function's section
+abbrev pub IsSectionPut : State → (func : ℕ) → Module → Text → State → Type 0
+IsSectionPut s func m text t = (section : Section) × IsSection text m func section × IsPut s func m section t
+
+-- the session after an edit that gives a text of the function's code, and a text of its section
+abbrev pub IsCodePut : State → (func : ℕ) → (code text : Text) → State → Type 0
+IsCodePut s func code text t = (m : Module) × IsReplaced (module_in s) func code m × IsSectionPut s func m text t
+
+-- The session after an edit of one function. Where the edit gives no section, the text is that of the present section, printed with the present code.
+abbrev pub IsEditedAt : State → (func : ℕ) → Edit → State → Type 0
+IsEditedAt s func (edit.Code name code) t = IsCodePut s func code (kept_text s func) t
+IsEditedAt s func (edit.Cert name section) t = IsSectionPut s func (module_in s) section t
+IsEditedAt s func (edit.Both name code section) t = IsCodePut s func code section t
+
+-- the name in an edit
+abbrev pub name_in : Edit → Text
+name_in (edit.Code name code) = name
+name_in (edit.Cert name section) = name
+name_in (edit.Both name code section) = name
+
+-- The session after an edit that is taken: it names a function, whose code, section, or both are those of its texts.
+abbrev pub IsEdited : State → Edit → State → Type 0
+IsEdited s e t = (func : ℕ) × (function_named (module_in s) (name_in e) ≡ Some func) × IsEditedAt s func e t
+
+-- ---- what is refused
+
+-- the edit is taken, unless memory runs out
+abbrev pub IsTaken : {X : Type 0} → Result X EditFault → Type 0
+IsTaken (Ok x) = Unit {0}
+IsTaken (Err e) = e ≢ fault.Memory → ⊥
+
+-- the edit is refused for this fault, unless memory runs out
+abbrev pub IsRefusedBy : {X : Type 0} → Result X EditFault → EditFault → Type 0
+IsRefusedBy (Ok x) f = ⊥
+IsRefusedBy (Err e) f = e ≢ fault.Memory → e ≡ f
+
+-- the fault of an edit whose code has this fault
+abbrev pub code_fault : ReadFault → EditFault
+code_fault read.Memory = fault.Memory
+code_fault f = fault.Code f
+
+-- the fault of an edit whose section has this fault
+abbrev pub section_fault : CertFault → EditFault
+section_fault cert.Memory = fault.Memory
+section_fault f = fault.Cert f
+
+-- the fault of an edit after which the layouts have this fault
+abbrev pub layout_fault : LayoutFault → EditFault
+layout_fault layout.Memory = fault.Memory
+layout_fault f = fault.Layout f
+
+-- the fault of an edit of a function that is not there
+abbrev pub no_function : Edit → EditFault
+no_function (edit.Code name code) = fault.NoFunction
+no_function (edit.Cert name section) = fault.NoSection
+no_function (edit.Both name code section) = fault.NoFunction
+
+-- the section of a function has this fault
+abbrev pub HasSectionFault : Module → (func : ℕ) → Text → EditFault → Type 0
+HasSectionFault m func text e = (f : CertFault) × IsSectionFault text m func f × (section_fault f ≡ e)
+
+-- the code of a function has this fault; or it has none, and the section with it has
+abbrev pub HasCodeFault : Module → (func : ℕ) → (code text : Text) → EditFault → Type 0
+HasCodeFault m func code text e =
+    ((f : ReadFault) × IsReplaceFault m func code f × (code_fault f ≡ e)) ⊎ ((n : Module) × IsReplaced m func code n × HasSectionFault n func text e)
+
+-- the texts of an edit of one function have this fault first
+abbrev pub IsFaultAt : State → (func : ℕ) → Edit → EditFault → Type 0
+IsFaultAt s func (edit.Code name code) e = HasCodeFault (module_in s) func code (kept_text s func) e
+IsFaultAt s func (edit.Cert name section) e = HasSectionFault (module_in s) func section e
+IsFaultAt s func (edit.Both name code section) e = HasCodeFault (module_in s) func code section e
+
+-- An edit has this fault first: it names no function; or its texts have it.
+abbrev pub IsEditFault : State → Edit → EditFault → Type 0
+IsEditFault s e f =
+    ((function_named (module_in s) (name_in e) ≡ None) × (no_function e ≡ f)) ⊎ ((func : ℕ) × (function_named (module_in s) (name_in e) ≡ Some func) × IsFaultAt s func e f)
+
+-- the module with the code that is read has this fault in its layouts
+abbrev pub HasLayoutFault : Module → (func : ℕ) → (code text : Text) → EditFault → Type 0
+HasLayoutFault m func code text e =
+    (n : Module) × IsReplaced m func code n × ((section : Section) × IsSection text n func section) × ((f : LayoutFault) × IsLayoutFault n f × (layout_fault f ≡ e))
+
+-- the module after an edit of one function has this fault in its layouts
+abbrev pub HasLayoutFaultAt : State → (func : ℕ) → Edit → EditFault → Type 0
+HasLayoutFaultAt s func (edit.Code name code) e = HasLayoutFault (module_in s) func code (kept_text s func) e
+HasLayoutFaultAt s func (edit.Cert name section) e = ⊥
+HasLayoutFaultAt s func (edit.Both name code section) e = HasLayoutFault (module_in s) func code section e
+
+-- why the texts of an edit of one function are refused: their first fault; or they have none, and the module after it has no layouts
+abbrev pub IsRefusedAt : State → (func : ℕ) → Edit → EditFault → Type 0
+IsRefusedAt s func e f = IsFaultAt s func e f ⊎ HasLayoutFaultAt s func e f
+
+-- Why an edit is refused: it names no function; or its texts are refused.
+abbrev pub IsRefusedFor : State → Edit → EditFault → Type 0
+IsRefusedFor s e f =
+    ((function_named (module_in s) (name_in e) ≡ None) × (no_function e ≡ f)) ⊎ ((func : ℕ) × (function_named (module_in s) (name_in e) ≡ Some func) × IsRefusedAt s func e f)

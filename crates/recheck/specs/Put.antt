@@ -1,0 +1,50 @@
+-- One function with its section in a program, and what an edit gives beside them.
+use Rattle.std.specs.Prelude.{◌≡◌, ◌≢◌, ℕ, List, slice_get, slice_set, Option, Some}
+use Rattle.ir_ast.specs.declared.function.Function.{Function}
+use Rattle.ir_ast.specs.declared.module.Module.{Module}
+use Rattle.ir_tokens.specs.Bytes.{Text}
+use Rattle.ir_text.specs.Replaced.{IsReplaced}
+use Rattle.certs.specs.declared.section.Section.{Section}
+use Rattle.certificate.specs.Anew.{IsSection}
+use Rattle.layout.specs.Functions.{with_functions, laid_with}
+use Rattle.layout.specs.Layouts.{LaidOut, AreLayouts, AreSizes}
+use Rattle.answers.specs.Answers.{AreAnswers}
+use Rattle.recheck.specs.Session.{State}
+use Rattle.recheck.specs.Told.{rechecked_by}
+use Rattle.recheck.specs.declared.put.Put.{Put}
+
+-- a session of these parts
+abbrev pub state : LaidOut → (certs : List Section) → (rechecked : ℕ) → State
+state program certs rechecked = record { program = program; certs = certs; rechecked = rechecked }
+
+-- the module with this function in the place of the one with this number
+abbrev pub with_function : Module → (func : ℕ) → Function → Module
+with_function m func f = with_functions m (slice_set m.functions func f)
+
+-- the program has the tables and functions of another one, but for this function, which had this code there
+pub record IsWithCode (p q : LaidOut) (func : ℕ) (old : Function) : Type 0 where
+  pub tables : q ≡ laid_with p q.of_module.functions
+  pub others : (other : ℕ) → other ≢ func → slice_get q.of_module.functions other ≡ slice_get p.of_module.functions other
+  pub code : slice_get p.of_module.functions func ≡ Some old
+
+-- the certificates are other ones, but for that of this function, which was this one there
+pub record IsWithSection (certs others : List Section) (func : ℕ) (past : Section) : Type 0 where
+  pub others_same : (other : ℕ) → other ≢ func → slice_get others other ≡ slice_get certs other
+  pub section : slice_get certs func ≡ Some past
+
+-- `section` is in the place of the function's section, `put` has the answers to all functions, and its count is the number of functions that were checked again
+pub record IsPutWith (p : LaidOut) (certs : List Section) (func : ℕ) (section : Section) (q : LaidOut) (others : List Section) (put : Put) : Type 0 where
+  pub certs_are : others ≡ slice_set certs func section
+  pub answers : AreAnswers q others put.answers
+  pub rechecked : put.rechecked ≡ rechecked_by q.of_module others func (slice_get p.of_module.functions func) (slice_get certs func)
+
+-- the section of this text is in the place of the function's, with the answers and the count
+abbrev pub IsTextPut : (p : LaidOut) (certs : List Section) (func : ℕ) → Text → (q : LaidOut) (others : List Section) → Put → Type 0
+IsTextPut p certs func text q others put = (section : Section) × IsSection text q.of_module func section × IsPutWith p certs func section q others put
+
+-- The function of this code and the section of this text are in the place of the function's, with the answers and the count. The program is laid out.
+pub record IsBothPut (p : LaidOut) (certs : List Section) (func : ℕ) (code text : Text) (q : LaidOut) (others : List Section) (put : Put) : Type 0 where
+  pub of_code : IsReplaced p.of_module func code q.of_module
+  pub laid_out : AreLayouts q.of_module q.layouts
+  pub sized : AreSizes q.of_module q.sizes
+  pub of_text : IsTextPut p certs func text q others put

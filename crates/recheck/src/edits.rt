@@ -1,0 +1,143 @@
+//! What an edit makes of a module and its certificates.
+ghost use Rattle.std.specs.Prelude.{◌≡◌, ◌≢◌, ◌<◌, ℕ, Some, length, slice_get, IfOk, IfErr, OnErr};
+ghost use Rattle.answers.specs.Answers.{AreAnswers};
+ghost use Rattle.recheck.specs.Edits as spec;
+ghost use Rattle.recheck.specs.Edits.{IsEdited, IsEditFault, IsRefusedFor, IsTaken, IsRefusedBy};
+ghost use Rattle.recheck.specs.Put.{state};
+ghost use Rattle.recheck.specs.Session.{State as AState, IsAnswered};
+ghost use Rattle.recheck.specs.declared.edit_fault.EditFault.{EditFault as AFault};
+ghost use Rattle.recheck.specs.declared.edit_fault.EditFault.TheVariants.{Memory};
+
+use crate::code::put_code;
+use crate::edit_fault::EditFault;
+use crate::named::function_named;
+use crate::put::{Put, function_at, put_section_of};
+use block_rules::Refusal;
+use certificate::print_section;
+use certs::{Certs, Section};
+use edit_text::Edit;
+use ir_ast::FuncId;
+use layout::Program;
+use std::alloc::{AllocError, Global};
+
+/// The name in an edit.
+fn name_in(edit: &Edit) -> &[u8]
+    ensures { result.now ≡ spec.name_in edit.now }
+{
+    match edit {
+        Edit::Code { name, .. } => name.as_slice(),
+        Edit::Cert { name, .. } => name.as_slice(),
+        Edit::Both { name, .. } => name.as_slice(),
+    }
+}
+
+/// The fault of an edit of a function that is not there.
+fn no_function(edit: &Edit) -> EditFault
+    ensures { result ≡ spec.no_function edit.now }
+{
+    match edit {
+        Edit::Cert { .. } => EditFault::NoSection,
+        _ => EditFault::NoFunction,
+    }
+}
+
+/// The section of the function with this number.
+fn section_at(certs: &Certs, func: FuncId) -> &Section
+    requires { func < length certs.now }
+    ensures { slice_get certs.now func ≡ Some result.now }
+{
+    &certs.sections()[func.number() as usize]
+}
+
+/// The text of a function's section, as it is printed with the code that is there.
+fn kept_text(
+    alloc: Global,
+    program: &Program,
+    certs: &Certs,
+    func: FuncId,
+) -> Result<Vec<u8>, AllocError>
+    requires function { func < length program.now.of_module.functions }
+    requires section { func < length certs.now }
+    ensures { IfOk result (λ text. text.items ≡ spec.text_with program.now.of_module (slice_get program.now.of_module.functions func) (slice_get certs.now func)) }
+{
+    let of_module = program.module();
+    let function = function_at(of_module, func);
+    let section = section_at(certs, func);
+    print_section(alloc, section, of_module, function)
+}
+
+/// Puts the texts of an edit of this function in the place of what is there. Where that is refused, all is as before.
+fn put_at(
+    alloc: Global,
+    program: &mut Program,
+    certs: &mut Certs,
+    before: &[Option<Refusal>],
+    func: FuncId,
+    edit: &Edit,
+) -> Result<Put, EditFault>
+    requires function { func < length program.old.of_module.functions }
+    requires answered { IsAnswered program.old certs.old before.now }
+    ensures put { (n : ℕ) → IfOk result (λ put. spec.IsEditedAt (state program.old certs.old n) func edit.now (state program.new certs.new put.rechecked)) }
+    ensures answered { IfOk result (λ put. IsAnswered program.new certs.new put.answers) }
+    ensures kept { OnErr result ((program.new ≡ program.old) × (certs.new ≡ certs.old)) }
+    ensures fault { (n : ℕ) → IfErr result (λ e. e ≢ Memory → spec.IsRefusedAt (state program.old certs.old n) func edit.now e) }
+    ensures only { (n : ℕ) (t : AState) → spec.IsEditedAt (state program.old certs.old n) func edit.now t → IsTaken result }
+    ensures only_fault { (n : ℕ) (e : AFault) → spec.IsFaultAt (state program.old certs.old n) func edit.now e → IsRefusedBy result e }
+{
+    match edit {
+        Edit::Cert { section, .. } => put_section_of(
+            alloc,
+            program,
+            certs,
+            func,
+            section.as_slice(),
+            before,
+        ),
+        Edit::Code { code, .. } => {
+            let text = match kept_text(alloc, program, certs, func) {
+                Ok(text) => text,
+                Err(_) => return Err(EditFault::Memory),
+            };
+            put_code(
+                alloc,
+                program,
+                certs,
+                func,
+                code.as_slice(),
+                text.as_slice(),
+                before,
+            )
+        }
+        Edit::Both { code, section, .. } => put_code(
+            alloc,
+            program,
+            certs,
+            func,
+            code.as_slice(),
+            section.as_slice(),
+            before,
+        ),
+    }
+}
+
+/// Puts the texts of an edit in the place of what is there. Where that is refused, all is as before.
+pub fn put_edit(
+    alloc: Global,
+    program: &mut Program,
+    certs: &mut Certs,
+    before: &[Option<Refusal>],
+    edit: &Edit,
+) -> Result<Put, EditFault>
+    requires { IsAnswered program.old certs.old before.now }
+    ensures put { (n : ℕ) → IfOk result (λ put. IsEdited (state program.old certs.old n) edit.now (state program.new certs.new put.rechecked)) }
+    ensures answered { IfOk result (λ put. IsAnswered program.new certs.new put.answers) }
+    ensures kept { OnErr result ((program.new ≡ program.old) × (certs.new ≡ certs.old)) }
+    ensures fault { (n : ℕ) → IfErr result (λ e. e ≢ Memory → IsRefusedFor (state program.old certs.old n) edit.now e) }
+    ensures only { (n : ℕ) (t : AState) → IsEdited (state program.old certs.old n) edit.now t → IsTaken result }
+    ensures only_fault { (n : ℕ) (e : AFault) → IsEditFault (state program.old certs.old n) edit.now e → IsRefusedBy result e }
+{
+    match function_named(program.module(), name_in(edit)) {
+        Some(func) => put_at(alloc, program, certs, before, func, edit),
+        None => Err(no_function(edit)),
+    }
+}

@@ -1,0 +1,179 @@
+//! One function with its section, put in the place of another.
+ghost use Rattle.std.specs.Prelude.{◌≡◌, ◌≢◌, ◌<◌, List, Some, length, slice_get, slice_set, IfOk, IfErr, OnOk, OnErr};
+ghost use Rattle.answers.specs.Answers.{AreAnswers};
+ghost use Rattle.certificate.specs.Anew.{IsSection};
+ghost use Rattle.certs.specs.declared.section.Section.{Section as ASection};
+ghost use Rattle.layout.specs.Functions.{laid_with};
+ghost use Rattle.layout.specs.Layouts.{LaidOut};
+ghost use Rattle.recheck.specs.Edits.{HasSectionFault, IsTaken, IsRefusedBy};
+ghost use Rattle.recheck.specs.Put.{IsWithCode, IsWithSection, IsTextPut, with_function};
+ghost use Rattle.recheck.specs.Told.{rechecked_by};
+ghost use Rattle.recheck.specs.declared.edit_fault.EditFault.{EditFault as AFault};
+ghost use Rattle.recheck.specs.declared.edit_fault.EditFault.TheVariants.{Memory};
+
+use crate::edit_fault::EditFault;
+use crate::told::{count_checked, seen};
+use answers::{answers_again, answers_to};
+use block_rules::Refusal;
+use certificate::read_section;
+use certs::{Certs, Section};
+use ir_ast::{FuncId, Function, Module};
+use items::Items;
+use layout::Program;
+use std::alloc::{AllocError, Global};
+
+/// What an edit gives: the answers after it, and how many functions it made be checked.
+#[derive(Drop)]
+pub struct Put {
+    pub answers: Items<Option<Refusal>>,
+    pub rechecked: u64,
+}
+
+/// The function with this number.
+pub fn function_at(module: &Module, func: FuncId) -> &Function
+    requires { func < length «module».now.functions }
+    ensures { slice_get «module».now.functions func ≡ Some result.now }
+{
+    &module.functions.as_slice()[func.number() as usize]
+}
+
+/// The answers where the tables and all other functions and sections are the same: only this function is checked, and its
+/// callers where they see a change.
+fn answered(
+    alloc: Global,
+    program: &Program,
+    certs: &Certs,
+    func: FuncId,
+    old: &Function,
+    past: &Section,
+    before: &[Option<Refusal>],
+) -> Result<Put, AllocError>
+    requires { length before.now ≡ length program.now.of_module.functions }
+    ensures answers { (p : LaidOut) (past_certs : List ASection) → AreAnswers p past_certs before.now → IsWithCode p program.now func old.now → IsWithSection past_certs certs.now func past.now → IfOk result (λ put. AreAnswers program.now certs.now put.answers) }
+    ensures count { IfOk result (λ put. put.rechecked ≡ rechecked_by program.now.of_module certs.now func (Some old.now) (Some past.now)) }
+{
+    let callers = seen(program.module(), certs, func, old, past);
+    let answers = answers_again(alloc, program, certs, func, callers, before)?;
+    let rechecked = count_checked(program.module(), certs, func, old, past)?;
+    Ok(Put { answers, rechecked })
+}
+
+/// The answers where more may have changed: each function is checked.
+pub fn answered_anew(
+    alloc: Global,
+    program: &Program,
+    certs: &Certs,
+    func: FuncId,
+    old: &Function,
+    past: &Section,
+) -> Result<Put, AllocError>
+    ensures answers { IfOk result (λ put. AreAnswers program.now certs.now put.answers) }
+    ensures count { IfOk result (λ put. put.rechecked ≡ rechecked_by program.now.of_module certs.now func (Some old.now) (Some past.now)) }
+{
+    let answers = answers_to(alloc, program, certs)?;
+    let rechecked = count_checked(program.module(), certs, func, old, past)?;
+    Ok(Put { answers, rechecked })
+}
+
+/// The section of a text.
+pub fn read_text(
+    alloc: Global,
+    module: &Module,
+    func: FuncId,
+    text: &[u8],
+) -> Result<Section, EditFault>
+    ensures found { IfOk result (λ section. IsSection text.now «module».now func section) }
+    ensures only { (section : ASection) → IsSection text.now «module».now func section → IsTaken result }
+    ensures fault { IfErr result (λ e. e ≢ Memory → HasSectionFault «module».now func text.now e) }
+    ensures only_fault { (e : AFault) → HasSectionFault «module».now func text.now e → IsRefusedBy result e }
+{
+    match read_section(alloc, text, module, func) {
+        Ok(section) => Ok(section),
+        Err(fault) => Err(EditFault::from(fault)),
+    }
+}
+
+/// Puts the section of a text in the place of a function's, in a program in which the function had the old code before. Where
+/// that is refused, the certificates are as before.
+pub fn put_section(
+    alloc: Global,
+    program: &Program,
+    certs: &mut Certs,
+    func: FuncId,
+    old: &Function,
+    text: &[u8],
+    before: &[Option<Refusal>],
+) -> Result<Put, EditFault>
+    requires section { func < length certs.old }
+    requires answers { length before.now ≡ length program.now.of_module.functions }
+    ensures put { (p : LaidOut) → AreAnswers p certs.old before.now → IsWithCode p program.now func old.now → IfOk result (λ put. IsTextPut p certs.old func text.now program.now certs.new put) }
+    ensures kept { OnErr result (certs.new ≡ certs.old) }
+    ensures fault { IfErr result (λ e. e ≢ Memory → HasSectionFault program.now.of_module func text.now e) }
+    ensures only { (section : ASection) → IsSection text.now program.now.of_module func section → IsTaken result }
+    ensures only_fault { (e : AFault) → HasSectionFault program.now.of_module func text.now e → IsRefusedBy result e }
+{
+    let section = match read_text(alloc, program.module(), func, text) {
+        Ok(section) => section,
+        Err(fault) => return Err(fault),
+    };
+    let past = certs.replace(func, section);
+    match answered(alloc, program, certs, func, old, &past, before) {
+        Ok(put) => Ok(put),
+        Err(_) => {
+            certs.replace(func, past);
+            Err(EditFault::Memory)
+        }
+    }
+}
+
+/// Puts a function with the section of a text in the place of those that are there. Where that is refused, all is as before.
+pub fn put_in_place(
+    alloc: Global,
+    program: &mut Program,
+    certs: &mut Certs,
+    func: FuncId,
+    function: Function,
+    text: &[u8],
+    before: &[Option<Refusal>],
+) -> Result<Put, EditFault>
+    requires function { func < length program.old.of_module.functions }
+    requires section { func < length certs.old }
+    requires answers { AreAnswers program.old certs.old before.now }
+    ensures program { OnOk result (program.new ≡ laid_with program.old (slice_set program.old.of_module.functions func function)) }
+    ensures put { IfOk result (λ put. IsTextPut program.old certs.old func text.now program.new certs.new put) }
+    ensures kept { OnErr result ((program.new ≡ program.old) × (certs.new ≡ certs.old)) }
+    ensures fault { IfErr result (λ e. e ≢ Memory → HasSectionFault (with_function program.old.of_module func function) func text.now e) }
+    ensures only { (section : ASection) → IsSection text.now (with_function program.old.of_module func function) func section → IsTaken result }
+    ensures only_fault { (e : AFault) → HasSectionFault (with_function program.old.of_module func function) func text.now e → IsRefusedBy result e }
+{
+    let old = program.replace_function(func, function);
+    match put_section(alloc, program, certs, func, &old, text, before) {
+        Ok(put) => Ok(put),
+        Err(fault) => {
+            program.replace_function(func, old);
+            Err(fault)
+        }
+    }
+}
+
+/// Puts the section of a text in the place of a function's. Where that is refused, the certificates are as before.
+pub fn put_section_of(
+    alloc: Global,
+    program: &Program,
+    certs: &mut Certs,
+    func: FuncId,
+    text: &[u8],
+    before: &[Option<Refusal>],
+) -> Result<Put, EditFault>
+    requires function { func < length program.now.of_module.functions }
+    requires section { func < length certs.old }
+    requires answers { AreAnswers program.now certs.old before.now }
+    ensures put { IfOk result (λ put. IsTextPut program.now certs.old func text.now program.now certs.new put) }
+    ensures kept { OnErr result (certs.new ≡ certs.old) }
+    ensures fault { IfErr result (λ e. e ≢ Memory → HasSectionFault program.now.of_module func text.now e) }
+    ensures only { (section : ASection) → IsSection text.now program.now.of_module func section → IsTaken result }
+    ensures only_fault { (e : AFault) → HasSectionFault program.now.of_module func text.now e → IsRefusedBy result e }
+{
+    let old = function_at(program.module(), func);
+    put_section(alloc, program, certs, func, old, text, before)
+}

@@ -1,0 +1,137 @@
+ghost use Rattle.std.specs.Prelude.{◌≡◌, ◌≢◌, List, length, IfOk, IfErr, OnOk, OnErr, MatchOption};
+ghost use Rattle.layout.specs.Layouts.{AreLayouts};
+ghost use Rattle.module_check.specs.Accepted.{IsAccepted, IsFirstRefusal};
+ghost use Rattle.module_check.specs.declared.verdict.Verdict.TheVariants as verdict;
+ghost use Rattle.pools.specs.declared.word_kind.WordKind.{WordKind as AWord};
+ghost use Rattle.recheck.specs.Edits.{IsEdited, IsEditFault, IsRefusedFor, IsTaken, IsRefusedBy};
+ghost use Rattle.recheck.specs.Session.{IsBeginFault, State as AState};
+ghost use Rattle.recheck.specs.declared.edit_fault.EditFault.{EditFault as AFault};
+ghost use Rattle.recheck.specs.declared.edit_fault.EditFault.TheVariants as fault;
+
+use crate::edit_fault::EditFault;
+use crate::edits::put_edit;
+use answers::{answers_to, first_refusal};
+use block_rules::Refusal;
+use certs::Certs;
+use edit_text::Edit;
+use ir_ast::Module;
+use items::Items;
+use layout::Program;
+use module_check::{NotAccepted, Verdict};
+use std::alloc::Global;
+use std::marker::Model;
+
+/// A module with its layouts and certificates, and the answer to each of its functions.
+#[derive(Drop)]
+pub struct Session {
+    program: Program,
+    certs: Certs,
+    answers: Items<Option<Refusal>>,
+    rechecked: u64,
+}
+
+impl Model for Session {
+    ghost use Rattle.recheck.specs.Session.{State, IsAnswered};
+
+    ghost Value = { State };
+
+    ghost view = { λ session. record { program = session.program; certs = session.certs; rechecked = session.rechecked } };
+
+    ghost invariant = { λ session. IsAnswered session.program session.certs session.answers };
+}
+
+impl Session {
+    /// Checks a module with its certificates. It is refused only where the module has no layouts, or for memory; both are given
+    /// back then.
+    pub fn new(alloc: Global, of_module: Module, certs: Certs) -> Result<Self, NotAccepted>
+        requires { length certs ≡ length of_module.functions }
+        ensures of_module { IfOk result (λ session. session.program.of_module ≡ of_module) }
+        ensures certs { IfOk result (λ session. session.certs ≡ certs) }
+        ensures rechecked { IfOk result (λ session. session.rechecked ≡ 0) }
+        ensures fault { IfErr result (λ refused. IsBeginFault of_module refused.verdict) }
+        ensures only { (layouts : List (List AWord)) → AreLayouts of_module layouts → IfErr result (λ refused. refused.verdict ≡ verdict.Memory) }
+        ensures given_back { IfErr result (λ refused. (refused.of_module ≡ of_module) × (refused.certs ≡ certs)) }
+    {
+        let program = match Program::new(alloc, of_module) {
+            Ok(program) => program,
+            Err(refused) => {
+                return Err(NotAccepted {
+                    verdict: Verdict::from(refused.fault),
+                    of_module: refused.of_module,
+                    certs,
+                });
+            }
+        };
+        match answers_to(alloc, &program, &certs) {
+            Ok(answers) => Ok(Session {
+                program,
+                certs,
+                answers,
+                rechecked: 0,
+            }),
+            Err(_) => Err(NotAccepted {
+                verdict: Verdict::Memory,
+                of_module: program.into_module(),
+                certs,
+            }),
+        }
+    }
+
+    /// Puts the texts of an edit in the place of the code, the section, or both of the function that it names. Where only code is
+    /// given, the section is read anew with it, from the text that it has with the code that was there. An edit that is refused
+    /// leaves the session as it was.
+    pub fn apply(&mut self, alloc: Global, edit: &Edit) -> Result<(), EditFault>
+        // The session is the one that comes of the edit.
+        ensures taken { OnOk result (IsEdited self.old edit.now self.new) }
+        ensures kept { OnErr result (self.new ≡ self.old) }
+        // An edit of which some session comes is taken, unless memory runs out.
+        ensures only { (t : AState) → IsEdited self.old edit.now t → IsTaken result }
+        // What is refused is refused for its first fault.
+        ensures fault { IfErr result (λ e. e ≢ fault.Memory → IsRefusedFor self.old edit.now e) }
+        // What has a first fault is refused for it, unless memory runs out.
+        ensures only_fault { (e : AFault) → IsEditFault self.old edit.now e → IsRefusedBy result e }
+    {
+        let put = match put_edit(
+            alloc,
+            &mut self.program,
+            &mut self.certs,
+            self.answers.as_slice(),
+            edit,
+        ) {
+            Ok(put) => put,
+            Err(fault) => return Err(fault),
+        };
+        self.answers = put.answers;
+        self.rechecked = put.rechecked;
+        Ok(())
+    }
+
+    /// What `check` finds in the present module with its certificates: nothing, or the first refused instruction.
+    pub fn verdict(&self) -> Option<Refusal>
+        ensures { MatchOption result (IsAccepted self.now.program.of_module self.now.certs) (IsFirstRefusal self.now.program.of_module self.now.certs) }
+    {
+        first_refusal(self.answers.as_slice())
+    }
+
+    /// How many functions the last edit made be checked: the one that it replaced, and its callers where they are told something
+    /// else of it. 0 before the first edit that was taken.
+    pub fn rechecked(&self) -> u64
+        ensures { result ≡ self.now.rechecked }
+    {
+        self.rechecked
+    }
+
+    /// The present module with its layouts.
+    pub fn program(&self) -> &Program
+        ensures { result.now ≡ self.now.program }
+    {
+        &self.program
+    }
+
+    /// The present certificates.
+    pub fn certs(&self) -> &Certs
+        ensures { result.now ≡ self.now.certs }
+    {
+        &self.certs
+    }
+}

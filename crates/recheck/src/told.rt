@@ -1,0 +1,192 @@
+//! What the callers of a function are told of it, and which other functions call it.
+ghost use Rattle.std.specs.Prelude.{◌≡◌, ◌≤◌, Some, true, length, slice_get, IfOk};
+ghost use Rattle.answers.specs.Edited.{IfUnseen};
+ghost use Rattle.locality.specs.Local.{interface_of};
+ghost use Rattle.recheck.specs.Told as spec;
+
+use answers::{Callers, calls};
+use block_rules::TypeKind;
+use certs::{Certs, Promise, Section};
+use ir_ast::{FuncId, Function, Module, Parameter, TypeId};
+use std::alloc::AllocError;
+
+fn all_written(one: &[Parameter], other: &[Parameter]) -> bool
+    ensures { result ≡ spec.all_written one.now other.now }
+{
+    one.iter()
+        .zip(other.iter())
+        .all(|(one, other)| one.written == other.written)
+}
+
+fn same_types(one: &Function, other: &Function) -> bool
+    ensures { result ≡ spec.same_types one.now other.now }
+{
+    one.returned == other.returned
+        && one.parameters.len() == other.parameters.len()
+        && all_written(one.parameters.as_slice(), other.parameters.as_slice())
+}
+
+/// Whether two sections promise the same in the same words, with the same mark.
+fn same_words(past: &Section, next: &Section) -> bool
+    ensures mark { result ≡ true → next.now.mark ≡ past.now.mark }
+    ensures parameters { result ≡ true → next.now.parameters ≡ past.now.parameters }
+    ensures promised { result ≡ true → next.now.result ≡ past.now.result }
+{
+    past.mark == next.mark
+        && past.result == next.result
+        && past.parameters.as_slice() == next.parameters.as_slice()
+}
+
+/// Whether two functions with their sections look the same to a caller, word by word.
+fn looks_same(old: &Function, new: &Function, past: &Section, next: &Section) -> bool
+    ensures { result ≡ true → interface_of (Some new.now) (Some next.now) ≡ interface_of (Some old.now) (Some past.now) }
+{
+    same_types(old, new) && same_words(past, next)
+}
+
+/// Whether the callers of a function see that it was replaced.
+pub fn seen(module: &Module, certs: &Certs, func: FuncId, old: &Function, past: &Section) -> Callers
+    ensures { IfUnseen result (interface_of (slice_get «module».now.functions func) (slice_get certs.now func) ≡ interface_of (Some old.now) (Some past.now)) }
+{
+    let Some(new) = module.functions.get(func.number() as usize) else {
+        return Callers::SeeChange;
+    };
+    let Some(next) = certs.section(func) else {
+        return Callers::SeeChange;
+    };
+    if looks_same(old, new, past, next) {
+        Callers::SeeNone
+    } else {
+        Callers::SeeChange
+    }
+}
+
+/// What is said of a value of a type with this promise.
+fn told(module: &Module, written: TypeId, promised: Option<Promise>) -> Promise
+    ensures { result ≡ spec.told «module».now written promised }
+{
+    let by_type = TypeKind::of(module, written).layout();
+    match promised {
+        None => Promise {
+            layout: by_type,
+            nonnull: false,
+            below: None,
+        },
+        Some(promise) => Promise {
+            layout: promise.layout.or(by_type),
+            nonnull: promise.nonnull,
+            below: promise.below,
+        },
+    }
+}
+
+fn same_promise(one: Promise, other: Promise) -> bool
+    ensures { result ≡ spec.same_promise one other }
+{
+    one == other
+}
+
+fn says_same(module: &Module, written: TypeId, one: Option<Promise>, other: Option<Promise>) -> bool
+    ensures { result ≡ spec.says_same «module».now written one other }
+{
+    same_promise(told(module, written, one), told(module, written, other))
+}
+
+fn all_said(
+    module: &Module,
+    parameters: &[Parameter],
+    one: &[Option<Promise>],
+    other: &[Option<Promise>],
+) -> bool
+    ensures { result ≡ spec.all_said «module».now parameters.now one.now other.now }
+{
+    parameters.iter().zip(one.iter().zip(other.iter())).all(|(parameter, (one, other))| says_same(
+        module,
+        parameter.written,
+        *one,
+        *other,
+    ))
+}
+
+/// Whether two functions with their sections tell their callers the same.
+fn tells_same(
+    module: &Module,
+    old: &Function,
+    new: &Function,
+    past: &Section,
+    next: &Section,
+) -> bool
+    ensures { result ≡ spec.tells_same «module».now old.now new.now past.now next.now }
+{
+    let parameters = new.parameters.as_slice();
+    let promises = past.parameters.as_slice();
+    same_types(old, new)
+        && past.mark == next.mark
+        && all_said(module, parameters, promises, next.parameters.as_slice())
+        && says_same(module, new.returned, past.result, next.result)
+}
+
+/// Whether the callers of a function are told the same of it as before.
+fn is_told_same(
+    module: &Module,
+    certs: &Certs,
+    func: FuncId,
+    old: &Function,
+    past: &Section,
+) -> bool
+    ensures { result ≡ spec.is_told_same «module».now (Some old.now) (slice_get «module».now.functions func) (Some past.now) (slice_get certs.now func) }
+{
+    let Some(new) = module.functions.get(func.number() as usize) else {
+        return false;
+    };
+    let Some(next) = certs.section(func) else {
+        return false;
+    };
+    tells_same(module, old, new, past, next)
+}
+
+/// Whether the function with another number calls this one.
+fn is_caller(module: &Module, func: FuncId, other: FuncId) -> bool
+    ensures { result ≡ spec.is_caller «module».now func other }
+{
+    if other == func {
+        return false;
+    }
+    match module.functions.get(other.number() as usize) {
+        None => false,
+        Some(function) => calls(module, func, function),
+    }
+}
+
+/// How many other functions call this one.
+fn count_callers(module: &Module, func: FuncId) -> Result<u32, AllocError>
+    ensures { IfOk result (λ count. count ≡ spec.callers_before «module».now func (length «module».now.functions)) }
+{
+    // No memory holds more functions than there are numbers for them.
+    let Ok(functions) = u32::try_from(module.functions.len()) else {
+        return Err(AllocError);
+    };
+    let mut count: u32 = 0;
+    for number in 0..functions {
+        if is_caller(module, func, FuncId::new(number)) {
+            count += 1;
+        }
+    }
+    Ok(count)
+}
+
+/// How many functions the edit of a function makes be checked, of which this was the code and the section before.
+pub fn count_checked(
+    module: &Module,
+    certs: &Certs,
+    func: FuncId,
+    old: &Function,
+    past: &Section,
+) -> Result<u64, AllocError>
+    ensures { IfOk result (λ count. count ≡ spec.rechecked_by «module».now certs.now func (Some old.now) (Some past.now)) }
+{
+    if is_told_same(module, certs, func, old, past) {
+        return Ok(1);
+    }
+    Ok(1 + u64::from(count_callers(module, func)?))
+}
