@@ -23,33 +23,33 @@ returns-in-Cert-clause-only_fault c = section_refused_at c.args.program.now c.ar
 -- ---- code
 
 pub returns-in-Ok-clause-put : goal.returns-in-Ok-clause-put
-returns-in-Ok-clause-put c = code_edited c.args.program.now c.args.certs.now c.args.before.now c.requires.answered c.args.func c.args.edit.now c.as_slice-in-Code.result.now c.as_slice-in-Code-2.result.now (inl (c.in-Code.name, c.in-Code.is ∙ ap (edit.Code c.in-Code.name) (sym c.as_slice-in-Code.ensures), c.as_slice-in-Code-2.ensures ∙ c.in-Ok.ensures)) c.put_code.new.program c.put_code.new.certs c.put_code.result c.put_code.ensures.put
+returns-in-Ok-clause-put c = code_edited c.args.program.now c.args.certs.now c.args.before.now c.requires.answered c.args.func c.args.edit.now c.as_slice-in-Code.result.now c.as_slice-in-Code-2.result.now (inl (c.in-Code.name, c.in-Code.is ∙ ap (edit.Code c.in-Code.name) (sym c.as_slice-in-Code.ensures), c.as_slice-in-Code-2.ensures.value ∙ c.in-Ok.ensures)) c.put_code.new.program c.put_code.new.certs c.put_code.result c.put_code.ensures.put
 
 pub returns-in-Ok-clause-answered : goal.returns-in-Ok-clause-answered
-returns-in-Ok-clause-answered c = code_kept c.args.program.now c.args.certs.now c.args.before.now c.requires.answered c.args.func c.args.edit.now c.as_slice-in-Code.result.now c.as_slice-in-Code-2.result.now (inl (c.in-Code.name, c.in-Code.is ∙ ap (edit.Code c.in-Code.name) (sym c.as_slice-in-Code.ensures), c.as_slice-in-Code-2.ensures ∙ c.in-Ok.ensures)) c.put_code.new.program c.put_code.new.certs c.put_code.result c.put_code.ensures.put
+returns-in-Ok-clause-answered c = code_kept c.args.program.now c.args.certs.now c.args.before.now c.requires.answered c.args.func c.args.edit.now c.as_slice-in-Code.result.now c.as_slice-in-Code-2.result.now (inl (c.in-Code.name, c.in-Code.is ∙ ap (edit.Code c.in-Code.name) (sym c.as_slice-in-Code.ensures), c.as_slice-in-Code-2.ensures.value ∙ c.in-Ok.ensures)) c.put_code.new.program c.put_code.new.certs c.put_code.result c.put_code.ensures.put
 
 pub returns-in-Ok-clause-fault : goal.returns-in-Ok-clause-fault
-returns-in-Ok-clause-fault c = code_fault_at c.args.program.now c.args.certs.now c.args.before.now c.requires.answered c.args.func c.args.edit.now c.as_slice-in-Code.result.now c.as_slice-in-Code-2.result.now (inl (c.in-Code.name, c.in-Code.is ∙ ap (edit.Code c.in-Code.name) (sym c.as_slice-in-Code.ensures), c.as_slice-in-Code-2.ensures ∙ c.in-Ok.ensures)) c.put_code.result c.put_code.ensures.fault
+returns-in-Ok-clause-fault c = code_fault_at c.args.program.now c.args.certs.now c.args.before.now c.requires.answered c.args.func c.args.edit.now c.as_slice-in-Code.result.now c.as_slice-in-Code-2.result.now (inl (c.in-Code.name, c.in-Code.is ∙ ap (edit.Code c.in-Code.name) (sym c.as_slice-in-Code.ensures), c.as_slice-in-Code-2.ensures.value ∙ c.in-Ok.ensures)) c.put_code.result c.put_code.ensures.fault
 
 pub returns-in-Ok-clause-only : goal.returns-in-Ok-clause-only
-returns-in-Ok-clause-only c = code_taken_at c.args.program.now c.args.certs.now c.args.before.now c.requires.answered c.args.func c.args.edit.now c.as_slice-in-Code.result.now c.as_slice-in-Code-2.result.now (inl (c.in-Code.name, c.in-Code.is ∙ ap (edit.Code c.in-Code.name) (sym c.as_slice-in-Code.ensures), c.as_slice-in-Code-2.ensures ∙ c.in-Ok.ensures)) c.put_code.result c.put_code.ensures.only
+returns-in-Ok-clause-only c = code_taken_at c.args.program.now c.args.certs.now c.args.before.now c.requires.answered c.args.func c.args.edit.now c.as_slice-in-Code.result.now c.as_slice-in-Code-2.result.now (inl (c.in-Code.name, c.in-Code.is ∙ ap (edit.Code c.in-Code.name) (sym c.as_slice-in-Code.ensures), c.as_slice-in-Code-2.ensures.value ∙ c.in-Ok.ensures)) c.put_code.result c.put_code.ensures.only
 
 pub returns-in-Ok-clause-only_fault : goal.returns-in-Ok-clause-only_fault
-returns-in-Ok-clause-only_fault c = code_refused_at c.args.program.now c.args.certs.now c.args.before.now c.requires.answered c.args.func c.args.edit.now c.as_slice-in-Code.result.now c.as_slice-in-Code-2.result.now (inl (c.in-Code.name, c.in-Code.is ∙ ap (edit.Code c.in-Code.name) (sym c.as_slice-in-Code.ensures), c.as_slice-in-Code-2.ensures ∙ c.in-Ok.ensures)) c.put_code.result c.put_code.ensures.only_fault
+returns-in-Ok-clause-only_fault c = code_refused_at c.args.program.now c.args.certs.now c.args.before.now c.requires.answered c.args.func c.args.edit.now c.as_slice-in-Code.result.now c.as_slice-in-Code-2.result.now (inl (c.in-Code.name, c.in-Code.is ∙ ap (edit.Code c.in-Code.name) (sym c.as_slice-in-Code.ensures), c.as_slice-in-Code-2.ensures.value ∙ c.in-Ok.ensures)) c.put_code.result c.put_code.ensures.only_fault
 
 -- ---- both
 
 pub returns-in-Both-clause-put : goal.returns-in-Both-clause-put
-returns-in-Both-clause-put c = code_edited c.args.program.now c.args.certs.now c.args.before.now c.requires.answered c.args.func c.args.edit.now c.as_slice-in-Both.result.now c.as_slice-in-Both-2.result.now (inr (c.in-Both.name, c.in-Both.is ∙ ap (λ (x : List ℕ). edit.Both c.in-Both.name x c.in-Both.section.now) (sym c.as_slice-in-Both.ensures) ∙ ap (edit.Both c.in-Both.name c.as_slice-in-Both.result.now) (sym c.as_slice-in-Both-2.ensures))) c.put_code-in-Both.new.program c.put_code-in-Both.new.certs c.put_code-in-Both.result c.put_code-in-Both.ensures.put
+returns-in-Both-clause-put c = code_edited c.args.program.now c.args.certs.now c.args.before.now c.requires.answered c.args.func c.args.edit.now c.as_slice-in-Both.result.now c.as_slice-in-Both-2.result.now (inr (c.in-Both.name, c.in-Both.is ∙ ap (λ (x : List ℕ). edit.Both c.in-Both.name x c.in-Both.section) (sym c.as_slice-in-Both.ensures) ∙ ap (edit.Both c.in-Both.name c.as_slice-in-Both.result.now) (sym c.as_slice-in-Both-2.ensures))) c.put_code-in-Both.new.program c.put_code-in-Both.new.certs c.put_code-in-Both.result c.put_code-in-Both.ensures.put
 
 pub returns-in-Both-clause-answered : goal.returns-in-Both-clause-answered
-returns-in-Both-clause-answered c = code_kept c.args.program.now c.args.certs.now c.args.before.now c.requires.answered c.args.func c.args.edit.now c.as_slice-in-Both.result.now c.as_slice-in-Both-2.result.now (inr (c.in-Both.name, c.in-Both.is ∙ ap (λ (x : List ℕ). edit.Both c.in-Both.name x c.in-Both.section.now) (sym c.as_slice-in-Both.ensures) ∙ ap (edit.Both c.in-Both.name c.as_slice-in-Both.result.now) (sym c.as_slice-in-Both-2.ensures))) c.put_code-in-Both.new.program c.put_code-in-Both.new.certs c.put_code-in-Both.result c.put_code-in-Both.ensures.put
+returns-in-Both-clause-answered c = code_kept c.args.program.now c.args.certs.now c.args.before.now c.requires.answered c.args.func c.args.edit.now c.as_slice-in-Both.result.now c.as_slice-in-Both-2.result.now (inr (c.in-Both.name, c.in-Both.is ∙ ap (λ (x : List ℕ). edit.Both c.in-Both.name x c.in-Both.section) (sym c.as_slice-in-Both.ensures) ∙ ap (edit.Both c.in-Both.name c.as_slice-in-Both.result.now) (sym c.as_slice-in-Both-2.ensures))) c.put_code-in-Both.new.program c.put_code-in-Both.new.certs c.put_code-in-Both.result c.put_code-in-Both.ensures.put
 
 pub returns-in-Both-clause-fault : goal.returns-in-Both-clause-fault
-returns-in-Both-clause-fault c = code_fault_at c.args.program.now c.args.certs.now c.args.before.now c.requires.answered c.args.func c.args.edit.now c.as_slice-in-Both.result.now c.as_slice-in-Both-2.result.now (inr (c.in-Both.name, c.in-Both.is ∙ ap (λ (x : List ℕ). edit.Both c.in-Both.name x c.in-Both.section.now) (sym c.as_slice-in-Both.ensures) ∙ ap (edit.Both c.in-Both.name c.as_slice-in-Both.result.now) (sym c.as_slice-in-Both-2.ensures))) c.put_code-in-Both.result c.put_code-in-Both.ensures.fault
+returns-in-Both-clause-fault c = code_fault_at c.args.program.now c.args.certs.now c.args.before.now c.requires.answered c.args.func c.args.edit.now c.as_slice-in-Both.result.now c.as_slice-in-Both-2.result.now (inr (c.in-Both.name, c.in-Both.is ∙ ap (λ (x : List ℕ). edit.Both c.in-Both.name x c.in-Both.section) (sym c.as_slice-in-Both.ensures) ∙ ap (edit.Both c.in-Both.name c.as_slice-in-Both.result.now) (sym c.as_slice-in-Both-2.ensures))) c.put_code-in-Both.result c.put_code-in-Both.ensures.fault
 
 pub returns-in-Both-clause-only : goal.returns-in-Both-clause-only
-returns-in-Both-clause-only c = code_taken_at c.args.program.now c.args.certs.now c.args.before.now c.requires.answered c.args.func c.args.edit.now c.as_slice-in-Both.result.now c.as_slice-in-Both-2.result.now (inr (c.in-Both.name, c.in-Both.is ∙ ap (λ (x : List ℕ). edit.Both c.in-Both.name x c.in-Both.section.now) (sym c.as_slice-in-Both.ensures) ∙ ap (edit.Both c.in-Both.name c.as_slice-in-Both.result.now) (sym c.as_slice-in-Both-2.ensures))) c.put_code-in-Both.result c.put_code-in-Both.ensures.only
+returns-in-Both-clause-only c = code_taken_at c.args.program.now c.args.certs.now c.args.before.now c.requires.answered c.args.func c.args.edit.now c.as_slice-in-Both.result.now c.as_slice-in-Both-2.result.now (inr (c.in-Both.name, c.in-Both.is ∙ ap (λ (x : List ℕ). edit.Both c.in-Both.name x c.in-Both.section) (sym c.as_slice-in-Both.ensures) ∙ ap (edit.Both c.in-Both.name c.as_slice-in-Both.result.now) (sym c.as_slice-in-Both-2.ensures))) c.put_code-in-Both.result c.put_code-in-Both.ensures.only
 
 pub returns-in-Both-clause-only_fault : goal.returns-in-Both-clause-only_fault
-returns-in-Both-clause-only_fault c = code_refused_at c.args.program.now c.args.certs.now c.args.before.now c.requires.answered c.args.func c.args.edit.now c.as_slice-in-Both.result.now c.as_slice-in-Both-2.result.now (inr (c.in-Both.name, c.in-Both.is ∙ ap (λ (x : List ℕ). edit.Both c.in-Both.name x c.in-Both.section.now) (sym c.as_slice-in-Both.ensures) ∙ ap (edit.Both c.in-Both.name c.as_slice-in-Both.result.now) (sym c.as_slice-in-Both-2.ensures))) c.put_code-in-Both.result c.put_code-in-Both.ensures.only_fault
+returns-in-Both-clause-only_fault c = code_refused_at c.args.program.now c.args.certs.now c.args.before.now c.requires.answered c.args.func c.args.edit.now c.as_slice-in-Both.result.now c.as_slice-in-Both-2.result.now (inr (c.in-Both.name, c.in-Both.is ∙ ap (λ (x : List ℕ). edit.Both c.in-Both.name x c.in-Both.section) (sym c.as_slice-in-Both.ensures) ∙ ap (edit.Both c.in-Both.name c.as_slice-in-Both.result.now) (sym c.as_slice-in-Both-2.ensures))) c.put_code-in-Both.result c.put_code-in-Both.ensures.only_fault
