@@ -1,4 +1,4 @@
-use Rattle.std.proofs.Common.{subst}
+use Rattle.std.proofs.Common.{subst, sym}
 use Rattle.recheck.specs.Edits.{IsEdited, IsEditFault, IsRefusedFor, IsTaken, IsRefusedBy}
 use Rattle.recheck.specs.Put.{state}
 use Rattle.recheck.specs.Session.{State}
