@@ -91,7 +91,7 @@ def changed_lines(draw, text, first):
     return "\n".join(lines) + "\n"
 
 
-def changed_code(draw, text, name, names):
+def changed_code(draw, text, names):
     """Code with a change: of some words, by a call or a safepoint, or of its lines."""
     change = draw.randrange(7)
     called = draw.choice(names)
@@ -106,7 +106,7 @@ def changed_code(draw, text, name, names):
     if change == 4:
         return text.replace("add i64", draw.choice(["sub i64", "sdiv i64", "add i65"]), 1)
     if change == 5:
-        return text.replace("entry:\n", "entry:\n  %narrow = alloca i%d\n" % draw.randrange(2, 40), 1)
+        return text.replace("entry:\n", f"entry:\n  %narrow = alloca i{draw.randrange(2, 40)}\n", 1)
     return changed_lines(draw, text, 2)
 
 
@@ -165,13 +165,13 @@ def right_edit(draw, name, text):
     part = draw.choice(["code", "cert", "both"])
     code, section = text.code[name], text.section[name]
     if part == "code":
-        code, section = changed_code(draw, code, name, text.names), None
+        code, section = changed_code(draw, code, text.names), None
     elif part == "cert":
         code, section = None, changed_section(draw, section)
     else:
         code, section = drawn_code(draw, name, code, text.names)
         if draw.random() < 0.3:
-            code, section = changed_code(draw, code, name, text.names), changed_section(draw, section)
+            code, section = changed_code(draw, code, text.names), changed_section(draw, section)
     return edit_text(part, name, code, section), code, section
 
 
@@ -273,7 +273,9 @@ def main():
     with tempfile.TemporaryDirectory() as folder:
         tally = [0, 0, 0]
         for seed in range(options.seed, options.seed + options.modules):
-            tally = [one + more for one, more in zip(tally, compare(dgc, seed, options.edits, folder))]
+            taken, refused, no = compare(dgc, seed, options.edits, folder)
+            tally = [tally[0] + taken, tally[1] + refused, tally[2] + no]
+            print(f"seed {seed}: {taken} edits taken and {refused} refused as wanted, {no} verdicts of no", flush=True)
         print(f"{options.modules} modules: {tally[0]} edits taken and {tally[1]} refused as wanted, {tally[2]} verdicts of no")
         if options.timed:
             time_edits(dgc, options.seed, options.functions, options.timed, options.runs, folder)

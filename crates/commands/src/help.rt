@@ -75,13 +75,14 @@ pub(crate) const RECHECK: CommandHelp = CommandHelp {
     second: "A certificate: what its author claims to hold at each block (docs/CERTIFICATES.md)",
     after: "\
 Prints what `dgc check` does. Then puts the texts of each edit in the place of what is there,
-and prints a line for it: its number from 1, and `rechecked R` with what `dgc check` prints of
-the module and the certificate after it. R is the number of functions that it made be
-checked. Or `refused` with the code of its fault, as `3 refused C3`: then it changes nothing.
+and prints a line for it, as `2 rechecked 3 yes 4`: the edit's number from 1, how many
+functions it made be checked, and what `dgc check` prints of the module and the certificate as
+they are then. Of an edit that is refused it prints the code of the fault, as `3 refused C3`.
+Such an edit changes nothing.
 
 Of a text that is not read, one line goes to standard error, as `error L4 23:13` (a line
-and a column) or `error C5 @f`. Of the edits this is their frame. Where memory is refused at
-an edit, no line is printed but `error memory`.
+and a column) or `error C5 @f`. The texts within an edit are read when it is its turn. Where
+memory is refused, `error memory` is all that is printed.
 
 Exit status:
   0  the last verdict is yes
