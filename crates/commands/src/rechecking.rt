@@ -1,5 +1,5 @@
 //! The command `recheck`. Its lines are kept until the last edit, so that nothing is printed where memory is refused on the way.
-ghost use Rattle.std.specs.Prelude.{◌≡◌, ◌≢◌, ◌++◌, ℕ, List, Some, true, IfOk, OnOk};
+ghost use Rattle.std.specs.Prelude.{◌≡◌, ◌≢◌, ◌++◌, ℕ, List, true, IfOk, OnOk};
 ghost use Rattle.std.specs.Io.KnownBytes.{Appends};
 ghost use Rattle.certs.specs.Fits.{fits};
 ghost use Rattle.commands.specs.Commands.{OfCertified, OfEditsFile, OfRechecked, Says};
@@ -22,8 +22,8 @@ use std::io;
 use std::io::Write;
 
 /// Writes the verdict on a session, as `check` prints it. Returns the status that goes with it.
-fn write_verdict(alloc: Global, session: &Session, lines: &mut Vec<u8>) -> io::Result<u8>
-    ensures { IfOk result (λ status. (verdict : Answer) × OfSession session.now verdict × IsTold (Some lines.old.items) (Some lines.new.items) status verdict) }
+fn write_verdict<W: Write>(alloc: Global, session: &Session, lines: &mut W) -> io::Result<u8>
+    ensures { IfOk result (λ status. (verdict : Answer) × OfSession session.now verdict × IsTold (W.contents lines.old) (W.contents lines.new) status verdict) }
 {
     let of_module = session.program().module();
     match session.verdict() {
@@ -36,13 +36,13 @@ fn write_verdict(alloc: Global, session: &Session, lines: &mut Vec<u8>) -> io::R
 }
 
 /// Writes the line of an edit that was taken: `1 rechecked 2 yes 2`.
-fn write_taken(
+fn write_taken<W: Write>(
     alloc: Global,
     number: usize,
     session: &Session,
-    lines: &mut Vec<u8>,
+    lines: &mut W,
 ) -> io::Result<()>
-    ensures { OnOk result ((verdict : Answer) × OfSession session.now verdict × Appends (Some lines.old.items) (Some lines.new.items) (spec.taken_text number session.now.rechecked verdict)) }
+    ensures { OnOk result ((verdict : Answer) × OfSession session.now verdict × Appends (W.contents lines.old) (W.contents lines.new) (spec.taken_text number session.now.rechecked verdict)) }
 {
     write!(lines, "{number} rechecked {} ", session.rechecked())?;
     write_verdict(alloc, session, lines)?;
@@ -50,8 +50,8 @@ fn write_taken(
 }
 
 /// Writes the line of an edit that was refused: `1 refused L5`. An edit for which memory ran out has no line.
-fn write_refused(number: usize, fault: &EditFault, lines: &mut Vec<u8>) -> io::Result<()>
-    ensures { OnOk result ((fault.now ≢ edit_fault.Memory) × Appends (Some lines.old.items) (Some lines.new.items) (spec.refused_text number fault.now)) }
+fn write_refused<W: Write>(number: usize, fault: &EditFault, lines: &mut W) -> io::Result<()>
+    ensures { OnOk result ((fault.now ≢ edit_fault.Memory) × Appends (W.contents lines.old) (W.contents lines.new) (spec.refused_text number fault.now)) }
 {
     match fault {
         EditFault::Memory => Err(io::Error::from(AllocError)),
@@ -60,14 +60,14 @@ fn write_refused(number: usize, fault: &EditFault, lines: &mut Vec<u8>) -> io::R
 }
 
 /// Applies an edit and writes its line.
-fn write_edit(
+fn write_edit<W: Write>(
     alloc: Global,
     number: usize,
     session: &mut Session,
     edit: &Edit,
-    lines: &mut Vec<u8>,
+    lines: &mut W,
 ) -> io::Result<()>
-    ensures { OnOk result ((line : List ℕ) × OfEdit number session.old edit.now session.new line × Appends (Some lines.old.items) (Some lines.new.items) line) }
+    ensures { OnOk result ((line : List ℕ) × OfEdit number session.old edit.now session.new line × Appends (W.contents lines.old) (W.contents lines.new) line) }
 {
     match session.apply(alloc, edit) {
         Ok(()) => write_taken(alloc, number, session, lines),
@@ -80,13 +80,13 @@ fn write_edit(
 }
 
 /// Applies edits and writes the line of each, numbered from 1.
-fn write_edits(
+fn write_edits<W: Write>(
     alloc: Global,
     session: &mut Session,
     edits: &[Edit],
-    lines: &mut Vec<u8>,
+    lines: &mut W,
 ) -> io::Result<()>
-    ensures { OnOk result ((told : List ℕ) × OfEdits 1 session.old edits.now session.new told × Appends (Some lines.old.items) (Some lines.new.items) told) }
+    ensures { OnOk result ((told : List ℕ) × OfEdits 1 session.old edits.now session.new told × Appends (W.contents lines.old) (W.contents lines.new) told) }
 {
     for (place, edit) in edits.iter().enumerate() {
         write_edit(alloc, place + 1, session, edit, lines)?;

@@ -4,13 +4,13 @@ use Rattle.std.specs.Io.KnownBytes.{Appends}
 use Rattle.commands.specs.Commands.{OnError, OnOutput, not_rechecked, rechecked}
 use Rattle.commands.proofs.rechecking.edit_session.Goals as goal
 
-pub returns-in_ok-write_all : goal.returns-in_ok-write_all
-returns-in_ok-write_all g c =
+pub returns-in_ok-write_all-in-Ok : goal.returns-in_ok-write_all-in-Ok
+returns-in_ok-write_all-in-Ok g c =
     let old = c.args.session.now in
     let told = c.in-Ok.ensures in
     let last = c.status_of_verdict.ensures in
     let begun = record { of_module = refl; of_certs = refl; none_checked = c.requires } in
-    let written = subst (Appends _ _) (c.as_slice.ensures.value ∙ told.4) c.in_ok-write_all.ensures.bytes in
+    let written = subst (Appends _ _) (c.as_slice.ensures.value ∙ told.4) c.in_ok-write_all-in-Ok.ensures.bytes in
     (OnOutput _, rechecked old c.lines_of.new.session told.0 last.0 told.1 begun told.2 told.3 last.1, ((last.2, written), refl))
 
 pub returns-in-Err : goal.returns-in-Err

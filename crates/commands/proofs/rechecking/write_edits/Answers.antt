@@ -1,15 +1,14 @@
-use Rattle.std.proofs.Common.{◌≡◌, ◌∙◌, ◌+◌, ◌++◌, [], Some, slice_get, refl, subst, sym, ap, append-nil, arith}
+use Rattle.std.proofs.Common.{◌≡◌, ◌∙◌, ◌++◌, [], Some, slice_get, refl, sym, ap, arith}
 use Rattle.std.proofs.lemmas.Option.{slice_get-get_or}
 use Rattle.std.proofs.KnownBytes.{Appends-nil, Appends-trans}
-use Rattle.commands.specs.Rechecks.{OfEdit, OfEdits}
 use Rattle.commands.proofs.Edits.{edits_next}
 use Rattle.commands.proofs.rechecking.write_edits.Goals as goal
 
 pub loop-place-init : goal.loop-place-init
-loop-place-init c = ([], (refl, refl), Appends-nil _)
+loop-place-init g c = ([], (refl, refl), Appends-nil _)
 
 pub loop-place-preserved : goal.loop-place-preserved
-loop-place-preserved c =
+loop-place-preserved g c =
     let edits = c.args.edits.now in
     let i = c.loop-place.place in
     let edit = c.index-edits-place.result in

@@ -1,11 +1,11 @@
-use Rattle.std.proofs.Common.{Some, subst}
+use Rattle.std.proofs.Common.{subst}
 use Rattle.std.specs.Io.KnownBytes.{Appends}
 use Rattle.std.proofs.KnownBytes.{Appends-trans}
 use Rattle.commands.specs.Rechecks.{taken_text}
 use Rattle.commands.proofs.rechecking.write_taken.Goals as goal
 
 pub returns : goal.returns
-returns c =
+returns g c =
     let verdict = c.in_ok-write_verdict.ensures in
     let written = Appends-trans _ _ _ _ _ c.in_ok-write.ensures.bytes verdict.2.1 in
-    (verdict.0, verdict.1, subst (λ n. Appends (Some _) (Some _) (taken_text c.args.number n verdict.0)) c.rechecked.ensures written)
+    (verdict.0, verdict.1, subst (λ n. Appends _ _ (taken_text c.args.number n verdict.0)) c.rechecked.ensures written)
