@@ -6,7 +6,7 @@ use Rattle.commands.proofs.rechecking.write_edit.Goals as goal
 
 pub returns-in-Ok : goal.returns-in-Ok
 returns-in-Ok g c =
-    on_ok_weaker c.write_taken.result (λ told. (_, edit_taken c.apply.new.session told.0 c.in-Ok.ensures.taken told.1, told.2)) c.write_taken.ensures
+    on_ok_weaker c.write_taken.result (λ told. (_, edit_taken c.apply.new.self told.0 c.in-Ok.ensures.taken told.1, told.2)) c.write_taken.ensures
 
 pub returns-in-Err : goal.returns-in-Err
 returns-in-Err g c =

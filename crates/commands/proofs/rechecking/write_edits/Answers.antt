@@ -15,4 +15,4 @@ loop-place-preserved g c =
     let there : slice_get edits i ≡ Some edit = slice_get-get_or edits i edit (omega (arith, c.loop-place-test.true)) ∙ ap Some (sym c.index-edits-place.is) in
     let before = c.loop-place.invariant in
     let one = c.in_ok-write_edit.ensures in
-    (before.0 ++ one.0, edits_next 1 _ _ _ edits i edit before.0 one.0 there before.1 one.1, Appends-trans _ _ _ _ _ before.2 one.2)
+    (before.0 ++ one.0, edits_next _ _ _ edits i edit before.0 one.0 there before.1 one.1, Appends-trans _ _ _ _ _ before.2 one.2)

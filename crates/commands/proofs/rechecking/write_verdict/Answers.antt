@@ -20,7 +20,7 @@ returns-in_ok-line-in-Some g c =
     let refusal = c.in-Some.refusal in
     let old = g.W.Write.contents c.args.lines.now in
     let new = g.W.Write.contents c.refused.new.out in
-    let of_module = c.module-of_module.ensures ∙ ap (λ (p : LaidOut). p.of_module) c.program.ensures in
+    let of_module = c.module-of_module.ensures.of_module ∙ ap (λ (p : LaidOut). p.of_module) c.program.ensures in
     let line = c.as_slice.ensures.value ∙ c.in_ok-line-in-Some.ensures ∙ ap₂ (λ certs m. line_of certs m refusal.func refusal.detail) c.certs.ensures of_module in
     IfOk-weaker c.refused.result _ _
     (λ status told. (
