@@ -5,8 +5,8 @@
                          the same bytes, and exits with 1
 
 The gate runs each row and compares what it prints. So an example that equals a row is one that the program prints.
-Checked are docs/HELP.md, docs/RULES.md, docs/FRONT_ENDS.md, docs/WALKTHROUGH.md, README.md, the files of examples/, and the certificates and
-printed lines that stand as blocks in docs/CERTIFICATES.md, docs/TRACES.md and docs/TEXT.md. Not checked are lines within
+Checked are docs/HELP.md, docs/RULES.md, docs/FRONT_ENDS.md, docs/WALKTHROUGH.md, README.md, the files of examples/, and the certificates, edits and
+printed lines that stand as blocks in docs/CERTIFICATES.md, docs/EDITS.md, docs/TRACES.md and docs/TEXT.md. Not checked are lines within
 a paragraph, and blocks that show a form.
 
 docs/RULES.md and docs/FRONT_ENDS.md are written in one form. An example is three blocks: the functions, the certificate, the printed line. After
@@ -298,11 +298,11 @@ def file_places(rows):
 
 
 def form_places(rows, page):
-    """Pages of forms: their blocks that are a certificate or what is printed."""
+    """Pages of forms: their blocks that are a certificate, edits or what is printed."""
     places = []
     for number, kind, text in pieces(page):
         if kind == "block" and (text.startswith("cert ") or "\nfunction @" in text):
-            places.append(Place(f"{page}:{number}", is_file(rows, text), "no row has this certificate"))
+            places.append(Place(f"{page}:{number}", is_file(rows, text), "no row has this file"))
         elif kind == "block" and (text.startswith(PRINTED) or re.search(r" \d+$", text)):
             found = any(prints(row, text) for row in rows)
             places.append(Place(f"{page}:{number}", found, "no row prints this"))
@@ -316,7 +316,7 @@ def main():
     for page in ("docs/WALKTHROUGH.md", "README.md"):
         places += story_places(rows, page)
     places += file_places(rows)
-    for page in ("docs/CERTIFICATES.md", "docs/TRACES.md", "docs/TEXT.md"):
+    for page in ("docs/CERTIFICATES.md", "docs/EDITS.md", "docs/TRACES.md", "docs/TEXT.md"):
         places += form_places(rows, page)
     faults = [f"{place.where}: {place.wanted}" for place in places if not place.found]
     if faults:

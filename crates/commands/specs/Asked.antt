@@ -6,7 +6,7 @@ use Rattle.clap.specs.declared.error.kind.ErrorKind.{ErrorKind}
 use Rattle.clap.specs.declared.error.kind.ErrorKind.TheVariants.{OutOfMemory}
 use Rattle.serving.specs.declared.beside.Limits.{Limits}
 use Rattle.commands.specs.declared.asked.Line.{Line}
-use Rattle.commands.specs.declared.asked.Line.TheVariants.{Check, Make, Replay, Soak, Run}
+use Rattle.commands.specs.declared.asked.Line.TheVariants.{Check, Make, Recheck, Replay, Soak, Run}
 use Rattle.commands.specs.declared.asked.LineFault.{LineFault}
 use Rattle.commands.specs.declared.asked.LineFault.TheVariants.{Memory, Words}
 use Rattle.commands.specs.declared.asked.Why.{Why}
@@ -24,6 +24,7 @@ fault_of_error error = if is_memory_kind (kind_of error) then Memory else Words 
 pub data Asked : Type 0 where
   check : (module_path certificate_path : Text) (workers : ℕ) → Asked
   make : (module_path : Text) (why : Why) → Asked
+  recheck : (module_path certificate_path edits_path : Text) → Asked
   replay : (module_path trace_path : Text) → Asked
   soak : (module_path trace_path : Text) (seeds steps : ℕ) → Asked
   run : (module_path certificate_path trace_path : Text) (limits : Limits) → Asked
@@ -32,6 +33,7 @@ pub data Asked : Type 0 where
 abbrev pub asked_by : Line → Asked
 asked_by (Check line) = check line.module_path.now line.certificate_path.now line.workers
 asked_by (Make line) = make line.module_path.now line.why
+asked_by (Recheck line) = recheck line.module_path.now line.certificate_path.now line.edits_path.now
 asked_by (Replay line) = replay line.module_path.now line.trace_path.now
 asked_by (Soak line) = soak line.module_path.now line.trace_path.now line.seeds line.steps
 asked_by (Run line) = run line.module_path.now line.certificate_path.now line.trace_path.now line.limits
@@ -40,6 +42,7 @@ asked_by (Run line) = run line.module_path.now line.certificate_path.now line.tr
 abbrev pub paths_of : Asked → List Text
 paths_of (check module_path certificate_path workers) = module_path ∷ certificate_path ∷ []
 paths_of (make module_path why) = module_path ∷ []
+paths_of (recheck module_path certificate_path edits_path) = module_path ∷ certificate_path ∷ edits_path ∷ []
 paths_of (replay module_path trace_path) = module_path ∷ trace_path ∷ []
 paths_of (soak module_path trace_path seeds steps) = module_path ∷ trace_path ∷ []
 paths_of (run module_path certificate_path trace_path limits) = module_path ∷ certificate_path ∷ trace_path ∷ []

@@ -1,5 +1,5 @@
 -- What each command says of the files of its line.
-use Rattle.std.specs.Prelude.{◌≡◌, ◌≢◌, ℕ, List, Option, true, length}
+use Rattle.std.specs.Prelude.{◌≡◌, ◌≢◌, ◌++◌, ℕ, List, Option, true, length}
 use Rattle.std.specs.Io.KnownBytes.{Appends}
 use Rattle.ir_ast.specs.declared.module.Module.{Module}
 use Rattle.layout.specs.Layouts.{IsLayoutFault, LaidOut}
@@ -10,6 +10,8 @@ use Rattle.certificate.specs.Print.{cert_text}
 use Rattle.cert_maker.specs.Plain.{plain}
 use Rattle.block_rules.specs.declared.block_fault.Refusal.{Refusal}
 use Rattle.module_check.specs.Accepted.{IsAccepted, IsFirstRefusal, IsProgramCertified}
+use Rattle.edit_text.specs.declared.edit.Edit.{Edit}
+use Rattle.recheck.specs.Session.{State}
 use Rattle.trace_text.specs.declared.trace.Trace.{Trace}
 use Rattle.setups.specs.Setups.{HasNoFault, IsSetupFault}
 use Rattle.setups.specs.declared.setup_fault.SetupFault.{SetupFault}
@@ -24,11 +26,12 @@ use Rattle.mutators.specs.Reports.{IsReport}
 use Rattle.mutators.specs.declared.report.RunReport.{RunReport}
 use Rattle.commands.specs.declared.asked.Why.{Why}
 use Rattle.commands.specs.declared.asked.Why.TheVariants.{Wanted}
-use Rattle.commands.specs.Asked.{Asked, check, make, replay, soak, run}
+use Rattle.commands.specs.Asked.{Asked, check, make, recheck, replay, soak, run}
 use Rattle.commands.specs.Report.{Answer, IsTold, line_of, made_text, no, no_answer, no_memory, of_layout_fault, yes}
 use Rattle.commands.specs.Runs.{of_outcome, of_setup_fault, of_soak}
 use Rattle.commands.specs.RunReport.{of_report}
-use Rattle.commands.specs.Files.{HasModule, HasCerts, HasProgram, HasTrace, IsNoModule, IsNoTrace, IsUncertified, IsUntraced, of_unread}
+use Rattle.commands.specs.Rechecks.{IsBegun, OfEdits, OfSession}
+use Rattle.commands.specs.Files.{HasModule, HasCerts, HasEdits, HasProgram, HasTrace, IsNoModule, IsNoEdits, IsNoTrace, IsUncertified, IsUntraced, of_unread}
 use Rattle.commands.specs.declared.files.Unread.{Unread}
 
 -- ---- what is said, and where
@@ -87,6 +90,21 @@ pub data OfMake (why : Why) (path : List ℕ) (file : Option (List ℕ)) : Said 
   no_module : (unread : Unread) → IsNoModule path file unread → OfMake why path file (OnError (of_unread unread))
   of_module : (m : Module) (said : Said) → HasModule file m → OfMade why m said → OfMake why path file said
 
+-- ---- recheck
+
+-- what `recheck` says of a module, its certificates and edits: the first verdict, a line for each edit, and the status of the last verdict;
+-- the fault of the layouts; or that memory was refused
+pub data OfRechecked (m : Module) (certs : List Section) (edits : List Edit) : Said → Type 0 where
+  rechecked : (s t : State) (first last : Answer) (lines : List ℕ) → IsBegun m certs s → OfSession s first → OfEdits 1 s edits t lines → OfSession t last
+      → OfRechecked m certs edits (OnOutput (record { text = first.text ++ lines; status = last.status }))
+  no_session : (fault : LayoutFault) → IsLayoutFault m fault → OfRechecked m certs edits (OnError (of_layout_fault m fault))
+  not_rechecked : OfRechecked m certs edits (OnError no_memory)
+
+-- what it says of a module, its certificates and the file of edits, which has this path
+pub data OfEditsFile (path : List ℕ) (file : Option (List ℕ)) (m : Module) (certs : List Section) : Said → Type 0 where
+  no_edits : (unread : Unread) → IsNoEdits path file unread → OfEditsFile path file m certs (OnError (of_unread unread))
+  of_edits : (edits : List Edit) (said : Said) → HasEdits file edits → OfRechecked m certs edits said → OfEditsFile path file m certs said
+
 -- ---- replay and soak
 
 -- what `replay` says of a program and its trace: the outcome of the trace, the first thread that may not begin, or out of memory
@@ -129,6 +147,8 @@ pub data OfRunCerts (limits : Limits) (path : List ℕ) (file : Option (List ℕ
 abbrev pub OfCommand : Asked → (file_at : ℕ → Option (List ℕ)) → Said → Type 0
 OfCommand (check module_path cert_path workers) file_at = OfCertified OfCerts module_path cert_path (file_at 0) (file_at 1)
 OfCommand (make module_path why) file_at = OfMake why module_path (file_at 0)
+OfCommand (recheck module_path cert_path edits_path) file_at =
+    OfCertified (OfEditsFile edits_path (file_at 2)) module_path cert_path (file_at 0) (file_at 1)
 OfCommand (replay module_path trace_path) file_at = OfRun OfTrace module_path trace_path (file_at 0) (file_at 1)
 OfCommand (soak module_path trace_path seeds steps) file_at = OfRun (OfSeeds seeds steps) module_path trace_path (file_at 0) (file_at 1)
 OfCommand (run module_path cert_path trace_path limits) file_at =

@@ -10,12 +10,15 @@ use Rattle.layout.specs.declared.fault.LayoutFault.TheVariants as layout
 use Rattle.certs.specs.declared.section.Section.{Section}
 use Rattle.certificate.specs.Text as certificate
 use Rattle.certificate.specs.declared.fault.CertFault.TheVariants as cert
+use Rattle.edit_text.specs.Text as edit_text
+use Rattle.edit_text.specs.declared.edit.Edit.{Edit}
 use Rattle.trace_text.specs.Text as trace_text
 use Rattle.trace_text.specs.declared.fault.TraceFault.TheVariants as trace
 use Rattle.trace_text.specs.declared.trace.Trace.{Trace}
 use Rattle.commands.specs.declared.files.Unread.{Unread}
 use Rattle.commands.specs.declared.files.Unread.TheVariants as unread
 use Rattle.commands.specs.Report.{Answer, no_file, of_cert_fault, of_layout_fault, of_read_fault}
+use Rattle.commands.specs.Rechecks.{of_edits_fault}
 use Rattle.commands.specs.Runs.{of_trace_fault}
 
 -- ---- files
@@ -37,6 +40,10 @@ HasModule file m = (bytes : List ℕ) × (file ≡ Some bytes) × text.IsText by
 -- the file is a text of these certificates of the module
 abbrev pub HasCerts : (file : Option (List ℕ)) → Module → List Section → Type 0
 HasCerts file m certs = (bytes : List ℕ) × (file ≡ Some bytes) × certificate.IsCert bytes m certs
+
+-- the file is a text of these edits
+abbrev pub HasEdits : (file : Option (List ℕ)) → List Edit → Type 0
+HasEdits file edits = (bytes : List ℕ) × (file ≡ Some bytes) × edit_text.IsEdits bytes edits
 
 -- the file is a text of the module of this program, laid out
 abbrev pub HasProgram : (file : Option (List ℕ)) → LaidOut → Type 0
@@ -60,6 +67,12 @@ IsNoCertificate path file m (unread.NoFile named) = (named.now ≡ path) × (fil
 IsNoCertificate path file m (unread.NoCertificate of_module fault) =
     (of_module ≡ m) × ((bytes : List ℕ) × (file ≡ Some bytes) × (fault ≢ cert.Memory → certificate.IsFault bytes m fault))
 IsNoCertificate path file m _ = ⊥
+
+-- the first fault in the file of edits, which has this path
+abbrev pub IsNoEdits : (path : List ℕ) → (file : Option (List ℕ)) → Unread → Type 0
+IsNoEdits path file (unread.NoFile named) = (named.now ≡ path) × (file ≡ None)
+IsNoEdits path file (unread.NoEdits fault) = (bytes : List ℕ) × (file ≡ Some bytes) × (fault ≢ cert.Memory → edit_text.IsFault bytes fault)
+IsNoEdits path file _ = ⊥
 
 -- the first fault in the layouts of the module in a file
 abbrev pub HasNoLayouts : (file : Option (List ℕ)) → Unread → Type 0
@@ -90,4 +103,5 @@ of_unread (unread.NoFile path) = no_file path.now
 of_unread (unread.NoModule fault) = of_read_fault fault
 of_unread (unread.NoLayouts refused) = of_layout_fault refused.of_module refused.fault
 of_unread (unread.NoCertificate of_module fault) = of_cert_fault of_module fault
+of_unread (unread.NoEdits fault) = of_edits_fault fault
 of_unread (unread.NoTrace fault) = of_trace_fault fault

@@ -6,7 +6,7 @@ use Rattle.std.specs.Str.Parse.{digits_value, without_leading_plus}
 use Rattle.clap.specs.Words.{App, IsAmong, Row, Rule, Text, fault_of, first_of, kind_of, new_app, new_rule, one_of, subcommand_of, with_rule, with_subcommand}
 use Rattle.clap.specs.declared.builder.action.ArgAction.TheVariants.{SetTrue}
 use Rattle.clap.specs.declared.builder.value_parser.ValueParser.TheVariants.{Signed}
-use Rattle.commands.specs.Asked.{Asked, check, make, replay, soak, run}
+use Rattle.commands.specs.Asked.{Asked, check, make, recheck, replay, soak, run}
 use Rattle.commands.specs.declared.asked.LineFault.{LineFault}
 use Rattle.commands.specs.declared.asked.LineFault.TheVariants.{Memory, NoCommand, Words}
 use Rattle.commands.specs.declared.asked.Why.{Why}
@@ -66,6 +66,10 @@ check_app = with_rule (files_app (codes "check") (codes "CERT")) workers_rule
 abbrev pub make_app : App
 make_app = with_rule (module_app (codes "make")) (flag_rule (codes "why"))
 
+-- recheck MODULE CERT EDITS
+abbrev pub recheck_app : App
+recheck_app = with_rule (files_app (codes "recheck") (codes "CERT")) (file_rule (codes "EDITS"))
+
 -- replay MODULE TRACE
 abbrev pub replay_app : App
 replay_app = files_app (codes "replay") (codes "TRACE")
@@ -85,8 +89,8 @@ with_version_and_commands app = record app { top = record app.top { has_version 
 -- the whole grammar
 abbrev pub dgc_app : App
 dgc_app =
-    with_subcommand (with_subcommand (with_subcommand (with_subcommand (with_subcommand (with_version_and_commands (new_app (codes "dgc"))) check_app.top)
-    make_app.top) replay_app.top) soak_app.top) run_app.top
+    with_subcommand (with_subcommand (with_subcommand (with_subcommand (with_subcommand (with_subcommand (with_version_and_commands (new_app (codes "dgc"))) check_app.top)
+    make_app.top) recheck_app.top) replay_app.top) soak_app.top) run_app.top
 
 -- the number that a text of decimal digits writes, where it is below 2 to the 32; a plus may come first
 abbrev pub number_in : Text → Option ℕ
@@ -125,6 +129,11 @@ check_of given =
 abbrev pub make_of : List Row → Option Asked
 make_of given = option_map (λ module_path. make module_path (why_of given)) (first_of (codes "MODULE") given)
 
+-- `recheck` with what was given to it, if that is a module, a certificate and edits
+abbrev pub recheck_of : List Row → Option Asked
+recheck_of given =
+    option_and_then (λ paths. option_map (λ edits_path. recheck paths.0 paths.1 edits_path) (first_of (codes "EDITS") given)) (paths_in (codes "CERT") given)
+
 -- `replay` with what was given to it, if that is a module and a trace
 abbrev pub replay_of : List Row → Option Asked
 replay_of given = option_map (λ paths. replay paths.0 paths.1) (paths_in (codes "TRACE") given)
@@ -147,6 +156,7 @@ asked_of None = None
 asked_of (Some found) =
     if bytes_eq found.0 (codes "check") then check_of found.1
     else if bytes_eq found.0 (codes "make") then make_of found.1
+    else if bytes_eq found.0 (codes "recheck") then recheck_of found.1
     else if bytes_eq found.0 (codes "replay") then replay_of found.1
     else if bytes_eq found.0 (codes "soak") then soak_of found.1
     else if bytes_eq found.0 (codes "run") then run_of found.1

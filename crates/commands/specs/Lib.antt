@@ -3,5 +3,6 @@ pub mod Asked
 pub mod Grammar
 pub mod Runs
 pub mod RunReport
+pub mod Rechecks
 pub mod Files
 pub mod Commands

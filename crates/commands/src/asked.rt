@@ -30,6 +30,14 @@ pub struct MakeLine<'a> {
     pub why: Why,
 }
 
+/// Check a module against a certificate, and again after each of some edits.
+#[derive(Clone, Copy, PartialEq, Eq)]
+pub struct RecheckLine<'a> {
+    pub module_path: &'a str,
+    pub certificate_path: &'a str,
+    pub edits_path: &'a str,
+}
+
 /// Make the steps of a trace of a module.
 #[derive(Clone, Copy, PartialEq, Eq)]
 pub struct ReplayLine<'a> {
@@ -61,6 +69,7 @@ pub struct RunLine<'a> {
 pub enum Line<'a> {
     Check(CheckLine<'a>),
     Make(MakeLine<'a>),
+    Recheck(RecheckLine<'a>),
     Replay(ReplayLine<'a>),
     Soak(SoakLine<'a>),
     Run(RunLine<'a>),
@@ -105,6 +114,9 @@ impl<'a> Line<'a> {
         let paths = match *self {
             Line::Check(asked) => vec![in alloc; asked.module_path, asked.certificate_path]?,
             Line::Make(asked) => vec![in alloc; asked.module_path]?,
+            Line::Recheck(asked) => {
+                vec![in alloc; asked.module_path, asked.certificate_path, asked.edits_path]?
+            }
             Line::Replay(asked) => vec![in alloc; asked.module_path, asked.trace_path]?,
             Line::Soak(asked) => vec![in alloc; asked.module_path, asked.trace_path]?,
             Line::Run(asked) => {

@@ -7,6 +7,7 @@ ghost use Rattle.commands.specs.Files as spec;
 use crate::asked::Line;
 use crate::checking::check_files;
 use crate::making::make_file;
+use crate::rechecking::recheck_files;
 use crate::replaying::replay_files;
 use crate::running::run_files;
 use crate::soaking::soak_files;
@@ -31,6 +32,7 @@ pub fn work<O: Write, E: Write>(
     match *line {
         Line::Check(asked) => check_files(rt, alloc, asked, files, out, err),
         Line::Make(asked) => make_file(alloc, asked, files, out, err),
+        Line::Recheck(asked) => recheck_files(alloc, asked, files, out, err),
         Line::Replay(asked) => replay_files(alloc, asked, files, out, err),
         Line::Soak(asked) => soak_files(rt, alloc, asked, files, out, err),
         Line::Run(asked) => run_files(rt, alloc, asked, files, out, err),

@@ -1,8 +1,10 @@
-//! How faults in a module and its certificates are printed, each a line that goes to the standard error.
+//! How faults in a module, its certificates and edits are printed, each a line that goes to the standard error; and the codes of
+//! faults alone, as they are printed of refused edits.
 ghost use Rattle.std.specs.Prelude.{◌≡◌, ◌++◌, IfOk};
 ghost use Rattle.std.specs.Option.{option_copied};
 ghost use Rattle.certificate.specs.declared.fault.CertFault.TheVariants as cert;
 ghost use Rattle.ir_text.specs.declared.read_fault.ReadFault.TheVariants as read;
+ghost use Rattle.commands.specs.Rechecks as edits_spec;
 ghost use Rattle.commands.specs.Report as spec;
 ghost use Rattle.commands.specs.Report.{IsTold};
 
@@ -15,6 +17,7 @@ use ir_ast::Module;
 use ir_text::ReadFault;
 use ir_tokens::Position;
 use layout::LayoutFault;
+use recheck::EditFault;
 use std::io;
 use std::io::Write;
 
@@ -126,5 +129,73 @@ pub fn no_layouts<W: Write>(err: &mut W, of_module: &Module, fault: LayoutFault)
             Ok(STATUS_UNREADABLE)
         }
         LayoutFault::Memory => memory(err),
+    }
+}
+
+/// A text that is no text of edits: `error C1 1:6`.
+pub fn no_edits<W: Write>(err: &mut W, fault: CertFault) -> io::Result<u8>
+    ensures { IfOk result (λ status. IsTold (W.contents err.old) (W.contents err.new) status (edits_spec.of_edits_fault fault)) }
+{
+    match fault {
+        CertFault::Syntax(position) => at_place(err, "C1", position),
+        _ => memory(err),
+    }
+}
+
+/// The code of a fault in the text of a module.
+fn code_of_module(fault: &ReadFault) -> &'static str
+    ensures { result.now ≡ edits_spec.read_code fault.now }
+{
+    match fault {
+        ReadFault::BadByte(_) => "L1",
+        ReadFault::Unfinished(_) => "L2",
+        ReadFault::Unexpected(_) => "L3",
+        ReadFault::DefinedTwice(_) => "L4",
+        ReadFault::NotDefined(_) => "L5",
+        ReadFault::OutOfRange(_) => "L6",
+        ReadFault::LeftOut { .. } => "L7",
+        ReadFault::Limit(_) => "L8",
+        ReadFault::WrongNumber(_) => "L9",
+        ReadFault::Memory => "memory",
+    }
+}
+
+/// The code of a fault in the text of certificates.
+fn code_of_certificate(fault: CertFault) -> &'static str
+    ensures { result.now ≡ edits_spec.cert_code fault }
+{
+    match fault {
+        CertFault::Syntax(_) => "C1",
+        CertFault::Version(_) => "C2",
+        CertFault::UnknownName(_) => "C3",
+        CertFault::ListedTwice(_) => "C4",
+        CertFault::Missing(_) | CertFault::MissingBlock(_, _) => "C5",
+        CertFault::Memory => "memory",
+    }
+}
+
+/// The code of a fault of layouts.
+fn code_of_layouts(fault: LayoutFault) -> &'static str
+    ensures { result.now ≡ edits_spec.layout_code fault }
+{
+    match fault {
+        LayoutFault::HoldsItself(_) => "Y1",
+        LayoutFault::TooManyWords(_) => "Y2",
+        LayoutFault::NoSuchLayout(_) => "Y3",
+        LayoutFault::Memory => "memory",
+    }
+}
+
+/// The code of the fault for which an edit is refused.
+pub fn code_of_edit(fault: &EditFault) -> &'static str
+    ensures { result.now ≡ edits_spec.edit_code fault.now }
+{
+    match fault {
+        EditFault::NoFunction => "L5",
+        EditFault::NoSection => "C3",
+        EditFault::Code(fault) => code_of_module(fault),
+        EditFault::Cert(fault) => code_of_certificate(*fault),
+        EditFault::Layout(fault) => code_of_layouts(*fault),
+        EditFault::Memory => "memory",
     }
 }

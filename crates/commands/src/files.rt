@@ -1,14 +1,18 @@
-//! The files of a command, and what is read from them: a module with its certificates, or with its layouts and a trace.
-ghost use Rattle.std.specs.Prelude.{◌≡◌, IfOk, IfErr};
+//! The files of a command, and what is read from them: a module with its certificates, and edits of them; or a module with its
+//! layouts and a trace.
+ghost use Rattle.std.specs.Prelude.{◌≡◌, true, IfOk, IfErr};
 ghost use Rattle.std.specs.Option.{option_copied};
+ghost use Rattle.certs.specs.Fits.{fits};
 ghost use Rattle.trace_text.specs.Traces.{IsTraceOf};
-ghost use Rattle.commands.specs.Files.{file_at, HasModule, HasCerts, HasProgram, HasTrace, IsNoModule, IsNoCertificate, IsNoProgram, IsNoTrace, IsUncertified, IsUntraced};
+ghost use Rattle.commands.specs.Files.{file_at, HasModule, HasCerts, HasEdits, HasProgram, HasTrace, IsNoModule, IsNoCertificate, IsNoEdits, IsNoProgram, IsNoTrace, IsUncertified, IsUntraced};
 
 use certificate::{CertFault, read_cert};
 use certs::Certs;
 use ir_ast::Module;
 use ir_text::{ReadFault, read};
+use items::Items;
 use layout::{NotAProgram, Program};
+use recheck::{Edit, read_edits};
 use std::alloc::Global;
 use trace_text::{Trace, TraceFault, read_trace};
 
@@ -44,6 +48,8 @@ pub enum Unread<'a> {
     NoLayouts(NotAProgram),
     /// The text is no certificate of this module.
     NoCertificate(Module, CertFault),
+    /// The text is no text of edits.
+    NoEdits(CertFault),
     NoTrace(TraceFault),
 }
 
@@ -74,6 +80,7 @@ fn certified_in<'a>(
 ) -> Result<Certified, Unread<'a>>
     ensures of_module { IfOk result (λ certified. certified.of_module ≡ of_module) }
     ensures ok { IfOk result (λ certified. HasCerts (file_at files.now 1) certified.of_module certified.certs) }
+    ensures fits { IfOk result (λ certified. fits certified.of_module certified.certs ≡ true) }
     ensures err { IfErr result (IsNoCertificate path.now (file_at files.now 1) of_module) }
 {
     let Some(text) = file_at(files, 1) else {
@@ -95,10 +102,30 @@ pub fn read_certified<'a>(
 ) -> Result<Certified, Unread<'a>>
     ensures of_module { IfOk result (λ certified. HasModule (file_at files.now 0) certified.of_module) }
     ensures certs { IfOk result (λ certified. HasCerts (file_at files.now 1) certified.of_module certified.certs) }
+    ensures fits { IfOk result (λ certified. fits certified.of_module certified.certs ≡ true) }
     ensures err { IfErr result (IsUncertified paths.entry.0.now paths.entry.1.now (file_at files.now 0) (file_at files.now 1)) }
 {
     let of_module = module_in(alloc, paths.0, files)?;
     certified_in(alloc, paths.1, files, of_module)
+}
+
+/// The edits of the file at this place of the line.
+pub fn edits_in<'a>(
+    alloc: Global,
+    path: &'a str,
+    files: &[Option<Vec<u8>>],
+    place: usize,
+) -> Result<Items<Edit>, Unread<'a>>
+    ensures ok { IfOk result (HasEdits (file_at files.now place)) }
+    ensures err { IfErr result (IsNoEdits path.now (file_at files.now place)) }
+{
+    let Some(text) = file_at(files, place) else {
+        return Err(Unread::NoFile(path));
+    };
+    match read_edits(alloc, text) {
+        Ok(edits) => Ok(edits),
+        Err(fault) => Err(Unread::NoEdits(fault)),
+    }
 }
 
 /// The program of the first file.

@@ -24,6 +24,9 @@ pub(crate) const STEPS: &str = "How many steps each seed makes";
 pub(crate) const RUN_TRACE: &str =
     "A trace: how the run begins; its steps are ignored (docs/TRACES.md)";
 
+pub(crate) const EDITS: &str =
+    "Edits: functions and sections in the place of others (docs/EDITS.md)";
+
 pub(crate) const TURNS: &str = "How many steps the collector makes at most";
 
 pub(crate) const RUN_STEPS: &str = "After how many of its steps a thread is stopped";
@@ -66,6 +69,28 @@ Exit status:
   2  the text is not read, or the module has no layouts
   3  memory was refused
   4  the command line is refused, a file cannot be read, or a write failed";
+
+pub(crate) const RECHECK: CommandHelp = CommandHelp {
+    about: "Checks a module against a certificate, and again after each of some edits",
+    second: "A certificate: what its author claims to hold at each block (docs/CERTIFICATES.md)",
+    after: "\
+Prints what `dgc check` does. Then puts the texts of each edit in the place of what is there,
+and prints a line for it, as `2 rechecked 3 yes 4`: the edit's number from 1, how many
+functions it made be checked, and what `dgc check` prints of the module and the certificate as
+they are then. Of an edit that is refused it prints the code of the fault, as `3 refused C3`.
+Such an edit changes nothing.
+
+Of a text that is not read, one line goes to standard error, as `error L4 23:13` (a line
+and a column) or `error C5 @f`. The texts within an edit are read when it is its turn. Where
+memory is refused, `error memory` is all that is printed.
+
+Exit status:
+  0  the last verdict is yes
+  1  the last verdict is no
+  2  a text is not read, or the module has no layouts
+  3  memory was refused
+  4  the command line is refused, a file cannot be read, or a write failed",
+};
 
 pub(crate) const REPLAY: CommandHelp = CommandHelp {
     about: "Makes the steps of a trace, and says which one breaks the run",

@@ -12,6 +12,7 @@ mod making;
 mod name;
 mod outcomes;
 mod reader;
+mod rechecking;
 mod replaying;
 mod run_report;
 mod running;
@@ -19,7 +20,9 @@ mod soaking;
 mod status;
 mod verdicts;
 
-pub use asked::{CheckLine, Line, LineFault, MakeLine, ReplayLine, RunLine, SoakLine, Why};
+pub use asked::{
+    CheckLine, Line, LineFault, MakeLine, RecheckLine, ReplayLine, RunLine, SoakLine, Why,
+};
 pub use command::work;
 pub use faults::{memory, no_layouts};
 pub use outcomes::{replayed, soaked};

@@ -6,7 +6,7 @@ ghost use Rattle.commands.specs.Report.{IsTold};
 ghost use Rattle.commands.specs.Files.{of_unread};
 ghost use Rattle.commands.specs.Runs as spec;
 
-use crate::faults::{at_place, memory, no_certificate, no_file, no_layouts, no_module};
+use crate::faults::{at_place, memory, no_certificate, no_edits, no_file, no_layouts, no_module};
 use crate::files::Unread;
 use crate::status::{STATUS_NO, STATUS_UNREADABLE, STATUS_YES};
 use machine::Value;
@@ -40,6 +40,7 @@ pub fn unread<W: Write>(err: &mut W, unread: &Unread<'_>) -> io::Result<u8>
         Unread::NoModule(fault) => no_module(err, fault),
         Unread::NoLayouts(refused) => no_layouts(err, &refused.of_module, refused.fault),
         Unread::NoCertificate(of_module, fault) => no_certificate(err, of_module, *fault),
+        Unread::NoEdits(fault) => no_edits(err, *fault),
         Unread::NoTrace(fault) => no_trace(err, *fault),
     }
 }

@@ -3,12 +3,14 @@ ghost use Rattle.std.specs.Prelude.{◌≡◌, IfOk, IfErr, IsOk, [], map, optio
 ghost use Rattle.clap.specs.Words.{app_of, fault_of, first_of, found_of, new_app, rows_of, rule_of};
 ghost use Rattle.clap.specs.declared.builder.command.Command.TheViews.{out-Command};
 ghost use Rattle.commands.specs.Asked.{asked_by, HasWorkers};
-ghost use Rattle.commands.specs.Grammar.{asked_in, asked_of, check_app, check_of, dgc_app, file_rule, files_app, flag_of, flag_rule, IsRefusalOf, limit_rule, make_app, make_of, module_app, number_of, number_rule, paths_in, replay_of, run_app, run_of, soak_app, soak_of, why_of, workers_of, workers_rule};
+ghost use Rattle.commands.specs.Grammar.{asked_in, asked_of, check_app, check_of, dgc_app, file_rule, files_app, flag_of, flag_rule, IsRefusalOf, limit_rule, make_app, make_of, module_app, number_of, number_rule, paths_in, recheck_app, recheck_of, replay_of, run_app, run_of, soak_app, soak_of, why_of, workers_of, workers_rule};
 
-use crate::asked::{CheckLine, Line, LineFault, MakeLine, ReplayLine, RunLine, SoakLine, Why};
+use crate::asked::{
+    CheckLine, Line, LineFault, MakeLine, RecheckLine, ReplayLine, RunLine, SoakLine, Why,
+};
 use crate::help::{
-    CHECK, CommandHelp, DGC_ABOUT, DGC_AFTER, MAKE_ABOUT, MAKE_AFTER, MODULE, REPLAY, RUN,
-    RUN_STEPS, RUN_TRACE, SEEDS, SOAK, STEPS, TURNS, WHY, WORKERS,
+    CHECK, CommandHelp, DGC_ABOUT, DGC_AFTER, EDITS, MAKE_ABOUT, MAKE_AFTER, MODULE, RECHECK,
+    REPLAY, RUN, RUN_STEPS, RUN_TRACE, SEEDS, SOAK, STEPS, TURNS, WHY, WORKERS,
 };
 use clap::{Arg, ArgAction, ArgMatches, Command, value_parser};
 use mutators::Limits;
@@ -120,6 +122,13 @@ fn make_command<'a>(alloc: Global) -> Result<Command<'a>, AllocError>
     module_command(alloc, "make", MAKE_ABOUT, MAKE_AFTER)?.arg(flag(alloc, "why", WHY))
 }
 
+fn recheck_command<'a>(alloc: Global) -> Result<Command<'a>, AllocError>
+    ensures app { IfOk result (λ command. app_of command ≡ recheck_app) }
+    ensures own { IfOk result (λ command. (out-Command command).has_globals ≡ false) }
+{
+    files_command(alloc, "recheck", "CERT", RECHECK)?.arg(file(alloc, "EDITS", EDITS))
+}
+
 fn soak_command<'a>(alloc: Global) -> Result<Command<'a>, AllocError>
     ensures app { IfOk result (λ command. app_of command ≡ soak_app) }
     ensures own { IfOk result (λ command. (out-Command command).has_globals ≡ false) }
@@ -153,6 +162,11 @@ fn dgc_command<'a>(alloc: Global) -> Result<Command<'a>, AllocError>
         return Err(AllocError);
     };
     let command = command.subcommand(make)?;
+    let Ok(recheck) = recheck_command(alloc) else {
+        drop(command);
+        return Err(AllocError);
+    };
+    let command = command.subcommand(recheck)?;
     let Ok(replay) = files_command(alloc, "replay", "TRACE", REPLAY) else {
         drop(command);
         return Err(AllocError);
@@ -258,6 +272,23 @@ fn make_line<'a>(given: &ArgMatches<'a>) -> Option<Line<'a>>
     Some(Line::Make(MakeLine { module_path, why }))
 }
 
+/// The line of `recheck`, from what was given to it.
+fn recheck_line<'a>(given: &ArgMatches<'a>) -> Option<Line<'a>>
+    ensures { option_map asked_by result ≡ recheck_of (rows_of (found_of given.now)) }
+{
+    let Some((module_path, certificate_path)) = paths_given(given, "CERT") else {
+        return None;
+    };
+    let Some(edits_path) = text_given(given, "EDITS") else {
+        return None;
+    };
+    Some(Line::Recheck(RecheckLine {
+        module_path,
+        certificate_path,
+        edits_path,
+    }))
+}
+
 /// The line of `replay`, from what was given to it.
 fn replay_line<'a>(given: &ArgMatches<'a>) -> Option<Line<'a>>
     ensures { option_map asked_by result ≡ replay_of (rows_of (found_of given.now)) }
@@ -323,6 +354,7 @@ fn command_line<'a>(name: &str, given: &ArgMatches<'a>) -> Option<Line<'a>>
     match name {
         "check" => check_line(given),
         "make" => make_line(given),
+        "recheck" => recheck_line(given),
         "replay" => replay_line(given),
         "soak" => soak_line(given),
         "run" => run_line(given),

@@ -35,6 +35,8 @@ mod running_tests;
 #[cfg(test)]
 mod section_tests;
 #[cfg(test)]
+mod session_tests;
+#[cfg(test)]
 mod texts;
 #[cfg(test)]
 mod worker_tests;

@@ -6,6 +6,9 @@ returns-in-Check g c = rw c.in-Check.is c.check_files.ensures
 pub returns-in-Make : goal.returns-in-Make
 returns-in-Make g c = rw c.in-Make.is c.make_file.ensures
 
+pub returns-in-Recheck : goal.returns-in-Recheck
+returns-in-Recheck g c = rw c.in-Recheck.is c.recheck_files.ensures
+
 pub returns-in-Replay : goal.returns-in-Replay
 returns-in-Replay g c = rw c.in-Replay.is c.replay_files.ensures
 

@@ -1,0 +1,16 @@
+%Node = type { i64, %Node* }
+@g = global %Node* null
+declare i8* @dg_alloc(i32)
+declare void @dg_safepoint()
+declare void @llvm.gcroot(i8**, i8*)
+declare i8* @llvm.gcread(i8*, i8**)
+declare void @llvm.gcwrite(i8*, i8*, i8**)
+define void @again(i1 %c) {
+entry:
+  br i1 %c, label %more, label %out
+more:
+  call void @again(i1 %c)
+  ret void
+out:
+  ret void
+}
