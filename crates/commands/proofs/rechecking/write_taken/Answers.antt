@@ -7,10 +7,11 @@ use Rattle.commands.specs.Rechecks.{taken_text}
 use Rattle.commands.proofs.rechecking.write_taken.Goals as goal
 
 -- the numbers and then the verdict are the line
-line_of_parts : (number n : ℕ) (verdict : Answer) → (decimal number ++ codes " rechecked " ++ decimal n ++ codes " ") ++ verdict.text ≡ taken_text number n verdict
+line_of_parts : (number n : ℕ) (verdict : Answer) → (((decimal number ++ codes " rechecked ") ++ decimal n) ++ codes " ") ++ verdict.text ≡ taken_text number n verdict
 line_of_parts number n verdict =
-    append_assoc (decimal number) (codes " rechecked " ++ decimal n ++ codes " ") verdict.text
-    ∙ ap (λ l. decimal number ++ codes " rechecked " ++ l) (append_assoc (decimal n) (codes " ") verdict.text)
+    append_assoc ((decimal number ++ codes " rechecked ") ++ decimal n) (codes " ") verdict.text
+    ∙ append_assoc (decimal number ++ codes " rechecked ") (decimal n) (codes " " ++ verdict.text)
+    ∙ append_assoc (decimal number) (codes " rechecked ") (decimal n ++ (codes " " ++ verdict.text))
 
 pub returns : goal.returns
 returns g c =
