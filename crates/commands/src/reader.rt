@@ -1,9 +1,9 @@
 //! The grammar of the command line, and how a line is read.
-ghost use Rattle.std.specs.Prelude.{◌≡◌, IfOk, IfErr, IsOk, [], map, option_map, false};
+ghost use Rattle.std.specs.Prelude.{◌≡◌, IfOk, IfErr, IsOk, [], map, option_map, false, codes};
 ghost use Rattle.clap.specs.Words.{app_of, fault_of, first_of, found_of, new_app, rows_of, rule_of};
 ghost use Rattle.clap.specs.declared.builder.command.Command.TheViews.{out-Command};
 ghost use Rattle.commands.specs.Asked.{asked_by, HasWorkers};
-ghost use Rattle.commands.specs.Grammar.{asked_in, asked_of, check_app, check_of, dgc_app, file_rule, files_app, flag_of, flag_rule, IsRefusalOf, limit_rule, make_app, make_of, module_app, number_of, number_rule, paths_in, recheck_app, recheck_of, replay_of, run_app, run_of, soak_app, soak_of, why_of, workers_of, workers_rule};
+ghost use Rattle.commands.specs.Grammar.{asked_in, asked_of, check_app, check_of, dgc_app, file_rule, files_app, flag_of, flag_rule, IsRefusalOf, limit_rule, make_app, make_of, module_app, number_of, number_rule, paths_in, recheck_app, recheck_of, replay_of, run_app, run_of, soak_app, soak_of, why_of, with_version_and_commands, workers_of, workers_rule};
 
 use crate::asked::{
     CheckLine, Line, LineFault, MakeLine, RecheckLine, ReplayLine, RunLine, SoakLine, Why,
@@ -148,15 +148,22 @@ fn run_command<'a>(alloc: Global) -> Result<Command<'a>, AllocError>
         .arg(limit(alloc, "steps", "S", RUN_STEPS))
 }
 
+/// The program's own line, without its commands.
+fn bare_command<'a>(alloc: Global) -> Command<'a>
+    ensures app { app_of result ≡ with_version_and_commands (new_app (codes "dgc")) }
+    ensures own { (out-Command result).has_globals ≡ false }
+{
+    told_command(alloc, "dgc", DGC_ABOUT, DGC_AFTER)
+        .version("0.1.0")
+        .subcommand_required(true)
+}
+
 fn dgc_command<'a>(alloc: Global) -> Result<Command<'a>, AllocError>
     ensures app { IfOk result (λ command. app_of command ≡ dgc_app) }
     ensures own { IfOk result (λ command. (out-Command command).has_globals ≡ false) }
 {
     let check = check_command(alloc)?;
-    let command = told_command(alloc, "dgc", DGC_ABOUT, DGC_AFTER)
-        .version("0.1.0")
-        .subcommand_required(true)
-        .subcommand(check)?;
+    let command = bare_command(alloc).subcommand(check)?;
     let Ok(make) = make_command(alloc) else {
         drop(command);
         return Err(AllocError);

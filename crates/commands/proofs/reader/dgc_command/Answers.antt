@@ -1,8 +1,6 @@
-use Rattle.std.proofs.Common.{◌≡◌, ◌∙◌, ◌||◌, ap, ap₂, codes, false, rules}
+use Rattle.std.proofs.Common.{◌∙◌, ◌||◌, ap, ap₂}
 use Rattle.std.proofs.lemmas.Result.{IfOk-weaker}
-use Rattle.clap.specs.Words.{App, app_of, new_app, with_subcommand}
-use Rattle.clap.specs.declared.builder.command.Command.TheViews.{out-Command}
-use Rattle.commands.specs.Grammar.{with_version_and_commands}
+use Rattle.clap.specs.Words.{App, with_subcommand}
 use Rattle.commands.proofs.reader.dgc_command.Goals as goal
 
 pub returns-clause-app : goal.returns-clause-app
@@ -12,8 +10,7 @@ returns-clause-app c =
     let third = c.in_ok-command-3.ensures.shape c.in-Ok-recheck_command.ensures.own in
     let fourth = c.in_ok-command-4.ensures.shape c.in-Ok-files_command.ensures.own in
     let fifth = c.in_ok-command-5.ensures.shape c.in-Ok-soak_command.ensures.own in
-    let head : app_of c.subcommand_required.result ≡ with_version_and_commands (new_app (codes "dgc")) = search rules in
-    let one = first ∙ ap₂ with_subcommand head (ap (λ (a : App). a.top) c.in_ok-check.ensures.app) in
+    let one = first ∙ ap₂ with_subcommand c.bare_command.ensures.app (ap (λ (a : App). a.top) c.in_ok-check.ensures.app) in
     let two = second ∙ ap₂ with_subcommand one (ap (λ (a : App). a.top) c.in-Ok.ensures.app) in
     let three = third ∙ ap₂ with_subcommand two (ap (λ (a : App). a.top) c.in-Ok-recheck_command.ensures.app) in
     let four = fourth ∙ ap₂ with_subcommand three (ap (λ (a : App). a.top) c.in-Ok-files_command.ensures.app) in
@@ -24,8 +21,7 @@ returns-clause-app c =
 
 pub returns-clause-own : goal.returns-clause-own
 returns-clause-own c =
-    let head : (out-Command c.subcommand_required.result).has_globals ≡ false = search rules in
-    let one = c.in_ok-command.ensures.globals ∙ ap₂ (λ a b. a || b) head c.in_ok-check.ensures.own in
+    let one = c.in_ok-command.ensures.globals ∙ ap₂ (λ a b. a || b) c.bare_command.ensures.own c.in_ok-check.ensures.own in
     let two = c.in_ok-command-2.ensures.globals ∙ ap₂ (λ a b. a || b) one c.in-Ok.ensures.own in
     let three = c.in_ok-command-3.ensures.globals ∙ ap₂ (λ a b. a || b) two c.in-Ok-recheck_command.ensures.own in
     let four = c.in_ok-command-4.ensures.globals ∙ ap₂ (λ a b. a || b) three c.in-Ok-files_command.ensures.own in

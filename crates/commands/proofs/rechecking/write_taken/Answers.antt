@@ -1,4 +1,4 @@
-use Rattle.std.proofs.Common.{◌≡◌, ◌∙◌, ◌++◌, ℕ, ap, append_assoc, codes, subst}
+use Rattle.std.proofs.Common.{◌≡◌, ◌∙◌, ◌++◌, ℕ, List, ap, append_assoc, codes, subst, sym}
 use Rattle.std.specs.Fmt.{decimal}
 use Rattle.std.specs.Io.KnownBytes.{Appends}
 use Rattle.std.proofs.KnownBytes.{Appends-trans}
@@ -6,11 +6,16 @@ use Rattle.commands.specs.Report.{Answer}
 use Rattle.commands.specs.Rechecks.{taken_text}
 use Rattle.commands.proofs.rechecking.write_taken.Goals as goal
 
+-- five texts one after another
+joined : (a b c d e : List ℕ) → (a ++ (b ++ (c ++ d))) ++ e ≡ ((a ++ b) ++ c) ++ (d ++ e)
+joined a b c d e =
+    append_assoc a (b ++ (c ++ d)) e
+    ∙ ap (λ l. a ++ l) (append_assoc b (c ++ d) e ∙ ap (λ l. b ++ l) (append_assoc c d e))
+    ∙ sym (append_assoc (a ++ b) c (d ++ e) ∙ append_assoc a b (c ++ (d ++ e)))
+
 -- the numbers and then the verdict are the line
-line_of_parts : (number n : ℕ) (verdict : Answer) → (decimal number ++ codes " rechecked " ++ decimal n ++ codes " ") ++ verdict.text ≡ taken_text number n verdict
-line_of_parts number n verdict =
-    append_assoc (decimal number) (codes " rechecked " ++ decimal n ++ codes " ") verdict.text
-    ∙ ap (λ l. decimal number ++ codes " rechecked " ++ l) (append_assoc (decimal n) (codes " ") verdict.text)
+line_of_parts : (number n : ℕ) (verdict : Answer) → (decimal number ++ (codes " rechecked " ++ (decimal n ++ codes " "))) ++ verdict.text ≡ taken_text number n verdict
+line_of_parts number n verdict = joined (decimal number) (codes " rechecked ") (decimal n) (codes " ") verdict.text
 
 pub returns : goal.returns
 returns g c =
