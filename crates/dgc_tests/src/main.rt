@@ -35,8 +35,6 @@ mod running_tests;
 #[cfg(test)]
 mod section_tests;
 #[cfg(test)]
-mod session_tests;
-#[cfg(test)]
 mod texts;
 #[cfg(test)]
 mod worker_tests;
