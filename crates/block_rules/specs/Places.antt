@@ -15,8 +15,8 @@ use Rattle.shadow_stack.specs.Slots.{SlotTable, slot_of, held_type}
 use Rattle.facts.specs.declared.known.Known.{Known}
 use Rattle.facts.specs.declared.known.Known.TheVariants.{Nothing, Number, Cell, Null, Address, GlobalAddress}
 use Rattle.facts.specs.Facts.{FactSet, known_at, define, define_new, drop_fresh_of, store_slot, load_slot}
-use Rattle.block_rules.specs.declared.wanted.Wanted.{Wanted}
-use Rattle.block_rules.specs.declared.wanted.Wanted.TheVariants as want
+use Rattle.block_rules.specs.declared.wanted_word.WantedWord.{WantedWord}
+use Rattle.block_rules.specs.declared.wanted_word.WantedWord.TheVariants as want
 use Rattle.block_rules.specs.declared.type_kind.TypeKind.{TypeKind}
 use Rattle.block_rules.specs.declared.type_kind.TypeKind.TheVariants.{Bits, Reference, AnyReference}
 use Rattle.block_rules.specs.Operands.{slot_named, known_of, known_fits, is_null_constant}
@@ -39,7 +39,7 @@ moves m written None = false
 moves m written (Some held) = moves_kind (written == held) (kind_of m written) (kind_of m held)
 
 -- a word that is there holds what is wanted
-abbrev pub holds_wanted : Wanted → Option WordKind → Bool
+abbrev pub holds_wanted : WantedWord → Option WordKind → Bool
 holds_wanted (want.Integer bits) (Some (word.Integer other)) = other == bits
 holds_wanted (want.Reference layout) (Some (word.Reference other)) = other == layout
 holds_wanted want.AnyReference (Some (word.Reference other)) = true
@@ -55,7 +55,7 @@ abbrev pub cell_words : List ℕ
 cell_words = range_with_len 0 64
 
 -- each word of a set holds what is wanted, in a layout
-abbrev pub each_word : Wanted → (layouts : List (List WordKind)) → (layout : ℕ) → WordSet → Bool
+abbrev pub each_word : WantedWord → (layouts : List (List WordKind)) → (layout : ℕ) → WordSet → Bool
 each_word wanted layouts layout words = list_all (λ w. not (has_word words.members w) || holds_wanted wanted (kind_of_word layouts layout w)) cell_words
 
 -- the layout to which the first of these words refers that a set has
@@ -64,12 +64,12 @@ first_layout layouts layout words [] = None
 first_layout layouts layout words (w ∷ rest) = if has_word words.members w then layout_of_word (kind_of_word layouts layout w) else first_layout layouts layout words rest
 
 -- references of one layout are wanted: that of the first word, if there is one
-abbrev pub one_reference : (first : Option ℕ) → Wanted
+abbrev pub one_reference : (first : Option ℕ) → WantedWord
 one_reference None = want.Nothing
 one_reference (Some layout) = want.Reference layout
 
 -- what a load of this kind wants of words, the first of which refers to this layout
-abbrev pub wanted_by_load : TypeKind → (first : Option ℕ) → Wanted
+abbrev pub wanted_by_load : TypeKind → (first : Option ℕ) → WantedWord
 wanted_by_load (Bits bits) first = want.Integer bits
 wanted_by_load (Reference layout) first = want.Reference layout
 wanted_by_load AnyReference first = one_reference first
@@ -107,14 +107,14 @@ may_load p slots facts loaded (Local v) = loads_local p slots facts (known_at fa
 may_load p slots facts loaded place = loads_known p facts (kind_of p.of_module loaded) (known_of facts place)
 
 -- what a store of this kind wants of words
-abbrev pub wanted_by_store : TypeKind → Wanted
+abbrev pub wanted_by_store : TypeKind → WantedWord
 wanted_by_store (Bits bits) = want.Integer bits
 wanted_by_store (Reference layout) = want.Reference layout
 wanted_by_store AnyReference = want.AnyReference
 wanted_by_store _ = want.Nothing
 
 -- what a value wants of words, if anything is known of it; null goes into each reference
-abbrev pub wanted_by_value : Known → Option Wanted
+abbrev pub wanted_by_value : Known → Option WantedWord
 wanted_by_value Nothing = None
 wanted_by_value (Number bits below) = Some (want.Integer bits)
 wanted_by_value (Cell class layout stale) = Some (want.Reference layout)
@@ -122,7 +122,7 @@ wanted_by_value Null = Some want.AnyReference
 wanted_by_value _ = Some want.Nothing
 
 -- what is known of a value fits words of a layout
-abbrev pub fits_words : (layouts : List (List WordKind)) → (layout : ℕ) → WordSet → Option Wanted → Bool
+abbrev pub fits_words : (layouts : List (List WordKind)) → (layout : ℕ) → WordSet → Option WantedWord → Bool
 fits_words layouts layout words None = true
 fits_words layouts layout words (Some wanted) = each_word wanted layouts layout words
 
@@ -132,7 +132,7 @@ stores_base p kind value words (Cell class layout stale) = each_word (wanted_by_
 stores_base p kind value words _ = true
 
 -- what is known of a value fits the word of a global
-abbrev pub fits_word : Option WordKind → Option Wanted → Bool
+abbrev pub fits_word : Option WordKind → Option WantedWord → Bool
 fits_word word None = true
 fits_word word (Some wanted) = holds_wanted wanted word
 

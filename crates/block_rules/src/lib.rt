@@ -26,7 +26,7 @@ mod signature;
 mod standing;
 mod stride;
 mod type_kind;
-mod wanted;
+mod wanted_word;
 
 pub use block_fault::{BlockFault, Breach, Detail, Refusal};
 pub use changes::advance;

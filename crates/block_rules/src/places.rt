@@ -7,7 +7,7 @@ ghost use Rattle.block_rules.specs.Places.{loads_slot, moves_kind, moves, holds_
 use crate::operands::{is_null_constant, known_fits, known_of, slot_named};
 use crate::scene::Scene;
 use crate::type_kind::TypeKind;
-use crate::wanted::Wanted;
+use crate::wanted_word::WantedWord;
 use facts::{Class, Facts, Known};
 use ir_ast::{Module, Operand, TypeId, ValueId};
 use layout::{Program, global_word};
@@ -47,20 +47,20 @@ fn moves(module: &Module, written: TypeId, held: Option<TypeId>) -> bool
     }
 }
 
-fn kind_is_wanted(wanted: Wanted, kind: WordKind) -> bool
+fn kind_is_wanted(wanted: WantedWord, kind: WordKind) -> bool
     ensures { result ≡ holds_wanted wanted (Some kind) }
 {
     match kind {
-        WordKind::Integer(bits) => matches!(wanted, Wanted::Integer(other) if bits == other),
+        WordKind::Integer(bits) => matches!(wanted, WantedWord::Integer(other) if bits == other),
         WordKind::Reference(layout) => match wanted {
-            Wanted::Reference(other) => layout == other,
-            Wanted::AnyReference => true,
+            WantedWord::Reference(other) => layout == other,
+            WantedWord::AnyReference => true,
             _ => false,
         },
     }
 }
 
-fn holds_wanted(wanted: Wanted, kind: Option<WordKind>) -> bool
+fn holds_wanted(wanted: WantedWord, kind: Option<WordKind>) -> bool
     ensures { result ≡ holds_wanted wanted kind }
 {
     match kind {
@@ -75,7 +75,7 @@ fn kind_of_word(layouts: &Layouts, layout: LayoutId, word: u32) -> Option<WordKi
     layouts.words(layout).get(word as usize).copied()
 }
 
-fn each_word(wanted: Wanted, layouts: &Layouts, layout: LayoutId, words: &WordSet) -> bool
+fn each_word(wanted: WantedWord, layouts: &Layouts, layout: LayoutId, words: &WordSet) -> bool
     ensures { result ≡ each_word wanted layouts.now layout words.now }
 {
     (0..CELL_WORDS as u32).all(|word| {
@@ -105,17 +105,17 @@ fn first_layout(layouts: &Layouts, layout: LayoutId, words: &WordSet) -> Option<
     None
 }
 
-fn wanted_by_load(kind: TypeKind, first: Option<LayoutId>) -> Wanted
+fn wanted_by_load(kind: TypeKind, first: Option<LayoutId>) -> WantedWord
     ensures { result ≡ wanted_by_load kind first }
 {
     match kind {
-        TypeKind::Bits(bits) => Wanted::Integer(bits),
-        TypeKind::Reference(layout) => Wanted::Reference(layout),
+        TypeKind::Bits(bits) => WantedWord::Integer(bits),
+        TypeKind::Reference(layout) => WantedWord::Reference(layout),
         TypeKind::AnyReference => match first {
-            Some(layout) => Wanted::Reference(layout),
-            None => Wanted::Nothing,
+            Some(layout) => WantedWord::Reference(layout),
+            None => WantedWord::Nothing,
         },
-        _ => Wanted::Nothing,
+        _ => WantedWord::Nothing,
     }
 }
 
@@ -178,30 +178,35 @@ pub fn may_load(scene: &Scene, facts: &Facts, loaded: TypeId, place: &Operand) -
     }
 }
 
-fn wanted_by_store(kind: TypeKind) -> Wanted
+fn wanted_by_store(kind: TypeKind) -> WantedWord
     ensures { result ≡ wanted_by_store kind }
 {
     match kind {
-        TypeKind::Bits(bits) => Wanted::Integer(bits),
-        TypeKind::Reference(layout) => Wanted::Reference(layout),
-        TypeKind::AnyReference => Wanted::AnyReference,
-        _ => Wanted::Nothing,
+        TypeKind::Bits(bits) => WantedWord::Integer(bits),
+        TypeKind::Reference(layout) => WantedWord::Reference(layout),
+        TypeKind::AnyReference => WantedWord::AnyReference,
+        _ => WantedWord::Nothing,
     }
 }
 
-fn wanted_by_value(value: &Known) -> Option<Wanted>
+fn wanted_by_value(value: &Known) -> Option<WantedWord>
     ensures { result ≡ wanted_by_value value.now }
 {
     match value {
         Known::Nothing => None,
-        Known::Number { bits, .. } => Some(Wanted::Integer(*bits)),
-        Known::Cell { layout, .. } => Some(Wanted::Reference(*layout)),
-        Known::Null => Some(Wanted::AnyReference),
-        Known::Address { .. } | Known::GlobalAddress(_) => Some(Wanted::Nothing),
+        Known::Number { bits, .. } => Some(WantedWord::Integer(*bits)),
+        Known::Cell { layout, .. } => Some(WantedWord::Reference(*layout)),
+        Known::Null => Some(WantedWord::AnyReference),
+        Known::Address { .. } | Known::GlobalAddress(_) => Some(WantedWord::Nothing),
     }
 }
 
-fn fits_words(layouts: &Layouts, layout: LayoutId, words: &WordSet, wanted: Option<Wanted>) -> bool
+fn fits_words(
+    layouts: &Layouts,
+    layout: LayoutId,
+    words: &WordSet,
+    wanted: Option<WantedWord>,
+) -> bool
     ensures { result ≡ fits_words layouts.now layout words.now wanted }
 {
     match wanted {
@@ -228,7 +233,7 @@ fn stores_base(
     }
 }
 
-fn fits_word(word: Option<WordKind>, wanted: Option<Wanted>) -> bool
+fn fits_word(word: Option<WordKind>, wanted: Option<WantedWord>) -> bool
     ensures { result ≡ fits_word word wanted }
 {
     match wanted {

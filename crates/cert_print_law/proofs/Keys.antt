@@ -1,22 +1,15 @@
 -- The key of a value or a block, as it is printed.
-use Rattle.std.proofs.Common.{◌≡◌, ℕ, ◌+◌, ◌/◌, ◌%◌, ◌<◌, ◌≤◌, ◌^◌, Bool, true, false, [], ◌∷◌, ◌++◌, if◌then◌else◌, refl, ap, ◌∙◌, arith, rules}
+use Rattle.std.proofs.Common.{◌≡◌, ℕ, ◌+◌, ◌/◌, ◌%◌, ◌<◌, ◌≤◌, ◌^◌, Bool, true, false, [], ◌∷◌, ◌++◌, refl, ◌∙◌, arith, rules}
 use Rattle.std.specs.Prelude.{◌==◌}
 use Rattle.std.specs.List.{list_all}
 use Rattle.std.specs.Fmt.{decimal}
 use Rattle.std.proofs.lemmas.Bool.Decides.{nat_tests}
 use Rattle.std.proofs.lemmas.Fmt.{decimal_by_steps, decimal_nonempty, digits_decimal, length-decimal-le}
 use Rattle.std.proofs.lemmas.Str.Parse.{IsNumeralModel, numerals_by_fold}
-use Rattle.ir_ast.specs.KeyNames.{name_of_key}
-use Rattle.ir_ast.specs.Keys.{name_again, no_number}
-use Rattle.ir_ast.specs.LocalKeys.{key_of_name, key_of_digits}
+use Rattle.ir_ast.specs.LocalKeys.{key_of_digits}
 use Rattle.ir_tokens.specs.Bytes.{Text, is_digit}
 use Rattle.name_text.specs.Numbers.{decimal_behind}
 use Rattle.certificate.specs.Named.{IsNumberKey}
-use Rattle.certificate.specs.Print.{name_text, key_text}
-
--- the key of a name is printed as that name
-pub name_key_text : (name : Text) → key_text (key_of_name name) ≡ name_text name
-name_key_text name = ap (λ (t : Bool). if t then key_of_name name else name_text (name_of_key (key_of_name name))) (no_number name) ∙ ap name_text (name_again name)
 
 -- ---- numbers
 

@@ -11,10 +11,11 @@ use Rattle.ir_print_law.specs.ModuleNames.{HasModuleNames}
 use Rattle.ir_print_law.specs.ModuleNames as names
 use Rattle.types.specs.Globals.{global_of_sort}
 use Rattle.certs.specs.Fits.{is_value_sort}
+use Rattle.certificate.specs.KeyText.{name_key_text}
 use Rattle.certificate.specs.Named.{AreNames, IsNameKey, IsNumberKey, IsNamedFunction, IsNamed}
 use Rattle.certificate.specs.Print.{name_text, key_text}
 use Rattle.cert_print_law.specs.Printed.{AreShort, HasShortNames}
-use Rattle.cert_print_law.proofs.Keys.{name_key_text, number_key}
+use Rattle.cert_print_law.proofs.Keys.{number_key}
 
 table : (xs : List Text) → names.AreNames xs → AreShort name_text xs → AreNames xs
 table xs are short number name there = let own = are number name there in ((own.0, short number name there), own.1)

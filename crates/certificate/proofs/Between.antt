@@ -16,8 +16,8 @@ use Rattle.certificate.specs.Drafts.{draft_of, promised, wanting, listing, listi
 use Rattle.certs.specs.Families.{family_of_value}
 use Rattle.certificate.specs.Forms.{is_parameter, is_named}
 use Rattle.certs.specs.Fits.{fact_fits, promise_fits, parameter_fits, line_fits, lists, lists_slot, is_listed, lists_once, named_in, named_in_fact, lists_named, all_named_listed, lines_fit, entry_is_empty, parameters_fit}
-use Rattle.certificate.specs.declared.draft.Draft.{Draft}
-use Rattle.certificate.specs.declared.draft.Wanted.{Wanted}
+use Rattle.certificate.specs.declared.draft.SectionDraft.{SectionDraft}
+use Rattle.certificate.specs.declared.draft.RequiredValue.{RequiredValue}
 use Rattle.certs.specs.declared.section.Fact.{Fact}
 use Rattle.certs.specs.declared.section.Line.{Line}
 use Rattle.certs.specs.declared.section.Line.TheVariants as line
@@ -111,35 +111,35 @@ once_more (old ∷ lines) new once e =
     rest false b e = e
 
 -- the value is wanted, if there is one
-abbrev pub is_wanted : List Wanted → Option ℕ → Bool
+abbrev pub is_wanted : List RequiredValue → Option ℕ → Bool
 is_wanted wanted None = true
-is_wanted wanted (Some value) = list_any (λ (w : Wanted). w.value == value) wanted
+is_wanted wanted (Some value) = list_any (λ (w : RequiredValue). w.value == value) wanted
 
-wanted_more : (wanted : List Wanted) (w : Wanted) (value : Option ℕ) → is_wanted wanted value ≡ true → is_wanted (wanted ++ w ∷ []) value ≡ true
+wanted_more : (wanted : List RequiredValue) (w : RequiredValue) (value : Option ℕ) → is_wanted wanted value ≡ true → is_wanted (wanted ++ w ∷ []) value ≡ true
 wanted_more wanted w None e = refl
-wanted_more wanted w (Some value) e = any_more (λ (w : Wanted). w.value == value) wanted w ∙ rw e refl
+wanted_more wanted w (Some value) e = any_more (λ (w : RequiredValue). w.value == value) wanted w ∙ rw e refl
 
 -- what is wanted is listed, where nothing is unlisted
-unlisted_by : (b : ℕ) (values : List (Option ℕ)) (w : Wanted) (more : List Wanted) (v : ℕ) (t : Bool) → is_in b (slice_get values w.value) ≡ t
+unlisted_by : (b : ℕ) (values : List (Option ℕ)) (w : RequiredValue) (more : List RequiredValue) (v : ℕ) (t : Bool) → is_in b (slice_get values w.value) ≡ t
     → (if t then first_unlisted b values more else Some w.left) ≡ None → (is_in b (slice_get values w.value) ≡ true) × (first_unlisted b values more ≡ None)
 unlisted_by b values w more v true is e = (is, e)
 unlisted_by b values w more v false is e = absurd cc
 
-wanted_in : (b : ℕ) (values : List (Option ℕ)) (wanted : List Wanted) (v : ℕ) → first_unlisted b values wanted ≡ None → list_any (λ (w : Wanted). w.value == v) wanted ≡ true → is_in b (slice_get values v) ≡ true
+wanted_in : (b : ℕ) (values : List (Option ℕ)) (wanted : List RequiredValue) (v : ℕ) → first_unlisted b values wanted ≡ None → list_any (λ (w : RequiredValue). w.value == v) wanted ≡ true → is_in b (slice_get values v) ≡ true
 wanted_in b values [] v e h = absurd cc
 wanted_in b values (w ∷ wanted) v e h =
     let p = unlisted_by b values w wanted v (is_in b (slice_get values w.value)) refl e in
     pick (w.value == v) refl h p.0 (wanted_in b values wanted v p.1)
   where
-    pick : (t : Bool) → w.value == v ≡ t → (t || list_any (λ (w : Wanted). w.value == v) wanted) ≡ true → is_in b (slice_get values w.value) ≡ true
-        → (list_any (λ (w : Wanted). w.value == v) wanted ≡ true → is_in b (slice_get values v) ≡ true) → is_in b (slice_get values v) ≡ true
+    pick : (t : Bool) → w.value == v ≡ t → (t || list_any (λ (w : RequiredValue). w.value == v) wanted) ≡ true → is_in b (slice_get values w.value) ≡ true
+        → (list_any (λ (w : RequiredValue). w.value == v) wanted ≡ true → is_in b (slice_get values v) ≡ true) → is_in b (slice_get values v) ≡ true
     pick true same h here more = ap (λ x. is_in b (slice_get values x)) (sym (eqb-true w.value v same)) ∙ here
     pick false other h here more = more h
 
 -- ---- a section between its blocks
 
 -- what is read of a section fits, apart from the lines of the block at hand; each other block that lists values or slots has had its lines
-pub record Fitting (m : Module) (f : Function) (IsNow : ℕ → Type 0) (d : Draft) : Type 0 where
+pub record Fitting (m : Module) (f : Function) (IsNow : ℕ → Type 0) (d : SectionDraft) : Type 0 where
   pub roots : d.roots ≡ root_names m f
   pub promises : parameters_fit m f d.parameters ≡ true
   pub as_many : length d.blocks ≡ length f.blocks
@@ -152,7 +152,7 @@ pub record Fitting (m : Module) (f : Function) (IsNow : ℕ → Type 0) (d : Dra
   pub slots_before : (block slot : ℕ) → is_in block (slice_get d.slots slot) ≡ true → IsNow block ⊎ (slice_get d.given block ≡ Some true)
 
 -- the lines that are read of this block fit, but for the values that it has to list
-pub record Lines (m : Module) (f : Function) (block : ℕ) (d : Draft) : Type 0 where
+pub record Lines (m : Module) (f : Function) (block : ℕ) (d : SectionDraft) : Type 0 where
   pub each : list_all (line_fits m f) d.lines ≡ true
   pub once : lists_once d.lines ≡ true
   pub asked : list_all (λ line. is_wanted d.wanted (named_in line)) d.lines ≡ true
@@ -160,11 +160,11 @@ pub record Lines (m : Module) (f : Function) (block : ℕ) (d : Draft) : Type 0 
   pub slots : (slot : ℕ) → is_in block (slice_get d.slots slot) ≡ list_any (lists_slot slot) d.lines
 
 -- between blocks
-abbrev pub Between : Module → Function → Draft → Type 0
+abbrev pub Between : Module → Function → SectionDraft → Type 0
 Between m f d = Fitting m f (λ _. ⊥) d × (d.lines ≡ []) × (d.wanted ≡ [])
 
 -- in a block
-abbrev pub Within : Module → Function → (block : ℕ) → Draft → Type 0
+abbrev pub Within : Module → Function → (block : ℕ) → SectionDraft → Type 0
 Within m f block d = Fitting m f (λ b. b ≡ block) d × Lines m f block d
 
 none_in : (n block i : ℕ) → is_in block (slice_get (replicate n None) i) ≡ true → ⊥
@@ -221,7 +221,7 @@ parameter_at f place e = by (slice_get f.parameters place) refl e
     by None is e = absurd cc
     by (Some p) is e = (p, is, eqb-true p.value place e)
 
-pub with_parameter : (m : Module) (f : Function) (place : ℕ) (promise : Promise) (d : Draft) → is_parameter f place ≡ true → promise_fits m (family_of_value m f place) promise ≡ true → Between m f d → Between m f (promised place promise d)
+pub with_parameter : (m : Module) (f : Function) (place : ℕ) (promise : Promise) (d : SectionDraft) → is_parameter f place ≡ true → promise_fits m (family_of_value m f place) promise ≡ true → Between m f d → Between m f (promised place promise d)
 with_parameter m f place promise d is fits h =
     let p = parameter_at f place is in
     let old = h.0.promises in
@@ -252,7 +252,7 @@ not_again : (given : List Bool) (block : ℕ) → slice_get given block ≡ Some
 not_again given block e g = cc
 
 -- a block begins of which no line is read
-pub block_begins : (m : Module) (f : Function) (block : ℕ) (d : Draft) → slice_get d.given block ≡ Some false → Between m f d → Within m f block d
+pub block_begins : (m : Module) (f : Function) (block : ℕ) (d : SectionDraft) → slice_get d.given block ≡ Some false → Between m f d → Within m f block d
 block_begins m f block d new h = (
   record {
     roots = h.0.roots;
@@ -283,7 +283,7 @@ block_begins m f block d new h = (
     none (inl e) = e
     none (inr e) = not_again d.given block new e
 
-all_listed : (m : Module) (f : Function) (block : ℕ) (d : Draft) → Lines m f block d → first_unlisted block d.values d.wanted ≡ None → all_named_listed d.lines ≡ true
+all_listed : (m : Module) (f : Function) (block : ℕ) (d : SectionDraft) → Lines m f block d → first_unlisted block d.values d.wanted ≡ None → all_named_listed d.lines ≡ true
 all_listed m f block d h e = all_weaker (λ line. is_wanted d.wanted (named_in line)) (λ line. lists_named d.lines (named_in line)) d.lines (λ line. weaker (named_in line)) h.asked
   where
     weaker : (value : Option ℕ) → is_wanted d.wanted value ≡ true → lists_named d.lines value ≡ true
@@ -297,7 +297,7 @@ entry_stays ([] ∷ blocks) given (suc block) lines none new e = refl
 entry_stays ((l ∷ ls) ∷ blocks) given (suc block) lines none new e = absurd cc
 
 -- the block's lines are all there
-pub block_ends : (m : Module) (f : Function) (block : ℕ) (d : Draft) → slice_get d.given block ≡ Some false → first_unlisted block d.values d.wanted ≡ None → Within m f block d → Between m f (block_ended block d)
+pub block_ends : (m : Module) (f : Function) (block : ℕ) (d : SectionDraft) → slice_get d.given block ≡ Some false → first_unlisted block d.values d.wanted ≡ None → Within m f block d → Between m f (block_ended block d)
 block_ends m f block d new listed h =
     let lines = h.1 in
     let here : lines_fit m f d.lines ≡ true = rw (lines.each, lines.once, all_listed m f block d lines listed) refl in (
@@ -333,7 +333,7 @@ block_ends m f block d new listed h =
 -- ---- lines
 
 -- a value is named that the block has to list
-pub with_wanted : (m : Module) (f : Function) (block value left : ℕ) (d : Draft) → Within m f block d → Within m f block (wanting value left d)
+pub with_wanted : (m : Module) (f : Function) (block value left : ℕ) (d : SectionDraft) → Within m f block d → Within m f block (wanting value left d)
 with_wanted m f block value left d h = (
   record {
     roots = h.0.roots;
@@ -356,8 +356,8 @@ with_wanted m f block value left d h = (
   },
 )
 
-pub last_wanted : (wanted : List Wanted) (value left : ℕ) → is_wanted (wanted ++ record { value = value; left = left } ∷ []) (Some value) ≡ true
-last_wanted wanted value left = any_more (λ (w : Wanted). w.value == value) wanted (record { value = value; left = left }) ∙ or_true (list_any (λ (w : Wanted). w.value == value) wanted) (value == value) (test_same value)
+pub last_wanted : (wanted : List RequiredValue) (value left : ℕ) → is_wanted (wanted ++ record { value = value; left = left } ∷ []) (Some value) ≡ true
+last_wanted wanted value left = any_more (λ (w : RequiredValue). w.value == value) wanted (record { value = value; left = left }) ∙ or_true (list_any (λ (w : RequiredValue). w.value == value) wanted) (value == value) (test_same value)
   where
     or_true : (a b : Bool) → b ≡ true → (a || b) ≡ true
     or_true true b e = refl
@@ -384,7 +384,7 @@ before_with block value values given old b u e = elim (got_cases values value u 
 ]
 
 -- the block lists a value more
-pub with_value : (m : Module) (f : Function) (block value : ℕ) (fact : Fact) (d : Draft) → value < length f.locals → is_in block (slice_get d.values value) ≡ false
+pub with_value : (m : Module) (f : Function) (block value : ℕ) (fact : Fact) (d : SectionDraft) → value < length f.locals → is_in block (slice_get d.values value) ≡ false
     → fact_fits m (family_of_value m f value) fact ≡ true → is_wanted d.wanted (named_in_fact fact) ≡ true → Within m f block d → Within m f block (listing block value (line.Value value fact) d)
 with_value m f block value fact d within new fits wanted h =
     let one = line.Value value fact in
@@ -411,7 +411,7 @@ with_value m f block value fact d within new fits wanted h =
     )
 
 -- the block lists a slot more
-pub with_slot : (m : Module) (f : Function) (block slot : ℕ) (nonnull : Bool) (holds : Option ℕ) (d : Draft) → slot < length f.locals → is_in block (slice_get d.slots slot) ≡ false
+pub with_slot : (m : Module) (f : Function) (block slot : ℕ) (nonnull : Bool) (holds : Option ℕ) (d : SectionDraft) → slot < length f.locals → is_in block (slice_get d.slots slot) ≡ false
     → line_fits m f (line.Slot slot nonnull holds) ≡ true → is_wanted d.wanted holds ≡ true → Within m f block d → Within m f block (listing_slot block slot (line.Slot slot nonnull holds) d)
 with_slot m f block slot nonnull holds d within new fits wanted h =
     let one = line.Slot slot nonnull holds in

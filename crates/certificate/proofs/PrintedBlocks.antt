@@ -29,8 +29,8 @@ use Rattle.certificate.proofs.PrintedNames.{value_printed, block_printed}
 use Rattle.certificate.proofs.PrintedLines.{at, Behind, word_is, taken_on, expect_on, line_end_on, noting, lined, IsValue, IsNew, line_on, value_is}
 use Rattle.certificate.proofs.Between.{turned, all_weaker, any_more, Between, Within, block_begins}
 use Rattle.certificate.proofs.ReadFits.{line_is}
-use Rattle.certificate.specs.declared.draft.Draft.{Draft}
-use Rattle.certificate.specs.declared.draft.Wanted.{Wanted}
+use Rattle.certificate.specs.declared.draft.SectionDraft.{SectionDraft}
+use Rattle.certificate.specs.declared.draft.RequiredValue.{RequiredValue}
 use Rattle.certs.specs.declared.section.Fact.{Fact}
 use Rattle.certs.specs.declared.section.Fact.TheVariants as fact
 use Rattle.certs.specs.declared.section.Line.{Line}
@@ -43,8 +43,8 @@ names value None = false
 names value (Some other) = other == value
 
 -- each value that is wanted is named in some line
-abbrev pub AllNamed : Draft → Type 0
-AllNamed d = list_all (λ (w : Wanted). list_any (λ (line : Line). names w.value (named_in line)) d.lines) d.wanted ≡ true
+abbrev pub AllNamed : SectionDraft → Type 0
+AllNamed d = list_all (λ (w : RequiredValue). list_any (λ (line : Line). names w.value (named_in line)) d.lines) d.wanted ≡ true
 
 not_false : (a b : Bool) → (not a && b) ≡ true → (a ≡ false) × (b ≡ true)
 not_false true b e = absurd cc
@@ -93,12 +93,12 @@ named_listed all (l ∷ lines) value e h = by (named_in l) e (and_first (lists_n
     by (Some other) e g more = here other (other == value) refl e g more
 
 -- nothing is unlisted where each value that is named is listed
-all_listed : (block : ℕ) (values : List (Option ℕ)) (lines : List Line) (wanted : List Wanted) → ((value : ℕ) → is_in block (slice_get values value) ≡ list_any (lists value) lines) → all_named_listed lines ≡ true
-    → list_all (λ (w : Wanted). list_any (λ (line : Line). names w.value (named_in line)) lines) wanted ≡ true → first_unlisted block values wanted ≡ None
+all_listed : (block : ℕ) (values : List (Option ℕ)) (lines : List Line) (wanted : List RequiredValue) → ((value : ℕ) → is_in block (slice_get values value) ≡ list_any (lists value) lines) → all_named_listed lines ≡ true
+    → list_all (λ (w : RequiredValue). list_any (λ (line : Line). names w.value (named_in line)) lines) wanted ≡ true → first_unlisted block values wanted ≡ None
 all_listed block values lines [] same all named = refl
 all_listed block values lines (w ∷ wanted) same all named =
-    let one = and_first (list_any (λ (line : Line). names w.value (named_in line)) lines) (list_all (λ (w : Wanted). list_any (λ (line : Line). names w.value (named_in line)) lines) wanted) named in
-    let more = and_second (list_any (λ (line : Line). names w.value (named_in line)) lines) (list_all (λ (w : Wanted). list_any (λ (line : Line). names w.value (named_in line)) lines) wanted) named in
+    let one = and_first (list_any (λ (line : Line). names w.value (named_in line)) lines) (list_all (λ (w : RequiredValue). list_any (λ (line : Line). names w.value (named_in line)) lines) wanted) named in
+    let more = and_second (list_any (λ (line : Line). names w.value (named_in line)) lines) (list_all (λ (w : RequiredValue). list_any (λ (line : Line). names w.value (named_in line)) lines) wanted) named in
     let here : is_in block (slice_get values w.value) ≡ true = same w.value ∙ named_listed lines lines w.value one all in
     rw here (all_listed block values lines wanted same all more)
 
@@ -117,26 +117,26 @@ lined_same block n (line.Value value fact) i = let h = noted_same (named_in_fact
 lined_same block n (line.Slot slot nonnull holds) i = let h = noted_same holds n i in (h.0, ap (λ (x : List Line). x ++ line.Slot slot nonnull holds ∷ []) h.1)
 
 -- what is wanted stays named with one line more
-more_named : (lines : List Line) (wanted : List Wanted) (said : Line) → list_all (λ (w : Wanted). list_any (λ (line : Line). names w.value (named_in line)) lines) wanted ≡ true
-    → list_all (λ (w : Wanted). list_any (λ (line : Line). names w.value (named_in line)) (lines ++ said ∷ [])) wanted ≡ true
+more_named : (lines : List Line) (wanted : List RequiredValue) (said : Line) → list_all (λ (w : RequiredValue). list_any (λ (line : Line). names w.value (named_in line)) lines) wanted ≡ true
+    → list_all (λ (w : RequiredValue). list_any (λ (line : Line). names w.value (named_in line)) (lines ++ said ∷ [])) wanted ≡ true
 more_named lines wanted said e =
-    all_weaker (λ (w : Wanted). list_any (λ (line : Line). names w.value (named_in line)) lines) (λ (w : Wanted). list_any (λ (line : Line). names w.value (named_in line)) (lines ++ said ∷ [])) wanted
+    all_weaker (λ (w : RequiredValue). list_any (λ (line : Line). names w.value (named_in line)) lines) (λ (w : RequiredValue). list_any (λ (line : Line). names w.value (named_in line)) (lines ++ said ∷ [])) wanted
     (λ w h. any_more (λ (line : Line). names w.value (named_in line)) lines said ∙ or_first (list_any (λ (line : Line). names w.value (named_in line)) lines) (names w.value (named_in said)) h) e
 
 noted_named : (value : Option ℕ) (n : ℕ) (i : Input) (said : Line) → named_in said ≡ value → AllNamed i.read.draft
-    → list_all (λ (w : Wanted). list_any (λ (line : Line). names w.value (named_in line)) (i.read.draft.lines ++ said ∷ [])) (noting value n i).read.draft.wanted ≡ true
+    → list_all (λ (w : RequiredValue). list_any (λ (line : Line). names w.value (named_in line)) (i.read.draft.lines ++ said ∷ [])) (noting value n i).read.draft.wanted ≡ true
 noted_named None n i said is e = more_named i.read.draft.lines i.read.draft.wanted said e
 noted_named (Some value) n i said is e =
-    all_end (λ (w : Wanted). list_any (λ (line : Line). names w.value (named_in line)) (i.read.draft.lines ++ said ∷ [])) i.read.draft.wanted (record { value = value; left = n }) (more_named i.read.draft.lines i.read.draft.wanted said e)
+    all_end (λ (w : RequiredValue). list_any (λ (line : Line). names w.value (named_in line)) (i.read.draft.lines ++ said ∷ [])) i.read.draft.wanted (record { value = value; left = n }) (more_named i.read.draft.lines i.read.draft.wanted said e)
     (any_more (λ (line : Line). names value (named_in line)) i.read.draft.lines said ∙ or_second (list_any (λ (line : Line). names value (named_in line)) i.read.draft.lines) (names value (named_in said)) (ap (names value) is ∙ eq-eqb value value refl))
 
 lined_named : (block n : ℕ) (said : Line) (i : Input) → AllNamed i.read.draft → AllNamed (lined block n said i).read.draft
 lined_named block n (line.Value value fact) i e =
     let h = noted_same (named_in_fact fact) n i in
-    subst (λ (x : List Line). list_all (λ (w : Wanted). list_any (λ (line : Line). names w.value (named_in line)) (x ++ line.Value value fact ∷ [])) (noting (named_in_fact fact) n i).read.draft.wanted ≡ true) (sym h.1) (noted_named (named_in_fact fact) n i (line.Value value fact) refl e)
+    subst (λ (x : List Line). list_all (λ (w : RequiredValue). list_any (λ (line : Line). names w.value (named_in line)) (x ++ line.Value value fact ∷ [])) (noting (named_in_fact fact) n i).read.draft.wanted ≡ true) (sym h.1) (noted_named (named_in_fact fact) n i (line.Value value fact) refl e)
 lined_named block n (line.Slot slot nonnull holds) i e =
     let h = noted_same holds n i in
-    subst (λ (x : List Line). list_all (λ (w : Wanted). list_any (λ (line : Line). names w.value (named_in line)) (x ++ line.Slot slot nonnull holds ∷ [])) (noting holds n i).read.draft.wanted ≡ true) (sym h.1) (noted_named holds n i (line.Slot slot nonnull holds) refl e)
+    subst (λ (x : List Line). list_all (λ (w : RequiredValue). list_any (λ (line : Line). names w.value (named_in line)) (x ++ line.Slot slot nonnull holds ∷ [])) (noting holds n i).read.draft.wanted ≡ true) (sym h.1) (noted_named holds n i (line.Slot slot nonnull holds) refl e)
 
 -- ---- lines
 
@@ -266,7 +266,7 @@ module _ (m : Module) (f : Function) (named : IsNamed m) (own : IsNamedFunction 
       let listed = and_second (list_all (line_fits m f) lines && lists_once lines) (all_named_listed lines) fits in
       let begun = block_begins m f number i.read.draft new between in
       let none : i.read.draft.lines ++ lines ≡ lines = ap (λ (x : List Line). x ++ lines) between.1 in
-      let none_wanted : AllNamed i.read.draft = ap (list_all (λ (w : Wanted). list_any (λ (line : Line). names w.value (named_in line)) i.read.draft.lines)) between.2 in
+      let none_wanted : AllNamed i.read.draft = ap (list_all (λ (w : RequiredValue). list_any (λ (line : Line). names w.value (named_in line)) i.read.draft.lines)) between.2 in
       let read = lines_on_from number lines lines i t fit listed fit ends (ap lists_once none ∙ once) begun none_wanted in
       let w = local_text f b.label in
       let p = block_printed f number b own is in

@@ -8,7 +8,6 @@ use Rattle.lemmas.specs.Bools.{and_first}
 use Rattle.ir_tokens.specs.Bytes.{Text, is_digit}
 use Rattle.ir_ast.specs.KeyNames.{name_of_key}
 use Rattle.ir_ast.specs.LocalKeys.{key_of_name}
-use Rattle.ir_ast.specs.Keys.{name_again, no_number}
 use Rattle.name_text.specs.Words.{is_word}
 use Rattle.name_text.specs.declared.blank.Blank.TheVariants as blank
 use Rattle.name_text.specs.NameWords.{names_are_words}
@@ -17,6 +16,7 @@ use Rattle.name_text.specs.Seams.{bytes_close}
 use Rattle.name_text.specs.Naming.{name_in}
 use Rattle.certs.specs.Fits as fits
 use Rattle.certificate.specs.Numbers.{count_of_word, bits_of_word}
+use Rattle.certificate.specs.KeyText.{name_key_text}
 use Rattle.certificate.specs.Print.{name_text, key_text}
 use Rattle.name_text.specs.Readings.{IsShort}
 use Rattle.certificate.specs.Named.{IsNameKey, IsNumberKey}
@@ -41,10 +41,6 @@ pub name_word : (name : Text) → is_word (name_text name) ≡ true
 name_word name = names_are_words blank.Kept name
 
 -- ---- keys
-
--- the key of a name is printed as that name
-name_key_text : (name : Text) → key_text (key_of_name name) ≡ name_text name
-name_key_text name = ap (λ (t : Bool). if t then key_of_name name else name_text (name_of_key (key_of_name name))) (no_number name) ∙ ap name_text (name_again name)
 
 -- a key is read as it is printed, and is printed as one word
 abbrev pub IsReadAgain : Text → Type 0

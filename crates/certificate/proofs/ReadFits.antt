@@ -26,7 +26,7 @@ use Rattle.certificate.specs.Text as text
 use Rattle.certificate.specs.Text.{IsCert, file, first_gap, gap_in, gap_or, sections_in, finished_by}
 use Rattle.certs.specs.Fits.{below_fits, says_something, promised_layout_fits, promised_below_fits, promise_fits, promised_fits, fact_fits, is_value, named_in_fact, section_fits, fits}
 use Rattle.certificate.proofs.Between.{all_set_zip, Between, Within, is_wanted, last_wanted, at_start, with_parameter, block_begins, block_ends, with_wanted, with_value, with_slot}
-use Rattle.certificate.specs.declared.draft.Draft.{Draft}
+use Rattle.certificate.specs.declared.draft.SectionDraft.{SectionDraft}
 use Rattle.certs.specs.declared.family.Family.{Family}
 use Rattle.certs.specs.declared.family.Family.TheVariants as family
 use Rattle.certificate.specs.declared.facts.Head.{Head}
@@ -529,7 +529,7 @@ body_is m f i p o h =
       ap (λ (x : Input). x.read.sections) begun ∙ params.1 ∙ ap (λ (x : Input). x.read.sections) params_end ∙ ap (λ (x : Input). x.read.sections) result.1 ∙ blocks.1 ∙ ap (λ (x : Input). x.read.sections) out,
     )
 
-section_fits_between : (m : Module) (f : Function) (mark : Mark) (p : Option Promise) (d : Draft) → Between m f d → promised_fits m (family_of_type m f.returned) p ≡ true → section_fits m f (kept mark p d).section ≡ true
+section_fits_between : (m : Module) (f : Function) (mark : Mark) (p : Option Promise) (d : SectionDraft) → Between m f d → promised_fits m (family_of_type m f.returned) p ≡ true → section_fits m f (kept mark p d).section ≡ true
 section_fits_between m f mark p d h fits =
     let same : length d.blocks == length f.blocks ≡ true = eq-eqb (length d.blocks) (length f.blocks) h.0.as_many in
     rw (h.0.promises, fits, same, h.0.entry, h.0.fit) refl

@@ -7,7 +7,7 @@ use Rattle.name_text.specs.Words.{past_lines}
 use Rattle.name_text.specs.Reader as reader
 use Rattle.name_text.specs.declared.reader.Reader.{Reader}
 use Rattle.certificate.specs.Drafts.{no_draft, draft_of, promised, wanting, listing, listing_slot, block_ended, first_missing}
-use Rattle.certificate.specs.declared.draft.Draft.{Draft}
+use Rattle.certificate.specs.declared.draft.SectionDraft.{SectionDraft}
 use Rattle.certificate.specs.declared.mistake.Mistake.{Mistake}
 use Rattle.certificate.specs.declared.progress.Kept.{Kept}
 use Rattle.certs.specs.declared.section.Line.{Line}
@@ -17,7 +17,7 @@ use Rattle.certs.specs.declared.section.Promise.{Promise}
 -- what is read so far
 pub record Progress : Type 0 where
   pub sections : List (Option Kept)  -- by the numbers of the functions
-  pub draft : Draft  -- of the section that is read
+  pub draft : SectionDraft  -- of the section that is read
 
 -- a certificate's text, and what is read of it so far
 abbrev pub Input : Type 0
@@ -56,7 +56,7 @@ unfoldable pub with_block : (block : ℕ) → Progress → Progress
 with_block block p = record p { draft = block_ended block p.draft }
 
 -- what is kept of the section that is read
-abbrev pub kept : Mark → (result : Option Promise) → Draft → Kept
+abbrev pub kept : Mark → (result : Option Promise) → SectionDraft → Kept
 kept mark promise draft = record { section = record { mark = mark; parameters = draft.parameters; result = promise; blocks = draft.blocks }; missing = first_missing draft }
 
 -- after the section of this function

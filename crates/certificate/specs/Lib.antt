@@ -8,6 +8,7 @@ pub mod Lines
 pub mod Ends
 pub mod Text
 pub mod Print
+pub mod KeyText
 pub mod Named
 pub mod Laws
 pub mod Anew

@@ -2,7 +2,7 @@
 ghost use Rattle.std.specs.Prelude.{◌≡◌, None, [], map, length, replicate, slice_set, IfOk, true, false};
 ghost use Rattle.certs.specs.RootNames as root_spec;
 ghost use Rattle.certificate.specs.Drafts as spec;
-ghost use Rattle.certificate.specs.declared.draft.Draft.{Draft as ADraft};
+ghost use Rattle.certificate.specs.declared.draft.SectionDraft.{SectionDraft as ADraft};
 
 use certs::{Line, Promise};
 use ir_ast::{Block, BlockId, Function, Instr, MemoryOp, Module, Op, ValueId};
@@ -12,7 +12,7 @@ use std::alloc::{AllocError, Global};
 
 /// A value that the block has to list.
 #[derive(Clone, Copy, PartialEq, Eq)]
-pub struct Wanted {
+pub struct RequiredValue {
     pub value: ValueId,
     /// How much of the text is left where it is named.
     pub left: usize,
@@ -20,7 +20,7 @@ pub struct Wanted {
 
 /// What is read so far of the section of a function, and of the block that is read.
 #[derive(Drop)]
-pub struct Draft {
+pub struct SectionDraft {
     /// Whether each local name is that of a root slot.
     pub roots: Items<bool>,
     pub parameters: Items<Option<Promise>>,
@@ -34,7 +34,7 @@ pub struct Draft {
     /// The block that lists each slot last, by the names of slots.
     pub slots: Items<Option<BlockId>>,
     /// What the block has to list, in the order of the text.
-    pub wanted: Items<Wanted>,
+    pub wanted: Items<RequiredValue>,
 }
 
 fn is_root(slots: &Slots, value: ValueId) -> bool
@@ -154,12 +154,12 @@ fn no_promise() -> Option<Promise>
     None
 }
 
-impl Draft {
+impl SectionDraft {
     /// No section is read.
-    pub fn none(alloc: Global) -> Draft
+    pub fn none(alloc: Global) -> SectionDraft
         ensures { result ≡ spec.no_draft }
     {
-        Draft {
+        SectionDraft {
             roots: Items::new(alloc),
             parameters: Items::new(alloc),
             given: Items::new(alloc),
@@ -172,10 +172,14 @@ impl Draft {
     }
 
     /// Nothing is read so far of the section of this function.
-    pub fn of(alloc: Global, module: &Module, function: &Function) -> Result<Draft, AllocError>
+    pub fn of(
+        alloc: Global,
+        module: &Module,
+        function: &Function,
+    ) -> Result<SectionDraft, AllocError>
         ensures { IfOk result (λ draft. draft ≡ spec.draft_of «module».now function.now) }
     {
-        Ok(Draft {
+        Ok(SectionDraft {
             roots: root_names(alloc, module, function)?,
             parameters: promised_alike(alloc, function.parameters.len(), no_promise())?,
             given: entry_given(alloc, function)?,

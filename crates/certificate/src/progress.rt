@@ -4,7 +4,7 @@ ghost use Rattle.certificate.specs.Input as spec;
 ghost use Rattle.certificate.specs.Drafts.{no_draft, first_missing};
 ghost use Rattle.certs.specs.declared.section.Line.TheVariants as a_line;
 
-use crate::draft::{Draft, Wanted};
+use crate::draft::{RequiredValue, SectionDraft};
 use certs::{Fact, Line, Mark, Promise, Section};
 use ir_ast::{BlockId, FuncId, Function, Module, ValueId};
 use items::Items;
@@ -24,7 +24,7 @@ pub struct Kept {
 #[derive(Drop)]
 pub struct Progress {
     sections: Vec<Option<Kept>>,
-    draft: Draft,
+    draft: SectionDraft,
 }
 
 impl Model for Progress {
@@ -44,7 +44,7 @@ impl Progress {
     {
         Progress {
             sections,
-            draft: Draft::none(alloc),
+            draft: SectionDraft::none(alloc),
         }
     }
 
@@ -56,7 +56,7 @@ impl Progress {
     }
 
     /// What is read so far of the section.
-    pub fn draft(&self) -> &Draft
+    pub fn draft(&self) -> &SectionDraft
         ensures { result.now ≡ self.now.draft }
     {
         &self.draft
@@ -72,7 +72,7 @@ impl Progress {
     ) -> Result<(), AllocError>
         ensures { OnOk result (self.new ≡ spec.begun «module».now function.now self.old) }
     {
-        self.draft = Draft::of(alloc, module, function)?;
+        self.draft = SectionDraft::of(alloc, module, function)?;
         Ok(())
     }
 
@@ -91,7 +91,7 @@ impl Progress {
     pub fn want(&mut self, value: ValueId, left: usize) -> Result<(), AllocError>
         ensures { OnOk result (self.new ≡ spec.wants value left self.old) }
     {
-        self.draft.wanted.push(Wanted { value, left })?;
+        self.draft.wanted.push(RequiredValue { value, left })?;
         Ok(())
     }
 
@@ -173,7 +173,7 @@ impl Progress {
         ensures { self.new ≡ spec.with_section function mark promise.now self.old }
     {
         let missing = self.first_missing();
-        let draft = mem::replace(&mut self.draft, Draft::none(alloc));
+        let draft = mem::replace(&mut self.draft, SectionDraft::none(alloc));
         let at = function.number() as usize;
         if at < self.sections.len() {
             self.sections[at] = Some(Kept {

@@ -14,7 +14,7 @@ ghost use Rattle.certificate.specs.declared.fault.CertFault.{CertFault as AFault
 ghost use Rattle.certificate.specs.declared.fault.CertFault.TheVariants as fault;
 ghost use Rattle.name_text.specs.declared.found.Found.TheVariants.{Memory};
 
-use crate::draft::{Draft, Wanted};
+use crate::draft::{RequiredValue, SectionDraft};
 use crate::facts::line;
 use crate::fault::CertFault;
 use crate::forms::{mark, new_block, new_function, new_parameter};
@@ -142,7 +142,7 @@ fn lines(
     Ok(())
 }
 
-fn lists(listed: &[Option<BlockId>], block: BlockId, wanted: Wanted) -> bool
+fn lists(listed: &[Option<BlockId>], block: BlockId, wanted: RequiredValue) -> bool
     ensures { result ≡ is_in block (slice_get listed.now wanted.value) }
 {
     match listed.get(wanted.value.number() as usize) {
@@ -152,7 +152,11 @@ fn lists(listed: &[Option<BlockId>], block: BlockId, wanted: Wanted) -> bool
 }
 
 /// Where the first value is named that the block does not list.
-fn first_unlisted(block: BlockId, listed: &[Option<BlockId>], wanted: &[Wanted]) -> Option<usize>
+fn first_unlisted(
+    block: BlockId,
+    listed: &[Option<BlockId>],
+    wanted: &[RequiredValue],
+) -> Option<usize>
     ensures { result ≡ drafts.first_unlisted block listed.now wanted.now }
 {
     for wanted in wanted {

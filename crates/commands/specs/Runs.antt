@@ -10,8 +10,8 @@ use Rattle.machine.specs.declared.value.Value.{Value}
 use Rattle.machine.specs.declared.value.Value.TheVariants as value
 use Rattle.setups.specs.declared.setup_fault.SetupFault.{SetupFault}
 use Rattle.setups.specs.declared.setup_fault.SetupFault.TheVariants as setup
-use Rattle.replay.specs.declared.thread_end.ThreadEnd.{ThreadEnd}
-use Rattle.replay.specs.declared.thread_end.ThreadEnd.TheVariants as thread
+use Rattle.replay.specs.declared.thread_outcome.ThreadOutcome.{ThreadOutcome}
+use Rattle.replay.specs.declared.thread_outcome.ThreadOutcome.TheVariants as thread
 use Rattle.replay.specs.declared.outcome.Break.{Break}
 use Rattle.replay.specs.declared.outcome.Outcome.{Outcome}
 use Rattle.replay.specs.declared.outcome.Outcome.TheVariants as outcome
@@ -58,7 +58,7 @@ returned_text (value.Cell layout at) = codes " ref " ++ decimal at.cell
 returned_text (value.Address place) = []
 
 -- where a thread is
-abbrev pub standing_text : ThreadEnd → List ℕ
+abbrev pub standing_text : ThreadOutcome → List ℕ
 standing_text thread.Absent = codes " absent"
 standing_text (thread.Returned None) = codes " returned"
 standing_text (thread.Returned (Some value)) = codes " returned" ++ returned_text value
@@ -66,7 +66,7 @@ standing_text thread.Ended = codes " ended"
 standing_text (thread.Running stage) = codes " running " ++ decimal stage
 
 -- the line of a thread
-abbrev pub end_text : ℕ × ThreadEnd → List ℕ
+abbrev pub end_text : ℕ × ThreadOutcome → List ℕ
 end_text end = codes "t " ++ decimal end.0 ++ standing_text end.1 ++ 10 ∷ []
 
 -- the line of what was counted

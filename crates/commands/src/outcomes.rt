@@ -10,7 +10,7 @@ use crate::faults::{at_place, memory, no_certificate, no_edits, no_file, no_layo
 use crate::files::Unread;
 use crate::status::{STATUS_NO, STATUS_UNREADABLE, STATUS_YES};
 use machine::Value;
-use replay::{Break, Outcome, ReplayFault, Report, SeedBreak, SoakOutcome, ThreadEnd};
+use replay::{Break, Outcome, ReplayFault, Report, SeedBreak, SoakOutcome, ThreadOutcome};
 use std::io;
 use std::io::Write;
 use trace_text::{Actor, TraceFault};
@@ -83,26 +83,26 @@ pub fn write_returned<W: Write>(out: &mut W, value: Value) -> io::Result<()>
 }
 
 /// Where a thread is: `t 0 absent`, `t 0 returned`, `t 0 ended`, `t 0 running 3`.
-fn write_end<W: Write>(out: &mut W, thread: usize, end: &ThreadEnd) -> io::Result<()>
+fn write_end<W: Write>(out: &mut W, thread: usize, end: &ThreadOutcome) -> io::Result<()>
     ensures { OnOk result (Appends (W.contents out.old) (W.contents out.new) (spec.end_text (thread, end.now))) }
 {
     write!(out, "t {thread}")?;
     match *end {
-        ThreadEnd::Absent => write!(out, " absent")?,
-        ThreadEnd::Returned(value) => {
+        ThreadOutcome::Absent => write!(out, " absent")?,
+        ThreadOutcome::Returned(value) => {
             write!(out, " returned")?;
             if let Some(value) = value {
                 write_returned(out, value)?;
             }
         }
-        ThreadEnd::Ended => write!(out, " ended")?,
-        ThreadEnd::Running(stage) => write!(out, " running {stage}")?,
+        ThreadOutcome::Ended => write!(out, " ended")?,
+        ThreadOutcome::Running(stage) => write!(out, " running {stage}")?,
     }
     writeln!(out, "")
 }
 
 /// A line for each thread.
-fn write_ends<W: Write>(out: &mut W, ends: &[ThreadEnd]) -> io::Result<()>
+fn write_ends<W: Write>(out: &mut W, ends: &[ThreadOutcome]) -> io::Result<()>
     ensures { OnOk result (Appends (W.contents out.old) (W.contents out.new) (flat_map spec.end_text (enumerate_from 0 ends.now))) }
 {
     for (thread, end) in ends.iter().enumerate() {

@@ -71,7 +71,7 @@ fn is_alike(one: &Facts, other: &Facts) -> bool {
 
 /// A call that changes what a sample says.
 #[derive(Clone, Copy, Debug)]
-enum Change {
+enum FactCall {
     Clear,
     Forget,
     Define,
@@ -89,50 +89,50 @@ enum Change {
     MakeStale,
 }
 
-const CHANGES: [Change; 15] = [
-    Change::Clear,
-    Change::Forget,
-    Change::Define,
-    Change::DefineNew,
-    Change::DefineTest,
-    Change::Receive,
-    Change::LearnTest,
-    Change::AfterPhis,
-    Change::DropFresh,
-    Change::ClearSlot,
-    Change::EndSlot,
-    Change::RootSlot,
-    Change::StoreSlot,
-    Change::LoadSlot,
-    Change::MakeStale,
+const CHANGES: [FactCall; 15] = [
+    FactCall::Clear,
+    FactCall::Forget,
+    FactCall::Define,
+    FactCall::DefineNew,
+    FactCall::DefineTest,
+    FactCall::Receive,
+    FactCall::LearnTest,
+    FactCall::AfterPhis,
+    FactCall::DropFresh,
+    FactCall::ClearSlot,
+    FactCall::EndSlot,
+    FactCall::RootSlot,
+    FactCall::StoreSlot,
+    FactCall::LoadSlot,
+    FactCall::MakeStale,
 ];
 
 /// Changes a sample.
-fn make(alloc: Global, facts: &mut Facts, change: Change) -> Result<(), AllocError> {
+fn make(alloc: Global, facts: &mut Facts, change: FactCall) -> Result<(), AllocError> {
     let (value, slot, layout) = (ValueId::new(NUMBER), SlotId::new(0), LayoutId::new(0));
     let known = facts.known(ValueId::new(REFERENCE));
     let test = facts.test(ValueId::new(TEST));
     match change {
-        Change::Clear => facts.clear(alloc),
-        Change::Forget => facts.forget(ValueId::new(REFERENCE)),
-        Change::Define => facts.define(value, Known::Null),
-        Change::DefineNew => facts.define_new(value, layout, Class::lost()),
-        Change::DefineTest => facts.define_test(value, null_test(value)),
-        Change::Receive => facts.receive(value, Given::Reference(layout), None),
-        Change::LearnTest => facts.learn_test(test, false),
-        Change::AfterPhis => facts.after_phis([Entry { phi: value, known }].as_slice()),
-        Change::DropFresh => facts.drop_fresh_of(known),
-        Change::ClearSlot => facts.clear_slot(slot),
-        Change::EndSlot => facts.end_slot(slot),
-        Change::RootSlot => facts.root_slot(slot),
-        Change::StoreSlot => facts.store_slot(slot, number()),
-        Change::LoadSlot => facts.load_slot(value, slot, layout),
-        Change::MakeStale => facts.make_stale(),
+        FactCall::Clear => facts.clear(alloc),
+        FactCall::Forget => facts.forget(ValueId::new(REFERENCE)),
+        FactCall::Define => facts.define(value, Known::Null),
+        FactCall::DefineNew => facts.define_new(value, layout, Class::lost()),
+        FactCall::DefineTest => facts.define_test(value, null_test(value)),
+        FactCall::Receive => facts.receive(value, Given::Reference(layout), None),
+        FactCall::LearnTest => facts.learn_test(test, false),
+        FactCall::AfterPhis => facts.after_phis([Entry { phi: value, known }].as_slice()),
+        FactCall::DropFresh => facts.drop_fresh_of(known),
+        FactCall::ClearSlot => facts.clear_slot(slot),
+        FactCall::EndSlot => facts.end_slot(slot),
+        FactCall::RootSlot => facts.root_slot(slot),
+        FactCall::StoreSlot => facts.store_slot(slot, number()),
+        FactCall::LoadSlot => facts.load_slot(value, slot, layout),
+        FactCall::MakeStale => facts.make_stale(),
     }
 }
 
 /// Whether a change is made only in the sharer that is written, be it the first or the second.
-fn is_apart(alloc: Global, change: Change) -> Result<bool, AllocError> {
+fn is_apart(alloc: Global, change: FactCall) -> Result<bool, AllocError> {
     let untouched = sample(alloc)?;
     let mut first = sample(alloc)?;
     let mut second = first.share()?;
@@ -159,7 +159,7 @@ fn what_is_kept_stays_as_it_was(rt: HostRuntime) -> Result<(), Fail> {
     let mut opened = Facts::new(alloc, 0, 0)?;
     opened.open(alloc, &kept)?;
     assert!(rt; is_alike(&opened, &facts));
-    make(alloc, &mut opened, Change::Forget)?;
+    make(alloc, &mut opened, FactCall::Forget)?;
     assert!(rt; !is_alike(&opened, &facts));
     opened.open(alloc, &kept)?;
     assert!(rt; is_alike(&opened, &facts));
@@ -180,7 +180,7 @@ fn a_million_sharers_are_dropped(rt: HostRuntime) -> Result<(), Fail> {
         sharers.push(last)?;
         last = next;
     }
-    make(alloc, &mut last, Change::Forget)?;
+    make(alloc, &mut last, FactCall::Forget)?;
     drop(sharers);
     assert!(rt; !is_alike(&last, &facts));
     Ok(())

@@ -15,7 +15,6 @@ mod block_tests;
 mod collector_tests;
 #[cfg(test)]
 mod command_tests;
-mod failure;
 #[cfg(test)]
 mod machine_tests;
 #[cfg(test)]
@@ -30,6 +29,7 @@ mod reading_tests;
 #[cfg(test)]
 mod replaying_tests;
 mod row;
+mod row_failure;
 #[cfg(test)]
 mod running_tests;
 #[cfg(test)]
@@ -39,8 +39,8 @@ mod texts;
 #[cfg(test)]
 mod worker_tests;
 
-use failure::Failure;
 use row::Row;
+use row_failure::RowFailure;
 use std::io::Write;
 use std::process::ExitCode;
 use std::rt::Runtime;
@@ -63,7 +63,7 @@ fn compare_row<O: Write>(
     rt: &(impl Runtime + AllocGlobal + Threads + Sync),
     name: &str,
     out: &mut O,
-) -> Result<bool, Failure> {
+) -> Result<bool, RowFailure> {
     let row = Row::read(rt, name)?;
     let printed = row.printed(rt, [].as_slice())?;
     let is_alike = printed.compare(out, name, row.wanted())?;
@@ -85,9 +85,9 @@ fn try_row<O: Write>(
     rt: &(impl Runtime + AllocGlobal + Threads + Sync),
     name: &str,
     out: &mut O,
-) -> Result<bool, Failure> {
+) -> Result<bool, RowFailure> {
     match compare_row(rt, name, out) {
-        Err(Failure::Outside) => {
+        Err(RowFailure::Outside) => {
             writeln!(
                 out,
                 "{name}: wanted the files args, status, stdout and stderr"
@@ -102,7 +102,7 @@ fn try_row<O: Write>(
 fn tally_of<O: Write>(
     rt: &(impl Runtime + AllocGlobal + Threads + Sync),
     out: &mut O,
-) -> Result<Tally, Failure> {
+) -> Result<Tally, RowFailure> {
     let names = fs::read_to_string(rt, ROWS)?;
     let mut tally = Tally {
         alike: 0,
@@ -122,17 +122,17 @@ fn tally_of<O: Write>(
 fn run<O: Write>(
     rt: &(impl Runtime + AllocGlobal + Threads + Sync),
     out: &mut O,
-) -> Result<bool, Failure> {
+) -> Result<bool, RowFailure> {
     let Tally { alike, different } = tally_of(rt, out)?;
     writeln!(out, "{alike} rows as wanted, {different} not")?;
     Ok(different == 0)
 }
 
 /// Writes why not all rows were run.
-fn write_failure<E: Write>(err: &mut E, failure: Failure) -> io::Result<()> {
+fn write_failure<E: Write>(err: &mut E, failure: RowFailure) -> io::Result<()> {
     match failure {
-        Failure::Memory => writeln!(err, "error memory"),
-        Failure::Outside => writeln!(err, "error file {ROWS}"),
+        RowFailure::Memory => writeln!(err, "error memory"),
+        RowFailure::Outside => writeln!(err, "error file {ROWS}"),
     }
 }
 

@@ -1,5 +1,5 @@
 //! What a command prints, compared with what is wanted.
-use crate::failure::Failure;
+use crate::row_failure::RowFailure;
 use commands::{STATUS_USAGE, STATUS_YES};
 use std::alloc::Global;
 use std::io::Write;
@@ -18,16 +18,16 @@ pub struct Printed {
 }
 
 /// Reads an exit status.
-fn status_in(text: &str) -> Result<u8, Failure> {
+fn status_in(text: &str) -> Result<u8, RowFailure> {
     match text.trim().parse::<u8>() {
         Ok(status) => Ok(status),
-        Err(_) => Err(Failure::Outside),
+        Err(_) => Err(RowFailure::Outside),
     }
 }
 
 impl Printed {
     /// Reads the files `status`, `stdout` and `stderr` of a folder.
-    pub fn read(rt: &(impl Runtime + AllocGlobal), folder: &str) -> Result<Printed, Failure> {
+    pub fn read(rt: &(impl Runtime + AllocGlobal), folder: &str) -> Result<Printed, RowFailure> {
         let alloc = rt.alloc();
         let status = fs::read_to_string(rt, format!(in alloc; "{folder}/status")?.as_str())?;
         Ok(Printed {

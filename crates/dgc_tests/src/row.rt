@@ -2,8 +2,8 @@
 ghost use Rattle.std.specs.Prelude.{◌≡◌, length, true};
 ghost use Rattle.commands.specs.Asked.{asked_by, HasWorkers};
 
-use crate::failure::Failure;
 use crate::printed::Printed;
+use crate::row_failure::RowFailure;
 use commands::{
     CheckLine, Line, LineFault, MakeLine, STATUS_USAGE, STATUS_YES, Why, line, status_of, work,
 };
@@ -22,19 +22,19 @@ pub struct Row {
 }
 
 /// The bytes of a file, if it can be read.
-fn bytes_of(rt: &(impl Runtime + AllocGlobal), path: &str) -> Result<Option<Vec<u8>>, Failure> {
+fn bytes_of(rt: &(impl Runtime + AllocGlobal), path: &str) -> Result<Option<Vec<u8>>, RowFailure> {
     match fs::read(rt, path) {
         Ok(bytes) => Ok(Some(bytes)),
-        Err(error) => match Failure::from(error) {
-            Failure::Memory => Err(Failure::Memory),
-            Failure::Outside => Ok(None),
+        Err(error) => match RowFailure::from(error) {
+            RowFailure::Memory => Err(RowFailure::Memory),
+            RowFailure::Outside => Ok(None),
         },
     }
 }
 
 impl Row {
     /// Reads the row of this name.
-    pub fn read(rt: &(impl Runtime + AllocGlobal), name: &str) -> Result<Row, Failure> {
+    pub fn read(rt: &(impl Runtime + AllocGlobal), name: &str) -> Result<Row, RowFailure> {
         let alloc = rt.alloc();
         let folder = format!(in alloc; "rows/{name}")?;
         let args = fs::read_to_string(rt, format!(in alloc; "{folder}/args")?.as_str())?;
@@ -73,7 +73,7 @@ impl Row {
         &self,
         rt: &(impl Runtime + AllocGlobal + Threads + Sync),
         more: &[&str],
-    ) -> Result<Printed, Failure> {
+    ) -> Result<Printed, RowFailure> {
         let alloc = rt.alloc();
         let mut words = Vec::new(alloc);
         for word in self.words.as_slice() {
@@ -93,7 +93,7 @@ impl Row {
                 out: Vec::new(alloc),
                 err: Vec::new(alloc),
             }),
-            Err(LineFault::Memory) => Err(Failure::Memory),
+            Err(LineFault::Memory) => Err(RowFailure::Memory),
         }
     }
 
@@ -101,7 +101,7 @@ impl Row {
     pub fn checked_as_made(
         &self,
         rt: &(impl Runtime + AllocGlobal + Threads + Sync),
-    ) -> Result<Printed, Failure>
+    ) -> Result<Printed, RowFailure>
         requires { length self.now.words.items ≡ 4 }
     {
         let alloc = rt.alloc();
@@ -131,7 +131,7 @@ impl Row {
         &self,
         rt: &(impl Runtime + AllocGlobal + Threads + Sync),
         line: &Line<'_>,
-    ) -> Result<Printed, Failure>
+    ) -> Result<Printed, RowFailure>
         requires { HasWorkers (asked_by line.now) }
     {
         let alloc = rt.alloc();
@@ -149,7 +149,7 @@ fn printed_of(
     rt: &(impl Runtime + AllocGlobal + Threads + Sync),
     line: &Line<'_>,
     files: &[Option<Vec<u8>>],
-) -> Result<Printed, Failure>
+) -> Result<Printed, RowFailure>
     requires { HasWorkers (asked_by line.now) }
 {
     let alloc = rt.alloc();

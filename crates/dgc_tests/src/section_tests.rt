@@ -20,7 +20,7 @@ const REPLACED: &str =
 
 /// What comes of a section that is to replace the one of `FOUR`.
 #[derive(Drop)]
-enum Outcome {
+enum SectionOutcome {
     /// All certificates, as they are printed then.
     Printed(Vec<u8>),
     Refused(CertFault),
@@ -36,24 +36,28 @@ fn printed_with(
     certs: &Certs,
     module: &Module,
     section: &[u8],
-) -> Result<Outcome, AllocError> {
+) -> Result<SectionOutcome, AllocError> {
     if certs.sections().len() != 2 {
-        return Ok(Outcome::NotRead);
+        return Ok(SectionOutcome::NotRead);
     }
     match replace_section(alloc, certs, module, FuncId::new(NUMBER), section) {
-        Ok(certs) => Ok(Outcome::Printed(print_cert(alloc, &certs, module)?)),
-        Err(fault) => Ok(Outcome::Refused(fault)),
+        Ok(certs) => Ok(SectionOutcome::Printed(print_cert(alloc, &certs, module)?)),
+        Err(fault) => Ok(SectionOutcome::Refused(fault)),
     }
 }
 
-fn outcome_in(alloc: Global, module: &Module, section: &[u8]) -> Result<Outcome, AllocError> {
+fn outcome_in(
+    alloc: Global,
+    module: &Module,
+    section: &[u8],
+) -> Result<SectionOutcome, AllocError> {
     match read_cert(alloc, CERTIFICATES.as_bytes(), module) {
         Ok(certs) => printed_with(alloc, &certs, module, section),
-        Err(_) => Ok(Outcome::NotRead),
+        Err(_) => Ok(SectionOutcome::NotRead),
     }
 }
 
-fn outcome_of(alloc: Global, section: &[u8]) -> Result<Outcome, AllocError> {
+fn outcome_of(alloc: Global, section: &[u8]) -> Result<SectionOutcome, AllocError> {
     let text = joined(alloc, [HEAD, TWO, FOUR].as_slice())?;
     match read(alloc, text.as_slice()) {
         Ok(module) => {
@@ -61,13 +65,13 @@ fn outcome_of(alloc: Global, section: &[u8]) -> Result<Outcome, AllocError> {
             drop(module);
             outcome
         }
-        Err(_) => Ok(Outcome::NotRead),
+        Err(_) => Ok(SectionOutcome::NotRead),
     }
 }
 
 fn is_printed(alloc: Global, section: &str, wanted: &str) -> Result<bool, AllocError> {
     match outcome_of(alloc, section.as_bytes())? {
-        Outcome::Printed(text) => Ok(text.as_slice() == wanted.as_bytes()),
+        SectionOutcome::Printed(text) => Ok(text.as_slice() == wanted.as_bytes()),
         _ => Ok(false),
     }
 }
@@ -89,7 +93,7 @@ fn replaces_the_section_of_this_name(rt: HostRuntime) -> Result<(), Fail> {
 /// The fault for which a section is refused.
 fn refusal_of(alloc: Global, section: &str) -> Result<Option<CertFault>, AllocError> {
     match outcome_of(alloc, section.as_bytes())? {
-        Outcome::Refused(fault) => Ok(Some(fault)),
+        SectionOutcome::Refused(fault) => Ok(Some(fault)),
         _ => Ok(None),
     }
 }
@@ -175,7 +179,7 @@ fn refuses_blocks_that_are_unknown_or_missing(rt: HostRuntime) -> Result<(), Fai
 /// Whether this can come of the front of a section: it ends too early, or in the front of a name.
 fn may_be_cut(alloc: Global, front: &[u8]) -> Result<bool, AllocError> {
     match outcome_of(alloc, front)? {
-        Outcome::Refused(fault) => {
+        SectionOutcome::Refused(fault) => {
             Ok(matches!(fault, CertFault::Syntax(_) | CertFault::UnknownName(_)))
         }
         _ => Ok(false),

@@ -4,6 +4,7 @@ use Rattle.std.specs.Prelude.{nat_lt, slice_set, ◌==◌}
 use Rattle.std.specs.Fmt.{decimal}
 use Rattle.std.proofs.lemmas.Bool.Decides.{nat_tests}
 use Rattle.std.proofs.lemmas.Option.{slice_get_within}
+use Rattle.std.proofs.lemmas.List.{length-set}
 use Rattle.lemmas.specs.Lists.{get_end}
 use Rattle.ir_ast.specs.declared.function.LocalSort.{LocalSort}
 use Rattle.ir_ast.specs.declared.function.LocalSort.TheVariants as local
@@ -15,7 +16,7 @@ use Rattle.ir_forms.specs.Names.{is_local, is_wanted}
 use Rattle.ir_tokens.specs.Bytes.{Text}
 use Rattle.ir_print_law.specs.Shapes.{IsIn}
 use Rattle.ir_print_law.proofs.DefinedNames.{Defines, IsNameKey, defines_name, defines_number, number_is_new}
-use Rattle.ir_print_law.proofs.LocalNames.{Locals, IsSortOf, keys_at, keys_more, key_is_new, in_or_end, in_at_end, set_length, set_there, set_was, set_known}
+use Rattle.ir_print_law.proofs.LocalNames.{Locals, IsSortOf, keys_at, keys_more, key_is_new, in_or_end, in_at_end, set_there, set_was, set_known}
 use Rattle.ir_print_law.proofs.Reading.{Progress, with_named_value, with_named_label, IsValueSort}
 use Rattle.ir_print_law.proofs.Tables.{begins_with, stays}
 
@@ -43,7 +44,7 @@ pub value_sorted : (g : Progress) (n : ℕ) (t : Table LocalSort) (unnamed : ℕ
 value_sorted g n t unnamed sort is h =
     let less : n < length t.sorts = (let w = h.within n (in_at_end g.names n) in let s = h.same in omega (arith, w, s)) in
     sorted_as n sort t less (λ x. Locals (with_named_value g n) None x unnamed) (record {
-      same = set_length t.sorts n sort ∙ h.same;
+      same = length-set t.sorts n sort ∙ h.same;
       places = h.places;
       within = h.within;
       defines = h.defines;
@@ -69,7 +70,7 @@ labelled g t unnamed next n within h defines =
     let sort = local.Block (length g.labels) in
     let less : n < length t.sorts = (let s = h.same in omega (arith, within, s)) in
     sorted_as n sort t less (λ x. Locals (with_named_label g n) None x next) (record {
-      same = set_length t.sorts n sort ∙ h.same;
+      same = length-set t.sorts n sort ∙ h.same;
       places = h.places;
       within = λ k there. elim (in_or_end g.names n k there) [
         | inl p ↦ h.within k p

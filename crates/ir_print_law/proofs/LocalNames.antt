@@ -39,11 +39,6 @@ in_map h [] y e = absurd e
 in_map h (x ∷ xs) y (inl e) = (x, inl refl, e)
 in_map h (x ∷ xs) y (inr e) = let p = in_map h xs y e in (p.0, inr p.1, p.2)
 
-pub set_length : {A : Type 0} (xs : List A) (n : ℕ) (y : A) → length (slice_set xs n y) ≡ length xs
-set_length [] n y = refl
-set_length (x ∷ xs) zero y = refl
-set_length (x ∷ xs) (suc n) y = ap suc (set_length xs n y)
-
 pub set_there : {A : Type 0} (xs : List A) (n : ℕ) (y : A) → n < length xs → slice_get (slice_set xs n y) n ≡ Some y
 set_there [] n y less = absurd (omega (arith, less))
 set_there (x ∷ xs) zero y less = refl

@@ -3,6 +3,7 @@ use Rattle.std.proofs.Common.{◌≡◌, ℕ, zero, suc, ◌+◌, ◌<◌, Bool,
 use Rattle.std.specs.Prelude.{nat_lt, slice_set}
 use Rattle.std.proofs.lemmas.Bool.Decides.{nat_tests}
 use Rattle.std.proofs.lemmas.Option.{slice_get_within}
+use Rattle.std.proofs.lemmas.List.{length-set}
 use Rattle.lemmas.specs.Lists.{get_end}
 use Rattle.ir_ast.specs.Names.{place_of}
 use Rattle.ir_ast.specs.declared.items_of_module.SymbolSort.{SymbolSort}
@@ -13,7 +14,7 @@ use Rattle.ir_forms.specs.Names.{is_struct, is_symbol}
 use Rattle.ir_tokens.specs.Bytes.{Text}
 use Rattle.name_text.specs.Readings.{AreBytes}
 use Rattle.ir_print_law.specs.Printable.{IsSymbol}
-use Rattle.ir_print_law.proofs.LocalNames.{set_length, set_there, set_was}
+use Rattle.ir_print_law.proofs.LocalNames.{set_there, set_was}
 use Rattle.ir_print_law.proofs.Tables.{begins_with, stays, at_end_or_before, place_there, place_stays}
 
 -- Each name is bytes and is at its first place. What a name means, if anything, owns it. What owns a name is what it means, and such a name is good.
@@ -77,7 +78,7 @@ table_defines : {S : Type 0} (nothing : S) (Owns Later : S → ℕ → Type 0) (
     → IsTable nothing Owns Good t → IsTable nothing Later Good (defined n sort t)
 table_defines {S = S} nothing Owns Later Good t n sort name at none is no_one up here down h =
     subst (λ (b : Bool). IsTable nothing Later Good (record { names = t.names; sorts = if b then slice_set t.sorts n sort else t.sorts })) (sym there) (record {
-      same = set_length t.sorts n sort ∙ h.same;
+      same = length-set t.sorts n sort ∙ h.same;
       bytes = h.bytes;
       places = h.places;
       owned = λ k x e. elim (set_was t.sorts n sort k x e) [

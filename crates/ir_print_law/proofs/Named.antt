@@ -4,6 +4,7 @@ use Rattle.std.specs.Prelude.{not, nat_lt, slice_set, option_map, option_and_the
 use Rattle.std.specs.List.{position_or_len}
 use Rattle.std.specs.Str.{bytes_eq}
 use Rattle.std.proofs.lemmas.Bool.Decides.{nat_tests}
+use Rattle.std.proofs.lemmas.List.{length-set}
 use Rattle.std.proofs.lemmas.Slice.Eq.{bytes_eq-Decides}
 use Rattle.lemmas.specs.Lists.{get_end}
 use Rattle.ir_ast.specs.Names.{place_of, number_of, numbered}
@@ -127,11 +128,6 @@ get_set_other (y ∷ xs) zero (suc m) x ne = refl
 get_set_other (y ∷ xs) (suc n) zero x ne = refl
 get_set_other (y ∷ xs) (suc n) (suc m) x ne = get_set_other xs n m x (λ e. ne (ap suc e))
 
-set_length : {A : Type 0} (xs : List A) (n : ℕ) (x : A) → length (slice_set xs n x) ≡ length xs
-set_length [] n x = refl
-set_length (y ∷ xs) zero x = refl
-set_length (y ∷ xs) (suc n) x = ap suc (set_length xs n x)
-
 pub even_mentioned : {S : Type 0} (t : Table S) (k : Text) (nothing : S) → IsEven t → IsEven (mentioned k nothing t)
 even_mentioned {S = S} t k nothing even = by (place_of k t.names) where
   by : (o : Option ℕ) → length (if is_some o then t.names else t.names ++ k ∷ []) ≡ length (sorts_with o nothing t.sorts)
@@ -188,7 +184,7 @@ within t k n even e = let less = place_within k t.names n (sym (place_is k t.nam
 pub even_defined : {S : Type 0} (t : Table S) (n : ℕ) (s : S) → IsEven t → IsEven (defined n s t)
 even_defined {S = S} t n s even = by (nat_lt n (length t.sorts)) where
   by : (b : Bool) → length t.names ≡ length (if b then slice_set t.sorts n s else t.sorts)
-  by true = even ∙ sym (set_length t.sorts n s)
+  by true = even ∙ sym (length-set t.sorts n s)
   by false = even
 
 pub sort_defined : {S : Type 0} (t : Table S) (k : Text) (n : ℕ) (s : S) → IsEven t → place_of k t.names ≡ Some n → sort_at (defined n s t) k ≡ Some s

@@ -29,16 +29,14 @@ itself type.EmptyStruct = refl
 itself (type.Struct first rest) = and_true (first == first) (rest == rest) (test_same first) (test_same rest)
 itself (type.Named name) = test_same name
 
-not_both : (b : Bool) → b ≡ true → b ≡ false → ⊥
-not_both b is is_not = cc
-
 -- a type that is not found is at no place
 not_there : (t : IrType) (types : List IrType) (number : ℕ) → list_any (is_same_type t) types ≡ false → slice_get types number ≡ Some t → ⊥
 not_there t [] number none at = absurd cc
 not_there t (x ∷ types) zero none at =
     let same : x ≡ t = cc in
-    let other = (or_neither (is_same_type t x) (list_any (is_same_type t) types) none).0 in
-    not_both (is_same_type t t) (itself t) (subst (λ (y : IrType). is_same_type t y ≡ false) same other)
+    let is_same = itself t in
+    let other : is_same_type t t ≡ false = subst (λ (y : IrType). is_same_type t y ≡ false) same (or_neither (is_same_type t x) (list_any (is_same_type t) types) none).0 in
+    absurd cc
 not_there t (x ∷ types) (suc number) none at = not_there t types number (or_neither (is_same_type t x) (list_any (is_same_type t) types) none).1 at
 
 -- each type stays at one place where one more is numbered

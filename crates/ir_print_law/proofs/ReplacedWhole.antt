@@ -2,6 +2,7 @@
 use Rattle.std.proofs.Common.{◌≡◌, ℕ, zero, suc, ◌<◌, ◌≤◌, List, [], ◌∷◌, ◌++◌, length, map, slice_get, Option, Some, refl, ap, sym, subst, ◌∙◌, inl, inr}
 use Rattle.std.specs.Prelude.{slice_set}
 use Rattle.std.specs.List.{AllByRecursion}
+use Rattle.std.proofs.lemmas.List.{length-set}
 use Rattle.lemmas.specs.Lists.{get_some}
 use Rattle.ir_ast.specs.declared.function.Function.{Function}
 use Rattle.ir_ast.specs.declared.items_of_module.SymbolSort.TheVariants as symbol
@@ -20,7 +21,7 @@ use Rattle.ir_print_law.specs.Printable.{IsFunction, IsStructType, IsGlobal, IsD
 use Rattle.ir_print_law.specs.Wholes.{IsWhole}
 use Rattle.ir_print_law.proofs.AnewRead.{IsRead, function_read}
 use Rattle.ir_print_law.proofs.Known.{all_so}
-use Rattle.ir_print_law.proofs.LocalNames.{set_length, set_was}
+use Rattle.ir_print_law.proofs.LocalNames.{set_was}
 use Rattle.ir_print_law.proofs.LongerOps.{function_again, struct_again, global_again, declare_again}
 use Rattle.ir_print_law.proofs.LongerTypes.{with_types}
 use Rattle.ir_print_law.proofs.ModuleRead.{read_is_printable, read_has_names, read_is_ordered}
@@ -80,7 +81,7 @@ module _ (m : Module) (whole : IsWhole m) (func : ℕ) (old : Function) (at : sl
         functions = all_set (IsFunction (edited types f)) m.functions func f
             (all_so (IsFunction m) (IsFunction (edited types f)) m.functions (function_again m types (slice_set m.functions func f) more same_names) h.functions)
             (function_again (with_types m types m.functions) types (slice_set m.functions func f) (begins_itself types) same_names f function_is);
-        few_functions = subst (λ (k : ℕ). k ≤ 65535) (sym (set_length m.functions func f)) h.few_functions;
+        few_functions = subst (λ (k : ℕ). k ≤ 65535) (sym (length-set m.functions func f)) h.few_functions;
       };
       names = record {
         struct_names = n.struct_names;

@@ -2,6 +2,7 @@
 use Rattle.std.proofs.Common.{◌≡◌, ℕ, ◌<◌, ◌≤◌, List, length, slice_get, Some, sym, ap, subst, ◌∙◌, arith, length-append, [], ◌∷◌, zero, suc, inl, inr}
 use Rattle.lemmas.specs.Lists.{get_some}
 use Rattle.std.specs.List.{AllByRecursion}
+use Rattle.std.proofs.lemmas.List.{length-set}
 use Rattle.ir_ast.specs.declared.function.Function.{Function}
 use Rattle.ir_ast.specs.declared.ir_type.IrType.{IrType}
 use Rattle.ir_ast.specs.declared.items_of_module.Global.{Global}
@@ -18,7 +19,6 @@ use Rattle.ir_print_law.specs.Within.{IsFunctionWithin, IsStructWithin, IsGlobal
 use Rattle.ir_print_law.proofs.AnewRead.{function_read}
 use Rattle.ir_print_law.proofs.Known.{all_so}
 use Rattle.ir_print_law.proofs.LongerTypes.{with_types}
-use Rattle.ir_print_law.proofs.LocalNames.{set_length}
 use Rattle.ir_print_law.proofs.OpsWithin.{functions_have}
 use Rattle.ir_print_law.proofs.ReplacedWhole.{all_set, edited, read_edits}
 use Rattle.ir_print_law.proofs.Tables.{Begins}
@@ -58,7 +58,7 @@ module _ (m : Module) (whole : IsWhole m) (within : IsWithin m) (func : ℕ) (ol
   -- and so they do where a function is replaced
   means : (types : List IrType) (f : Function) → MeansAsMuch (with_types m types m.functions) (edited m whole func old at types f)
   means types f =
-      let same = set_length m.functions func f in record {
+      let same = length-set m.functions func f in record {
         symbols = λ symbol h. h;
         globals = λ symbol h. h;
         functions = λ symbol h. (

@@ -26,8 +26,8 @@ use Rattle.trace_sweep.specs.Collecting.{Collecting}
 use Rattle.colours.specs.declared.turn.Turn.{Turn}
 use Rattle.stepping.specs.Ends as stepping
 use Rattle.layout.specs.Layouts.{LaidOut}
-use Rattle.replay.specs.declared.thread_end.ThreadEnd.{ThreadEnd}
-use Rattle.replay.specs.declared.thread_end.ThreadEnd.TheVariants as thread
+use Rattle.replay.specs.declared.thread_outcome.ThreadOutcome.{ThreadOutcome}
+use Rattle.replay.specs.declared.thread_outcome.ThreadOutcome.TheVariants as thread
 use Rattle.program_runner.specs.Threads.{ProgramThread, program_machine, names}
 use Rattle.program_runner.specs.Heaps as heaps
 use Rattle.program_runner.specs.Kinds.{FitsThread}
@@ -55,7 +55,7 @@ set_other (y ∷ xs) (suc i) (suc j) x other = set_other xs i j x (λ e. other (
 -- ---- one thread
 
 -- a thread has ended, or says how it ends
-by_stance : (cells : List ℕ) (roots : List Reference) (stance : Stance) (t : ProgramThread) (kept : Option ThreadEnd)
+by_stance : (cells : List ℕ) (roots : List Reference) (stance : Stance) (t : ProgramThread) (kept : Option ThreadOutcome)
     → ((ending_in stance t kept ≡ unwrap_or kept thread.Ended) × (phase_at cells roots stance ≡ order.Ended)) ⊎ ((ending_in stance t kept ≡ ending_at t) × (phase_at cells roots stance ≢ order.Ended))
 by_stance cells roots Ready t kept = inr (refl, λ e. absurd cc)
 by_stance cells roots (MarkingOld cell word old) t kept = inr (refl, λ e. absurd cc)
@@ -75,7 +75,7 @@ none_next : (s : Setup) (h : Sight) (stage : ℕ) (roots : List Reference) (old 
 none_next s h stage roots old action phase e = rw e refl
 
 -- a thread that is so after this run, and the endings that were kept so far
-module _ (p : LaidOut) (setup : traced.Setup) (run : List Happening) (t : ℕ) (stand : Stand ProgramThread) (endings : List ThreadEnd) where
+module _ (p : LaidOut) (setup : traced.Setup) (run : List Happening) (t : ℕ) (stand : Stand ProgramThread) (endings : List ThreadOutcome) where
   abbrev Stands : Type 0
   Stands = StandsBehind (heaps.heap_of p setup) program_machine (starts_of p setup) run t (standing (heaps.heap_of p setup) program_machine stand)
 
@@ -83,11 +83,11 @@ module _ (p : LaidOut) (setup : traced.Setup) (run : List Happening) (t : ℕ) (
   abbrev to_try : List ℕ
   to_try = cells_to_try (heaps.heap_of p setup) stand.hints (program_machine.action stand.state)
 
-  abbrev Behind : List Happening → ThreadEnd → Type 0
+  abbrev Behind : List Happening → ThreadOutcome → Type 0
   Behind longer ending = AreEndings p setup longer (slice_set endings t ending)
 
   -- the endings where the share of another thread stays, and this one has ended so if it has
-  put : (ending : ThreadEnd) (longer : List Happening) → AreEndings p setup run endings → t < length setup.starts → ((u : ℕ) → (t == u) ≡ false → share_of u longer ≡ share_of u run)
+  put : (ending : ThreadOutcome) (longer : List Happening) → AreEndings p setup run endings → t < length setup.starts → ((u : ℕ) → (t == u) ≡ false → share_of u longer ≡ share_of u run)
       → (phase_of (heaps.heap_of p setup) t (steps_of (share_of t longer)) ≡ order.Ended → ending ≡ ending_of (heaps.heap_of p setup) t (starts_of p setup t) (share_of t longer)) → Behind longer ending
   put ending longer are is_thread others own = record {
     one_each = length-set endings t ending ∙ are.one_each;
@@ -101,7 +101,7 @@ module _ (p : LaidOut) (setup : traced.Setup) (run : List Happening) (t : ℕ) (
           let within : t < length endings = subst (λ (n : ℕ). t < n) (sym are.one_each) is_thread in
           let at : phase_of (heaps.heap_of p setup) t (steps_of (share_of t longer)) ≡ order.Ended = subst (λ (v : ℕ). phase_of (heaps.heap_of p setup) v (steps_of (share_of v longer)) ≡ order.Ended) (sym same) ended in
           subst (λ (v : ℕ). slice_get (slice_set endings t ending) v ≡ Some (ending_of (heaps.heap_of p setup) v (starts_of p setup v) (share_of v longer))) same
-          (set_same endings t ending within ∙ ap (λ (x : ThreadEnd). Some x) (own at))
+          (set_same endings t ending within ∙ ap (λ (x : ThreadOutcome). Some x) (own at))
       each u few false e ended =
           let share = others u e in
           let before : phase_of (heaps.heap_of p setup) u (steps_of (share_of u run)) ≡ order.Ended = subst (λ (moves : List Move). phase_of (heaps.heap_of p setup) u (steps_of moves) ≡ order.Ended) share ended in
@@ -118,7 +118,7 @@ module _ (p : LaidOut) (setup : traced.Setup) (run : List Happening) (t : ℕ) (
           → ((ending_in stand.stance stand.state (slice_get endings t) ≡ unwrap_or (slice_get endings t) thread.Ended) × (phase_at to_try (names stand.state) stand.stance ≡ order.Ended))
           ⊎ ((ending_in stand.stance stand.state (slice_get endings t) ≡ ending_at stand.state) × (phase_at to_try (names stand.state) stand.stance ≢ order.Ended))
           → ending_in stand.stance stand.state (slice_get endings t) ≡ ending_of (heaps.heap_of p setup) t (starts_of p setup t) (share_of t run)
-      own ended (inl q) = q.0 ∙ ap (λ (o : Option ThreadEnd). unwrap_or o thread.Ended) (are.each t is_thread ended)
+      own ended (inl q) = q.0 ∙ ap (λ (o : Option ThreadOutcome). unwrap_or o thread.Ended) (are.each t is_thread ended)
       own ended (inr q) = absurd (q.1 (stands.phase ∙ ended))
   either (Some move) none stands is_thread are =
       put (ending_in stand.stance stand.state (slice_get endings t)) (OfThread t move ∷ run) are is_thread others (λ ended. own (by_stance to_try (names stand.state) stand.stance stand.state (slice_get endings t)))
@@ -138,7 +138,7 @@ module _ (p : LaidOut) (setup : traced.Setup) (run : List Happening) (t : ℕ) (
 -- ---- one step
 
 -- after the next step of a thread, what it said before it is how it ended, if it did
-pub kept : (p : LaidOut) (setup : traced.Setup) (before : List Actor) (threads : List (Stand ProgramThread)) (shared : Shared) (c : Collecting) (endings : List ThreadEnd) (t : ℕ)
+pub kept : (p : LaidOut) (setup : traced.Setup) (before : List Actor) (threads : List (Stand ProgramThread)) (shared : Shared) (c : Collecting) (endings : List ThreadOutcome) (t : ℕ)
     → stepping.IsEnd (heaps.heap_of p setup) program_machine (FitsThread (heaps.heap_of p setup)) (starts_of p setup) (run_of p setup before) threads shared c
     → t < length setup.starts → AreEndings p setup (run_of p setup before) endings
     → AreEndings p setup (run_of p setup (Thread t ∷ before)) (slice_set endings t (ending_after (slice_get threads t) (slice_get endings t)))
@@ -158,7 +158,7 @@ kept p setup before threads shared c endings t end is_thread are =
     subst (λ (o : Option Happening). AreEndings p setup (with_next o run) (slice_set endings t (ending_after (slice_get threads t) (slice_get endings t)))) (sym by) said
 
 -- a step of the collector ends no thread
-pub kept_by_collector : (p : LaidOut) (setup : traced.Setup) (before : List Actor) (endings : List ThreadEnd) → AreEndings p setup (run_of p setup before) endings
+pub kept_by_collector : (p : LaidOut) (setup : traced.Setup) (before : List Actor) (endings : List ThreadOutcome) → AreEndings p setup (run_of p setup before) endings
     → AreEndings p setup (run_of p setup (Collector ∷ before)) endings
 unfolding run_by
 kept_by_collector p setup before endings are = go (next_by (heaps.heap_of p setup) program_machine (starts_of p setup) (run_of p setup before) Collector) is_turn
@@ -187,6 +187,6 @@ not_at_once p setup t e = either_way (is_late (heaps.heap_of p setup) t) e
     either_way false q = absurd cc
 
 -- before the first step no thread has ended
-pub none_ended : (p : LaidOut) (setup : traced.Setup) (endings : List ThreadEnd) → length endings ≡ length setup.starts → AreEndings p setup (run_of p setup []) endings
+pub none_ended : (p : LaidOut) (setup : traced.Setup) (endings : List ThreadOutcome) → length endings ≡ length setup.starts → AreEndings p setup (run_of p setup []) endings
 unfolding run_by
 none_ended p setup endings one_each = record { one_each = one_each; each = λ t few ended. absurd (not_at_once p setup t ended) }

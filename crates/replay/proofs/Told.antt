@@ -13,8 +13,8 @@ use Rattle.moves.specs.declared.stand.Stand.{Stand}
 use Rattle.moves.specs.Stands.{cells_to_try, phase_at}
 use Rattle.program_runner.specs.Threads.{ProgramThread, program_machine, names}
 use Rattle.program_runner.specs.Heaps.{heap_of}
-use Rattle.replay.specs.declared.thread_end.ThreadEnd.{ThreadEnd}
-use Rattle.replay.specs.declared.thread_end.ThreadEnd.TheVariants as thread
+use Rattle.replay.specs.declared.thread_outcome.ThreadOutcome.{ThreadOutcome}
+use Rattle.replay.specs.declared.thread_outcome.ThreadOutcome.TheVariants as thread
 use Rattle.replay.specs.declared.world.World.TheInside.{Inside}
 use Rattle.replay.specs.Keeping.{end_at, end_told}
 use Rattle.setups.specs.Setups.{starts_of}
@@ -31,18 +31,18 @@ at_front (y ∷ xs) x zero within = refl
 at_front (y ∷ xs) x (suc k) within = at_front xs x k (omega arith)
 
 -- n ends were told
-pub record AreTold (ends : List ThreadEnd) (count : ℕ) (told : ℕ → ThreadEnd) : Type 0 where
+pub record AreTold (ends : List ThreadOutcome) (count : ℕ) (told : ℕ → ThreadOutcome) : Type 0 where
   pub many : length ends ≡ count
   pub each : (k : ℕ) → k < count → slice_get ends k ≡ Some (told k)
 
 -- one end more
-pub one_more_told : (ends : List ThreadEnd) (count : ℕ) (told : ℕ → ThreadEnd) (last : ThreadEnd) → AreTold ends count told → last ≡ told count → AreTold (ends ++ last ∷ []) (count + 1) told
+pub one_more_told : (ends : List ThreadOutcome) (count : ℕ) (told : ℕ → ThreadOutcome) (last : ThreadOutcome) → AreTold ends count told → last ≡ told count → AreTold (ends ++ last ∷ []) (count + 1) told
 one_more_told ends count told last are is = record {
   many = length-append ends (last ∷ []) ∙ ap (λ n. n + 1) are.many;
   each = λ k lt. elim (below k count lt) [
     | inl l ↦ at_front ends last k (subst (λ (n : ℕ). k < n) (sym are.many) l) ∙ are.each k l
     | inr e ↦ subst (λ (n : ℕ). slice_get (ends ++ last ∷ []) n ≡ Some (told n)) (sym e)
-        (subst (λ (n : ℕ). slice_get (ends ++ last ∷ []) n ≡ Some last) are.many (get_end ends last) ∙ ap (λ (x : ThreadEnd). Some x) is)
+        (subst (λ (n : ℕ). slice_get (ends ++ last ∷ []) n ≡ Some last) are.many (get_end ends last) ∙ ap (λ (x : ThreadOutcome). Some x) is)
   ];
 }
   where
@@ -58,7 +58,7 @@ one_more_told ends count told last are is = record {
 -- ---- the ends
 
 -- where a thread is by its stance, is where it is by its phase
-by_phase : (cells : List ℕ) (roots : List Reference) (stance : Stance) (stage : ℕ) (kept ending : ThreadEnd) → (phase_at cells roots stance ≡ order.Ended → kept ≡ ending) → end_at stance stage kept ≡ end_in (phase_at cells roots stance) stage ending
+by_phase : (cells : List ℕ) (roots : List Reference) (stance : Stance) (stage : ℕ) (kept ending : ThreadOutcome) → (phase_at cells roots stance ≡ order.Ended → kept ≡ ending) → end_at stance stage kept ≡ end_in (phase_at cells roots stance) stage ending
 by_phase cells roots Ready stage kept ending same = refl
 by_phase cells roots (MarkingOld cell word old) stage kept ending same = refl
 by_phase cells roots (MarkingNew cell word old) stage kept ending same = refl
@@ -81,14 +81,14 @@ told_is w before b t few =
     let stands = end.stands t found.0 found.1 in
     let ending = ending_of s t (starts_of w.program w.setup t) share in
     let to_try = cells_to_try s found.0.hints (program_machine.action found.0.state) in
-    let same = λ (e : phase_at to_try (names found.0.state) found.0.stance ≡ order.Ended). ap (λ (o : Option ThreadEnd). unwrap_or o thread.Ended) (b.ends.endings.each t few (sym stands.phase ∙ e)) in
+    let same = λ (e : phase_at to_try (names found.0.state) found.0.stance ≡ order.Ended). ap (λ (o : Option ThreadOutcome). unwrap_or o thread.Ended) (b.ends.endings.each t few (sym stands.phase ∙ e)) in
     ap (λ (o : Option (Stand ProgramThread)). end_told o (slice_get w.endings t)) found.1
     ∙ by_phase to_try (names found.0.state) found.0.stance found.0.stage (unwrap_or (slice_get w.endings t) thread.Ended) ending same
     ∙ ap (λ (phase : order.Phase). end_in phase found.0.stage ending) stands.phase
     ∙ ap (λ (stage : ℕ). end_in (phase_of s t (steps_of share)) stage ending) stands.stage
 
 -- so of all of them
-pub are_ends : (i : Inside) (w : World) (ends : List ThreadEnd) (count : ℕ) → world_seen i ≡ w → length i.actors.threads.items ≤ count → count ≤ length i.actors.threads.items
+pub are_ends : (i : Inside) (w : World) (ends : List ThreadOutcome) (count : ℕ) → world_seen i ≡ w → length i.actors.threads.items ≤ count → count ≤ length i.actors.threads.items
     → AreTold ends count (λ k. end_told (slice_get i.actors.threads.items k) (slice_get i.endings k)) → (before : List run.Actor) → IsBehind w before → AreEndsOf w before ends
 are_ends i w ends count seen most least told before b =
     let here : IsBehind (world_seen i) before = subst (λ (v : World). IsBehind v before) (sym seen) b in
@@ -96,5 +96,5 @@ are_ends i w ends count seen most least told before b =
     let many : count ≡ length i.setup.now.starts = omega (arith, all, most, least) in
     subst (λ (v : World). AreEndsOf v before ends) seen (record {
       one_each = told.many ∙ many;
-      each = λ t few. told.each t (subst (λ (n : ℕ). t < n) (sym many) few) ∙ ap (λ (x : ThreadEnd). Some x) (told_is (world_seen i) before here t few);
+      each = λ t few. told.each t (subst (λ (n : ℕ). t < n) (sym many) few) ∙ ap (λ (x : ThreadOutcome). Some x) (told_is (world_seen i) before here t few);
     })

@@ -13,7 +13,7 @@ use Rattle.trace_text.specs.declared.trace.Setup.{Setup}
 use Rattle.moves.specs.declared.actor.Actor.{Actor}
 use Rattle.stepping.specs.declared.happening.MadeStep.{MadeStep}
 use Rattle.stepping.specs.Ends.{IsStepOrNone}
-use Rattle.replay.specs.declared.thread_end.ThreadEnd.{ThreadEnd}
+use Rattle.replay.specs.declared.thread_outcome.ThreadOutcome.{ThreadOutcome}
 use Rattle.setups.specs.Setups.{starts_of}
 use Rattle.replay.specs.ThreadEnds.{AreEndsOf, AreEndsBehind}
 use Rattle.replay.specs.Worlds.{World, run_of, IsBehind, IsStepBehind, IsBrokenWorld, actor_in}
@@ -101,7 +101,7 @@ room_for_more p setup before count done actor v few more is =
 -- ---- where the actors are
 
 -- what a world tells of its end
-pub reports : (p : LaidOut) (setup : Setup) (before : List Actor) (w : Watch) (ends : List ThreadEnd) (posted : ℕ) → IsWatched p setup before w → AreEndsOf w.world before ends → posted ≡ w.world.shared.posted
+pub reports : (p : LaidOut) (setup : Setup) (before : List Actor) (w : Watch) (ends : List ThreadOutcome) (posted : ℕ) → IsWatched p setup before w → AreEndsOf w.world before ends → posted ≡ w.world.shared.posted
     → Reports p setup before (record { threads = ends; steps = w.steps; claims = w.claims; frees = w.frees; posted = posted })
 reports p setup before w ends posted is ends_are posted_is =
     let Stand : LaidOut → Setup → Type 0 = λ q begun. AreEndsBehind q begun (run_of q begun before) ends in

@@ -3,7 +3,7 @@ use Rattle.std.proofs.Common.{◌≡◌, ◌<◌, ℕ, Bool, Option, Some, List,
 use Rattle.std.proofs.lemmas.List.{length-map}
 use Rattle.layout.specs.Layouts.{LaidOut}
 use Rattle.certs.specs.declared.section.Section.{Section}
-use Rattle.replay.specs.declared.thread_end.ThreadEnd.{ThreadEnd}
+use Rattle.replay.specs.declared.thread_outcome.ThreadOutcome.{ThreadOutcome}
 use Rattle.machine.specs.Machine.{start}
 use Rattle.machine.specs.Start.{argument_values, StartsByReference, StartsWrongly}
 use Rattle.moves.specs.declared.actor.Actor as run
@@ -50,7 +50,7 @@ is_actor threads (Thread t) is = is
 is_actor threads Collector is = tt
 
 -- the endings after a step
-are_endings : (p : LaidOut) (setup : Setup) (before : List run.Actor) (actors : Actors ProgramThread) (endings : List ThreadEnd) (actor : Actor)
+are_endings : (p : LaidOut) (setup : Setup) (before : List run.Actor) (actors : Actors ProgramThread) (endings : List ThreadOutcome) (actor : Actor)
     → stepping.AreBehindSteps (heap_of p setup) program_machine (FitsThread (heap_of p setup)) (starts_of p setup) before actors → IsActorOf (length setup.starts) actor
     → AreEndings p setup (run_of p setup before) endings
     → AreEndings p setup (run_of p setup (actor_in actor ∷ before)) (endings_after actor actors.threads.items endings)
@@ -89,7 +89,7 @@ pub is_safe : CertifiedIsSafe → (i : Inside) (certs : List Section) (before : 
 is_safe law i certs before kept certified b = certified_setup law i.program.now i.setup.now certs kept.setup kept.no_fault certified (run_of i.program.now i.setup.now before) b.ends.is_run
 
 -- a step of an actor, as the code made it: which actor it was, the actors after it and the endings that are kept
-pub record IsMadeBy (i : Inside) (actor : Actor) (made : Option MadeStep) (actors : Actors ProgramThread) (endings : List ThreadEnd) : Type 0 where
+pub record IsMadeBy (i : Inside) (actor : Actor) (made : Option MadeStep) (actors : Actors ProgramThread) (endings : List ThreadOutcome) : Type 0 where
   pub is_actor : IsActorOf (length i.setup.now.starts) actor
   pub endings_are : endings ≡ endings_after actor i.actors.threads.items i.endings
   pub makes : (before : List run.Actor)
@@ -103,14 +103,14 @@ is_thread i w actor t seen is of =
     subst (λ (v : World). t < length v.setup.starts) (sym seen) q
 
 -- the world after it keeps what a world keeps
-pub keeps : (i : Inside) (actor : Actor) (made : Option MadeStep) (actors : Actors ProgramThread) (endings : List ThreadEnd) → IsKept i → IsMadeBy i actor made actors endings
+pub keeps : (i : Inside) (actor : Actor) (made : Option MadeStep) (actors : Actors ProgramThread) (endings : List ThreadOutcome) → IsKept i → IsMadeBy i actor made actors endings
     → IsKept (record i { actors = actors; endings = endings })
 keeps i actor made actors endings kept by =
-    subst (λ (e : List ThreadEnd). IsKept (record i { actors = actors; endings = e })) (sym by.endings_are)
+    subst (λ (e : List ThreadOutcome). IsKept (record i { actors = actors; endings = e })) (sym by.endings_are)
     (is_kept i actor made actors kept by.is_actor (by.makes kept.made.0 (are_behind i (world_seen i) kept.made.0 refl kept kept.made.1)))
 
 -- the step is told, and the world is the one after it
-pub tells : (i : Inside) (w : World) (given actor : Actor) (made : Option MadeStep) (actors : Actors ProgramThread) (endings : List ThreadEnd) → world_seen i ≡ w → given ≡ actor → IsKept i
+pub tells : (i : Inside) (w : World) (given actor : Actor) (made : Option MadeStep) (actors : Actors ProgramThread) (endings : List ThreadOutcome) → world_seen i ≡ w → given ≡ actor → IsKept i
     → IsMadeBy i actor made actors endings → (before : List run.Actor) → IsBehind w before
     → IsStepBehind w before given made × IsBehind (world_seen (record i { actors = actors; endings = endings })) (actor_in given ∷ before)
 tells i w given actor made actors endings seen is kept by before b =
@@ -119,11 +119,11 @@ tells i w given actor made actors endings seen is kept by before b =
     let told : IsStepBehind (world_seen i) before actor made = step.made_is in
     let there : IsStepBehind w before actor made = subst (λ (v : World). IsStepBehind v before actor made) seen told in
     let leads : IsBehind (world_seen (record i { actors = actors; endings = endings })) (actor_in actor ∷ before) =
-    subst (λ (e : List ThreadEnd). IsBehind (world_seen (record i { actors = actors; endings = e })) (actor_in actor ∷ before)) (sym by.endings_are) (is_behind i actor before made actors kept here by.is_actor step) in
+    subst (λ (e : List ThreadOutcome). IsBehind (world_seen (record i { actors = actors; endings = e })) (actor_in actor ∷ before)) (sym by.endings_are) (is_behind i actor before made actors kept here by.is_actor step) in
     (subst (λ (a : Actor). IsStepBehind w before a made) (sym is) there, subst (λ (a : Actor). IsBehind (world_seen (record i { actors = actors; endings = endings })) (actor_in a ∷ before)) (sym is) leads)
 
 -- and it is not broken where the program is certified
-pub stays_safe : CertifiedIsSafe → (i : Inside) (w : World) (given actor : Actor) (made : Option MadeStep) (actors : Actors ProgramThread) (endings : List ThreadEnd) → world_seen i ≡ w → given ≡ actor → IsKept i
+pub stays_safe : CertifiedIsSafe → (i : Inside) (w : World) (given actor : Actor) (made : Option MadeStep) (actors : Actors ProgramThread) (endings : List ThreadOutcome) → world_seen i ≡ w → given ≡ actor → IsKept i
     → IsMadeBy i actor made actors endings → (certs : List Section) (before : List run.Actor) → IsCertifiedSetup w.program w.setup certs → IsBehind w before
     → ¬ IsBrokenWorld (world_seen (record i { actors = actors; endings = endings })) (actor_in given ∷ before)
 stays_safe law i w given actor made actors endings seen is kept by certs before certified b =

@@ -29,8 +29,8 @@ use Rattle.stepping.specs.declared.gone.Gone.{Gone}
 use Rattle.stepping.specs.Reach.{IsFirstGone}
 use Rattle.stepping.specs.declared.happening.MadeStep.{MadeStep}
 use Rattle.stepping.specs.Ends.{IsEnd, IsStepOrNone}
-use Rattle.replay.specs.declared.thread_end.ThreadEnd.{ThreadEnd}
-use Rattle.replay.specs.declared.thread_end.ThreadEnd.TheVariants as thread
+use Rattle.replay.specs.declared.thread_outcome.ThreadOutcome.{ThreadOutcome}
+use Rattle.replay.specs.declared.thread_outcome.ThreadOutcome.TheVariants as thread
 use Rattle.setups.specs.Setups.{starts_of}
 
 -- a world: the program, the setup from which it began, the state of its actors and words, and how the threads that have ended did so
@@ -40,7 +40,7 @@ pub record World : Type 0 where
   pub threads : List (Stand ProgramThread)
   pub shared : Shared
   pub collector : Collecting
-  pub endings : List ThreadEnd
+  pub endings : List ThreadOutcome
 
 -- the run that these actors make from the setup, the newest first
 abbrev pub run_of : LaidOut → Setup → List Actor → List Happening
@@ -59,21 +59,21 @@ state_of w place = record {
 }
 
 -- the end of a thread that ended so
-abbrev pub ended_by : Ending → ThreadEnd
+abbrev pub ended_by : Ending → ThreadOutcome
 ended_by (Returned result) = thread.Returned result
 ended_by Over = thread.Ended
 
 -- how a thread says that it ends, at the instruction at which it is
-abbrev pub ending_at : ProgramThread → ThreadEnd
+abbrev pub ending_at : ProgramThread → ThreadOutcome
 ending_at t = ended_by (ending t.program t.state)
 
 -- how a thread with this share ended, if it has: what it said before its newest move
-abbrev pub ending_of : (s : heap.Setup) (thread : ℕ) → ProgramThread → List Move → ThreadEnd
+abbrev pub ending_of : (s : heap.Setup) (thread : ℕ) → ProgramThread → List Move → ThreadOutcome
 ending_of s t start [] = thread.Ended
 ending_of s t start (move ∷ share) = ending_at (state_after s program_machine t start share)
 
 -- these are the endings of the threads of a run that have ended
-pub record AreEndings (p : LaidOut) (setup : Setup) (run : List Happening) (endings : List ThreadEnd) : Type 0 where
+pub record AreEndings (p : LaidOut) (setup : Setup) (run : List Happening) (endings : List ThreadOutcome) : Type 0 where
   pub one_each : length endings ≡ length setup.starts
   pub each : (t : ℕ) → t < length setup.starts → phase_of (heap_of p setup) t (steps_of (share_of t run)) ≡ Ended
       → slice_get endings t ≡ Some (ending_of (heap_of p setup) t (starts_of p setup t) (share_of t run))

@@ -7,7 +7,7 @@ mod outcome;
 mod replaying;
 mod seeds;
 mod soaking;
-mod thread_end;
+mod thread_outcome;
 mod watch;
 mod world;
 
@@ -16,6 +16,6 @@ pub use outcome::{Break, BreakCause, Outcome, Report, SeedBreak, SoakOutcome};
 pub use replaying::replay;
 pub use setups::{SetupFault, SetupFault as ReplayFault, setup_law};
 pub use soaking::soak;
-pub use thread_end::ThreadEnd;
+pub use thread_outcome::ThreadOutcome;
 pub use trace_text::{Actor, Setup, Start, Steps, Trace, TraceFault, print_trace, read_trace};
 pub use world::World;

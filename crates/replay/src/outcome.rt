@@ -1,7 +1,7 @@
 ghost use Rattle.std.specs.Prelude.{Some};
 ghost use Rattle.replay.specs.CauseNames.{cause_name};
 
-use crate::thread_end::ThreadEnd;
+use crate::thread_outcome::ThreadOutcome;
 use items::Items;
 use std::fmt::{Display, Error, Formatter, Write};
 use stepping::Gone;
@@ -42,7 +42,7 @@ pub struct Break {
 /// Where the actors are after a run that no step breaks.
 #[derive(Drop)]
 pub struct Report {
-    pub threads: Items<ThreadEnd>,
+    pub threads: Items<ThreadOutcome>,
     /// How many steps were made.
     pub steps: u64,
     /// How many cells were claimed, and how many freed.

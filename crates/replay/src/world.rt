@@ -7,9 +7,9 @@ ghost use Rattle.replay.specs.Worlds.{IsBehind, actor_in, ended_by, IsStepBehind
 ghost use Rattle.replay.specs.Keeping.{ending_after, end_told};
 ghost use Rattle.replay.specs.ThreadEnds.{AreEndsOf};
 ghost use Rattle.setups.specs.declared.setup_fault.SetupFault.TheVariants as fault;
-ghost use Rattle.replay.specs.declared.thread_end.ThreadEnd.TheVariants as end;
+ghost use Rattle.replay.specs.declared.thread_outcome.ThreadOutcome.TheVariants as end;
 
-use crate::thread_end::ThreadEnd;
+use crate::thread_outcome::ThreadOutcome;
 use items::Items;
 use layout::Program;
 use machine::Ending;
@@ -29,7 +29,7 @@ pub struct World<'a> {
     setup: &'a Setup,
     actors: Actors<'a, ProgramThread<'a>>,
     /// How each thread that has ended did so.
-    endings: Items<ThreadEnd>,
+    endings: Items<ThreadOutcome>,
 }
 
 impl<'a> Model for World<'a> {
@@ -116,7 +116,7 @@ impl<'a> World<'a> {
     }
 
     /// Where each thread is.
-    pub fn ends(&self) -> Result<Items<ThreadEnd>, AllocError>
+    pub fn ends(&self) -> Result<Items<ThreadOutcome>, AllocError>
         ensures { (before : List AnActor) → IsBehind self.now before → IfOk result (AreEndsOf self.now before) }
     {
         let mut ends = Items::new(self.alloc);
@@ -128,7 +128,7 @@ impl<'a> World<'a> {
 }
 
 /// What is kept of this number of threads before their first steps: that none has returned.
-fn no_endings(alloc: Global, threads: usize) -> Result<Items<ThreadEnd>, AllocError>
+fn no_endings(alloc: Global, threads: usize) -> Result<Items<ThreadOutcome>, AllocError>
     ensures { IfOk result (λ endings. length endings ≡ threads) }
 {
     let mut endings = Items::new(alloc);
@@ -140,28 +140,28 @@ fn no_endings(alloc: Global, threads: usize) -> Result<Items<ThreadEnd>, AllocEr
 }
 
 /// What is kept of how a thread ended; of one of which nothing is kept, that it has not returned.
-fn kept_end(endings: &[ThreadEnd], thread: usize) -> ThreadEnd
+fn kept_end(endings: &[ThreadOutcome], thread: usize) -> ThreadOutcome
     ensures { result ≡ unwrap_or (slice_get endings.now thread) end.Ended }
 {
-    endings.get(thread).copied().unwrap_or(ThreadEnd::Ended)
+    endings.get(thread).copied().unwrap_or(ThreadOutcome::Ended)
 }
 
 /// The end of a thread that ended so.
-fn ended_by(ending: &Ending) -> ThreadEnd
+fn ended_by(ending: &Ending) -> ThreadOutcome
     ensures { result ≡ ended_by ending.now }
 {
     match ending {
-        Ending::Returned(result) => ThreadEnd::Returned(*result),
-        Ending::Over => ThreadEnd::Ended,
+        Ending::Returned(result) => ThreadOutcome::Returned(*result),
+        Ending::Over => ThreadOutcome::Ended,
     }
 }
 
 /// How a thread has ended, if its next step is its last one.
 fn ending_after(
     actors: &Actors<'_, ProgramThread<'_>>,
-    endings: &[ThreadEnd],
+    endings: &[ThreadOutcome],
     thread: usize,
-) -> ThreadEnd
+) -> ThreadOutcome
     ensures { result ≡ ending_after (slice_get actors.now.threads.items thread) (slice_get endings.now thread) }
 {
     match actors.thread(thread) {
@@ -179,19 +179,19 @@ fn ending_after(
 /// Where a thread is, and how it ended if it has.
 fn end_told(
     actors: &Actors<'_, ProgramThread<'_>>,
-    endings: &[ThreadEnd],
+    endings: &[ThreadOutcome],
     thread: usize,
-) -> ThreadEnd
+) -> ThreadOutcome
     ensures { result ≡ end_told (slice_get actors.now.threads.items thread) (slice_get endings.now thread) }
 {
     match actors.thread(thread) {
         Some(stand) => match stand.stance {
             Stance::Ended => kept_end(endings, thread),
             Stance::Absent | Stance::Arriving { .. } | Stance::Entering | Stance::Leaving => {
-                ThreadEnd::Absent
+                ThreadOutcome::Absent
             }
-            _ => ThreadEnd::Running(stand.stage),
+            _ => ThreadOutcome::Running(stand.stage),
         },
-        None => ThreadEnd::Ended,
+        None => ThreadOutcome::Ended,
     }
 }

@@ -15,8 +15,8 @@ use Rattle.types.specs.Globals.{global_named, held_in, held_by}
 use Rattle.shadow_stack.specs.Slots.{SlotTable}
 use Rattle.facts.specs.declared.known.Known.TheVariants.{Cell, Address}
 use Rattle.facts.specs.Facts.{FactSet, known_at, class_at}
-use Rattle.block_rules.specs.declared.wanted.Wanted.{Wanted}
-use Rattle.block_rules.specs.declared.wanted.Wanted.TheVariants as want
+use Rattle.block_rules.specs.declared.wanted_word.WantedWord.{WantedWord}
+use Rattle.block_rules.specs.declared.wanted_word.WantedWord.TheVariants as want
 use Rattle.block_rules.specs.Places.{holds_wanted, each_word}
 use Rattle.machine.specs.declared.action.Action.TheVariants.{Read, StorePlain}
 use Rattle.machine.specs.declared.value.Place.TheVariants as place
@@ -83,7 +83,7 @@ module _ (heap : Setup) (p : LaidOut) (table : SlotTable) (guarded : Guarded) (l
       (subst (λ k. Means heap p guarded log cells (length facts.classes) registers k (register_at registers v)) is (h.values v))
 
   -- a word of the set holds what each word is asked to hold
-  pub holds_as_asked : (wanted : Wanted) (layout w : ℕ) (words : WordSet) → w < 64 → has_word words.members w ≡ true → each_word wanted p.layouts layout words ≡ true → holds_wanted wanted (kind_of_word p.layouts layout w) ≡ true
+  pub holds_as_asked : (wanted : WantedWord) (layout w : ℕ) (words : WordSet) → w < 64 → has_word words.members w ≡ true → each_word wanted p.layouts layout words ≡ true → holds_wanted wanted (kind_of_word p.layouts layout w) ≡ true
   holds_as_asked wanted layout w words lt has e =
       pick (has_word words.members w) (each_below (λ w. not (has_word words.members w) || holds_wanted wanted (kind_of_word p.layouts layout w)) 64 w lt e) has where
         pick : (b : Bool) → (not b || holds_wanted wanted (kind_of_word p.layouts layout w)) ≡ true → b ≡ true → holds_wanted wanted (kind_of_word p.layouts layout w) ≡ true

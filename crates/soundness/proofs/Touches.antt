@@ -18,8 +18,8 @@ use Rattle.certs.specs.declared.section.Section.{Section}
 use Rattle.facts.specs.declared.known.Known.{Known}
 use Rattle.facts.specs.declared.known.Known.TheVariants.{Nothing, Number, Cell, Null, Address, GlobalAddress}
 use Rattle.facts.specs.Facts.{FactSet, known_at, class_at}
-use Rattle.block_rules.specs.declared.wanted.Wanted.{Wanted}
-use Rattle.block_rules.specs.declared.wanted.Wanted.TheVariants as want
+use Rattle.block_rules.specs.declared.wanted_word.WantedWord.{WantedWord}
+use Rattle.block_rules.specs.declared.wanted_word.WantedWord.TheVariants as want
 use Rattle.block_rules.specs.Casts as c
 use Rattle.block_rules.specs.Operands as o
 use Rattle.block_rules.specs.Places as r
@@ -45,7 +45,7 @@ use Rattle.soundness.proofs.Globals.{has_address, word_is, global_casts}
 use Rattle.soundness.proofs.Steps.{available}
 
 -- a word that holds what is wanted is there
-wanted_there : (wanted : Wanted) (q : Option WordKind) → r.holds_wanted wanted q ≡ true → (kind : WordKind) × (q ≡ Some kind)
+wanted_there : (wanted : WantedWord) (q : Option WordKind) → r.holds_wanted wanted q ≡ true → (kind : WordKind) × (q ≡ Some kind)
 wanted_there want.Nothing q e = absurd cc
 wanted_there (want.Integer bits) None e = absurd cc
 wanted_there (want.Integer bits) (Some kind) e = (kind, refl)
@@ -55,7 +55,7 @@ wanted_there want.AnyReference None e = absurd cc
 wanted_there want.AnyReference (Some kind) e = (kind, refl)
 
 -- and is no other than it is
-pub wanted_some : (wanted : Wanted) (q : Option WordKind) → r.holds_wanted wanted q ≡ true → q ≢ None
+pub wanted_some : (wanted : WantedWord) (q : Option WordKind) → r.holds_wanted wanted q ≡ true → q ≢ None
 wanted_some wanted q e none = let k = wanted_there wanted q e in let z = sym k.1 ∙ none in absurd cc
 
 module _ (heap : Setup) (p : LaidOut) (log : Log) where
@@ -211,7 +211,7 @@ module _ (heap : Setup) (p : LaidOut) (certs : List Section) (reaches : Bool) (f
       }
 
   -- a global
-  pub on_global : (written : ℕ) (x : Operand) → IsPlace p f table facts written x → (symbol : ℕ) → o.known_of facts x ≡ GlobalAddress symbol → (wanted : Wanted) → r.holds_wanted wanted (global_word p.of_module symbol) ≡ true
+  pub on_global : (written : ℕ) (x : Operand) → IsPlace p f table facts written x → (symbol : ℕ) → o.known_of facts x ≡ GlobalAddress symbol → (wanted : WantedWord) → r.holds_wanted wanted (global_word p.of_module symbol) ≡ true
       → Touches heap p log (value_of p.of_module frame.registers written x) (global_word p.of_module symbol)
   on_global written x s symbol is wanted holds =
       let w = wanted_there wanted (global_word p.of_module symbol) holds in

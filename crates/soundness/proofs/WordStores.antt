@@ -23,7 +23,7 @@ use Rattle.certs.specs.declared.section.Section.{Section}
 use Rattle.facts.specs.declared.known.Known.{Known}
 use Rattle.facts.specs.declared.known.Known.TheVariants.{Nothing, Number, Cell, Null, Address, GlobalAddress}
 use Rattle.facts.specs.Facts.{FactSet, known_at, class_at, drop_fresh_of}
-use Rattle.block_rules.specs.declared.wanted.Wanted.{Wanted}
+use Rattle.block_rules.specs.declared.wanted_word.WantedWord.{WantedWord}
 use Rattle.block_rules.specs.declared.type_kind.TypeKind.{TypeKind}
 use Rattle.block_rules.specs.declared.type_kind.TypeKind.TheVariants.{NoValue, Bits, Reference, AnyReference, Address as AddressKind, Other}
 use Rattle.block_rules.specs.Barriers.{is_own_place, needs_no_barrier}
@@ -220,7 +220,7 @@ module _ (heap : Setup) (p : LaidOut) (certs : List Section) (reaches : Bool) (f
   -- ---- at a place
 
   -- a word of a set fits as each does
-  fit_word : (layout w : ℕ) (words : WordSet) → w < 64 → has_word words.members w ≡ true → (wanted : Option Wanted) → r.fits_words p.layouts layout words wanted ≡ true → r.fits_word (kind_of_word p.layouts layout w) wanted ≡ true
+  fit_word : (layout w : ℕ) (words : WordSet) → w < 64 → has_word words.members w ≡ true → (wanted : Option WantedWord) → r.fits_words p.layouts layout words wanted ≡ true → r.fits_word (kind_of_word p.layouts layout w) wanted ≡ true
   fit_word layout w words lt has None e = refl
   fit_word layout w words lt has (Some wanted) e = holds_as_asked heap p table guarded log cells facts frame.registers frame.slots fits h wanted layout w words lt has e
 

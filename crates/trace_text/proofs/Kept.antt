@@ -35,7 +35,7 @@ use Rattle.trace_text.specs.declared.trace.Start.{Start}
 use Rattle.trace_text.specs.declared.trace.Steps.{Steps}
 use Rattle.trace_text.specs.declared.trace.Trace.{Trace}
 use Rattle.trace_text.specs.declared.versions.Version.{Version}
-use Rattle.trace_text.specs.declared.mistake.Mistake.{Mistake}
+use Rattle.trace_text.specs.declared.mistake.TraceMistake.{TraceMistake}
 
 -- ---- what forms keep
 
@@ -43,22 +43,22 @@ use Rattle.trace_text.specs.declared.mistake.Mistake.{Mistake}
 abbrev kept : Input → Input
 kept i = record { rest = []; read = record { counts = []; starts = i.read.starts; steps = i.read.steps; made = i.read.made } }
 
-skip_keeps : (i o : Input) (u : Unit {0}) → (skip {M = Mistake}).says i u o → kept i ≡ kept o
+skip_keeps : (i o : Input) (u : Unit {0}) → (skip {M = TraceMistake}).says i u o → kept i ≡ kept o
 unfolding skip after
 skip_keeps i o u h = ap kept h.1
 
-expect_keeps : (w : Text) (i o : Input) (u : Unit {0}) → (expect {M = Mistake} w).says i u o → kept i ≡ kept o
+expect_keeps : (w : Text) (i o : Input) (u : Unit {0}) → (expect {M = TraceMistake} w).says i u o → kept i ≡ kept o
 unfolding expect
 expect_keeps w i o u h = ap kept h.2.1 ∙ skip_keeps h.1 o u h.3
 
-line_end_keeps : (i o : Input) (u : Unit {0}) → (line_end {M = Mistake}).says i u o → kept i ≡ kept o
+line_end_keeps : (i o : Input) (u : Unit {0}) → (line_end {M = TraceMistake}).says i u o → kept i ≡ kept o
 unfolding line_end next_line
 line_end_keeps i o u h = ap kept h.2.1 ∙ ap kept h.3.1
 
-taken_keeps : {A : Type 0} (a b : A) (i o : Input) → (taken {M = Mistake} a).says i b o → (a ≡ b) × (kept i ≡ kept o)
+taken_keeps : {A : Type 0} (a b : A) (i o : Input) → (taken {M = TraceMistake} a).says i b o → (a ≡ b) × (kept i ≡ kept o)
 taken_keeps a b i o h = (h.3.0, skip_keeps i h.1 h.0 h.2 ∙ ap kept h.3.1)
 
-taken_as_keeps : {A : Type 0} (k : Option A) (b : A) (i o : Input) → (taken_as {M = Mistake} k).says i b o → (k ≡ Some b) × (kept i ≡ kept o)
+taken_as_keeps : {A : Type 0} (k : Option A) (b : A) (i o : Input) → (taken_as {M = TraceMistake} k).says i b o → (k ≡ Some b) × (kept i ≡ kept o)
 taken_as_keeps None b i o h = absurd h
 taken_as_keeps (Some a) b i o h = let r = taken_keeps a b i o h in (ap Some r.0, r.1)
 

@@ -23,7 +23,7 @@ use Rattle.trace_text.specs.declared.versions.Version.{Version}
 use Rattle.name_text.specs.Spelled.{number_read, number_is_inner}
 use Rattle.name_text.specs.Equal.{same_bytes}
 use Rattle.trace_text.proofs.Seams.{IsWord, word_before, count_read, inner_word}
-use Rattle.trace_text.specs.declared.mistake.Mistake.{Mistake}
+use Rattle.trace_text.specs.declared.mistake.TraceMistake.{TraceMistake}
 
 -- with this text left
 abbrev pub at : Text → Input → Input
@@ -45,17 +45,17 @@ module _ (w rest next : Text) (is_word : IsWord w) (ends : stops rest ≡ true) 
   pub word_is : word (at (w ++ rest) i) ≡ w
   word_is = word_before w rest is_word ends
 
-  pub skipped : (skip {M = Mistake}).says (at (w ++ rest) i) tt (at next i)
+  pub skipped : (skip {M = TraceMistake}).says (at (w ++ rest) i) tt (at next i)
   unfolding skip
   skipped = (refl, behind)
 
-  pub taken_says : {A : Type 0} (a : A) → (taken {M = Mistake} a).says (at (w ++ rest) i) a (at next i)
+  pub taken_says : {A : Type 0} (a : A) → (taken {M = TraceMistake} a).says (at (w ++ rest) i) a (at next i)
   taken_says a = (tt, at next i, skipped, (refl, refl))
 
   pub begins_so : (wanted : Text) → begins wanted (at (w ++ rest) i) ≡ bytes_eq w wanted
   begins_so wanted = ap (λ (text : Text). bytes_eq text wanted) word_is
 
-  pub expected : (expect {M = Mistake} w).says (at (w ++ rest) i) tt (at next i)
+  pub expected : (expect {M = TraceMistake} w).says (at (w ++ rest) i) tt (at next i)
   unfolding expect
   expected = (tt, at (w ++ rest) i, (begins_so w ∙ same_bytes w, refl), skipped)
 
@@ -85,7 +85,7 @@ module _ (n : ℕ) (rest next : Text) (less : n < 2 ^ 64) (ends : stops rest ≡
   digits_are : word (at (decimal n ++ rest) i) ≡ decimal n
   digits_are = word_is (decimal n) rest next number_word ends blanks i
 
-  number_taken : (taken {M = Mistake} n).says (at (decimal n ++ rest) i) n (at next i)
+  number_taken : (taken {M = TraceMistake} n).says (at (decimal n ++ rest) i) n (at next i)
   number_taken = taken_says (decimal n) rest next number_word ends blanks i n
 
   pub argument_says : argument.says (at (decimal n ++ rest) i) n (at next i)
@@ -115,6 +115,6 @@ module _ (n : ℕ) (rest next : Text) (less : n < 2 ^ 64) (ends : stops rest ≡
       (tt, at (decimal n ++ rest) (noted (with_steps actor n) i), (refl, refl), skipped (decimal n) rest next number_word ends blanks (noted (with_steps actor n) i)))
 
 -- the end of a line before such a text
-pub line_ended : (more : Text) (i : Input) → IsFresh more → (line_end {M = Mistake}).says (at (10 ∷ more) i) tt (at more i)
+pub line_ended : (more : Text) (i : Input) → IsFresh more → (line_end {M = TraceMistake}).says (at (10 ∷ more) i) tt (at more i)
 unfolding line_end next_line
 line_ended more i fresh = (tt, at (10 ∷ more) i, (refl, refl), (refl, ap (λ (text : Text). at text i) fresh))

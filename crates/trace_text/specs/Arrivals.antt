@@ -9,8 +9,8 @@ use Rattle.ir_tokens.specs.Bytes.{Text}
 use Rattle.name_text.specs.Reader.{word}
 use Rattle.name_text.specs.Forms.{taken_as, taken_takes}
 use Rattle.trace_text.specs.Input.{Input, Form}
-use Rattle.trace_text.specs.declared.mistake.Mistake.{Mistake}
-use Rattle.trace_text.specs.declared.progress.Progress.{Progress}
+use Rattle.trace_text.specs.declared.mistake.TraceMistake.{TraceMistake}
+use Rattle.trace_text.specs.declared.progress.TraceProgress.{TraceProgress}
 use Rattle.trace_text.specs.declared.trace.Arrival.{Arrival}
 use Rattle.trace_text.specs.declared.trace.Arrival.TheVariants.{AtStart, Late}
 use Rattle.trace_text.specs.declared.trace.Start.{Start}
@@ -73,6 +73,6 @@ pub arrival_takes : (version : Version) → Takes (arrival version)
 unfolding arrival
 arrival_takes version = look_takes (λ i. arrival_of_word version (word i)) taken_as each
   where
-    each : (k : Option Arrival) → TakesWhere (λ i. arrival_of_word version (word i) ≡ k) (taken_as {D = Progress} {M = Mistake} k)
+    each : (k : Option Arrival) → TakesWhere (λ i. arrival_of_word version (word i) ≡ k) (taken_as {D = TraceProgress} {M = TraceMistake} k)
     each None i a o p h = absurd h
-    each (Some begun) i a o p h = taken_takes Progress Mistake begun i a o (arrival_has_bytes version (word i) begun p) h
+    each (Some begun) i a o p h = taken_takes TraceProgress TraceMistake begun i a o (arrival_has_bytes version (word i) begun p) h

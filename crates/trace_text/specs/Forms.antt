@@ -10,7 +10,7 @@ use Rattle.name_text.specs.Forms.{syntax, wrong, skip, taken, taken_as, note}
 use Rattle.trace_text.specs.Input.{Form, with_pool, with_start, with_steps}
 use Rattle.trace_text.specs.declared.trace.Actor.{Actor}
 use Rattle.trace_text.specs.declared.trace.Arrival.{Arrival}
-use Rattle.trace_text.specs.declared.mistake.Mistake.TheVariants.{NoThread, TooManySteps}
+use Rattle.trace_text.specs.declared.mistake.TraceMistake.TheVariants.{NoThread, TooManySteps}
 
 -- ---- names and numbers
 

@@ -23,9 +23,9 @@ use Rattle.trace_text.specs.declared.trace.Trace.{Trace}
 use Rattle.trace_text.specs.declared.versions.Version.{Version}
 use Rattle.name_text.specs.declared.found.Found.{Found}
 use Rattle.name_text.specs.declared.found.Found.TheVariants.{Syntax, Wrong, Memory}
-use Rattle.trace_text.specs.declared.mistake.Mistake.{Mistake}
-use Rattle.trace_text.specs.declared.mistake.Mistake.TheVariants.{NoThread, TooManySteps, TooManyCells}
-use Rattle.trace_text.specs.declared.progress.Progress.{Progress}
+use Rattle.trace_text.specs.declared.mistake.TraceMistake.{TraceMistake}
+use Rattle.trace_text.specs.declared.mistake.TraceMistake.TheVariants.{NoThread, TooManySteps, TooManyCells}
+use Rattle.trace_text.specs.declared.progress.TraceProgress.{TraceProgress}
 use Rattle.trace_text.specs.declared.fault.TraceFault.{TraceFault}
 use Rattle.trace_text.specs.declared.fault.TraceFault.TheVariants as fault
 
@@ -46,7 +46,7 @@ pool m = expect (codes "pool") >> pool_behind m
 -- a pool takes bytes
 pub pool_takes : (m : Module) → Takes (pool m)
 unfolding pool
-pool_takes m = first_takes (expect (codes "pool")) (λ _. pool_behind m) (expect_takes Progress Mistake (codes "pool") (lit< tt))
+pool_takes m = first_takes (expect (codes "pool")) (λ _. pool_behind m) (expect_takes TraceProgress TraceMistake (codes "pool") (lit< tt))
 
 -- no pool comes here
 abbrev pub past_pools : Input → Bool
@@ -114,8 +114,8 @@ unfolding steps_line
 steps_line_takes = look_takes (begins (codes "t")) steps_by each
   where
     each : (k : Bool) → TakesWhere (λ i. begins (codes "t") i ≡ k) (steps_by k)
-    each true i a o p h = first_takes_where (λ i. begins (codes "t") i ≡ true) skip (λ _. thread_steps) (word_taken Progress Mistake (codes "t") (lit< tt)) i a o p h
-    each false i a o p h = first_takes (expect (codes "c")) (λ _. steps_of actor.Collector) (expect_takes Progress Mistake (codes "c") (lit< tt)) i a o h
+    each true i a o p h = first_takes_where (λ i. begins (codes "t") i ≡ true) skip (λ _. thread_steps) (word_taken TraceProgress TraceMistake (codes "t") (lit< tt)) i a o p h
+    each false i a o p h = first_takes (expect (codes "c")) (λ _. steps_of actor.Collector) (expect_takes TraceProgress TraceMistake (codes "c") (lit< tt)) i a o h
 
 -- the steps end here
 abbrev pub past_steps : Input → Bool
@@ -192,7 +192,7 @@ abbrev pub IsTrace : Bytes → LaidOut → Trace → Type 0
 IsTrace bytes p trace = (o : Input) × (file p).says (start_of p bytes) trace o
 
 -- a fault with its place
-abbrev pub placed : Bytes → Found Mistake → TraceFault
+abbrev pub placed : Bytes → Found TraceMistake → TraceFault
 placed bytes (Syntax rest) = fault.Syntax (place bytes rest)
 placed bytes (Wrong (NoThread rest)) = fault.NoThread (place bytes rest)
 placed bytes (Wrong (TooManySteps rest)) = fault.TooManySteps (place bytes rest)
@@ -201,4 +201,4 @@ placed bytes Memory = fault.Memory
 
 -- the text is of the format up to a place, where it has this fault
 abbrev pub IsFault : Bytes → LaidOut → TraceFault → Type 0
-IsFault bytes p fault = (found : Found Mistake) × (file p).stuck (start_of p bytes) found × (placed bytes found ≡ fault)
+IsFault bytes p fault = (found : Found TraceMistake) × (file p).stuck (start_of p bytes) found × (placed bytes found ≡ fault)

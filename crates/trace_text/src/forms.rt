@@ -4,7 +4,7 @@ ghost use Rattle.trace_text.specs.Forms as form;
 ghost use Rattle.name_text.specs.Reader.{Reads};
 
 use crate::input::{Found, Input};
-use crate::mistake::Mistake;
+use crate::mistake::TraceMistake;
 use crate::naming::{function_of_word, layout_of_word};
 use crate::numbers::count_of_word;
 use crate::trace::{Actor, Arrival, STEP_LIMIT};
@@ -82,7 +82,7 @@ pub fn thread(input: &mut Input<'_>) -> Result<u32, Found>
         None => Err(Found::Syntax(input.left())),
         Some(thread) => {
             if thread as usize >= input.read.threads() {
-                return Err(Found::Wrong(Mistake::NoThread(input.left())));
+                return Err(Found::Wrong(TraceMistake::NoThread(input.left())));
             }
             input.skip();
             Ok(thread)
@@ -99,7 +99,7 @@ pub fn step_count(input: &mut Input<'_>, actor: Actor) -> Result<(), Found>
         None => Err(Found::Syntax(input.left())),
         Some(count) => {
             if input.read.made_with(count) > STEP_LIMIT {
-                return Err(Found::Wrong(Mistake::TooManySteps(input.left())));
+                return Err(Found::Wrong(TraceMistake::TooManySteps(input.left())));
             }
             input.read.put_steps(actor, count)?;
             input.skip();

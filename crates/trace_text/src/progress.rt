@@ -10,7 +10,7 @@ use std::alloc::{AllocError, Global};
 use std::mem;
 
 #[derive(Drop)]
-pub struct Progress {
+pub struct TraceProgress {
     /// How many cells each layout has, where that is listed so far.
     pub counts: Items<Option<u32>>,
     /// How each thread begins, by its number.
@@ -20,13 +20,13 @@ pub struct Progress {
     pub made: u32,
 }
 
-impl Progress {
+impl TraceProgress {
     /// Nothing is read so far, for a program with this number of layouts.
-    pub fn new(alloc: Global, layouts: usize) -> Result<Progress, AllocError>
+    pub fn new(alloc: Global, layouts: usize) -> Result<TraceProgress, AllocError>
         ensures { IfOk result (λ progress. progress ≡ spec.nothing_read layouts) }
     {
         let none = vec![in alloc; None; layouts]?;
-        Ok(Progress {
+        Ok(TraceProgress {
             counts: Items::from_vec(none),
             starts: Items::new(alloc),
             steps: Items::new(alloc),

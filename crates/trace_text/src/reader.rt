@@ -18,8 +18,8 @@ use crate::forms::{
     argument, arrival, cell_count, function_name, new_layout, step_count, thread, version,
 };
 use crate::input::{Found, Input};
-use crate::mistake::Mistake;
-use crate::progress::Progress;
+use crate::mistake::TraceMistake;
+use crate::progress::TraceProgress;
 use crate::trace::{Actor, Setup, THREAD_LIMIT, Trace};
 use crate::versions::{Version, arrival_of_word};
 use ir_ast::Module;
@@ -207,7 +207,7 @@ fn finished(alloc: Global, input: &mut Input<'_>, program: &Program) -> Result<T
     ensures { Reads ((text.finished program.now).read input.old) result input.new }
 {
     let Some(pools) = pools_of(alloc, program, input.read.counts())? else {
-        return Err(Found::Wrong(Mistake::TooManyCells));
+        return Err(Found::Wrong(TraceMistake::TooManyCells));
     };
     let (starts, steps) = input.read.take_all(alloc);
     Ok(Trace {
@@ -270,7 +270,7 @@ fn file(alloc: Global, input: &mut Input<'_>, program: &Program) -> Result<Trace
 fn trace_of(alloc: Global, bytes: &[u8], program: &Program) -> Result<Trace, Found>
     ensures { Gives Memory result (value_of ((text.file program.now).read (start_of program.now bytes.now))) }
 {
-    let mut input = Input::new(bytes, Progress::new(alloc, program.layouts().count())?);
+    let mut input = Input::new(bytes, TraceProgress::new(alloc, program.layouts().count())?);
     file(alloc, &mut input, program)
 }
 
@@ -280,9 +280,11 @@ fn placed(bytes: &[u8], found: Found) -> TraceFault
 {
     match found {
         Found::Syntax(rest) => TraceFault::Syntax(place(bytes, rest)),
-        Found::Wrong(Mistake::NoThread(rest)) => TraceFault::NoThread(place(bytes, rest)),
-        Found::Wrong(Mistake::TooManySteps(rest)) => TraceFault::TooManySteps(place(bytes, rest)),
-        Found::Wrong(Mistake::TooManyCells) => TraceFault::TooManyCells,
+        Found::Wrong(TraceMistake::NoThread(rest)) => TraceFault::NoThread(place(bytes, rest)),
+        Found::Wrong(TraceMistake::TooManySteps(rest)) => TraceFault::TooManySteps(place(
+            bytes, rest,
+        )),
+        Found::Wrong(TraceMistake::TooManyCells) => TraceFault::TooManyCells,
         Found::Memory => TraceFault::Memory,
     }
 }

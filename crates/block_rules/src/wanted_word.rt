@@ -2,7 +2,7 @@ use pools::LayoutId;
 
 /// What a word has to hold.
 #[derive(Clone, Copy, PartialEq, Eq)]
-pub enum Wanted {
+pub enum WantedWord {
     /// Integers of this number of bits.
     Integer(u32),
     /// References to this layout.

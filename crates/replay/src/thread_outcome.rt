@@ -2,7 +2,7 @@ use machine::Value;
 
 /// Where a thread is after a run.
 #[derive(Clone, Copy, PartialEq, Eq)]
-pub enum ThreadEnd {
+pub enum ThreadOutcome {
     /// It begins late, and has not begun.
     Absent,
     /// Its first function returned, with this result if it has one.
