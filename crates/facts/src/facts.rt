@@ -1,5 +1,5 @@
 ghost use Rattle.std.specs.Prelude.{◌≡◌, true, ◌==◌, ◌&&◌, length, map, slice_set, IfOk, OnOk, OnErr};
-ghost use Rattle.facts.specs.Facts.{FactSet, known_at, slot_at, class_at, test_at, is_of, nothing_known, forget, define, define_new, define_test, set_known, add_class, set_class, drop_fresh, drop_fresh_of, learn_nonnull, set_slot, clear_slot, end_slot, root_slot, hold, store_slot, load_held, load_slot, make_stale, slot_nonnull};
+ghost use Rattle.facts.specs.Facts.{FactSet, AreFacts, known_at, slot_at, class_at, test_at, is_of, nothing_known, forget, define, define_new, define_test, set_known, add_class, set_class, drop_fresh, drop_fresh_of, learn_nonnull, set_slot, clear_slot, end_slot, root_slot, hold, store_slot, load_held, load_slot, make_stale, slot_nonnull};
 ghost use Rattle.facts.specs.Lines.{join, move, covers};
 ghost use Rattle.facts.specs.Ties.{AreOwn};
 
@@ -78,6 +78,13 @@ impl Facts {
         ensures { result ≡ test_at self.now.tests v }
     {
         self.contents.values.test(v)
+    }
+
+    /// Each value has a class for itself, whatever was written: what the laws ask of facts.
+    pub fn classes_law(&self)
+        ensures { AreFacts self.now }
+    {
+        self.contents.values.classes_law();
     }
 
     /// Nothing is known any more.

@@ -1,4 +1,4 @@
-ghost use Rattle.std.specs.Prelude.{◌≡◌, ◌<◌, ℕ, true, false, ◌∷◌, [], ◌++◌, map, length, slice_set, IfOk, OnOk, OnErr};
+ghost use Rattle.std.specs.Prelude.{◌≡◌, ◌<◌, ◌≤◌, ℕ, true, false, ◌∷◌, [], ◌++◌, map, length, slice_set, IfOk, OnOk, OnErr};
 ghost use Rattle.std.specs.List.{list_any, list_all, enumerate_from, zip};
 ghost use Rattle.facts.specs.Facts.{known_at, class_at, test_at, is_of, is_on, values_without, tests_without, stale_of, stale_class};
 ghost use Rattle.facts.specs.Lines.{move, covers_value};
@@ -94,6 +94,11 @@ impl Values {
     {
         ClassId::new(self.sheet.len() + self.added.len())
     }
+
+    /// Each value has a class for itself.
+    pub fn classes_law(&self)
+        ensures { length self.now.values ≤ length self.now.classes }
+    {}
 
     /// Nothing is known any more.
     pub fn clear(&mut self)
