@@ -1,5 +1,5 @@
 -- What is known, as a set of statements.
-use Rattle.std.specs.Prelude.{◌≡◌, ◌<◌, ◌↔◌, ◌⊎◌, ℕ, true, false, List, length, Bool, Option, Some, None}
+use Rattle.std.specs.Prelude.{◌≡◌, ◌<◌, ◌≤◌, ◌↔◌, ◌⊎◌, ℕ, true, false, List, length, Bool, Option, Some, None}
 use Rattle.pools.specs.WordSets.{has_all}
 use Rattle.facts.specs.declared.known.Known.{Known}
 use Rattle.facts.specs.declared.known.Known.TheVariants.{Number, Cell, Null, Address, GlobalAddress}

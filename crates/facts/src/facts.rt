@@ -1,5 +1,6 @@
 ghost use Rattle.std.specs.Prelude.{◌≡◌, true, ◌==◌, ◌&&◌, length, map, slice_set, IfOk, OnOk, OnErr};
-ghost use Rattle.facts.specs.Facts.{FactSet, AreFacts, known_at, slot_at, class_at, test_at, is_of, nothing_known, forget, define, define_new, define_test, set_known, add_class, set_class, drop_fresh, drop_fresh_of, learn_nonnull, set_slot, clear_slot, end_slot, root_slot, hold, store_slot, load_held, load_slot, make_stale, slot_nonnull};
+ghost use Rattle.facts.specs.declared.known.Known.TheVariants.{Cell};
+ghost use Rattle.facts.specs.Facts.{FactSet, AreFacts, known_at, slot_at, class_at, test_at, is_of, nothing_known, forget, define, define_new, define_test, set_known, add_class, set_class, drop_fresh, drop_fresh_of, drop_fresh_all, learn_nonnull, set_slot, clear_slot, end_slot, root_slot, hold, store_slot, load_held, load_slot, make_stale, slot_nonnull};
 ghost use Rattle.facts.specs.Lines.{join, move, covers};
 ghost use Rattle.facts.specs.Ties.{AreOwn};
 
@@ -7,7 +8,7 @@ use crate::class_id::ClassId;
 use crate::class_set::ClassSet;
 use crate::contents::Contents;
 use crate::kept::KeptFacts;
-use crate::known::{Class, Known, SlotFact, Test};
+use crate::known::{Class, Entry, Known, SlotFact, Test};
 use crate::rows;
 use ir_ast::ValueId;
 use pools::LayoutId;
@@ -155,10 +156,10 @@ impl Facts {
 
     /// This is known of a value, and no more.
     pub fn define(&mut self, v: ValueId, known: Known) -> Result<(), AllocError>
-        ensures { OnOk result (self.new ≡ define v known self.old) }
+        ensures ok { OnOk result (self.new ≡ define v known self.old) }
+        ensures err { OnErr result (self.new ≡ self.old) }
     {
-        self.forget(v)?;
-        self.set_known(v, known)
+        Rc::make_mut(&mut self.contents)?.define(v, known)
     }
 
     /// A value is a reference to this layout, of a new class.
@@ -168,30 +169,18 @@ impl Facts {
         layout: LayoutId,
         class: Class,
     ) -> Result<(), AllocError>
-        ensures { OnOk result (self.new ≡ define_new v layout class self.old) }
+        ensures ok { OnOk result (self.new ≡ define_new v layout class self.old) }
+        ensures err { OnErr result (self.new ≡ self.old) }
     {
-        let next = self.next_class();
-        self.add_class(class)?;
-        self.define(
-            v,
-            Known::Cell {
-                class: next,
-                layout,
-                stale: false,
-            },
-        )
+        Rc::make_mut(&mut self.contents)?.define_new(v, layout, false, class)
     }
 
     /// A value is a comparison of another with a constant.
     pub fn define_test(&mut self, v: ValueId, test: Test) -> Result<(), AllocError>
-        ensures { OnOk result (self.new ≡ define_test v test self.old) }
+        ensures ok { OnOk result (self.new ≡ define_test v test self.old) }
+        ensures err { OnErr result (self.new ≡ self.old) }
     {
-        let truth = Known::Number {
-            bits: 1,
-            below: None,
-        };
-        self.define(v, truth)?;
-        self.set_test(v, rows::off_test(v, Some(test)))
+        Rc::make_mut(&mut self.contents)?.define_test(v, test)
     }
 
     /// What is stored goes where others may find it: its class is fresh no more.
@@ -258,39 +247,10 @@ impl Facts {
 
     /// A value is the reference that a slot holds.
     pub fn load_slot(&mut self, v: ValueId, s: SlotId, layout: LayoutId) -> Result<(), AllocError>
-        ensures { OnOk result (self.new ≡ load_slot v s layout self.old) }
+        ensures ok { OnOk result (self.new ≡ load_slot v s layout self.old) }
+        ensures err { OnErr result (self.new ≡ self.old) }
     {
-        self.forget(v)?;
-        let SlotFact { nonnull, holds, .. } = self.slot(s);
-        match holds {
-            Some(class) => {
-                self.set_known(
-                    v,
-                    Known::Cell {
-                        class,
-                        layout,
-                        stale: false,
-                    },
-                )?;
-                self.learn_nonnull(class, nonnull)
-            }
-            None => {
-                let class = self.next_class();
-                self.set_known(
-                    v,
-                    Known::Cell {
-                        class,
-                        layout,
-                        stale: false,
-                    },
-                )?;
-                self.add_class(Class {
-                    nonnull,
-                    fresh: false,
-                })?;
-                self.hold(s, class)
-            }
-        }
+        Rc::make_mut(&mut self.contents)?.load_slot(v, s, layout)
     }
 
     /// A safepoint: each reference is stale, and the slots hold what nobody else is known to name.
@@ -308,6 +268,15 @@ impl Facts {
         ensures err { OnErr result (self.new ≡ self.old) }
     {
         Rc::make_mut(&mut self.contents)?.values.set_known(v, known)
+    }
+
+    /// The classes of all that comes in are fresh no more.
+    pub(crate) fn drop_fresh_all(&mut self, entries: &[Entry]) -> Result<(), AllocError>
+        ensures ok { OnOk result (self.new ≡ drop_fresh_all entries.now self.old) }
+        ensures err { OnErr result (self.new ≡ self.old) }
+    {
+        Rc::make_mut(&mut self.contents)?.drop_fresh_all(entries);
+        Ok(())
     }
 
     /// A class is not null where this holds.
@@ -329,19 +298,18 @@ impl Facts {
         Ok(())
     }
 
-    /// A class more.
-    pub(crate) fn add_class(&mut self, class: Class) -> Result<(), AllocError>
-        ensures ok { OnOk result (self.new ≡ add_class class self.old) }
+    /// A value takes a new class, of which this is known, and may be stale.
+    pub(crate) fn define_copy(
+        &mut self,
+        v: ValueId,
+        layout: LayoutId,
+        stale: bool,
+        class: Class,
+    ) -> Result<(), AllocError>
+        ensures ok { OnOk result (self.new ≡ define v (Cell (length self.old.classes) layout stale) (add_class class self.old)) }
         ensures err { OnErr result (self.new ≡ self.old) }
     {
-        Rc::make_mut(&mut self.contents)?.values.add_class(class)
-    }
-
-    /// The number of the class that is made next.
-    pub(crate) fn next_class(&self) -> ClassId
-        ensures { result ≡ length self.now.classes }
-    {
-        self.contents.values.next_class()
+        Rc::make_mut(&mut self.contents)?.define_new(v, layout, stale, class)
     }
 
     pub(crate) fn set_class(&mut self, c: ClassId, class: Class) -> Result<(), AllocError>
@@ -356,13 +324,6 @@ impl Facts {
         ensures err { OnErr result (self.new ≡ self.old) }
     {
         Rc::make_mut(&mut self.contents)?.set_slot(s, slot)
-    }
-
-    fn set_test(&mut self, v: ValueId, test: Option<Test>) -> Result<(), AllocError>
-        ensures ok { OnOk result (self.new ≡ record self.old { tests = slice_set self.old.tests v test }) }
-        ensures err { OnErr result (self.new ≡ self.old) }
-    {
-        Rc::make_mut(&mut self.contents)?.values.set_test(v, test)
     }
 
     /// The references of the class of `v` are of another: `v` alone, if no others joined it.

@@ -1,5 +1,5 @@
 //! What the lines of a block give where it begins.
-ghost use Rattle.std.specs.Prelude.{◌≡◌, true, [], length, map, OnOk};
+ghost use Rattle.std.specs.Prelude.{◌≡◌, true, [], length, map, OnOk, OnErr};
 ghost use Rattle.facts.specs.Facts.{known_at, is_of, nothing_known, set_known};
 ghost use Rattle.facts.specs.Lines.{is_stale, is_fresh, list_value, list_slot, list_line, list_lines, move, join, join_known, join_values, tie_value, tie_fact, tie_line, tie_lines, hold_known, hold_value, hold_line, hold_lines, facts_of_lines, promised_below, promised_nonnull, promised_layout, receive_reference, receive};
 ghost use Rattle.facts.specs.Ties.{AreOwn};
@@ -32,7 +32,8 @@ impl Facts {
         given: Given,
         promise: Option<Promise>,
     ) -> Result<(), AllocError>
-        ensures { OnOk result (self.new ≡ receive v given promise self.old) }
+        ensures ok { OnOk result (self.new ≡ receive v given promise self.old) }
+        ensures err { OnErr result (self.new ≡ self.old) }
     {
         match given {
             Given::Nothing => self.define(v, Known::Nothing),
@@ -58,7 +59,8 @@ impl Facts {
         layout: Option<LayoutId>,
         nonnull: bool,
     ) -> Result<(), AllocError>
-        ensures { OnOk result (self.new ≡ receive_reference v layout nonnull self.old) }
+        ensures ok { OnOk result (self.new ≡ receive_reference v layout nonnull self.old) }
+        ensures err { OnErr result (self.new ≡ self.old) }
     {
         match layout {
             Some(layout) => self.define_new(
