@@ -1,9 +1,9 @@
 -- A class that is found to be not null, where a row is filled for it before.
-use Rattle.std.proofs.Common.{◌≡◌, ◌<◌, ◌≤◌, ◌⊎◌, ◌++◌, ◌-◌, ℕ, length, List, map, refl, sym, ap, subst, inl, inr, ◌∙◌, true, false, Bool, Option, Some, None, is_none, slice_set}
+use Rattle.std.proofs.Common.{◌≡◌, ◌<◌, ◌⊎◌, ◌++◌, ℕ, length, List, map, refl, sym, ap, subst, inl, inr, ◌∙◌, true, false, Bool, Option, Some, None, is_none, slice_set}
 use Rattle.std.proofs.Math.ListN.{get_or-map}
 use Rattle.std.proofs.Math.Seq.{map-set_same}
 use Rattle.std.proofs.lemmas.List.{get_or_append_left, get_or-set_same, get_or-set_other, length-map, length-set, map-set, set-append_left}
-use Rattle.std.specs.Prelude.{not, ◌&&◌, ◌||◌, ◌==◌, if◌then◌else◌}
+use Rattle.std.specs.Prelude.{not, ◌||◌, ◌==◌}
 use Rattle.lemmas.specs.Bools.{or_false}
 use Rattle.facts.specs.declared.known.Class.{Class}
 use Rattle.facts.specs.declared.known.Known.{Known}
@@ -15,7 +15,7 @@ use Rattle.facts.specs.Sheets.{blank, row_at, known_of, class_of, test_of, names
 use Rattle.facts.specs.Uses.{chain, OnlyUsers, SayTheSame}
 use Rattle.facts.specs.Values.{facts_of_rows, learned, is_reference, learned_row}
 use Rattle.facts.proofs.Current.{settled_parts}
-use Rattle.facts.proofs.Says.{same_facts, class_added_facts}
+use Rattle.facts.proofs.Says.{same_facts}
 use Rattle.facts.proofs.Sets.{set_part, or_true}
 use Rattle.facts.proofs.Sheets.{same_or_not}
 use Rattle.facts.proofs.Users.{chain_none, users_set}

@@ -102,17 +102,17 @@ module _ (f : FactSet) (v s layout : ℕ) (last : Option ℕ) (one : Bool) (slot
         → facts_of values slots ≡ load_slot v s layout f
     load_of_new e between g h i = ap (λ (x : ValueFacts). facts_of x slots) g ∙ ap (facts_of (new_of v layout slot.nonnull (values_of f))) all_slots
         ∙ ap (λ (tests : List (Option Test)). record (hold s n (add_class class (set_known v (Cell n layout false) rest))) { tests = tests }) (none_tested v f.tests) ∙ sym (loads None e) where
-      n : ℕ
-      n = length f.classes
+          n : ℕ
+          n = length f.classes
 
-      class : Class
-      class = new_class slot.nonnull
+          class : Class
+          class = new_class slot.nonnull
 
-      held : SlotFact
-      held = the_slot (slot_at f.slots s) slot.nonnull (Some n)
+          held : SlotFact
+          held = the_slot (slot_at f.slots s) slot.nonnull (Some n)
 
-      same : held ≡ the_slot (slot_at rest.slots s) (class_at (f.classes ++ class ∷ []) n).nonnull (Some n)
-      same = loaded_slot last one (slot_at f.slots s) slot.nonnull (Some n) ∙ ap (λ (x : SlotFact). the_slot x slot.nonnull (Some n)) (sym is ∙ sym there) ∙ ap (λ (x : Class). the_slot (slot_at rest.slots s) x.nonnull (Some n)) (sym (last_class f.classes class))
+          same : held ≡ the_slot (slot_at rest.slots s) (class_at (f.classes ++ class ∷ []) n).nonnull (Some n)
+          same = loaded_slot last one (slot_at f.slots s) slot.nonnull (Some n) ∙ ap (λ (x : SlotFact). the_slot x slot.nonnull (Some n)) (sym is ∙ sym there) ∙ ap (λ (x : Class). the_slot (slot_at rest.slots s) x.nonnull (Some n)) (sym (last_class f.classes class))
 
-      all_slots : slots ≡ slice_set rest.slots s (the_slot (slot_at rest.slots s) (class_at (f.classes ++ class ∷ []) n).nonnull (Some n))
-      all_slots = i ∙ ap (let_go_others s last one) h ∙ others_written s held last one f.slots ∙ ap (λ (l : List SlotFact). slice_set l s held) (sym gone) ∙ ap (slice_set rest.slots s) same
+          all_slots : slots ≡ slice_set rest.slots s (the_slot (slot_at rest.slots s) (class_at (f.classes ++ class ∷ []) n).nonnull (Some n))
+          all_slots = i ∙ ap (let_go_others s last one) h ∙ others_written s held last one f.slots ∙ ap (λ (l : List SlotFact). slice_set l s held) (sym gone) ∙ ap (slice_set rest.slots s) same

@@ -2,6 +2,7 @@ ghost use Rattle.std.specs.Prelude.{◌≡◌, true, ◌==◌, ◌&&◌, length,
 ghost use Rattle.facts.specs.declared.known.Known.TheVariants.{Cell};
 ghost use Rattle.facts.specs.Facts.{FactSet, AreFacts, known_at, slot_at, class_at, test_at, is_of, nothing_known, forget, define, define_new, define_test, set_known, add_class, set_class, drop_fresh, drop_fresh_of, drop_fresh_all, learn_nonnull, set_slot, clear_slot, end_slot, root_slot, hold, store_slot, load_held, load_slot, make_stale, slot_nonnull};
 ghost use Rattle.facts.specs.Lines.{join, move, covers};
+ghost use Rattle.facts.specs.Parts.{AreAsMany};
 ghost use Rattle.facts.specs.Ties.{AreOwn};
 
 use crate::class_id::ClassId;
@@ -92,6 +93,7 @@ impl Facts {
     pub fn clear(&mut self, _alloc: Global) -> Result<(), AllocError>
         ensures ok { OnOk result (self.new ≡ nothing_known (length self.old.values) (length self.old.slots)) }
         ensures err { OnErr result (self.new ≡ self.old) }
+        ensures size { AreAsMany self.old self.new }
     {
         Rc::make_mut(&mut self.contents)?.clear();
         Ok(())
@@ -266,6 +268,7 @@ impl Facts {
     pub(crate) fn set_known(&mut self, v: ValueId, known: Known) -> Result<(), AllocError>
         ensures ok { OnOk result (self.new ≡ set_known v known self.old) }
         ensures err { OnErr result (self.new ≡ self.old) }
+        ensures size { AreAsMany self.old self.new }
     {
         Rc::make_mut(&mut self.contents)?.values.set_known(v, known)
     }
@@ -315,6 +318,7 @@ impl Facts {
     pub(crate) fn set_class(&mut self, c: ClassId, class: Class) -> Result<(), AllocError>
         ensures ok { OnOk result (self.new ≡ set_class c class self.old) }
         ensures err { OnErr result (self.new ≡ self.old) }
+        ensures size { AreAsMany self.old self.new }
     {
         Rc::make_mut(&mut self.contents)?.values.set_class(c, class)
     }
@@ -322,6 +326,7 @@ impl Facts {
     pub(crate) fn set_slot(&mut self, s: SlotId, slot: SlotFact) -> Result<(), AllocError>
         ensures ok { OnOk result (self.new ≡ set_slot s slot self.old) }
         ensures err { OnErr result (self.new ≡ self.old) }
+        ensures size { AreAsMany self.old self.new }
     {
         Rc::make_mut(&mut self.contents)?.set_slot(s, slot)
     }
@@ -336,7 +341,8 @@ impl Facts {
     ) -> Result<(), AllocError>
         requires own { AreOwn joined.now self.old.values }
         requires of { is_of from (known_at self.old.values v) ≡ true }
-        ensures { OnOk result (self.new ≡ record self.old { values = map (move from to) self.old.values }) }
+        ensures ok { OnOk result (self.new ≡ record self.old { values = map (move from to) self.old.values }) }
+        ensures size { AreAsMany self.old self.new }
     {
         if !joined.has(from) {
             let known = rows::move_known(from, to, self.known(v));
@@ -382,6 +388,7 @@ impl Facts {
         requires of { is_of from (known_at self.old.values v) ≡ true }
         ensures tied { OnOk result (self.new ≡ join from to self.old) }
         ensures own { OnOk result (AreOwn joined.new self.new.values) }
+        ensures size { AreAsMany self.old self.new }
     {
         let one = self.class(from);
         let other = self.class(to);

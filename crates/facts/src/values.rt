@@ -170,12 +170,7 @@ impl Values {
         ensures ok { OnOk result (self.new ≡ defined v known None self.old) }
         ensures err { OnErr result (self.new ≡ self.old) }
     {
-        use_base(
-            &mut self.sheet,
-            &mut self.uses,
-            v.number() as usize,
-            &known,
-        )?;
+        use_base(&mut self.sheet, &mut self.uses, v.number() as usize, &known)?;
         define_row(&mut self.sheet, &self.uses, v, known, None)
     }
 
@@ -190,12 +185,7 @@ impl Values {
         ensures err { OnErr result (self.new ≡ self.old) }
     {
         let known = Known::Number { bits, below: None };
-        use_tested(
-            &mut self.sheet,
-            &mut self.uses,
-            v.number() as usize,
-            &test,
-        )?;
+        use_tested(&mut self.sheet, &mut self.uses, v.number() as usize, &test)?;
         define_row(&mut self.sheet, &self.uses, v, known, test)
     }
 

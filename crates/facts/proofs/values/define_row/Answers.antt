@@ -2,9 +2,9 @@ use Rattle.std.proofs.Common.{◌≡◌, ◌∙◌, ap, sym, subst, refl, map, L
 use Rattle.std.proofs.lemmas.Result.{on_ok_weaker}
 use Rattle.facts.specs.declared.row.Row.{Row}
 use Rattle.facts.specs.Sheets.{row_at, off_row}
-use Rattle.facts.specs.Uses.{OnlyUsers, SameUses}
+use Rattle.facts.specs.Uses.{OnlyUsers}
 use Rattle.facts.specs.Values.{facts_of_rows, defined_row}
-use Rattle.facts.proofs.Defines.{defined_facts, defined_users, defined_uses}
+use Rattle.facts.proofs.Defines.{defined_facts, defined_users}
 use Rattle.facts.proofs.Says.{by_result}
 use Rattle.facts.proofs.values.define_row.Goals as goal
 

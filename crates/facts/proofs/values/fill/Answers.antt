@@ -1,7 +1,6 @@
-use Rattle.std.proofs.Common.{◌≡◌, ◌∙◌, ap, sym, subst, ℕ, length, List, Option, None, Some, is_none, true, slice_set}
+use Rattle.std.proofs.Common.{◌≡◌, ◌∙◌, ap, sym, subst, length, List, Some, slice_set}
 use Rattle.std.specs.Prelude.{not}
 use Rattle.facts.specs.declared.row.Row.{Row}
-use Rattle.facts.specs.Sheets.{row_at}
 use Rattle.facts.specs.Uses.{OnlyUsers, SayTheSame}
 use Rattle.facts.proofs.Learns.{filled_row, filled_same, filled_users, none_is}
 use Rattle.facts.proofs.values.fill.Goals as goal

@@ -4,7 +4,7 @@ use Rattle.facts.specs.declared.row.Row.{Row}
 use Rattle.facts.specs.Facts.{class_at}
 use Rattle.facts.specs.Sheets.{row_at, class_of}
 use Rattle.facts.specs.Uses.{OnlyUsers}
-use Rattle.facts.specs.Values.{ValueFacts, facts_of_rows, learned, learned_row}
+use Rattle.facts.specs.Values.{ValueFacts, facts_of_rows, learned_row}
 use Rattle.facts.proofs.Learns.{nonnull_class, learned_row_facts, learned_users, is_learned}
 use Rattle.facts.proofs.Says.{class_added_facts}
 use Rattle.facts.proofs.values.learn.Goals as goal

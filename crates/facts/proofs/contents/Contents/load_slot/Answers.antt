@@ -1,7 +1,5 @@
-use Rattle.std.proofs.Common.{◌≡◌, ◌∙◌, ap, sym, List, Option, ℕ}
-use Rattle.facts.specs.declared.known.SlotFact.{SlotFact}
+use Rattle.std.proofs.Common.{◌∙◌, ap, sym}
 use Rattle.facts.specs.Contents.{set_of}
-use Rattle.facts.specs.Facts.{slot_at, known_at, values_without, slots_without}
 use Rattle.facts.specs.SlotRows.{let_go_slot, let_go_last}
 use Rattle.facts.proofs.Loads.{load_of, load_of_new}
 use Rattle.facts.proofs.contents.Contents.load_slot.Goals as goal

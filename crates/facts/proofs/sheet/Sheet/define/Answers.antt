@@ -1,4 +1,4 @@
-use Rattle.std.proofs.Common.{◌≡◌, ◌∙◌, ap, sym, subst, refl, map, List, ℕ, slice_set}
+use Rattle.std.proofs.Common.{◌≡◌, ◌∙◌, ap, sym, subst, map, List, ℕ, slice_set}
 use Rattle.facts.specs.declared.row.Row.{Row}
 use Rattle.facts.specs.declared.sweeps.Change.TheVariants.{Off}
 use Rattle.facts.specs.Sheets.{row_at, with_mark, with_current, EachRow, OnlyMarked, OnlyCurrent, changed, off_row}
