@@ -141,7 +141,7 @@ off_test_less v w (Some test) h = pick (test.tested == v) refl h where
   pick false e h = let same = ap (λ b. tests w (if b then None else Some test)) e in (sym same ∙ h, λ x. let on = subst (λ y. (test.tested == y) ≡ true) (sym x) (sym same ∙ h) in absurd cc)
 
 -- a row names less
-off_less : (v w : ℕ) (row : Row) → names w (off_row v row) ≡ true → (names w row ≡ true) × (v ≡ w → ⊥)
+pub off_less : (v w : ℕ) (row : Row) → names w (off_row v row) ≡ true → (names w row ≡ true) × (v ≡ w → ⊥)
 off_less v w row = pick (is_on w (off_base v row.known)) refl where
   pick : (b : Bool) → is_on w (off_base v row.known) ≡ b → (is_on w (off_base v row.known) || tests w (off_test v row.test)) ≡ true → (names w row ≡ true) × (v ≡ w → ⊥)
   pick true e h = let less = off_base_less v w row.known e in (rw (less.0) refl, less.1)

@@ -1,5 +1,7 @@
 -- What is known of a class changes: what is said of the values of the class changes, and nothing else.
-use Rattle.std.proofs.Common.{◌≡◌, ◌<◌, ◌⊎◌, inl, inr, ℕ, List, length, refl, sym, ap, ◌∙◌, subst, true, false, Bool, Option, Some, None, slice_set}
+use Rattle.std.proofs.Common.{◌≡◌, ◌<◌, ◌≤◌, ◌⊎◌, not-le_of_lt, inl, inr, ℕ, List, length, refl, sym, ap, ◌∙◌, subst, true, false, Bool, Option, Some, None, slice_set}
+use Rattle.std.proofs.lemmas.Bool.{cases_lt}
+use Rattle.std.proofs.lemmas.List.{set_past}
 use Rattle.std.specs.Prelude.{◌==◌, ◌||◌, ◌↔◌}
 use Rattle.lemmas.specs.Numbers.{test_true, test_yes}
 use Rattle.facts.specs.declared.known.Class.{Class}
@@ -160,6 +162,17 @@ module _ (classes : List Class) (c : ℕ) where
     pick false (Some d) (inl h) = learned_more lt d (inl h)
     pick false (Some d) (inr h) = learned_more lt d (inr (sym (test_true d c h)))
 
+-- what is said besides, where something holds that does
+besides : (P Q R W : Type 0) → W → R ↔ (P ⊎ Q) → R ↔ (P ⊎ (W × Q))
+besides P Q R W w e = (λ h. there (e.0 h), λ h. e.1 (back h)) where
+  there : P ⊎ Q → P ⊎ (W × Q)
+  there (inl h) = inl h
+  there (inr h) = inr (w, h)
+
+  back : P ⊎ (W × Q) → P ⊎ Q
+  back (inl h) = inl h
+  back (inr h) = inr h.1
+
 -- what is said as before, and not besides
 plain : (P : Type 0) → P ↔ (P ⊎ ⊥)
 plain P = (λ h. inl h, back) where
@@ -233,13 +246,30 @@ module _ (f : FactSet) (v : ℕ) where
   null_learned c layout stale e lt (IsGlobal u g) = plain (GlobalOf g (known_at f.values u))
   null_learned c layout stale e lt (SlotHolds s u) = plain (OfClass (λ c. holds_class c (slot_at f.slots s).holds ≡ true) (known_at f.values u))
 
-  null_of_known : (k : Known) → known_at f.values v ≡ k → IsWithin (length f.classes) k → (statement : Statement) → Says (learn_known_nonnull k f) statement ↔ (Says f statement ⊎ NonnullOf f v statement)
-  null_of_known (Cell c layout stale) e lt statement = null_learned c layout stale e lt statement
-  null_of_known Nothing e lt statement = null_unchanged Nothing e (λ P h. h) statement
-  null_of_known (Number bits below) e lt statement = null_unchanged (Number bits below) e (λ P h. h) statement
-  null_of_known Null e lt statement = null_unchanged Null e (λ P h. h) statement
-  null_of_known (Address base words) e lt statement = null_unchanged (Address base words) e (λ P h. h) statement
-  null_of_known (GlobalAddress g) e lt statement = null_unchanged (GlobalAddress g) e (λ P h. h) statement
+  -- a class that is not one of those that there are
+  null_outside : (c : ℕ) → length f.classes ≤ c → (statement : Statement) → Says (learn_nonnull c true f) statement ↔ (Says f statement ⊎ ((c < length f.classes) × NonnullOf f v statement))
+  null_outside c past statement = (λ h. inl (subst (λ (g : FactSet). Says g statement) same h), back) where
+    same : learn_nonnull c true f ≡ f
+    same = ap (λ (classes : List Class). record f { classes = classes }) (set_past f.classes c (record (class_at f.classes c) { nonnull = (class_at f.classes c).nonnull || true }) past)
+
+    back : Says f statement ⊎ ((c < length f.classes) × NonnullOf f v statement) → Says (learn_nonnull c true f) statement
+    back (inl h) = subst (λ (g : FactSet). Says g statement) (sym same) h
+    back (inr h) = absurd (not-le_of_lt h.0 past)
+
+  null_of_class : (c layout : ℕ) (stale : Bool) → known_at f.values v ≡ Cell c layout stale → (c < length f.classes) ⊎ (length f.classes ≤ c) → (statement : Statement) → Says (learn_nonnull c true f) statement ↔ (Says f statement ⊎ ((c < length f.classes) × NonnullOf f v statement))
+  null_of_class c layout stale e (inl lt) statement = besides (Says f statement) (NonnullOf f v statement) (Says (learn_nonnull c true f) statement) (c < length f.classes) lt (null_learned c layout stale e lt statement)
+  null_of_class c layout stale e (inr past) statement = null_outside c past statement
+
+  null_of_none : (k : Known) → known_at f.values v ≡ k → ((P : ℕ → Type 0) → OfClass P k → ⊥) → (statement : Statement) → Says f statement ↔ (Says f statement ⊎ (Unit {0} × NonnullOf f v statement))
+  null_of_none k e none statement = besides (Says f statement) (NonnullOf f v statement) (Says f statement) (Unit {0}) tt (null_unchanged k e none statement)
+
+  null_of_known : (k : Known) → known_at f.values v ≡ k → (statement : Statement) → Says (learn_known_nonnull k f) statement ↔ (Says f statement ⊎ (IsWithin (length f.classes) k × NonnullOf f v statement))
+  null_of_known (Cell c layout stale) e statement = null_of_class c layout stale e (cases_lt c (length f.classes)) statement
+  null_of_known Nothing e statement = null_of_none Nothing e (λ P h. h) statement
+  null_of_known (Number bits below) e statement = null_of_none (Number bits below) e (λ P h. h) statement
+  null_of_known Null e statement = null_of_none Null e (λ P h. h) statement
+  null_of_known (Address base words) e statement = null_of_none (Address base words) e (λ P h. h) statement
+  null_of_known (GlobalAddress g) e statement = null_of_none (GlobalAddress g) e (λ P h. h) statement
 
 pub learns : LearnAddsNonnull
-learns f v statement lt = null_of_known f v (known_at f.values v) refl lt statement
+learns f v statement = null_of_known f v (known_at f.values v) refl statement

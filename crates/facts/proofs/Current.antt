@@ -17,7 +17,7 @@ use Rattle.facts.proofs.Sheets.{same_or_not, length_each, each_row, one_more, on
 
 -- ---- rows that a safepoint leaves
 
-settled_parts : (same stale fresh nonnull aside : Bool) → (same && stale && not fresh && (if nonnull then aside else not aside)) ≡ true → (same ≡ true) × (stale ≡ true) × (fresh ≡ false) × (aside ≡ nonnull)
+pub settled_parts : (same stale fresh nonnull aside : Bool) → (same && stale && not fresh && (if nonnull then aside else not aside)) ≡ true → (same ≡ true) × (stale ≡ true) × (fresh ≡ false) × (aside ≡ nonnull)
 settled_parts true true false true true e = (refl, refl, refl, refl)
 settled_parts true true false false false e = (refl, refl, refl, refl)
 settled_parts same stale fresh nonnull aside e = absurd cc

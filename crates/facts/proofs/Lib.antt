@@ -13,3 +13,7 @@ mod Slots
 mod SlotLists
 mod KeptRows
 mod Ties
+mod Defines
+mod Learns
+mod Loads
+mod Parts

@@ -144,7 +144,7 @@ any_marked c marked rows only = pick (list_any (row_is_of c rows) marked) refl w
 
 -- ---- whether all rows of a class are listed there as of another
 
-all_pairs_there : {X Y : Type 0} (p : X × Y → Bool) (xs : List X) (ys : List Y) (dx : X) (dy : Y) → ((x : X) → p (x, dy) ≡ true) → ((y : Y) → p (dx, y) ≡ true) → list_all p (zip xs ys) ≡ true → (u : ℕ) → p (get_or xs u dx, get_or ys u dy) ≡ true
+pub all_pairs_there : {X Y : Type 0} (p : X × Y → Bool) (xs : List X) (ys : List Y) (dx : X) (dy : Y) → ((x : X) → p (x, dy) ≡ true) → ((y : Y) → p (dx, y) ≡ true) → list_all p (zip xs ys) ≡ true → (u : ℕ) → p (get_or xs u dx, get_or ys u dy) ≡ true
 all_pairs_there p [] ys dx dy one other e u = other (get_or ys u dy)
 all_pairs_there p (x ∷ xs) [] dx dy one other e u = one (get_or (x ∷ xs) u dx)
 all_pairs_there p (x ∷ xs) (y ∷ ys) dx dy one other e u = pick (λ i. all_pairs_there p xs ys dx dy one other i) (p (x, y)) refl e u where
@@ -153,10 +153,19 @@ all_pairs_there p (x ∷ xs) (y ∷ ys) dx dy one other e u = pick (λ i. all_pa
   pick more true is e (suc u) = more e u
   pick more false is e u = absurd cc
 
-all_pairs_back : {X Y : Type 0} (p : X × Y → Bool) (xs : List X) (ys : List Y) (dx : X) (dy : Y) → ((u : ℕ) → p (get_or xs u dx, get_or ys u dy) ≡ true) → list_all p (zip xs ys) ≡ true
+pub all_pairs_back : {X Y : Type 0} (p : X × Y → Bool) (xs : List X) (ys : List Y) (dx : X) (dy : Y) → ((u : ℕ) → p (get_or xs u dx, get_or ys u dy) ≡ true) → list_all p (zip xs ys) ≡ true
 all_pairs_back p [] ys dx dy h = refl
 all_pairs_back p (x ∷ xs) [] dx dy h = refl
 all_pairs_back p (x ∷ xs) (y ∷ ys) dx dy h = rw (h zero) (all_pairs_back p xs ys dx dy (λ u. h (suc u)))
+
+-- a value of which nothing is known here is covered
+pub none_covers : (c d : ℕ) (known : Known) → covers_value c d (Nothing, known) ≡ true
+none_covers c d (Cell e layout stale) = or_true (e == d)
+none_covers c d Nothing = refl
+none_covers c d (Number bits below) = refl
+none_covers c d Null = refl
+none_covers c d (Address base words) = refl
+none_covers c d (GlobalAddress g) = refl
 
 module _ (c d : ℕ) (here there : List Row) where
   abbrev Covers : ℕ → Type 0
@@ -174,14 +183,6 @@ module _ (c d : ℕ) (here there : List Row) where
   all_back [] h = refl
   all_back (u ∷ marked) h = rw (h u) (all_back marked h)
 
-  none_covers : (known : Known) → covers_value c d (Nothing, known) ≡ true
-  none_covers (Cell e layout stale) = or_true (e == d)
-  none_covers Nothing = refl
-  none_covers (Number bits below) = refl
-  none_covers Null = refl
-  none_covers (Address base words) = refl
-  none_covers (GlobalAddress g) = refl
-
   pairs : (u : ℕ) → covers_value c d (get_or (map known_of here) u Nothing, get_or (map known_of there) u Nothing) ≡ covers_row c d here there u
   pairs u = ap (λ k. covers_value c d (k, get_or (map known_of there) u Nothing)) (get_or-map known_of here u blank) ∙ ap (λ k. covers_value c d ((row_at here u).known, k)) (get_or-map known_of there u blank)
 
@@ -193,11 +194,11 @@ module _ (c d : ℕ) (here there : List Row) where
     pick : (a : Bool) → list_all (covers_row c d here there) marked ≡ a → (b : Bool) → list_all (covers_value c d) (zip (map known_of here) (map known_of there)) ≡ b → list_all (covers_row c d here there) marked ≡ list_all (covers_value c d) (zip (map known_of here) (map known_of there))
     pick true e b i = e ∙ sym (all_pairs_back (covers_value c d) (map known_of here) (map known_of there) Nothing Nothing (λ u. pairs u ∙ every e u))
     pick false e false i = e ∙ sym i
-    pick false e true i = let all = all_back marked (λ u. sym (pairs u) ∙ all_pairs_there (covers_value c d) (map known_of here) (map known_of there) Nothing Nothing (λ k. refl) none_covers i u) in absurd cc
+    pick false e true i = let all = all_back marked (λ u. sym (pairs u) ∙ all_pairs_there (covers_value c d) (map known_of here) (map known_of there) Nothing Nothing (λ k. refl) (none_covers c d) i u) in absurd cc
 
   -- the rows that are marked here decide, and those that are marked there
   pub covers_here : (marked : List ℕ) → OnlyMarked marked here → list_all (covers_row c d here there) marked ≡ list_all (covers_value c d) (zip (map known_of here) (map known_of there))
-  covers_here marked only = covers_by marked (λ u. elim (only u) [ inl one ↦ inl one | inr empty ↦ inr (ap (λ row. covers_value c d (row.known, (row_at there u).known)) empty ∙ none_covers (row_at there u).known) ])
+  covers_here marked only = covers_by marked (λ u. elim (only u) [ inl one ↦ inl one | inr empty ↦ inr (ap (λ row. covers_value c d (row.known, (row_at there u).known)) empty ∙ none_covers c d (row_at there u).known) ])
 
   pub covers_there : (marked : List ℕ) → OnlyMarked marked there → list_all (covers_row c d here there) marked ≡ list_all (covers_value c d) (zip (map known_of here) (map known_of there))
   covers_there marked only = covers_by marked (λ u. elim (only u) [ inl one ↦ inl one | inr empty ↦ inr (ap (λ row. covers_value c d ((row_at here u).known, row.known)) empty) ])

@@ -1,5 +1,5 @@
 -- What rows say once some are changed.
-use Rattle.std.proofs.Common.{◌≡◌, ◌<◌, ◌≤◌, ℕ, length, List, ◌++◌, get_or, map, refl, sym, ap, ◌∙◌, Option, None, slice_set, ◌-◌, Result, Ok, Err, OnErr}
+use Rattle.std.proofs.Common.{◌≡◌, ◌<◌, ◌≤◌, ℕ, length, List, ◌++◌, get_or, map, refl, sym, ap, ◌∙◌, Option, None, slice_set, ◌-◌, Result, Ok, Err, OnOk, OnErr}
 use Rattle.std.proofs.Math.ListN.{get_or-map}
 use Rattle.std.proofs.lemmas.List.{ext_get_or, get_or_past, get_or-set_same, get_or-set_other, map-set, length-map, length-set, set-append_left, set-append_right}
 use Rattle.std.proofs.lemmas.List as lists
@@ -40,6 +40,11 @@ class_added_facts rows added c class past = same_facts _ _ _ _ _ _ refl (sym (se
 pub on_err : {A E P : Type 0} (r : Result A E) → P → OnErr r P
 on_err (Ok a) h = tt
 on_err (Err e) h = h
+
+-- what holds in either case holds
+pub by_result : {A E P Q R : Type 0} (r : Result A E) → OnOk r P → OnErr r Q → (P → R) → (Q → R) → R
+by_result (Ok a) p q f g = f p
+by_result (Err e) p q f g = g q
 
 -- ---- rows that change
 

@@ -10,7 +10,7 @@ use Rattle.facts.specs.declared.known.Class.{Class}
 use Rattle.facts.specs.declared.known.SlotFact.{SlotFact}
 use Rattle.facts.specs.Facts.{open_slot, slot_at, holds_class, slot_nonnull, held_nonnull, holds, let_go, end_hold}
 use Rattle.facts.specs.Sheets.{IsOne}
-use Rattle.facts.specs.SlotRows.{is_open, OnlyFilled, OnlyHolding, NamesAll, with_filled, with_holding, empty_slot, each_slot, copied_slot, holds_at}
+use Rattle.facts.specs.SlotRows.{is_open, OnlyFilled, OnlyHolding, NamesAll, with_filled, with_holding, each_slot, copied_slot, holds_at, let_go_last, each_let_go, let_go_others}
 use Rattle.facts.proofs.Sets.{set_is, found}
 use Rattle.facts.proofs.Sheets.{same_or_not, one_more, one_last}
 
@@ -164,24 +164,64 @@ module _ (s : ℕ) (slot : SlotFact) (slots : List SlotFact) where
     pick (Some c) e (inr ne) (inl one) = inl (one_more u s holding one)
     pick h e (inr ne) (inr free) = inr (ap (λ (x : SlotFact). x.holds) (as_before u ne) ∙ free)
 
-module _ (s : ℕ) (slots : List SlotFact) where
-  abbrev emptied : List SlotFact
-  emptied = slice_set slots s (empty_slot (slot_at slots s))
+module _ (s : ℕ) (slot : SlotFact) (slots : List SlotFact) where
+  abbrev changed_slots : List SlotFact
+  changed_slots = slice_set slots s slot
 
-  pub empty_filled : (filled : List ℕ) → OnlyFilled filled slots → OnlyFilled filled emptied
-  empty_filled filled only u = pick (same_or_not s u) where
-    pick : (s ≡ u) ⊎ (s ≡ u → ⊥) → IsOne u filled ⊎ (slot_at emptied u ≡ open_slot)
+  -- a slot that is open only where it was
+  pub change_filled : (slot_at slots s ≡ open_slot → slot ≡ open_slot) → (filled : List ℕ) → OnlyFilled filled slots → OnlyFilled filled changed_slots
+  change_filled keeps filled only u = pick (same_or_not s u) where
+    pick : (s ≡ u) ⊎ (s ≡ u → ⊥) → IsOne u filled ⊎ (slot_at changed_slots u ≡ open_slot)
     pick (inl same) = elim (only s) [
       | inl one ↦ inl (subst (λ x. IsOne x filled) same one)
-      | inr e ↦ inr (subst (λ x. slot_at emptied x ≡ open_slot) same (set_is (λ (x : SlotFact). x) slots s (empty_slot (slot_at slots s)) open_slot open_slot (ap empty_slot e) refl))
+      | inr e ↦ inr (subst (λ x. slot_at changed_slots x ≡ open_slot) same (set_is (λ (x : SlotFact). x) slots s slot open_slot open_slot (keeps e) refl))
     ]
-    pick (inr ne) = elim (only u) [ inl one ↦ inl one | inr e ↦ inr (as_before s (empty_slot (slot_at slots s)) slots u ne ∙ e) ]
+    pick (inr ne) = elim (only u) [ inl one ↦ inl one | inr e ↦ inr (as_before s slot slots u ne ∙ e) ]
 
-  pub empty_holding : (holding : List ℕ) → OnlyHolding holding slots → OnlyHolding holding emptied
-  empty_holding holding only u = pick (same_or_not s u) where
-    pick : (s ≡ u) ⊎ (s ≡ u → ⊥) → IsOne u holding ⊎ ((slot_at emptied u).holds ≡ None)
-    pick (inl same) = inr (subst (λ x. (slot_at emptied x).holds ≡ None) same (set_is (λ (x : SlotFact). x.holds) slots s (empty_slot (slot_at slots s)) open_slot None refl refl))
-    pick (inr ne) = elim (only u) [ inl one ↦ inl one | inr e ↦ inr (ap (λ (x : SlotFact). x.holds) (as_before s (empty_slot (slot_at slots s)) slots u ne) ∙ e) ]
+  -- a slot that holds no class where it held none
+  pub change_holding : ((slot_at slots s).holds ≡ None → slot.holds ≡ None) → (holding : List ℕ) → OnlyHolding holding slots → OnlyHolding holding changed_slots
+  change_holding keeps holding only u = pick (same_or_not s u) where
+    pick : (s ≡ u) ⊎ (s ≡ u → ⊥) → IsOne u holding ⊎ ((slot_at changed_slots u).holds ≡ None)
+    pick (inl same) = elim (only s) [
+      | inl one ↦ inl (subst (λ x. IsOne x holding) same one)
+      | inr e ↦ inr (subst (λ x. (slot_at changed_slots x).holds ≡ None) same (set_is (λ (x : SlotFact). x.holds) slots s slot open_slot None (keeps e) refl))
+    ]
+    pick (inr ne) = elim (only u) [ inl one ↦ inl one | inr e ↦ inr (ap (λ (x : SlotFact). x.holds) (as_before s slot slots u ne) ∙ e) ]
+
+-- ---- all slots but one let a class go
+
+module _ (last : Option ℕ) (nonnull : Bool) (holding : List ℕ) (slots : List SlotFact) (only : OnlyHolding holding slots) where
+  all_let_go : each_let_go last nonnull holding slots ≡ let_go_last last nonnull slots
+  all_let_go = pick last where
+    pick : (last : Option ℕ) → each_let_go last nonnull holding slots ≡ let_go_last last nonnull slots
+    pick None = refl
+    pick (Some c) = let_go_all c nonnull holding slots only
+
+  pub others_let_go : (s : ℕ) → slice_set (each_let_go last nonnull holding slots) s (slot_at slots s) ≡ let_go_others s last nonnull slots
+  others_let_go s = ap (λ (l : List SlotFact). slice_set l s (slot_at slots s)) all_let_go
+
+module _ (s : ℕ) (last : Option ℕ) (nonnull : Bool) (slots : List SlotFact) where
+  pub others_filled : (filled : List ℕ) → OnlyFilled filled slots → OnlyFilled filled (let_go_others s last nonnull slots)
+  others_filled filled only u = pick (same_or_not s u) where
+    gone : (last : Option ℕ) → OnlyFilled filled (let_go_last last nonnull slots)
+    gone None = only
+    gone (Some c) = let_go_filled c nonnull filled slots only
+
+    pick : (s ≡ u) ⊎ (s ≡ u → ⊥) → IsOne u filled ⊎ (slot_at (let_go_others s last nonnull slots) u ≡ open_slot)
+    pick (inl same) = subst (λ x. IsOne x filled ⊎ (slot_at (let_go_others s last nonnull slots) x ≡ open_slot)) same
+        (elim (only s) [ inl one ↦ inl one | inr e ↦ inr (set_is (λ (x : SlotFact). x) (let_go_last last nonnull slots) s (slot_at slots s) open_slot open_slot e refl) ])
+    pick (inr ne) = elim (gone last u) [ inl one ↦ inl one | inr e ↦ inr (as_before s (slot_at slots s) (let_go_last last nonnull slots) u ne ∙ e) ]
+
+  pub others_holding : (holding : List ℕ) → OnlyHolding holding slots → OnlyHolding holding (let_go_others s last nonnull slots)
+  others_holding holding only u = pick (same_or_not s u) where
+    gone : (last : Option ℕ) → OnlyHolding holding (let_go_last last nonnull slots)
+    gone None = only
+    gone (Some c) = let_go_holding c nonnull holding slots only
+
+    pick : (s ≡ u) ⊎ (s ≡ u → ⊥) → IsOne u holding ⊎ ((slot_at (let_go_others s last nonnull slots) u).holds ≡ None)
+    pick (inl same) = subst (λ x. IsOne x holding ⊎ ((slot_at (let_go_others s last nonnull slots) x).holds ≡ None)) same
+        (elim (only s) [ inl one ↦ inl one | inr e ↦ inr (set_is (λ (x : SlotFact). x.holds) (let_go_last last nonnull slots) s (slot_at slots s) open_slot None e refl) ])
+    pick (inr ne) = elim (gone last u) [ inl one ↦ inl one | inr e ↦ inr (ap (λ (x : SlotFact). x.holds) (as_before s (slot_at slots s) (let_go_last last nonnull slots) u ne) ∙ e) ]
 
 -- ---- whether some slot holds a class
 

@@ -1,5 +1,5 @@
 -- What is known at a place of a function, and how it changes.
-use Rattle.std.specs.Prelude.{ℕ, suc, ◌==◌, Bool, true, false, ◌||◌, if◌then◌else◌, List, [], ◌∷◌, ◌++◌, map, length, replicate, slice_index_or, slice_set, nat_lt, Option, Some, None}
+use Rattle.std.specs.Prelude.{◌≤◌, ℕ, suc, ◌==◌, Bool, true, false, ◌||◌, if◌then◌else◌, List, [], ◌∷◌, ◌++◌, map, length, replicate, slice_index_or, slice_set, nat_lt, Option, Some, None}
 use Rattle.std.specs.List.{list_any, enumerate_from, zip}
 use Rattle.ir_ast.specs.declared.numbers.Comparison.{Comparison}
 use Rattle.ir_ast.specs.declared.numbers.Comparison.TheVariants.{Equal, NotEqual, UnsignedGreater, UnsignedGreaterOrEqual, UnsignedLess, UnsignedLessOrEqual}
@@ -18,6 +18,10 @@ pub record FactSet : Type 0 where
   pub slots : List SlotFact
   pub classes : List Class
   pub tests : List (Option Test)
+
+-- each value has a class for itself
+abbrev pub AreFacts : FactSet → Type 0
+AreFacts f = length f.values ≤ length f.classes
 
 -- what is known of a value
 abbrev pub known_at : List Known → ℕ → Known

@@ -1,5 +1,6 @@
 pub mod Facts
 pub mod Contents
+pub mod Parts
 pub mod Lines
 pub mod Ties
 pub mod Sheets

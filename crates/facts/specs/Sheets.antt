@@ -144,6 +144,10 @@ stale_row classes u row = settle_row u (keep_row classes u row)
 abbrev pub row_is_of : (c : ℕ) → List Row → ℕ → Bool
 row_is_of c rows u = is_of c (row_at rows u).known
 
+-- a row but v is of a class
+abbrev pub other_is_of : (v c : ℕ) → List Row → ℕ → Bool
+other_is_of v c rows u = not (u == v) && row_is_of c rows u
+
 -- these rows, and a row if it is of a class
 abbrev pub with_row_of : (c : ℕ) → List Row → (u : ℕ) → List ℕ → List ℕ
 with_row_of c rows u us = if row_is_of c rows u then us ++ u ∷ [] else us

@@ -1,7 +1,7 @@
 -- The slots of a function, of which few are filled, and of which few hold a class.
-use Rattle.std.specs.Prelude.{◌≡◌, ◌<◌, ◌⊎◌, ℕ, Bool, true, false, not, ◌&&◌, if◌then◌else◌, List, [], ◌∷◌, ◌++◌, slice_set, Option, Some, None}
+use Rattle.std.specs.Prelude.{◌≡◌, ◌<◌, ◌⊎◌, ℕ, Bool, true, false, not, ◌&&◌, if◌then◌else◌, List, [], ◌∷◌, ◌++◌, map, slice_set, Option, Some, None}
 use Rattle.facts.specs.declared.known.SlotFact.{SlotFact}
-use Rattle.facts.specs.Facts.{open_slot, slot_at, holds}
+use Rattle.facts.specs.Facts.{open_slot, slot_at, holds, let_go}
 use Rattle.facts.specs.Sheets.{IsOne}
 
 -- a slot holds no class
@@ -50,3 +50,22 @@ copied_slot others s slot = slot_at others s
 -- this slot holds this class
 abbrev pub holds_at : (c : ℕ) → List SlotFact → ℕ → Bool
 holds_at c slots s = holds c (slot_at slots s)
+
+-- a slot that holds a class which has no value any more, if there is such a class
+abbrev pub let_go_slot : (last : Option ℕ) → (nonnull : Bool) → SlotFact → SlotFact
+let_go_slot None nonnull slot = slot
+let_go_slot (Some c) nonnull slot = let_go c nonnull slot
+
+-- the slots, once such a class is let go
+abbrev pub let_go_last : (last : Option ℕ) → (nonnull : Bool) → List SlotFact → List SlotFact
+let_go_last None nonnull slots = slots
+let_go_last (Some c) nonnull slots = map (let_go c nonnull) slots
+
+-- the slots that are listed, once such a class is let go
+abbrev pub each_let_go : (last : Option ℕ) → (nonnull : Bool) → (listed : List ℕ) → List SlotFact → List SlotFact
+each_let_go None nonnull listed slots = slots
+each_let_go (Some c) nonnull listed slots = each_slot (λ s. let_go c nonnull) listed slots
+
+-- the slots but one, once such a class is let go
+abbrev pub let_go_others : (s : ℕ) → (last : Option ℕ) → (nonnull : Bool) → List SlotFact → List SlotFact
+let_go_others s last nonnull slots = slice_set (let_go_last last nonnull slots) s (slot_at slots s)

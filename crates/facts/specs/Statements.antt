@@ -3,7 +3,7 @@ use Rattle.std.specs.Prelude.{◌≡◌, ◌<◌, ◌≤◌, ◌↔◌, ◌⊎�
 use Rattle.pools.specs.WordSets.{has_all}
 use Rattle.facts.specs.declared.known.Known.{Known}
 use Rattle.facts.specs.declared.known.Known.TheVariants.{Number, Cell, Null, Address, GlobalAddress}
-use Rattle.facts.specs.Facts.{FactSet, known_at, slot_at, class_at, holds_class, slot_nonnull, forget, drop_fresh_of, learn_known_nonnull, make_stale}
+use Rattle.facts.specs.Facts.{FactSet, AreFacts, known_at, slot_at, class_at, holds_class, slot_nonnull, forget, drop_fresh_of, learn_known_nonnull, make_stale}
 
 -- a statement of values and slots
 pub data Statement : Type 0 where
@@ -113,9 +113,9 @@ NonnullOf f v (IsNonnull u) = Says f (IsSame v u)
 NonnullOf f v (SlotNonnull s) = Says f (SlotHolds s v)
 NonnullOf f v _ = ⊥
 
--- v is found to be no null: exactly this is said besides of it, of what is the same, and of the slots that hold it
+-- v is found to be no null: exactly this is said besides of it, of what is the same, and of the slots that hold it, if its class is one of those that there are
 abbrev pub LearnAddsNonnull : Type 0
-LearnAddsNonnull = (f : FactSet) (v : ℕ) (statement : Statement) → IsWithin (length f.classes) (known_at f.values v) → Says (learn_known_nonnull (known_at f.values v) f) statement ↔ (Says f statement ⊎ NonnullOf f v statement)
+LearnAddsNonnull = (f : FactSet) (v : ℕ) (statement : Statement) → Says (learn_known_nonnull (known_at f.values v) f) statement ↔ (Says f statement ⊎ (IsWithin (length f.classes) (known_at f.values v) × NonnullOf f v statement))
 
 -- a statement that a safepoint leaves: that a reference is current is left of null alone, and nothing is the same as another value
 abbrev pub Outlasts : FactSet → Statement → Type 0
@@ -125,6 +125,6 @@ Outlasts f (IsSame u w) = u ≡ w
 Outlasts f (SlotHolds s u) = ⊥
 Outlasts f _ = Unit {0}
 
--- at a safepoint exactly the others end; each value has a class for itself
+-- at a safepoint exactly the others end
 abbrev pub SafepointEndsCurrent : Type 0
-SafepointEndsCurrent = (f : FactSet) (statement : Statement) → length f.values ≤ length f.classes → Says (make_stale f) statement ↔ (Says f statement × Outlasts f statement)
+SafepointEndsCurrent = (f : FactSet) (statement : Statement) → AreFacts f → Says (make_stale f) statement ↔ (Says f statement × Outlasts f statement)

@@ -40,3 +40,7 @@ use_row v uses rows = slice_set rows v (record (row_at rows v) { used = Some (le
 -- what the rows say is as before
 abbrev pub SayTheSame : (before after : List Row) → Type 0
 SayTheSame before after = (added : List Class) → facts_of_rows after added ≡ facts_of_rows before added
+
+-- each value is used as before
+abbrev pub SameUses : (before after : List Row) → Type 0
+SameUses before after = (length after ≡ length before) × ((u : ℕ) → (row_at after u).used ≡ (row_at before u).used)

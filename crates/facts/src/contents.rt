@@ -1,14 +1,19 @@
 //! The rows on which facts stand.
-ghost use Rattle.std.specs.Prelude.{◌≡◌, length, IfOk, OnOk, OnErr};
-ghost use Rattle.facts.specs.Facts.{slot_at, nothing_known, forget, set_slot, end_slot, make_stale, slots_of_class};
-ghost use Rattle.facts.specs.Contents.{set_of};
+ghost use Rattle.std.specs.Prelude.{◌≡◌, List, Some, length, slice_set, IfOk, OnOk, OnErr};
+ghost use Rattle.facts.specs.declared.known.Class.{Class};
+ghost use Rattle.facts.specs.declared.known.Known.TheVariants.{Cell};
+ghost use Rattle.facts.specs.Facts.{known_at, slot_at, nothing_known, values_without, forget, define, define_test, add_class, set_slot, end_slot, load_slot, make_stale, slots_of_class, slots_without, held_nonnull};
+ghost use Rattle.facts.specs.Contents.{set_of, new_of};
+ghost use Rattle.facts.specs.SlotRows.{let_go_last};
 
 use crate::class_id::ClassId;
 use crate::kept::KeptFacts;
-use crate::known::{Known, SlotFact};
+use crate::known::{Class, Known, SlotFact, Test};
+use crate::rows;
 use crate::slot_rows::SlotRows;
 use crate::values::Values;
 use ir_ast::ValueId;
+use pools::LayoutId;
 use shadow_stack::SlotId;
 use std::alloc::{AllocError, Global};
 
@@ -115,6 +120,131 @@ impl Contents {
         if !self.values.any_of(c) {
             let nonnull = self.values.class(c).nonnull;
             self.slots.let_go_each(c, nonnull);
+        }
+    }
+
+    /// This is known of a value, and no more.
+    pub fn define(&mut self, v: ValueId, known: Known) -> Result<(), AllocError>
+        ensures ok { OnOk result (set_of self.new ≡ define v known (set_of self.old)) }
+        ensures err { OnErr result (set_of self.new ≡ set_of self.old) }
+    {
+        let last = self.last_of(v);
+        let nonnull = rows::held_nonnull(&self.values, &last);
+        self.values.define(v, known)?;
+        self.slots.let_go(&last, nonnull);
+        Ok(())
+    }
+
+    /// A value is a comparison of another with a constant, and no more is known of it.
+    pub fn define_test(&mut self, v: ValueId, test: Test) -> Result<(), AllocError>
+        ensures ok { OnOk result (set_of self.new ≡ define_test v test (set_of self.old)) }
+        ensures err { OnErr result (set_of self.new ≡ set_of self.old) }
+    {
+        let last = self.last_of(v);
+        let nonnull = rows::held_nonnull(&self.values, &last);
+        let test = rows::off_test(v, Some(test));
+        self.values.define_test(v, 1, test)?;
+        self.slots.let_go(&last, nonnull);
+        Ok(())
+    }
+
+    /// A value is a reference to this layout, of a new class, and no more is known of it.
+    pub fn define_new(
+        &mut self,
+        v: ValueId,
+        layout: LayoutId,
+        stale: bool,
+        class: Class,
+    ) -> Result<(), AllocError>
+        ensures ok { OnOk result (set_of self.new ≡ define v (Cell (length self.old.values.classes) layout stale) (add_class class (set_of self.old))) }
+        ensures err { OnErr result (set_of self.new ≡ set_of self.old) }
+    {
+        let last = self.last_of(v);
+        self.values.define_new(v, layout, stale, class)?;
+        let nonnull = rows::held_nonnull(&self.values, &last);
+        self.slots.let_go(&last, nonnull);
+        Ok(())
+    }
+
+    /// A value is the reference that a slot holds.
+    pub fn load_slot(&mut self, v: ValueId, s: SlotId, layout: LayoutId) -> Result<(), AllocError>
+        ensures ok { OnOk result (set_of self.new ≡ load_slot v s layout (set_of self.old)) }
+        ensures err { OnErr result (set_of self.new ≡ set_of self.old) }
+    {
+        let last = self.last_of(v);
+        let nonnull = rows::held_nonnull(&self.values, &last);
+        let before = self.slot(s);
+        let SlotFact {
+            nonnull: filled,
+            holds,
+            ..
+        } = rows::let_go_slot(&last, nonnull, before);
+        match holds {
+            Some(class) => {
+                self.values.define_of(v, layout, class, filled)?;
+                self.slots.let_go(&last, nonnull);
+            }
+            None => {
+                self.load_new(v, s, layout, filled)?;
+                self.slots.let_go_others(s, &last, nonnull);
+            }
+        }
+        Ok(())
+    }
+
+    /// A value is the reference that a slot holds: it is of a new class, which is not null where this holds.
+    fn load_new(
+        &mut self,
+        v: ValueId,
+        s: SlotId,
+        layout: LayoutId,
+        nonnull: bool,
+    ) -> Result<(), AllocError>
+        ensures ok { OnOk result ((self.new.values ≡ new_of v layout nonnull self.old.values) × (self.new.slots ≡ slice_set self.old.slots s (record (slot_at self.old.slots s) { nonnull = nonnull; holds = Some (length self.old.values.classes) }))) }
+        ensures err { OnErr result (set_of self.new ≡ set_of self.old) }
+    {
+        let before = self.slot(s);
+        let next = self.values.next_class();
+        let class = Class {
+            nonnull,
+            fresh: false,
+        };
+        self.slots.set(
+            s,
+            SlotFact {
+                nonnull,
+                holds: Some(next),
+                ..before
+            },
+        )?;
+        let result = self.values.define_new(v, layout, false, class);
+        if result.is_err() {
+            self.slots.change(s, before);
+        }
+        result
+    }
+
+    /// The class that slots hold and that has no value but `v`, if there is one.
+    fn last_of(&self, v: ValueId) -> Option<ClassId>
+        ensures { (classes : List Class) → slots_without (known_at self.now.values.values v) (values_without v self.now.values.values) classes self.now.slots ≡ let_go_last result (held_nonnull classes result) self.now.slots }
+    {
+        match self.values.known(v) {
+            Known::Cell { class, .. } => self.last_held(v, class),
+            _ => None,
+        }
+    }
+
+    /// This class, if slots hold it and it has no value but `v`.
+    fn last_held(&self, v: ValueId, c: ClassId) -> Option<ClassId>
+        ensures { (classes : List Class) → slots_of_class c (values_without v self.now.values.values) classes self.now.slots ≡ let_go_last result (held_nonnull classes result) self.now.slots }
+    {
+        if !self.slots.any_holds(c) {
+            return None;
+        }
+        if self.values.any_other(v, c) {
+            None
+        } else {
+            Some(c)
         }
     }
 

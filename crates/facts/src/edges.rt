@@ -1,7 +1,10 @@
 //! What an edge adds: what the comparison that decides it says, and what the phis take.
 ghost use Rattle.std.specs.Prelude.{◌≡◌, OnOk, OnErr};
-ghost use Rattle.facts.specs.Facts.{below_both, known_below, learn_below, learn_known_nonnull, learn_up_to, learn_null_test, learn_number_test, learn_constant_test, learn_test, drop_fresh_all, enter_phi, enter_phis, after_phis};
+ghost use Rattle.facts.specs.Facts.{below_both, known_below, learn_below, learn_known_nonnull, learn_up_to, learn_null_test, learn_number_test, learn_constant_test, learn_test, drop_fresh_of, drop_fresh_all, enter_phi, enter_phis, after_phis};
+ghost use Rattle.facts.specs.Contents.{set_of};
+ghost use Rattle.facts.specs.Parts.{AreFirst, IsFirstPart};
 
+use crate::contents::Contents;
 use crate::facts::Facts;
 use crate::known::{Class, Entry, Known, Test};
 use ir_ast::{Comparison, Constant, ValueId};
@@ -21,23 +24,16 @@ impl Facts {
 
     /// The phis of a block, each with what is known of its entry, where the block is entered.
     pub fn after_phis(&mut self, entries: &[Entry]) -> Result<(), AllocError>
-        ensures { OnOk result (self.new ≡ after_phis entries.now self.old) }
+        ensures ok { OnOk result (self.new ≡ after_phis entries.now self.old) }
+        ensures err { OnErr result (IsFirstPart entries.now self.old self.new) }
     {
         self.drop_fresh_all(entries)?;
         self.enter_phis(entries)
     }
 
-    fn drop_fresh_all(&mut self, entries: &[Entry]) -> Result<(), AllocError>
-        ensures { OnOk result (self.new ≡ drop_fresh_all entries.now self.old) }
-    {
-        for entry in entries {
-            self.drop_fresh_of(entry.known)?;
-        }
-        Ok(())
-    }
-
     fn enter_phis(&mut self, entries: &[Entry]) -> Result<(), AllocError>
-        ensures { OnOk result (self.new ≡ enter_phis entries.now self.old) }
+        ensures ok { OnOk result (self.new ≡ enter_phis entries.now self.old) }
+        ensures err { OnErr result (AreFirst entries.now self.old self.new) }
     {
         for entry in entries {
             self.enter_phi(entry.phi, entry.known)?;
@@ -46,7 +42,8 @@ impl Facts {
     }
 
     fn enter_phi(&mut self, v: ValueId, known: Known) -> Result<(), AllocError>
-        ensures { OnOk result (self.new ≡ enter_phi v known self.old) }
+        ensures ok { OnOk result (self.new ≡ enter_phi v known self.old) }
+        ensures err { OnErr result (self.new ≡ self.old) }
     {
         match known {
             Known::Cell {
@@ -55,17 +52,13 @@ impl Facts {
                 stale,
             } => {
                 let nonnull = self.class(class).nonnull;
-                let next = self.next_class();
-                self.add_class(Class {
-                    nonnull,
-                    fresh: false,
-                })?;
-                self.define(
+                self.define_copy(
                     v,
-                    Known::Cell {
-                        class: next,
-                        layout,
-                        stale,
+                    layout,
+                    stale,
+                    Class {
+                        nonnull,
+                        fresh: false,
                     },
                 )
             }
@@ -158,6 +151,25 @@ impl Facts {
     {
         let known = known_below(n, self.known(v));
         self.set_known(v, known)
+    }
+}
+
+impl Contents {
+    /// The classes of all that comes in are fresh no more.
+    pub fn drop_fresh_all(&mut self, entries: &[Entry])
+        ensures { set_of self.new ≡ drop_fresh_all entries.now (set_of self.old) }
+    {
+        for entry in entries {
+            self.drop_fresh_of(entry.known);
+        }
+    }
+
+    fn drop_fresh_of(&mut self, known: Known)
+        ensures { set_of self.new ≡ drop_fresh_of known (set_of self.old) }
+    {
+        if let Known::Cell { class, .. } = known {
+            self.values.drop_fresh(class);
+        }
     }
 }
 

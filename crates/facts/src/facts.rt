@@ -1,13 +1,15 @@
 ghost use Rattle.std.specs.Prelude.{◌≡◌, true, ◌==◌, ◌&&◌, length, map, slice_set, IfOk, OnOk, OnErr};
-ghost use Rattle.facts.specs.Facts.{FactSet, known_at, slot_at, class_at, test_at, is_of, nothing_known, forget, define, define_new, define_test, set_known, add_class, set_class, drop_fresh, drop_fresh_of, learn_nonnull, set_slot, clear_slot, end_slot, root_slot, hold, store_slot, load_held, load_slot, make_stale, slot_nonnull};
+ghost use Rattle.facts.specs.declared.known.Known.TheVariants.{Cell};
+ghost use Rattle.facts.specs.Facts.{FactSet, AreFacts, known_at, slot_at, class_at, test_at, is_of, nothing_known, forget, define, define_new, define_test, set_known, add_class, set_class, drop_fresh, drop_fresh_of, drop_fresh_all, learn_nonnull, set_slot, clear_slot, end_slot, root_slot, hold, store_slot, load_held, load_slot, make_stale, slot_nonnull};
 ghost use Rattle.facts.specs.Lines.{join, move, covers};
+ghost use Rattle.facts.specs.Parts.{AreAsMany};
 ghost use Rattle.facts.specs.Ties.{AreOwn};
 
 use crate::class_id::ClassId;
 use crate::class_set::ClassSet;
 use crate::contents::Contents;
 use crate::kept::KeptFacts;
-use crate::known::{Class, Known, SlotFact, Test};
+use crate::known::{Class, Entry, Known, SlotFact, Test};
 use crate::rows;
 use ir_ast::ValueId;
 use pools::LayoutId;
@@ -80,10 +82,18 @@ impl Facts {
         self.contents.values.test(v)
     }
 
+    /// Each value has a class for itself, whatever was written: what the laws ask of facts.
+    pub fn classes_law(&self)
+        ensures { AreFacts self.now }
+    {
+        self.contents.values.classes_law();
+    }
+
     /// Nothing is known any more.
     pub fn clear(&mut self, _alloc: Global) -> Result<(), AllocError>
         ensures ok { OnOk result (self.new ≡ nothing_known (length self.old.values) (length self.old.slots)) }
         ensures err { OnErr result (self.new ≡ self.old) }
+        ensures size { AreAsMany self.old self.new }
     {
         Rc::make_mut(&mut self.contents)?.clear();
         Ok(())
@@ -148,10 +158,10 @@ impl Facts {
 
     /// This is known of a value, and no more.
     pub fn define(&mut self, v: ValueId, known: Known) -> Result<(), AllocError>
-        ensures { OnOk result (self.new ≡ define v known self.old) }
+        ensures ok { OnOk result (self.new ≡ define v known self.old) }
+        ensures err { OnErr result (self.new ≡ self.old) }
     {
-        self.forget(v)?;
-        self.set_known(v, known)
+        Rc::make_mut(&mut self.contents)?.define(v, known)
     }
 
     /// A value is a reference to this layout, of a new class.
@@ -161,30 +171,18 @@ impl Facts {
         layout: LayoutId,
         class: Class,
     ) -> Result<(), AllocError>
-        ensures { OnOk result (self.new ≡ define_new v layout class self.old) }
+        ensures ok { OnOk result (self.new ≡ define_new v layout class self.old) }
+        ensures err { OnErr result (self.new ≡ self.old) }
     {
-        let next = self.next_class();
-        self.add_class(class)?;
-        self.define(
-            v,
-            Known::Cell {
-                class: next,
-                layout,
-                stale: false,
-            },
-        )
+        Rc::make_mut(&mut self.contents)?.define_new(v, layout, false, class)
     }
 
     /// A value is a comparison of another with a constant.
     pub fn define_test(&mut self, v: ValueId, test: Test) -> Result<(), AllocError>
-        ensures { OnOk result (self.new ≡ define_test v test self.old) }
+        ensures ok { OnOk result (self.new ≡ define_test v test self.old) }
+        ensures err { OnErr result (self.new ≡ self.old) }
     {
-        let truth = Known::Number {
-            bits: 1,
-            below: None,
-        };
-        self.define(v, truth)?;
-        self.set_test(v, rows::off_test(v, Some(test)))
+        Rc::make_mut(&mut self.contents)?.define_test(v, test)
     }
 
     /// What is stored goes where others may find it: its class is fresh no more.
@@ -251,39 +249,10 @@ impl Facts {
 
     /// A value is the reference that a slot holds.
     pub fn load_slot(&mut self, v: ValueId, s: SlotId, layout: LayoutId) -> Result<(), AllocError>
-        ensures { OnOk result (self.new ≡ load_slot v s layout self.old) }
+        ensures ok { OnOk result (self.new ≡ load_slot v s layout self.old) }
+        ensures err { OnErr result (self.new ≡ self.old) }
     {
-        self.forget(v)?;
-        let SlotFact { nonnull, holds, .. } = self.slot(s);
-        match holds {
-            Some(class) => {
-                self.set_known(
-                    v,
-                    Known::Cell {
-                        class,
-                        layout,
-                        stale: false,
-                    },
-                )?;
-                self.learn_nonnull(class, nonnull)
-            }
-            None => {
-                let class = self.next_class();
-                self.set_known(
-                    v,
-                    Known::Cell {
-                        class,
-                        layout,
-                        stale: false,
-                    },
-                )?;
-                self.add_class(Class {
-                    nonnull,
-                    fresh: false,
-                })?;
-                self.hold(s, class)
-            }
-        }
+        Rc::make_mut(&mut self.contents)?.load_slot(v, s, layout)
     }
 
     /// A safepoint: each reference is stale, and the slots hold what nobody else is known to name.
@@ -299,8 +268,18 @@ impl Facts {
     pub(crate) fn set_known(&mut self, v: ValueId, known: Known) -> Result<(), AllocError>
         ensures ok { OnOk result (self.new ≡ set_known v known self.old) }
         ensures err { OnErr result (self.new ≡ self.old) }
+        ensures size { AreAsMany self.old self.new }
     {
         Rc::make_mut(&mut self.contents)?.values.set_known(v, known)
+    }
+
+    /// The classes of all that comes in are fresh no more.
+    pub(crate) fn drop_fresh_all(&mut self, entries: &[Entry]) -> Result<(), AllocError>
+        ensures ok { OnOk result (self.new ≡ drop_fresh_all entries.now self.old) }
+        ensures err { OnErr result (self.new ≡ self.old) }
+    {
+        Rc::make_mut(&mut self.contents)?.drop_fresh_all(entries);
+        Ok(())
     }
 
     /// A class is not null where this holds.
@@ -322,24 +301,24 @@ impl Facts {
         Ok(())
     }
 
-    /// A class more.
-    pub(crate) fn add_class(&mut self, class: Class) -> Result<(), AllocError>
-        ensures ok { OnOk result (self.new ≡ add_class class self.old) }
+    /// A value takes a new class, of which this is known, and may be stale.
+    pub(crate) fn define_copy(
+        &mut self,
+        v: ValueId,
+        layout: LayoutId,
+        stale: bool,
+        class: Class,
+    ) -> Result<(), AllocError>
+        ensures ok { OnOk result (self.new ≡ define v (Cell (length self.old.classes) layout stale) (add_class class self.old)) }
         ensures err { OnErr result (self.new ≡ self.old) }
     {
-        Rc::make_mut(&mut self.contents)?.values.add_class(class)
-    }
-
-    /// The number of the class that is made next.
-    pub(crate) fn next_class(&self) -> ClassId
-        ensures { result ≡ length self.now.classes }
-    {
-        self.contents.values.next_class()
+        Rc::make_mut(&mut self.contents)?.define_new(v, layout, stale, class)
     }
 
     pub(crate) fn set_class(&mut self, c: ClassId, class: Class) -> Result<(), AllocError>
         ensures ok { OnOk result (self.new ≡ set_class c class self.old) }
         ensures err { OnErr result (self.new ≡ self.old) }
+        ensures size { AreAsMany self.old self.new }
     {
         Rc::make_mut(&mut self.contents)?.values.set_class(c, class)
     }
@@ -347,15 +326,9 @@ impl Facts {
     pub(crate) fn set_slot(&mut self, s: SlotId, slot: SlotFact) -> Result<(), AllocError>
         ensures ok { OnOk result (self.new ≡ set_slot s slot self.old) }
         ensures err { OnErr result (self.new ≡ self.old) }
+        ensures size { AreAsMany self.old self.new }
     {
         Rc::make_mut(&mut self.contents)?.set_slot(s, slot)
-    }
-
-    fn set_test(&mut self, v: ValueId, test: Option<Test>) -> Result<(), AllocError>
-        ensures ok { OnOk result (self.new ≡ record self.old { tests = slice_set self.old.tests v test }) }
-        ensures err { OnErr result (self.new ≡ self.old) }
-    {
-        Rc::make_mut(&mut self.contents)?.values.set_test(v, test)
     }
 
     /// The references of the class of `v` are of another: `v` alone, if no others joined it.
@@ -368,7 +341,8 @@ impl Facts {
     ) -> Result<(), AllocError>
         requires own { AreOwn joined.now self.old.values }
         requires of { is_of from (known_at self.old.values v) ≡ true }
-        ensures { OnOk result (self.new ≡ record self.old { values = map (move from to) self.old.values }) }
+        ensures ok { OnOk result (self.new ≡ record self.old { values = map (move from to) self.old.values }) }
+        ensures size { AreAsMany self.old self.new }
     {
         if !joined.has(from) {
             let known = rows::move_known(from, to, self.known(v));
@@ -414,6 +388,7 @@ impl Facts {
         requires of { is_of from (known_at self.old.values v) ≡ true }
         ensures tied { OnOk result (self.new ≡ join from to self.old) }
         ensures own { OnOk result (AreOwn joined.new self.new.values) }
+        ensures size { AreAsMany self.old self.new }
     {
         let one = self.class(from);
         let other = self.class(to);

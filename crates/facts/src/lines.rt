@@ -1,7 +1,8 @@
 //! What the lines of a block give where it begins.
-ghost use Rattle.std.specs.Prelude.{◌≡◌, true, [], length, map, OnOk};
+ghost use Rattle.std.specs.Prelude.{◌≡◌, true, [], length, map, OnOk, OnErr};
 ghost use Rattle.facts.specs.Facts.{known_at, is_of, nothing_known, set_known};
 ghost use Rattle.facts.specs.Lines.{is_stale, is_fresh, list_value, list_slot, list_line, list_lines, move, join, join_known, join_values, tie_value, tie_fact, tie_line, tie_lines, hold_known, hold_value, hold_line, hold_lines, facts_of_lines, promised_below, promised_nonnull, promised_layout, receive_reference, receive};
+ghost use Rattle.facts.specs.Parts.{AreAsMany};
 ghost use Rattle.facts.specs.Ties.{AreOwn};
 
 use crate::class_id::ClassId;
@@ -15,9 +16,11 @@ use shadow_stack::{SlotId, Slots};
 use std::alloc::{AllocError, Global};
 
 impl Facts {
-    /// What a block with these lines begins with, in place of what is known.
+    /// What a block with these lines begins with, in place of what is known. Without memory something else may be known then, of
+    /// as many values and slots: so the facts may be begun anew.
     pub fn begin(&mut self, alloc: Global, table: &Slots, lines: &[Line]) -> Result<(), AllocError>
-        ensures { OnOk result (self.new ≡ facts_of_lines table.now (length self.old.values) (length self.old.slots) lines.now) }
+        ensures ok { OnOk result (self.new ≡ facts_of_lines table.now (length self.old.values) (length self.old.slots) lines.now) }
+        ensures size { AreAsMany self.old self.new }
     {
         self.clear(alloc)?;
         self.list_lines(table, lines)?;
@@ -32,7 +35,8 @@ impl Facts {
         given: Given,
         promise: Option<Promise>,
     ) -> Result<(), AllocError>
-        ensures { OnOk result (self.new ≡ receive v given promise self.old) }
+        ensures ok { OnOk result (self.new ≡ receive v given promise self.old) }
+        ensures err { OnErr result (self.new ≡ self.old) }
     {
         match given {
             Given::Nothing => self.define(v, Known::Nothing),
@@ -58,7 +62,8 @@ impl Facts {
         layout: Option<LayoutId>,
         nonnull: bool,
     ) -> Result<(), AllocError>
-        ensures { OnOk result (self.new ≡ receive_reference v layout nonnull self.old) }
+        ensures ok { OnOk result (self.new ≡ receive_reference v layout nonnull self.old) }
+        ensures err { OnErr result (self.new ≡ self.old) }
     {
         match layout {
             Some(layout) => self.define_new(
@@ -74,7 +79,8 @@ impl Facts {
     }
 
     fn list_lines(&mut self, table: &Slots, lines: &[Line]) -> Result<(), AllocError>
-        ensures { OnOk result (self.new ≡ list_lines table.now lines.now self.old) }
+        ensures ok { OnOk result (self.new ≡ list_lines table.now lines.now self.old) }
+        ensures size { AreAsMany self.old self.new }
     {
         for line in lines {
             self.list_line(table, *line)?;
@@ -83,7 +89,8 @@ impl Facts {
     }
 
     fn list_line(&mut self, table: &Slots, line: Line) -> Result<(), AllocError>
-        ensures { OnOk result (self.new ≡ list_line table.now line self.old) }
+        ensures ok { OnOk result (self.new ≡ list_line table.now line self.old) }
+        ensures size { AreAsMany self.old self.new }
     {
         match line {
             Line::Value { value, fact } => self.list_value(value, fact),
@@ -92,7 +99,8 @@ impl Facts {
     }
 
     fn list_value(&mut self, v: ValueId, fact: Fact) -> Result<(), AllocError>
-        ensures { OnOk result (self.new ≡ list_value v fact self.old) }
+        ensures ok { OnOk result (self.new ≡ list_value v fact self.old) }
+        ensures size { AreAsMany self.old self.new }
     {
         match fact {
             Fact::Number { bits, below } => self.set_known(v, Known::Number { bits, below }),
@@ -121,7 +129,8 @@ impl Facts {
     }
 
     fn list_slot(&mut self, slot: Option<SlotId>, nonnull: bool) -> Result<(), AllocError>
-        ensures { OnOk result (self.new ≡ list_slot slot nonnull self.old) }
+        ensures ok { OnOk result (self.new ≡ list_slot slot nonnull self.old) }
+        ensures size { AreAsMany self.old self.new }
     {
         match slot {
             Some(s) => self.set_slot(
@@ -138,7 +147,8 @@ impl Facts {
 
     fn tie_lines(&mut self, alloc: Global, lines: &[Line]) -> Result<(), AllocError>
         requires { AreOwn [] self.old.values }
-        ensures { OnOk result (self.new ≡ tie_lines lines.now self.old) }
+        ensures ok { OnOk result (self.new ≡ tie_lines lines.now self.old) }
+        ensures size { AreAsMany self.old self.new }
     {
         let mut joined = ClassSet::new(alloc);
         for line in lines {
@@ -151,6 +161,7 @@ impl Facts {
         requires { AreOwn joined.old self.old.values }
         ensures tied { OnOk result (self.new ≡ tie_line line self.old) }
         ensures own { OnOk result (AreOwn joined.new self.new.values) }
+        ensures size { AreAsMany self.old self.new }
     {
         match line {
             Line::Value { value, fact } => self.tie_fact(joined, value, fact),
@@ -162,6 +173,7 @@ impl Facts {
         requires { AreOwn joined.old self.old.values }
         ensures tied { OnOk result (self.new ≡ tie_fact v fact self.old) }
         ensures own { OnOk result (AreOwn joined.new self.new.values) }
+        ensures size { AreAsMany self.old self.new }
     {
         match fact {
             Fact::Reference { same, .. } => self.tie_value(joined, v, same),
@@ -178,6 +190,7 @@ impl Facts {
         requires { AreOwn joined.old self.old.values }
         ensures tied { OnOk result (self.new ≡ tie_value v same self.old) }
         ensures own { OnOk result (AreOwn joined.new self.new.values) }
+        ensures size { AreAsMany self.old self.new }
     {
         match same {
             Some(w) => {
@@ -201,6 +214,7 @@ impl Facts {
         requires known { known ≡ known_at self.old.values v }
         ensures tied { OnOk result (self.new ≡ join_values known other self.old) }
         ensures own { OnOk result (AreOwn joined.new self.new.values) }
+        ensures size { AreAsMany self.old self.new }
     {
         match known {
             Known::Cell { class, .. } => self.join_known(joined, v, class, other),
@@ -220,6 +234,7 @@ impl Facts {
         requires of { is_of from (known_at self.old.values v) ≡ true }
         ensures tied { OnOk result (self.new ≡ join_known from other self.old) }
         ensures own { OnOk result (AreOwn joined.new self.new.values) }
+        ensures size { AreAsMany self.old self.new }
     {
         match other {
             Known::Cell { class, .. } => self.join(joined, v, from, class),
@@ -228,7 +243,8 @@ impl Facts {
     }
 
     fn hold_lines(&mut self, table: &Slots, lines: &[Line]) -> Result<(), AllocError>
-        ensures { OnOk result (self.new ≡ hold_lines table.now lines.now self.old) }
+        ensures ok { OnOk result (self.new ≡ hold_lines table.now lines.now self.old) }
+        ensures size { AreAsMany self.old self.new }
     {
         for line in lines {
             self.hold_line(table, *line)?;
@@ -237,7 +253,8 @@ impl Facts {
     }
 
     fn hold_line(&mut self, table: &Slots, line: Line) -> Result<(), AllocError>
-        ensures { OnOk result (self.new ≡ hold_line table.now line self.old) }
+        ensures ok { OnOk result (self.new ≡ hold_line table.now line self.old) }
+        ensures size { AreAsMany self.old self.new }
     {
         match line {
             Line::Slot { slot, holds, .. } => self.hold_value(table.slot_of(slot), holds),
@@ -246,7 +263,8 @@ impl Facts {
     }
 
     fn hold_value(&mut self, slot: Option<SlotId>, holds: Option<ValueId>) -> Result<(), AllocError>
-        ensures { OnOk result (self.new ≡ hold_value slot holds self.old) }
+        ensures ok { OnOk result (self.new ≡ hold_value slot holds self.old) }
+        ensures size { AreAsMany self.old self.new }
     {
         match (slot, holds) {
             (Some(s), Some(x)) => {
@@ -258,7 +276,8 @@ impl Facts {
     }
 
     fn hold_known(&mut self, s: SlotId, known: Known) -> Result<(), AllocError>
-        ensures { OnOk result (self.new ≡ hold_known s known self.old) }
+        ensures ok { OnOk result (self.new ≡ hold_known s known self.old) }
+        ensures size { AreAsMany self.old self.new }
     {
         match known {
             Known::Cell { class, .. } => {

@@ -2,6 +2,7 @@
 ghost use Rattle.std.specs.Prelude.{◌≡◌, replicate, IfOk};
 ghost use Rattle.std.specs.List.{list_any, list_all, zip};
 ghost use Rattle.facts.specs.Facts.{open_slot, class_at, is_of, holds, let_go, is_on, off_base, off_test, slot_nonnull, held_nonnull, stale_of, end_hold, holds_class};
+ghost use Rattle.facts.specs.SlotRows.{let_go_slot};
 ghost use Rattle.facts.specs.Lines.{moved, move, covers_value, covers_slot};
 
 use crate::class_id::ClassId;
@@ -70,6 +71,16 @@ pub fn let_go(c: ClassId, nonnull: bool, slot: SlotFact) -> SlotFact
     }
 }
 
+/// A slot does not hold a class that has no value any more, if there is such a class.
+pub fn let_go_slot(last: &Option<ClassId>, nonnull: bool, slot: SlotFact) -> SlotFact
+    ensures { result ≡ let_go_slot last.now nonnull slot }
+{
+    match last {
+        Some(c) => let_go(*c, nonnull, slot),
+        None => slot,
+    }
+}
+
 /// What is known of a value, unless it is an address with this base.
 pub fn off_base(v: ValueId, known: Known) -> Known
     ensures { result ≡ off_base v known }
@@ -101,7 +112,7 @@ pub fn off_test(v: ValueId, test: Option<Test>) -> Option<Test>
 pub fn end_hold(values: &Values, slot: SlotFact) -> SlotFact
     ensures { result ≡ end_hold values.now.classes slot }
 {
-    let nonnull = slot.nonnull || held_nonnull(values, slot.holds);
+    let nonnull = slot.nonnull || held_nonnull(values, &slot.holds);
     SlotFact {
         nonnull,
         holds: None,
@@ -113,14 +124,15 @@ pub fn end_hold(values: &Values, slot: SlotFact) -> SlotFact
 pub fn slot_nonnull(values: &Values, slot: SlotFact) -> bool
     ensures { result ≡ slot_nonnull values.now.classes slot }
 {
-    slot.nonnull || held_nonnull(values, slot.holds)
+    slot.nonnull || held_nonnull(values, &slot.holds)
 }
 
-fn held_nonnull(values: &Values, holds: Option<ClassId>) -> bool
-    ensures { result ≡ held_nonnull values.now.classes holds }
+/// Whether a reference of the class that a slot holds is not null.
+pub fn held_nonnull(values: &Values, holds: &Option<ClassId>) -> bool
+    ensures { result ≡ held_nonnull values.now.classes holds.now }
 {
     match holds {
-        Some(c) => values.class(c).nonnull,
+        Some(c) => values.class(*c).nonnull,
         None => false,
     }
 }

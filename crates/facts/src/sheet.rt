@@ -2,8 +2,9 @@ ghost use Rattle.std.specs.Prelude.{◌≡◌, true, ◌<◌, ◌++◌, map, len
 ghost use Rattle.std.specs.List.{list_any, list_all, zip};
 ghost use Rattle.facts.specs.Facts.{is_of, class_at};
 ghost use Rattle.facts.specs.Lines.{covers_value};
+ghost use Rattle.facts.specs.declared.known.Known.TheVariants.{Nothing};
 ghost use Rattle.facts.specs.declared.sweeps.Change.TheVariants.{Off, Move};
-ghost use Rattle.facts.specs.Sheets.{row_at, blank, EachRow, changed, known_of, class_of, stale_row, is_settled};
+ghost use Rattle.facts.specs.Sheets.{row_at, blank, EachRow, changed, off_row, known_of, class_of, stale_row, is_settled};
 ghost use Rattle.facts.specs.Uses.{OnlyUsers};
 
 use crate::class_id::ClassId;
@@ -173,6 +174,21 @@ impl Sheet {
         sweeps::end_names(&mut self.rows, &self.marked, uses, v);
     }
 
+    /// No row names a value, of which these are the uses, and its own row is this from now on.
+    pub fn define(&mut self, uses: &[Use], v: ValueId, row: Row) -> Result<(), AllocError>
+        requires { OnlyUsers uses.now self.old }
+        ensures ok { OnOk result (self.new ≡ slice_set (map (off_row v) self.old) v row) }
+        ensures err { OnErr result (self.new ≡ self.old) }
+    {
+        let at = v.number() as usize;
+        sweeps::mark(&mut self.marked, &self.rows, at)?;
+        let before = sweeps::row_at(&self.rows, at);
+        sweeps::note(&mut self.current, at, &before, &row)?;
+        sweeps::end_names(&mut self.rows, &self.marked, uses, v);
+        sweeps::write(&mut self.rows, at, row);
+        Ok(())
+    }
+
     /// The references of one class are of another.
     pub fn move_class(&mut self, from: ClassId, to: ClassId) -> Result<(), AllocError>
         ensures ok { OnOk result (EachRow (changed (Move from to)) self.old self.new) }
@@ -197,6 +213,13 @@ impl Sheet {
         ensures { result ≡ list_any (is_of c) (map known_of self.now) }
     {
         sweeps::any_of(&self.rows, &self.marked, c)
+    }
+
+    /// Whether some value but `v` is of this class.
+    pub fn any_other(&self, v: ValueId, c: ClassId) -> bool
+        ensures { result ≡ list_any (is_of c) (slice_set (map known_of self.now) v Nothing) }
+    {
+        sweeps::any_other(&self.rows, &self.marked, v.number() as usize, c)
     }
 
     /// Whether all values of a class here are listed there as of another.

@@ -2,7 +2,7 @@
 ghost use Rattle.std.specs.Prelude.{◌≡◌, map, length, replicate, slice_set, IfOk, OnOk, OnErr};
 ghost use Rattle.std.specs.List.{list_any};
 ghost use Rattle.facts.specs.Facts.{open_slot, slot_at, holds, let_go, end_hold};
-ghost use Rattle.facts.specs.SlotRows.{OnlyFilled, OnlyHolding, empty_slot};
+ghost use Rattle.facts.specs.SlotRows.{OnlyFilled, OnlyHolding, empty_slot, let_go_last, let_go_others};
 
 use crate::class_id::ClassId;
 use crate::known::SlotFact;
@@ -98,6 +98,18 @@ impl SlotRows {
         Ok(())
     }
 
+    /// This is known of a slot, which is filled and holds a class if it is to be.
+    pub fn change(&mut self, s: SlotId, slot: SlotFact)
+        requires filled { slot_at self.old s ≡ open_slot → slot ≡ open_slot }
+        requires holding { (slot_at self.old s).holds ≡ None → slot.holds ≡ None }
+        ensures { self.new ≡ slice_set self.old s slot }
+    {
+        let at = s.number();
+        if at < self.slots.len() {
+            self.slots[at] = slot;
+        }
+    }
+
     /// Of what a slot holds nothing is known.
     pub fn empty(&mut self, s: SlotId)
         ensures { self.new ≡ slice_set self.old s (empty_slot (slot_at self.old s)) }
@@ -165,6 +177,25 @@ impl SlotRows {
         ensures { self.new ≡ map (let_go c nonnull) self.old }
     {
         slot_sweeps::let_go_each(&mut self.slots, &self.holding, c, nonnull);
+    }
+
+    /// No slot but `s` holds a class that has no value any more, if there is such a class.
+    pub fn let_go_others(&mut self, s: SlotId, last: &Option<ClassId>, nonnull: bool)
+        ensures { self.new ≡ let_go_others s last.now nonnull self.old }
+    {
+        let at = s.number();
+        let kept = slot_sweeps::slot_at(&self.slots, at);
+        slot_sweeps::let_go_last(&mut self.slots, &self.holding, last, nonnull);
+        slot_sweeps::write(&mut self.slots, at, kept);
+    }
+
+    /// No slot holds a class that has no value any more, if there is such a class.
+    pub fn let_go(&mut self, last: &Option<ClassId>, nonnull: bool)
+        ensures { self.new ≡ let_go_last last.now nonnull self.old }
+    {
+        if let Some(c) = last {
+            self.let_go_each(*c, nonnull);
+        }
     }
 
     /// No slot holds a class.

@@ -1,9 +1,9 @@
 //! What changes in the slots that are listed, and what is asked of them.
-ghost use Rattle.std.specs.Prelude.{◌≡◌, ◌<◌, ℕ, IfOk, OnOk, OnErr};
+ghost use Rattle.std.specs.Prelude.{◌≡◌, ◌<◌, ℕ, slice_set, IfOk, OnOk, OnErr};
 ghost use Rattle.std.specs.List.{list_any};
 ghost use Rattle.facts.specs.Facts.{slot_at, let_go, end_hold};
 ghost use Rattle.facts.specs.Sheets.{IsOne};
-ghost use Rattle.facts.specs.SlotRows.{is_open, each_slot, copied_slot, with_filled, with_holding, holds_at, NamesAll};
+ghost use Rattle.facts.specs.SlotRows.{is_open, each_slot, copied_slot, with_filled, with_holding, holds_at, each_let_go, NamesAll};
 
 use crate::class_id::ClassId;
 use crate::known::SlotFact;
@@ -92,6 +92,29 @@ pub fn let_go_each(slots: &mut Vec<SlotFact>, listed: &[usize], c: ClassId, nonn
         if at < slots.len() {
             slots[at] = rows::let_go(c, nonnull, slot_at(slots, at));
         }
+    }
+}
+
+/// The slots that are listed do not hold a class that has no value any more, if there is such a class.
+pub fn let_go_last(
+    slots: &mut Vec<SlotFact>,
+    listed: &[usize],
+    last: &Option<ClassId>,
+    nonnull: bool,
+)
+    ensures { slots.new.items ≡ each_let_go last.now nonnull listed.now slots.old.items }
+{
+    if let Some(c) = last {
+        let_go_each(slots, listed, *c, nonnull);
+    }
+}
+
+/// This is known of a slot.
+pub fn write(slots: &mut Vec<SlotFact>, at: usize, slot: SlotFact)
+    ensures { slots.new.items ≡ slice_set slots.old.items at slot }
+{
+    if at < slots.len() {
+        slots[at] = slot;
     }
 }
 

@@ -4,7 +4,7 @@ ghost use Rattle.std.specs.List.{list_any, list_all};
 ghost use Rattle.facts.specs.Facts.{class_at};
 ghost use Rattle.facts.specs.Uses.{chain, OnlyUsers};
 ghost use Rattle.facts.specs.declared.sweeps.Change.TheVariants.{Off};
-ghost use Rattle.facts.specs.Sheets.{blank, each, copied, changed, row_at, with_mark, class_of, known_nonnull, keep_row, settled_class, row_is_of, covers_row, IsOne, is_settled, is_settled_as, is_unsettled, with_current, with_row_of, EachRow, OnlyMarked};
+ghost use Rattle.facts.specs.Sheets.{blank, each, copied, changed, row_at, with_mark, class_of, known_nonnull, keep_row, settled_class, row_is_of, other_is_of, covers_row, IsOne, is_settled, is_settled_as, is_unsettled, with_current, with_row_of, EachRow, OnlyMarked};
 
 use crate::class_id::ClassId;
 use crate::known::{Class, Known};
@@ -139,6 +139,15 @@ pub fn copy(rows: &mut Vec<Row>, marked: &[usize], others: &[Row])
     }
 }
 
+/// A row is this from now on.
+pub fn write(rows: &mut Vec<Row>, at: usize, row: Row)
+    ensures { rows.new.items ≡ slice_set rows.old.items at row }
+{
+    if at < rows.len() {
+        rows[at] = row;
+    }
+}
+
 /// All rows that are marked change.
 pub fn sweep(rows: &mut Vec<Row>, marked: &[usize], change: &Change)
     ensures { rows.new.items ≡ each (changed change.now) marked.now rows.old.items }
@@ -264,6 +273,19 @@ pub fn any_of(rows: &[Row], marked: &[usize], c: ClassId) -> bool
     ensures { result ≡ list_any (row_is_of c rows.now) marked.now }
 {
     marked.iter().any(|u| row_is_of(c, rows, *u))
+}
+
+/// Whether a row that is marked, other than that of `v`, is of this class.
+pub fn any_other(rows: &[Row], marked: &[usize], v: usize, c: ClassId) -> bool
+    ensures { result ≡ list_any (other_is_of v c rows.now) marked.now }
+{
+    marked.iter().any(|u| other_is_of(v, c, rows, *u))
+}
+
+fn other_is_of(v: usize, c: ClassId, rows: &[Row], at: usize) -> bool
+    ensures { result ≡ other_is_of v c rows.now at }
+{
+    at != v && row_is_of(c, rows, at)
 }
 
 fn row_is_of(c: ClassId, rows: &[Row], at: usize) -> bool

@@ -1,10 +1,13 @@
-ghost use Rattle.std.specs.Prelude.{◌≡◌, ◌<◌, ℕ, true, false, ◌∷◌, [], ◌++◌, map, length, slice_set, IfOk, OnOk, OnErr};
+ghost use Rattle.std.specs.Prelude.{◌≡◌, ◌<◌, ◌≤◌, ℕ, true, false, List, None, is_none, ◌||◌, ◌∷◌, [], ◌++◌, map, length, slice_set, IfOk, OnOk, OnErr};
 ghost use Rattle.std.specs.List.{list_any, list_all, enumerate_from, zip};
+ghost use Rattle.facts.specs.declared.known.Class.{Class};
+ghost use Rattle.facts.specs.declared.known.Known.TheVariants.{Number, Cell};
+ghost use Rattle.facts.specs.declared.uses.Use.{Use};
 ghost use Rattle.facts.specs.Facts.{known_at, class_at, test_at, is_of, is_on, values_without, tests_without, stale_of, stale_class};
 ghost use Rattle.facts.specs.Lines.{move, covers_value};
-ghost use Rattle.facts.specs.Sheets.{tests};
-ghost use Rattle.facts.specs.Uses.{IsUser, OnlyUsers, SayTheSame};
-ghost use Rattle.facts.specs.Values.{no_values};
+ghost use Rattle.facts.specs.Sheets.{row_at, tests};
+ghost use Rattle.facts.specs.Uses.{IsUser, OnlyUsers, SayTheSame, SameUses};
+ghost use Rattle.facts.specs.Values.{facts_of_rows, no_values, defined, learned, is_reference, learned_row};
 
 use crate::class_id::ClassId;
 use crate::kept::KeptValues;
@@ -14,6 +17,7 @@ use crate::rows;
 use crate::sheet::Sheet;
 use crate::uses::Use;
 use ir_ast::ValueId;
+use pools::LayoutId;
 use std::alloc::{AllocError, Global};
 use std::marker::Model;
 
@@ -95,6 +99,13 @@ impl Values {
         ClassId::new(self.sheet.len() + self.added.len())
     }
 
+    /// Each value has a class for itself.
+    pub fn classes_law(&self)
+        ensures { length self.now.values ≤ length self.now.classes }
+    {
+        let _count = self.sheet.len();
+    }
+
     /// Nothing is known any more.
     pub fn clear(&mut self)
         ensures { self.new ≡ no_values (length self.old.values) }
@@ -154,15 +165,99 @@ impl Values {
         Ok(())
     }
 
-    /// A value is given by this comparison.
-    pub fn set_test(&mut self, v: ValueId, test: Option<Test>) -> Result<(), AllocError>
-        ensures ok { OnOk result (self.new ≡ record self.old { tests = slice_set self.old.tests v test }) }
+    /// This is known of a value, and no more.
+    pub fn define(&mut self, v: ValueId, known: Known) -> Result<(), AllocError>
+        ensures ok { OnOk result (self.new ≡ defined v known None self.old) }
         ensures err { OnErr result (self.new ≡ self.old) }
     {
-        let at = v.number() as usize;
-        use_tested(&mut self.sheet, &mut self.uses, at, &test)?;
-        let row = self.sheet.row(at);
-        self.sheet.set(at, Row { test, ..row })?;
+        use_base(&mut self.sheet, &mut self.uses, v.number() as usize, &known)?;
+        define_row(&mut self.sheet, &self.uses, v, known, None)
+    }
+
+    /// A value, of which this is known, is given by this comparison, and no more is known of it.
+    pub fn define_test(
+        &mut self,
+        v: ValueId,
+        bits: u32,
+        test: Option<Test>,
+    ) -> Result<(), AllocError>
+        ensures ok { OnOk result (self.new ≡ defined v (Number bits None) test self.old) }
+        ensures err { OnErr result (self.new ≡ self.old) }
+    {
+        let known = Known::Number { bits, below: None };
+        use_tested(&mut self.sheet, &mut self.uses, v.number() as usize, &test)?;
+        define_row(&mut self.sheet, &self.uses, v, known, test)
+    }
+
+    /// A value is a reference to this layout, of a class that is added, and no more is known of it.
+    pub fn define_new(
+        &mut self,
+        v: ValueId,
+        layout: LayoutId,
+        stale: bool,
+        class: Class,
+    ) -> Result<(), AllocError>
+        ensures ok { OnOk result (self.new ≡ defined v (Cell (length self.old.classes) layout stale) None (record self.old { classes = self.old.classes ++ class ∷ [] })) }
+        ensures err { OnErr result (self.new ≡ self.old) }
+    {
+        let known = Known::Cell {
+            class: self.next_class(),
+            layout,
+            stale,
+        };
+        let count = self.added.len();
+        self.added.push(class)?;
+        let result = define_row(&mut self.sheet, &self.uses, v, known, None);
+        if result.is_err() {
+            self.added.truncate(count);
+        }
+        result
+    }
+
+    /// A value is a reference of a class, which is not null where this holds, and no more is known of it.
+    pub fn define_of(
+        &mut self,
+        v: ValueId,
+        layout: LayoutId,
+        class: ClassId,
+        nonnull: bool,
+    ) -> Result<(), AllocError>
+        ensures ok { OnOk result (self.new ≡ learned class nonnull (defined v (Cell class layout false) None self.old)) }
+        ensures err { OnErr result (self.new ≡ self.old) }
+    {
+        if nonnull {
+            self.define_nonnull(v, layout, class)
+        } else {
+            let stale = false;
+            self.define(
+                v,
+                Known::Cell {
+                    class,
+                    layout,
+                    stale,
+                },
+            )
+        }
+    }
+
+    /// A value is a reference of a class, which is not null, and no more is known of it.
+    fn define_nonnull(
+        &mut self,
+        v: ValueId,
+        layout: LayoutId,
+        class: ClassId,
+    ) -> Result<(), AllocError>
+        ensures ok { OnOk result (self.new ≡ learned class true (defined v (Cell class layout false) None self.old)) }
+        ensures err { OnErr result (self.new ≡ self.old) }
+    {
+        let known = Known::Cell {
+            class,
+            layout,
+            stale: false,
+        };
+        fill(&mut self.sheet, &self.uses, class.number())?;
+        define_row(&mut self.sheet, &self.uses, v, known, None)?;
+        learn(&mut self.sheet, &mut self.added, class);
         Ok(())
     }
 
@@ -183,15 +278,6 @@ impl Values {
                 ..row
             },
         );
-    }
-
-    /// A class more.
-    pub fn add_class(&mut self, class: Class) -> Result<(), AllocError>
-        ensures ok { OnOk result (self.new ≡ record self.old { classes = self.old.classes ++ class ∷ [] }) }
-        ensures err { OnErr result (self.new ≡ self.old) }
-    {
-        self.added.push(class)?;
-        Ok(())
     }
 
     /// This is known of a class.
@@ -252,12 +338,104 @@ impl Values {
         self.sheet.any_of(c)
     }
 
+    /// Whether some value is of this class once nothing is known of `v`.
+    pub fn any_other(&self, v: ValueId, c: ClassId) -> bool
+        ensures { result ≡ list_any (is_of c) (values_without v self.now.values) }
+    {
+        self.sheet.any_other(v, c)
+    }
+
     /// Whether all values of a class here are listed there as of another.
     pub fn covers(&self, there: &Values, c: ClassId, d: ClassId) -> bool
         ensures { result ≡ list_all (covers_value c d) (zip self.now.values there.now.values) }
     {
         self.sheet.covers(&there.sheet, c, d)
     }
+}
+
+/// This is known of a value, which this comparison gave, and no more.
+fn define_row(
+    sheet: &mut Sheet,
+    uses: &[Use],
+    v: ValueId,
+    known: Known,
+    test: Option<Test>,
+) -> Result<(), AllocError>
+    requires only { OnlyUsers uses.now sheet.old }
+    requires noted { (w : ℕ) → (is_on w known || tests w test) ≡ true → w < length sheet.old → IsUser uses.now sheet.old v w }
+    ensures ok { OnOk result ((added : List Class) → facts_of_rows sheet.new added ≡ defined v known test (facts_of_rows sheet.old added)) }
+    ensures err { OnErr result (sheet.new ≡ sheet.old) }
+    ensures users { OnlyUsers uses.now sheet.new }
+    ensures used { SameUses sheet.old sheet.new }
+{
+    let row = sheet.row(v.number() as usize);
+    sheet.define(
+        uses,
+        v,
+        Row {
+            known,
+            test,
+            aside: false,
+            ..row
+        },
+    )
+}
+
+/// A row is one that something uses: so it is filled.
+fn fill(sheet: &mut Sheet, uses: &[Use], at: usize) -> Result<(), AllocError>
+    ensures same { SayTheSame sheet.old sheet.new }
+    ensures users { OnlyUsers uses.now sheet.old → OnlyUsers uses.now sheet.new }
+    ensures filled { OnOk result (at < length sheet.new → is_none (row_at sheet.new at).used ≡ false) }
+{
+    let row = sheet.row(at);
+    let newest = uses.len();
+    if row.used.is_none() {
+        sheet.set(
+            at,
+            Row {
+                used: Some(newest),
+                ..row
+            },
+        )?;
+    }
+    Ok(())
+}
+
+/// A class is not null; the row that it has, if it is that of a value, is filled.
+fn learn(sheet: &mut Sheet, added: &mut Vec<Class>, c: ClassId)
+    requires { c < length sheet.old → is_none (row_at sheet.old c).used ≡ false }
+    ensures facts { facts_of_rows sheet.new added.new.items ≡ learned c true (facts_of_rows sheet.old added.old.items) }
+    ensures users { (uses : List Use) → OnlyUsers uses sheet.old → OnlyUsers uses sheet.new }
+{
+    let at = c.number();
+    let own = sheet.len();
+    let class = Class {
+        nonnull: true,
+        ..sheet.class(added, c)
+    };
+    if at < own {
+        sheet.change(at, learned_row(class, sheet.row(at)));
+    } else {
+        set_added(added, at - own, class);
+    }
+}
+
+/// A row of whose class this is known, which is not null; a safepoint changes the row only where it did.
+fn learned_row(class: Class, row: Row) -> Row
+    ensures { result ≡ learned_row class row }
+{
+    let aside = row.aside || is_reference(&row.known);
+    Row {
+        class,
+        aside,
+        ..row
+    }
+}
+
+fn is_reference(known: &Known) -> bool
+    ensures { result ≡ is_reference known.now }
+{
+    matches!(known, Known::Cell { .. })
 }
 
 /// A row uses the base of an address.

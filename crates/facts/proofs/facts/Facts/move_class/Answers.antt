@@ -5,8 +5,8 @@ use Rattle.facts.specs.Lines.{move}
 use Rattle.facts.proofs.Ties.{move_one}
 use Rattle.facts.proofs.facts.Facts.move_class.Goals as goal
 
-pub returns-then-not-has : goal.returns-then-not-has
-returns-then-not-has c = on_ok_weaker c.set_known.result (λ e. e ∙ ap (λ (values : List Known). record c.args.self.now { values = values }) moved) c.set_known.ensures.ok where
+pub returns-then-not-has-clause-ok : goal.returns-then-not-has-clause-ok
+returns-then-not-has-clause-ok c = on_ok_weaker c.set_known.result (λ e. e ∙ ap (λ (values : List Known). record c.args.self.now { values = values }) moved) c.set_known.ensures.ok where
   values : List Known
   values = c.args.self.now.values
 

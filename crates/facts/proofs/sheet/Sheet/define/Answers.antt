@@ -1,0 +1,44 @@
+use Rattle.std.proofs.Common.{◌≡◌, ◌∙◌, ap, sym, subst, map, List, ℕ, slice_set}
+use Rattle.facts.specs.declared.row.Row.{Row}
+use Rattle.facts.specs.declared.sweeps.Change.TheVariants.{Off}
+use Rattle.facts.specs.Sheets.{row_at, with_mark, with_current, EachRow, OnlyMarked, OnlyCurrent, changed, off_row}
+use Rattle.facts.specs.Uses.{OnlyUsers}
+use Rattle.facts.proofs.Defines.{off_all, defined_marked, defined_current}
+use Rattle.facts.proofs.Sheets.{more_marked}
+use Rattle.facts.proofs.sheet.Sheet.define.Goals as goal
+
+module _ (rows seen : List Row) (marked next : List ℕ) (v at : ℕ) (noted : next ≡ with_mark at (row_at seen at) marked) (same : seen ≡ rows) (is : at ≡ v) where
+  marks : next ≡ with_mark v (row_at rows v) marked
+  marks = noted ∙ ap (λ (l : List Row). with_mark at (row_at l at) marked) same ∙ ap (λ (u : ℕ). with_mark u (row_at rows u) marked) is
+
+  all_marked : OnlyMarked marked rows → OnlyMarked next rows
+  all_marked only = subst (λ (us : List ℕ). OnlyMarked us rows) (sym marks) (more_marked v (row_at rows v) marked rows only)
+
+pub invariant_of-self-in_err-note : goal.invariant_of-self-in_err-note
+invariant_of-self-in_err-note c = (
+  all_marked c.self.inside.rows.items c.deref.result.now c.self.inside.marked.items c.mark.new.marked.items c.args.v c.number-at.result c.in_ok-mark.ensures.ok c.deref.ensures.value c.number-at.ensures c.self.invariant.0,
+  subst (λ (us : List ℕ). OnlyCurrent us c.self.inside.rows.items) (sym c.in_err-note.ensures.err) c.self.invariant.1,
+)
+
+module _ (c : goal.After-write) where
+  abbrev before : List Row
+  before = c.self.inside.rows.items
+
+  off : EachRow (changed (Off c.args.v)) before c.end_names.new.rows.items
+  off = c.end_names.ensures (subst (λ (rows : List Row). OnlyUsers c.args.uses.now rows) (sym c.self.view_is) c.requires) (subst (λ (us : List ℕ). OnlyMarked us before) (sym c.deref-3.ensures.value) (all_marked before c.deref.result.now c.self.inside.marked.items c.mark.new.marked.items c.args.v c.number-at.result c.in_ok-mark.ensures.ok c.deref.ensures.value c.number-at.ensures c.self.invariant.0))
+
+  is : c.write.new.rows.items ≡ slice_set (map (off_row c.args.v) before) c.args.v c.args.row
+  is = c.write.ensures ∙ ap (λ (at : ℕ). slice_set c.end_names.new.rows.items at c.args.row) c.number-at.ensures ∙ ap (λ (rows : List Row). slice_set rows c.args.v c.args.row) (off_all c.args.v before c.end_names.new.rows.items off)
+
+  notes : c.note.new.current.items ≡ with_current c.args.v (row_at before c.args.v) c.args.row c.self.inside.current.items
+  notes = c.in_ok-note.ensures.ok ∙ ap (λ (row : Row). with_current c.number-at.result row c.args.row c.self.inside.current.items) (c.row_at-before.ensures ∙ ap (λ (rows : List Row). row_at rows c.number-at.result) c.deref-2.ensures.value)
+      ∙ ap (λ (at : ℕ). with_current at (row_at before at) c.args.row c.self.inside.current.items) c.number-at.ensures
+
+pub invariant_of-self-2 : goal.invariant_of-self-2
+invariant_of-self-2 c = (
+  subst (λ (rows : List Row). OnlyMarked c.mark.new.marked.items rows) (sym (is c)) (subst (λ (us : List ℕ). OnlyMarked us (slice_set (map (off_row c.args.v) (before c)) c.args.v c.args.row)) (sym (marks (before c) c.deref.result.now c.self.inside.marked.items c.mark.new.marked.items c.args.v c.number-at.result c.in_ok-mark.ensures.ok c.deref.ensures.value c.number-at.ensures)) (defined_marked c.args.v (before c) c.args.row c.self.inside.marked.items c.self.invariant.0)),
+  subst (λ (rows : List Row). OnlyCurrent c.note.new.current.items rows) (sym (is c)) (subst (λ (us : List ℕ). OnlyCurrent us (slice_set (map (off_row c.args.v) (before c)) c.args.v c.args.row)) (sym (notes c)) (defined_current c.args.v (before c) c.args.row c.self.inside.current.items c.self.invariant.1)),
+)
+
+pub returns-clause-ok : goal.returns-clause-ok
+returns-clause-ok c = is c ∙ ap (λ (rows : List Row). slice_set (map (off_row c.args.v) rows) c.args.v c.args.row) c.self.view_is
