@@ -1,5 +1,5 @@
 -- What a call may do by the mark of its callee: which functions may make it, and what is known after it.
-use Rattle.std.specs.Prelude.{◌≤◌, ◌↔◌, Bool, true, false, not, ◌||◌, length}
+use Rattle.std.specs.Prelude.{◌↔◌, Bool, true, false, not, ◌||◌}
 use Rattle.certs.specs.declared.section.Mark.{Mark}
 use Rattle.certs.specs.declared.section.Mark.TheVariants.{May, None}
 use Rattle.facts.specs.Facts.{FactSet, make_stale}
@@ -24,7 +24,6 @@ abbrev pub OutlastsCall : Mark → FactSet → Statement → Type 0
 OutlastsCall May facts statement = Outlasts facts statement
 OutlastsCall None facts statement = Unit {0}
 
--- exactly the other statements end, where each value has a class for itself
+-- exactly the other statements end
 abbrev pub EndsOthers : Mark → (before after : FactSet) → Type 0
-EndsOthers mark before after =
-    length before.values ≤ length before.classes → (statement : Statement) → Says after statement ↔ (Says before statement × OutlastsCall mark before statement)
+EndsOthers mark before after = (statement : Statement) → Says after statement ↔ (Says before statement × OutlastsCall mark before statement)

@@ -25,6 +25,7 @@ pub fn after_call(facts: &mut Facts, mark: Mark) -> Result<(), AllocError>
     ensures statements { OnOk result (EndsOthers mark facts.old facts.new) }
     ensures err { OnErr result (facts.new ≡ facts.old) }
 {
+    facts.classes_law();
     safepoint_law();
     match mark {
         Mark::May => facts.make_stale(),

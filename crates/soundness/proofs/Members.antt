@@ -33,7 +33,7 @@ use Rattle.facts.specs.declared.known.Given.TheVariants as given
 use Rattle.facts.specs.declared.known.Known.{Known}
 use Rattle.facts.specs.declared.known.Known.TheVariants.{Nothing, Number, Cell, Null, Address, GlobalAddress}
 use Rattle.facts.specs.declared.known.SlotFact.{SlotFact}
-use Rattle.facts.specs.Facts.{FactSet, known_at, slot_at, class_at, open_slot, lost_class, nothing_known, is_of, holds_class, let_go, off_base, values_without, slots_without, forget, set_known, set_slot, set_class, define, add_class, define_new, clear_slot, drop_fresh, drop_fresh_of, drop_held, end_slot, root_slot, store_slot, learn_nonnull, load_held, load_slot, stale_of, stale_class, end_hold, make_stale}
+use Rattle.facts.specs.Facts.{FactSet, AreFacts, known_at, slot_at, class_at, open_slot, lost_class, nothing_known, is_of, holds_class, let_go, off_base, values_without, slots_without, forget, set_known, set_slot, set_class, define, add_class, define_new, clear_slot, drop_fresh, drop_fresh_of, drop_held, end_slot, root_slot, store_slot, learn_nonnull, load_held, load_slot, stale_of, stale_class, end_hold, make_stale}
 use Rattle.facts.specs.Lines.{is_stale, is_fresh, move, list_slot, list_line, list_lines, join_values, tie_line, tie_lines, hold_known, hold_value, hold_lines, facts_of_lines, promised_below, promised_nonnull, promised_layout, receive_reference, receive, receive_all, facts_of_parameters}
 use Rattle.block_rules.specs.declared.callee.Callee.{Callee}
 use Rattle.block_rules.specs.declared.callee.Callee.TheVariants.{OfRuntime, OfModule, NoFunction}
@@ -51,7 +51,7 @@ use Rattle.block_rules.specs.Integers.{below_of, larger, chosen_layout, choose_r
 use Rattle.block_rules.specs.Calls.{after_root, after_root_call, alloc_numbered, alloc_layout, after_alloc_call, drop_arguments, receive_result, after_defined, after_call}
 use Rattle.block_rules.specs.Rules.{after_alloca}
 use Rattle.soundness.proofs.Lists.{at_set, at_other, at_old, at_end, longer, by_equal, replicated}
-use Rattle.soundness.specs.Goes.{IsNamed, HasMember, HaveClasses, HaveMembers}
+use Rattle.soundness.specs.Goes.{IsNamed, HasMember, HaveMembers}
 
 -- where some value passes as one of a class, one is of it
 pub any_found : (c : ℕ) (values : List Known) → list_any (is_of c) values ≡ true → IsNamed values c
@@ -474,7 +474,7 @@ module _ (facts : FactSet) (members : HaveMembers facts) where
 
 -- no slot holds a class, and each value has a class for itself
 abbrev NoneHeld : FactSet → Type 0
-NoneHeld facts = ((s : ℕ) → (slot_at facts.slots s).holds ≡ None) × HaveClasses facts
+NoneHeld facts = ((s : ℕ) → (slot_at facts.slots s).holds ≡ None) × AreFacts facts
 
 -- then each slot that holds a class holds one of a value
 none_members : (facts : FactSet) → NoneHeld facts → HaveMembers facts

@@ -18,7 +18,7 @@ use Rattle.types.specs.ValueTypes.{has_type}
 use Rattle.safepoints.specs.Marks.{is_may}
 use Rattle.shadow_stack.specs.Slots.{SlotTable, held_type, is_reference_held}
 use Rattle.certs.specs.declared.section.Section.{Section}
-use Rattle.facts.specs.Facts.{FactSet, known_at, define_new, root_slot, make_stale}
+use Rattle.facts.specs.Facts.{FactSet, AreFacts, known_at, define_new, root_slot, make_stale}
 use Rattle.block_rules.specs.declared.signature.RuntimeType.TheVariants as types
 use Rattle.block_rules.specs.declared.standing.Standing.{Standing}
 use Rattle.block_rules.specs.declared.type_kind.TypeKind.{TypeKind}
@@ -48,7 +48,7 @@ use Rattle.soundness.proofs.Keep.{log_keeps, known_within}
 use Rattle.soundness.proofs.Change.{apart_turned, new_keeps}
 use Rattle.soundness.proofs.SlotsKeep.{slot_keeps}
 use Rattle.soundness.proofs.Stale.{own_later, root_own, stale_cells, stale_keeps}
-use Rattle.soundness.specs.Goes.{HaveClasses, HasRoots, Goes}
+use Rattle.soundness.specs.Goes.{HasRoots, Goes}
 use Rattle.soundness.proofs.Callees.{one_parameter, two_parameters, alloc_types, alloc_declared, root_types, root_declared}
 use Rattle.soundness.proofs.Steps.{goes_local, usable, null_fits, fresh_apart}
 use Rattle.soundness.proofs.RulesHold.{rules_hold}
@@ -106,7 +106,7 @@ past_end (t ∷ held) [] s e none = refl
 past_end (t ∷ held) (v ∷ values) zero e none = absurd cc
 past_end (t ∷ held) (v ∷ values) (suc s) e none = past_end held values s (omega (arith, e)) none
 
-module _ (heap : Setup) (p : LaidOut) (certs : List Section) (reaches : Bool) (f : Function) (table : SlotTable) (guarded : Guarded) (log : Log) (guards : (cell : ℕ) → guarded cell → IsFresh log cell) (here : Standing) (marked : is_may here.mark ≡ true → reaches ≡ true) (cells : Cells) (facts : FactSet) (frame : Frame) (h : Holds heap p table guarded log cells facts frame.registers frame.slots) (room : HaveClasses facts) (result : Option ℕ) (returned : ℕ) where
+module _ (heap : Setup) (p : LaidOut) (certs : List Section) (reaches : Bool) (f : Function) (table : SlotTable) (guarded : Guarded) (log : Log) (guards : (cell : ℕ) → guarded cell → IsFresh log cell) (here : Standing) (marked : is_may here.mark ≡ true → reaches ≡ true) (cells : Cells) (facts : FactSet) (frame : Frame) (h : Holds heap p table guarded log cells facts frame.registers frame.slots) (room : AreFacts facts) (result : Option ℕ) (returned : ℕ) where
   -- what a call asks for, by its declaration
   abbrev pub call_action : List Argument → Option Declare → Option Function → Option Runtime → Action
   call_action arguments declared defined called = a.call_action p f table frame.registers returned arguments declared defined called

@@ -11,7 +11,7 @@ use Rattle.shadow_stack.specs.Slots.{SlotTable, slots_of, held_type, is_referenc
 use Rattle.certs.specs.declared.section.Section.{Section}
 use Rattle.facts.specs.declared.known.Known.{Known}
 use Rattle.facts.specs.declared.known.Known.TheVariants.{Cell}
-use Rattle.facts.specs.Facts.{FactSet, known_at, slot_at, class_at}
+use Rattle.facts.specs.Facts.{FactSet, AreFacts, known_at, slot_at, class_at}
 use Rattle.block_rules.specs.declared.standing.Standing.{Standing}
 use Rattle.safepoints.specs.Marks.{is_may}
 use Rattle.block_rules.specs.FirstFailing.{first_failing}
@@ -58,13 +58,9 @@ IsNamed values c = (w : ℕ) × (l : ℕ) × (stale : Bool) × (known_at values 
 abbrev pub HasMember : FactSet → ℕ → Type 0
 HasMember facts c = IsNamed facts.values c ⊎ ((c < length facts.classes) × ((class_at facts.classes c).fresh ≡ false))
 
--- there is a class for each value, which it has for itself
-abbrev pub HaveClasses : FactSet → Type 0
-HaveClasses facts = length facts.values ≤ length facts.classes
-
 -- a slot holds a fresh class only while some value is of it, and each value has a class for itself
 abbrev pub HaveMembers : FactSet → Type 0
-HaveMembers facts = ((s c : ℕ) → (slot_at facts.slots s).holds ≡ Some c → HasMember facts c) × HaveClasses facts
+HaveMembers facts = ((s c : ℕ) → (slot_at facts.slots s).holds ≡ Some c → HasMember facts c) × AreFacts facts
 
 -- the step of each instruction that the rules allow, and that calls no defined function, is such a step
 abbrev pub InstructionsGo : Guarded → Type 0
