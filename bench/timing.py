@@ -3,13 +3,14 @@ import subprocess
 import time
 
 
+def timed(command):
+    """The wall time of a command in seconds, and what it printed."""
+    start = time.perf_counter()
+    run = subprocess.run(command, capture_output=True, text=True)
+    return time.perf_counter() - start, (run.stdout + run.stderr).strip()
+
+
 def fastest(command, runs):
     """The least wall time of a command in seconds, and what it printed last."""
-    best, printed = None, ""
-    for _ in range(runs):
-        start = time.perf_counter()
-        run = subprocess.run(command, capture_output=True, text=True)
-        took = time.perf_counter() - start
-        printed = (run.stdout + run.stderr).strip()
-        best = took if best is None else min(best, took)
-    return best, printed
+    taken = [timed(command) for _ in range(runs)]
+    return min(took for took, _ in taken), taken[-1][1]

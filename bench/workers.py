@@ -1,19 +1,22 @@
 #!/usr/bin/env python3
-"""Times `dgc check` with several workers, and its part that workers share apart from the rest.
+"""Times the part of `dgc check` that several workers share.
 
     workers.py DGC [--functions N] [--seed S] [--runs R] [--workers N ..]
 
-The rest is what one thread does: reading both files, the layouts, and printing. It is the time of the same module with a
-function before all others that breaks a rule, since one worker then stops there. Prints for each number of workers the
-fastest of R runs, the part that workers share, and how many times as fast that is as with one. For use by hand.
+With several workers it is the time from the start of the first thread to the end of the last one, which `strace` notes. With one
+worker there is no thread to look at: it is the time of the whole, without the time of the same module with a function before all
+others that breaks a rule, since the check then stops there. Prints the fastest and the middle of R runs. For use by hand, where
+nothing else runs.
 """
 import argparse
 import os
+import re
+import statistics
 import subprocess
 import sys
 import tempfile
 
-from timing import fastest
+from timing import timed
 
 HERE = os.path.dirname(os.path.abspath(__file__))
 
@@ -37,31 +40,47 @@ def with_refused(base, path):
         file.write(first + "\n" + REFUSED_SECTION + rest)
 
 
+def by_one(dgc, base, refused, runs):
+    """The seconds that one worker takes in each run: a whole check without one that stops at the first function."""
+    pairs = [(timed([dgc, "check", base + ".ll", base + ".cert"])[0], timed([dgc, "check", refused + ".ll", refused + ".cert"])[0])
+             for _ in range(runs)]
+    rest = min(stopped for _, stopped in pairs)
+    return [whole - rest for whole, _ in pairs]
+
+
+def by_threads(dgc, base, workers, runs, noted):
+    """The seconds from the start of the first thread to the end of the last one, in each run."""
+    command = ["strace", "-f", "--seccomp-bpf", "-ttt", "-e", "trace=clone3,clone,exit", "-o", noted,
+               dgc, "check", base + ".ll", base + ".cert", "--workers", str(workers)]
+    for _ in range(runs):
+        subprocess.run(command, check=True, stdout=subprocess.DEVNULL)
+        lines = content(noted).splitlines()
+        starts = [float(line.split()[1]) for line in lines if re.search(r"\bclone3?\(", line)]
+        ends = [float(line.split()[1]) for line in lines if re.search(r"\bexit\(", line)]
+        yield max(ends) - min(starts)
+
+
 def main():
     parser = argparse.ArgumentParser(description=__doc__.split("\n")[0])
     parser.add_argument("dgc")
     parser.add_argument("--functions", type=int, default=10000)
     parser.add_argument("--seed", type=int, default=0)
-    parser.add_argument("--runs", type=int, default=5)
-    parser.add_argument("--workers", type=int, nargs="+", default=[1, 2, 3, 4])
+    parser.add_argument("--runs", type=int, default=15)
+    parser.add_argument("--workers", type=int, nargs="+", default=[2, 3, 4])
     options = parser.parse_args()
     with tempfile.TemporaryDirectory() as folder:
         base, refused = os.path.join(folder, "m"), os.path.join(folder, "refused")
         subprocess.run([sys.executable, os.path.join(HERE, "generate.py"), "--functions", str(options.functions),
                         "--seed", str(options.seed), base], check=True)
         with_refused(base, refused)
-        rest, printed = fastest([options.dgc, "check", refused + ".ll", refused + ".cert"], options.runs)
-        size = os.path.getsize(base + ".ll") / 1e6
-        print(f"{options.functions} functions, {size:.2f} MB of text")
-        print(f"  one thread's part {rest * 1000:9.1f} ms  {printed[:60]}")
-        alone = None
+        print(f"{options.functions} functions, {os.path.getsize(base + '.ll') / 1e6:.2f} MB of text")
+        print("workers   fastest    middle  times as fast, by the fastest and by the middle")
+        alone = by_one(options.dgc, base, refused, options.runs)
+        print(f"{1:7} {min(alone) * 1000:7.1f}ms {statistics.median(alone) * 1000:7.1f}ms")
         for workers in options.workers:
-            command = [options.dgc, "check", base + ".ll", base + ".cert", "--workers", str(workers)]
-            took, printed = fastest(command, options.runs)
-            shared = took - rest
-            alone = shared if alone is None else alone
-            print(f"  {workers:2} workers {took * 1000:9.1f} ms, shared part {shared * 1000:9.1f} ms, "
-                  f"{alone / shared:5.2f} times as fast  {printed[:60]}")
+            took = list(by_threads(options.dgc, base, workers, options.runs, os.path.join(folder, "noted")))
+            print(f"{workers:7} {min(took) * 1000:7.1f}ms {statistics.median(took) * 1000:7.1f}ms"
+                  f"  {min(alone) / min(took):5.2f} {statistics.median(alone) / statistics.median(took):5.2f}")
 
 
 if __name__ == "__main__":
