@@ -153,24 +153,23 @@ stays certified refused p certs q others func tables same (Some refusal) h =
 -- ---- all answers
 
 module _ (certified : StayCertified) (refused : StayRefused) (p : LaidOut) (certs : List Section) (q : LaidOut) (others : List Section) (replaced : ℕ) (callers : Callers) (edit : IsEdited p certs q others replaced callers)
-    (before anew : List (Option Refusal)) (are : AreAnswers p certs before) (count : length before ≡ length q.of_module.functions) (are_anew : AreAnswersTo q others (touched q.of_module replaced callers) anew) where
-  abbrev Funcs : List ℕ
-  Funcs = touched q.of_module replaced callers
-
-  each_after : (func : ℕ) (answer : Option Refusal) → func < length q.of_module.functions → IsPutAt Funcs anew before (length Funcs) func answer → IsAnswer q others func answer
+    (funcs : List ℕ) (funcs_are : funcs ≡ touched q.of_module replaced callers) (before anew : List (Option Refusal)) (are : AreAnswers p certs before) (count : length before ≡ length q.of_module.functions)
+    (are_anew : AreAnswersTo q others funcs anew) where
+  each_after : (func : ℕ) (answer : Option Refusal) → func < length q.of_module.functions → IsPutAt funcs anew before (length funcs) func answer → IsAnswer q others func answer
   each_after func answer less (inl h) = are_anew.1 h.0 func answer h.1 h.2
   each_after func answer less (inr h) =
-      let misses : Misses Funcs func = λ place at. h.1 place (slice_get_within Funcs place func at) at in
-      stays certified refused p certs q others func edit.tables (scope p certs q others replaced callers edit func less misses) answer (are.each func answer h.0)
+      let misses : Misses funcs func = λ place at. h.1 place (slice_get_within funcs place func at) at in
+      let misses_touched : Misses (touched q.of_module replaced callers) func = subst (λ (xs : List ℕ). Misses xs func) funcs_are misses in
+      stays certified refused p certs q others func edit.tables (scope p certs q others replaced callers edit func less misses_touched) answer (are.each func answer h.0)
 
-  pub all_after : (after : List (Option Refusal)) → after ≡ put_first Funcs anew before (length Funcs) → AreAnswers q others after
+  pub all_after : (after : List (Option Refusal)) → after ≡ put_first funcs anew before (length funcs) → AreAnswers q others after
   all_after after is =
-      let many : length after ≡ length q.of_module.functions = ap length is ∙ length_put Funcs anew before (length Funcs) ∙ count in
+      let many : length after ≡ length q.of_module.functions = ap length is ∙ length_put funcs anew before (length funcs) ∙ count in
       record {
         one_each = many;
         each = λ func answer at.
             each_after func answer (omega (arith, slice_get_within after func answer at, many))
-            (put_at Funcs anew before (length Funcs) func answer (omega (arith, are_anew.0)) (subst (λ xs. slice_get xs func ≡ Some answer) is at));
+            (put_at funcs anew before (length funcs) func answer (omega (arith, are_anew.0)) (subst (λ (xs : List (Option Refusal)). slice_get xs func ≡ Some answer) is at));
       }
 
 -- ---- numbers of functions

@@ -1,5 +1,5 @@
 //! The answers after an edit.
-ghost use Rattle.std.specs.Prelude.{◌≡◌, ◌<◌, List, length, IfOk, OnOk, OnErr};
+ghost use Rattle.std.specs.Prelude.{◌≡◌, ◌<◌, List, [], length, IfOk, OnOk, OnErr};
 ghost use Rattle.certs.specs.declared.section.Section.{Section as ASection};
 ghost use Rattle.layout.specs.Layouts.{LaidOut};
 ghost use Rattle.answers.specs.Answers.{AreAnswers};
@@ -16,8 +16,27 @@ use layout::Program;
 use locality::locality_law;
 use std::alloc::{AllocError, Global};
 
-/// The answers to these functions, in their order.
+/// Puts the answers to these functions, in their order, into an empty list.
 #[tactic(auto, using(crate::proofs::Put::answers_to_more))]
+fn add_answers(
+    alloc: Global,
+    program: &Program,
+    certs: &Certs,
+    funcs: &[FuncId],
+    answers: &mut Items<Option<Refusal>>,
+) -> Result<(), AllocError>
+    requires within { AreWithin (length program.now.of_module.functions) funcs.now }
+    requires empty { answers.old ≡ [] }
+    ensures { OnOk result (AreAnswersTo program.now certs.now funcs.now answers.new) }
+{
+    for place in 0..funcs.len() {
+        let answer = [answer_to(alloc, program, certs, funcs[place])?];
+        answers.push(answer[0])?;
+    }
+    Ok(())
+}
+
+/// The answers to these functions, in their order.
 fn answers_of(
     alloc: Global,
     program: &Program,
@@ -28,9 +47,7 @@ fn answers_of(
     ensures { IfOk result (AreAnswersTo program.now certs.now funcs.now) }
 {
     let mut answers = Items::new(alloc);
-    for place in 0..funcs.len() {
-        answers.push(answer_to(alloc, program, certs, funcs[place])?)?;
-    }
+    add_answers(alloc, program, certs, funcs, &mut answers)?;
     Ok(answers)
 }
 

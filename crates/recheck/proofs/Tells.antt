@@ -71,9 +71,16 @@ callers_counted m func (suc count) = by (is_caller m func count) (callers_counte
     by false same = omega (arith, same)
 
 -- where the callers are told something else, the function and all callers are checked
-pub counted : (m : Module) (func : ℕ) (callers : Callers) (told_same : Bool) (checked : ℕ) → checked ≡ length (touched m func callers) → IfUnseen callers (told_same ≡ true) → told_same ≡ false
+counted : (m : Module) (func : ℕ) (callers : Callers) (told_same : Bool) (checked : ℕ) → checked ≡ length (touched m func callers) → IfUnseen callers (told_same ≡ true) → told_same ≡ false
     → checked ≡ 1 + callers_before m func (length m.functions)
 counted m func SeeNone told_same checked is unseen e = absurd (let both : true ≡ false = sym unseen ∙ e in cc)
 counted m func SeeChange told_same checked is unseen e =
     let all : checked ≡ suc (length (callers_below m func (length m.functions))) = is in
     omega (arith, all, callers_counted m func (length m.functions))
+
+-- so it is of the module as it is looked at twice
+pub all_checked : (m one two : Module) → one ≡ m → two ≡ m → (func : ℕ) (callers : Callers) (told_same : Module → Bool) (checked : ℕ) → checked ≡ length (touched m func callers) → IfUnseen callers (told_same one ≡ true)
+    → told_same two ≡ false → checked ≡ 1 + callers_before two func (length two.functions)
+all_checked m one two is_one is_two func callers told_same checked is unseen e =
+    subst (λ (x : Module). checked ≡ 1 + callers_before x func (length x.functions)) (sym is_two)
+    (counted m func callers (told_same m) checked is (subst (λ (x : Module). IfUnseen callers (told_same x ≡ true)) is_one unseen) (ap told_same (sym is_two) ∙ e))
