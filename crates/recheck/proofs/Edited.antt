@@ -172,11 +172,11 @@ place_fault m func code text n (Err e) is_read h = λ differs. inr (n, is_read, 
 -- ---- tables that are ready
 
 -- they are those of the program with the function in the place of the old one, or of the old one
-pub ready_in_place : (p q : LaidOut) (func : ℕ) (f : Function) (tables : Option Tables) (S : Type 0) (r : Result ℕ EditFault) → AreReady p.of_module tables → OnOk r (q ≡ laid_with p (slice_set p.of_module.functions func f))
-    → OnErr r ((q ≡ p) × S) → AreReady q.of_module tables
-ready_in_place p q func f None S r h placed kept = tt
-ready_in_place p q func f (Some tables) S (Ok count) h placed kept = subst (λ (x : LaidOut). AreReady x.of_module (Some tables)) (sym placed) h
-ready_in_place p q func f (Some tables) S (Err x) h placed kept = subst (λ (x : LaidOut). AreReady x.of_module (Some tables)) (sym kept.0) h
+pub ready_in_place : (p q : LaidOut) (func : ℕ) (f : Function) (tables : Option Tables) (S T : Type 0) (r : Result ℕ EditFault) → AreReady p.of_module tables → OnOk r (q ≡ laid_with p (slice_set p.of_module.functions func f))
+    → OnErr r ((q ≡ p) × S × T) → AreReady q.of_module tables
+ready_in_place p q func f None S T r h placed kept = tt
+ready_in_place p q func f (Some tables) S T (Ok count) h placed kept = subst (λ (x : LaidOut). AreReady x.of_module (Some tables)) (sym placed) h
+ready_in_place p q func f (Some tables) S T (Err x) h placed kept = subst (λ (x : LaidOut). AreReady x.of_module (Some tables)) (sym kept.0) h
 
 -- or there are none
 pub ready_anew : (p q : LaidOut) (S : Type 0) (before after : Kept) (r : Result ℕ EditFault) → AreReady p.of_module before.tables → OnOk r (after.tables ≡ None) → OnErr r ((q ≡ p) × S × (after ≡ before)) → AreReady q.of_module after.tables

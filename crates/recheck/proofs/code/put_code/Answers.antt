@@ -1,4 +1,4 @@
-use Rattle.std.proofs.Common.{inl, rules, subst, sym}
+use Rattle.std.proofs.Common.{◌≡◌, inl, rules, subst, sym}
 use Rattle.ir_ast.specs.declared.module.Module.{Module}
 use Rattle.recheck.specs.Put.{with_function, AreReady}
 use Rattle.recheck.proofs.Edited.{to_code, the_place, only_section, with_code, place_put, place_fault, within_fault, within_refused, ready_in_place, ready_anew}
@@ -43,12 +43,12 @@ returns-in-Err-clause-only_fault c = within_refused c.args.program.now.of_module
 pub returns-in-Ok-Some-clause-ready : goal.returns-in-Ok-Some-clause-ready
 returns-in-Ok-Some-clause-ready c =
     let ready = subst (λ (m : Module). AreReady m c.read_within.new.ready) c.module.ensures.of_module c.read_within.ensures.ready in
-    ready_in_place c.args.program.now c.put_in_place.new.program c.args.func c.in-Ok-Some.function c.read_within.new.ready _ c.put_in_place.result ready c.put_in_place.ensures.program c.put_in_place.ensures.kept
+    ready_in_place c.args.program.now c.put_in_place.new.program c.args.func c.in-Ok-Some.function c.read_within.new.ready (c.put_in_place.new.certs ≡ c.args.certs.now) (c.put_in_place.new.answers ≡ c.args.kept.now.answers) c.put_in_place.result ready c.put_in_place.ensures.program c.put_in_place.ensures.kept
 
 pub returns-in-Ok-None-clause-ready : goal.returns-in-Ok-None-clause-ready
 returns-in-Ok-None-clause-ready c =
     let ready = subst (λ (m : Module). AreReady m c.read_within.new.ready) c.module.ensures.of_module c.read_within.ensures.ready in
-    ready_anew c.args.program.now c.put_anew.new.program _ (record c.args.kept.now { tables = c.read_within.new.ready }) c.put_anew.new.kept c.put_anew.result ready c.put_anew.ensures.ready c.put_anew.ensures.kept
+    ready_anew c.args.program.now c.put_anew.new.program (c.put_anew.new.certs ≡ c.args.certs.now) (record c.args.kept.now { tables = c.read_within.new.ready }) c.put_anew.new.kept c.put_anew.result ready c.put_anew.ensures.ready c.put_anew.ensures.kept
 
 pub returns-in-Err-clause-ready : goal.returns-in-Err-clause-ready
 returns-in-Err-clause-ready c = subst (λ (m : Module). AreReady m c.read_within.new.ready) c.module.ensures.of_module c.read_within.ensures.ready

@@ -1,4 +1,4 @@
-use Rattle.std.proofs.Common.{Some, slice_get, subst}
+use Rattle.std.proofs.Common.{◌≡◌, Some, slice_get, subst}
 use Rattle.ir_ast.specs.declared.module.Module.{Module}
 use Rattle.recheck.proofs.Puts.{with_itself}
 use Rattle.recheck.proofs.put.put_section_of.Goals as goal
