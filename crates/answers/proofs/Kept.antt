@@ -1,6 +1,7 @@
 -- The answers that are kept are answers after the edit.
-use Rattle.std.proofs.Common.{◌≡◌, ◌≢◌, ◌==◌, ℕ, Bool, true, false, List, [], ◌∷◌, slice_get, Option, Some, None, refl, ap, sym, subst, ◌∙◌, eqb-true, eq-eqb, ◌+◌, ◌++◌, zero, suc, length, arith}
-use Rattle.lemmas.specs.Bools.{or_neither}
+use Rattle.std.proofs.Common.{◌≡◌, ◌≢◌, ◌<◌, ◌⊎◌, inl, inr, ◌==◌, ◌&&◌, ℕ, Bool, true, false, not, List, [], ◌∷◌, slice_get, Option, Some, None, refl, ap, sym, subst, ◌∙◌, eqb-true, eq-eqb, ◌+◌, ◌++◌, zero, suc, length, arith}
+use Rattle.std.specs.Prelude.{if◌then◌else◌}
+use Rattle.std.proofs.lemmas.Option.{slice_get_within}
 use Rattle.ir_ast.specs.declared.block.Block.{Block}
 use Rattle.ir_ast.specs.declared.function.Function.{Function}
 use Rattle.ir_ast.specs.declared.instr.Instr.{Instr}
@@ -14,11 +15,12 @@ use Rattle.block_rules.specs.declared.block_fault.Refusal.{Refusal}
 use Rattle.locality.specs.Local.{with_functions, laid_with, interface_of, called_by, IfThere, OfEachCalled, LooksSame, SameScope}
 use Rattle.locality.specs.Laws.{StayCertified, StayRefused}
 use Rattle.answers.specs.Answers.{IsAnswer, AreAnswers, AreAnswersSoFar}
-use Rattle.answers.specs.Edited.{is_number, instruction_calls, block_calls, calls, calls_replaced, is_touched_by, is_touched, IsAgain, AreAgainSoFar, IsEdited}
-use Rattle.answers.specs.declared.again.Callers.{Callers}
-use Rattle.answers.specs.declared.again.Callers.TheVariants.{SeeChange, SeeNone}
+use Rattle.answers.specs.Edited.{is_number, instruction_calls, block_calls, calls, calls_it, is_caller, callers_below, touched, AreWithin, AreAnswersTo, put_first, IsEdited}
+use Rattle.answers.specs.declared.callers.Callers.{Callers}
+use Rattle.answers.specs.declared.callers.Callers.TheVariants.{SeeChange, SeeNone}
 use Rattle.std.proofs.lemmas.List.{length-append}
-use Rattle.answers.proofs.Lists.{one_more, none_pass, none_passes_at, all_so}
+use Rattle.answers.proofs.Lists.{one_more, none_pass, none_passes_at, all_so, at_end, before_end}
+use Rattle.answers.proofs.Put.{length_put, IsPutAt, put_at}
 
 -- what an operation calls does not depend on functions
 called_same : (m : Module) (fs : List Function) (x : Op) → called_by (with_functions m fs) x ≡ called_by m x
@@ -74,22 +76,70 @@ all_same p certs q others replaced edit n = by (n == replaced) refl
     by true e = subst (LooksSame p certs q.of_module.functions others) (sym (eqb-true n replaced e)) edit.unseen
     by false e = others_same p certs q others replaced SeeNone edit n (λ h. let t = eq-eqb n replaced h in cc)
 
-calls_same : (p : LaidOut) (certs : List Section) (q : LaidOut) (others : List Section) (replaced : ℕ) (callers : Callers) (edit : IsEdited p certs q others replaced callers) (func : ℕ) (f : Function)
-    → slice_get q.of_module.functions func ≡ Some f → is_touched_by q.of_module replaced callers func ≡ false → (block : ℕ) → OfEachCalled p.of_module (LooksSame p certs q.of_module.functions others) (body_of f block)
-calls_same p certs q others replaced SeeNone edit func f at e block = all_look p.of_module (LooksSame p certs q.of_module.functions others) (body_of f block) (all_same p certs q others replaced edit)
-calls_same p certs q others replaced SeeChange edit func f at e block =
-    looks_by p certs q others replaced SeeChange edit f (ap (calls_replaced q.of_module replaced) (sym at) ∙ e) block
+-- ---- functions that are not checked again
 
--- a function that is not touched has the same scope
+-- a list of numbers misses one
+abbrev pub Misses : (xs : List ℕ) → (n : ℕ) → Type 0
+Misses xs n = (place : ℕ) → slice_get xs place ≡ Some n → ⊥
+
+-- the replaced function is checked again
+not_replaced : (m : Module) (replaced : ℕ) (callers : Callers) (func : ℕ) → Misses (touched m replaced callers) func → func ≢ replaced
+not_replaced m replaced SeeChange func misses e = misses 0 (ap Some (sym e))
+not_replaced m replaced SeeNone func misses e = misses 0 (ap Some (sym e))
+
+-- a list of numbers holds one
+abbrev Holds : (xs : List ℕ) → (n : ℕ) → Type 0
+Holds xs n = (place : ℕ) × (slice_get xs place ≡ Some n)
+
+-- a caller is among the callers
+stands_below : (m : Module) (called count func : ℕ) → func < count → is_caller m called func ≡ true → Holds (callers_below m called count) func
+stands_below m called zero func less e = absurd (omega (arith, less))
+stands_below m called (suc count) func less e = by (func == count) refl (is_caller m called count) refl (λ below. stands_below m called count func below e)
+  where
+    by : (same : Bool) → (func == count) ≡ same → (calls_it : Bool) → is_caller m called count ≡ calls_it → (func < count → Holds (callers_below m called count) func)
+        → Holds (if calls_it then callers_below m called count ++ count ∷ [] else callers_below m called count) func
+    by true same true is earlier = (length (callers_below m called count), at_end (callers_below m called count) count ∙ ap Some (sym (eqb-true func count same)))
+    by true same false is earlier = absurd (let neither : true ≡ false = sym e ∙ ap (is_caller m called) (eqb-true func count same) ∙ is in cc)
+    by false differs true is earlier =
+        let other : func ≢ count = λ h. let t = eq-eqb func count h in absurd cc in
+        let there = earlier (omega (arith, less, other)) in
+        (there.0, before_end (callers_below m called count) count there.0 func there.1)
+    by false differs false is earlier =
+        let other : func ≢ count = λ h. let t = eq-eqb func count h in absurd cc in
+        earlier (omega (arith, less, other))
+
+no_caller : (m : Module) (called count func : ℕ) → func < count → Misses (callers_below m called count) func → is_caller m called func ≡ false
+no_caller m called count func less misses = by (is_caller m called func) refl
+  where
+    by : (b : Bool) → is_caller m called func ≡ b → b ≡ false
+    by true e = let there = stands_below m called count func less e in absurd (misses there.0 there.1)
+    by false e = refl
+
+-- another function that is no caller does not call it
+not_calls : (m : Module) (called func : ℕ) (f : Function) → func ≢ called → slice_get m.functions func ≡ Some f → is_caller m called func ≡ false → calls m called f ≡ false
+not_calls m called func f other at e = by (func == called) refl e
+  where
+    by : (b : Bool) → (func == called) ≡ b → (not b && calls_it m called (slice_get m.functions func)) ≡ false → calls m called f ≡ false
+    by true same h = absurd (other (eqb-true func called same))
+    by false differs h = ap (calls_it m called) (sym at) ∙ h
+
+calls_same : (p : LaidOut) (certs : List Section) (q : LaidOut) (others : List Section) (replaced : ℕ) (callers : Callers) (edit : IsEdited p certs q others replaced callers) (func : ℕ) (f : Function)
+    → slice_get q.of_module.functions func ≡ Some f → func < length q.of_module.functions → Misses (touched q.of_module replaced callers) func → (block : ℕ)
+    → OfEachCalled p.of_module (LooksSame p certs q.of_module.functions others) (body_of f block)
+calls_same p certs q others replaced SeeNone edit func f at less misses block = all_look p.of_module (LooksSame p certs q.of_module.functions others) (body_of f block) (all_same p certs q others replaced edit)
+calls_same p certs q others replaced SeeChange edit func f at less misses block =
+    let none = no_caller q.of_module replaced (length q.of_module.functions) func less (λ place is. misses (suc place) is) in
+    looks_by p certs q others replaced SeeChange edit f (not_calls q.of_module replaced func f (not_replaced q.of_module replaced SeeChange func misses) at none) block
+
+-- a function that is not checked again has the same scope
 scope : (p : LaidOut) (certs : List Section) (q : LaidOut) (others : List Section) (replaced : ℕ) (callers : Callers) (edit : IsEdited p certs q others replaced callers) (func : ℕ)
-    → is_touched q.of_module replaced callers func ≡ false → SameScope p certs q.of_module.functions others func
-scope p certs q others replaced callers edit func e =
-    let parts = or_neither (func == replaced) (is_touched_by q.of_module replaced callers func) e in
-    let other : func ≢ replaced = λ h. let t = eq-eqb func replaced h in cc in
+    → func < length q.of_module.functions → Misses (touched q.of_module replaced callers) func → SameScope p certs q.of_module.functions others func
+scope p certs q others replaced callers edit func less misses =
+    let other : func ≢ replaced = not_replaced q.of_module replaced callers func misses in
     record {
       code = edit.code func other;
       section = edit.sections func other;
-      calls = λ f at. calls_same p certs q others replaced callers edit func f (edit.code func other ∙ at) parts.1;
+      calls = λ f at. calls_same p certs q others replaced callers edit func f (edit.code func other ∙ at) less misses;
     }
 
 -- the answer that is kept is one after the edit
@@ -100,30 +150,48 @@ stays certified refused p certs q others func tables same None h =
 stays certified refused p certs q others func tables same (Some refusal) h =
     subst (λ (r : LaidOut). IsAnswer r others func (Some refusal)) (sym tables) (refused p certs q.of_module.functions others func refusal same h)
 
-pub answer_after : StayCertified → StayRefused → (p : LaidOut) (certs : List Section) (q : LaidOut) (others : List Section) (replaced : ℕ) (callers : Callers) → IsEdited p certs q others replaced callers → (func : ℕ) (old new : Option Refusal)
-    → IsAnswer p certs func old → IsAgain q others (is_touched q.of_module replaced callers func) func old new → IsAnswer q others func new
-answer_after certified refused p certs q others replaced callers edit func old new before again = by (is_touched q.of_module replaced callers func) refl again
+-- ---- all answers
+
+module _ (certified : StayCertified) (refused : StayRefused) (p : LaidOut) (certs : List Section) (q : LaidOut) (others : List Section) (replaced : ℕ) (callers : Callers) (edit : IsEdited p certs q others replaced callers)
+    (funcs : List ℕ) (funcs_are : funcs ≡ touched q.of_module replaced callers) (before anew : List (Option Refusal)) (are : AreAnswers p certs before) (count : length before ≡ length q.of_module.functions)
+    (are_anew : AreAnswersTo q others funcs anew) where
+  each_after : (func : ℕ) (answer : Option Refusal) → func < length q.of_module.functions → IsPutAt funcs anew before (length funcs) func answer → IsAnswer q others func answer
+  each_after func answer less (inl h) = are_anew.1 h.0 func answer h.1 h.2
+  each_after func answer less (inr h) =
+      let misses : Misses funcs func = λ place at. h.1 place (slice_get_within funcs place func at) at in
+      let misses_touched : Misses (touched q.of_module replaced callers) func = subst (λ (xs : List ℕ). Misses xs func) funcs_are misses in
+      stays certified refused p certs q others func edit.tables (scope p certs q others replaced callers edit func less misses_touched) answer (are.each func answer h.0)
+
+  pub all_after : (after : List (Option Refusal)) → after ≡ put_first funcs anew before (length funcs) → AreAnswers q others after
+  all_after after is =
+      let many : length after ≡ length q.of_module.functions = ap length is ∙ length_put funcs anew before (length funcs) ∙ count in
+      record {
+        one_each = many;
+        each = λ func answer at.
+            each_after func answer (omega (arith, slice_get_within after func answer at, many))
+            (put_at funcs anew before (length funcs) func answer (omega (arith, are_anew.0)) (subst (λ (xs : List (Option Refusal)). slice_get xs func ≡ Some answer) is at));
+      }
+
+-- ---- numbers of functions
+
+below_within : (m : Module) (called count place func : ℕ) → slice_get (callers_below m called count) place ≡ Some func → func < count
+below_within m called zero place func at = absurd cc
+below_within m called (suc count) place func at = by (is_caller m called count) at (below_within m called count)
   where
-    by : (b : Bool) → is_touched q.of_module replaced callers func ≡ b → IsAgain q others b func old new → IsAnswer q others func new
-    by true e h = h
-    by false e h = subst (IsAnswer q others func) (sym h) (stays certified refused p certs q others func edit.tables (scope p certs q others replaced callers edit func e) old before)
+    by : (b : Bool) → slice_get (if b then callers_below m called count ++ count ∷ [] else callers_below m called count) place ≡ Some func
+        → ((n g : ℕ) → slice_get (callers_below m called count) n ≡ Some g → g < count) → func < suc count
+    by true h earlier = one_more (λ n g. g < suc count) (callers_below m called count) count (λ n g is. omega (arith, earlier n g is)) (omega arith) place func h
+    by false h earlier = omega (arith, earlier place func h)
 
--- lists of one length have elements at the same places
-stands_too : {A : Type 0} (xs ys : List A) (n : ℕ) (y : A) → length ys ≡ length xs → slice_get ys n ≡ Some y → (x : A) × (slice_get xs n ≡ Some x)
-stands_too xs [] n y e at = absurd cc
-stands_too [] (z ∷ ys) n y e at = absurd (omega (arith, e))
-stands_too (x ∷ xs) (z ∷ ys) zero y e at = (x, refl)
-stands_too (x ∷ xs) (z ∷ ys) (suc n) y e at = stands_too xs ys n y (omega (arith, e)) at
-
--- so are all answers
-pub all_after : StayCertified → StayRefused → (p : LaidOut) (certs : List Section) (q : LaidOut) (others : List Section) (replaced : ℕ) (callers : Callers) → IsEdited p certs q others replaced callers → (before after : List (Option Refusal))
-    → AreAnswers p certs before → length after ≡ length before → length before ≡ length q.of_module.functions → AreAgainSoFar q others replaced callers before after → AreAnswers q others after
-all_after certified refused p certs q others replaced callers edit before after are same count again = record {
-  one_each = same ∙ count;
-  each = λ func answer at.
-      let old = stands_too before after func answer same at in
-      answer_after certified refused p certs q others replaced callers edit func old.0 answer (are.each func old.0 old.1) (again func old.0 answer old.1 at);
-}
+-- there are functions of the numbers that are checked again
+pub touched_within : (m : Module) (replaced : ℕ) (callers : Callers) (funcs : List ℕ) → funcs ≡ touched m replaced callers → replaced < length m.functions → AreWithin (length m.functions) funcs
+touched_within m replaced callers funcs is less = subst (AreWithin (length m.functions)) (sym is) (by callers)
+  where
+    by : (c : Callers) → AreWithin (length m.functions) (touched m replaced c)
+    by SeeNone zero func at = let same : replaced ≡ func = cc in subst (λ n. n < length m.functions) same less
+    by SeeNone (suc place) func at = absurd cc
+    by SeeChange zero func at = let same : replaced ≡ func = cc in subst (λ n. n < length m.functions) same less
+    by SeeChange (suc place) func at = below_within m replaced (length m.functions) place func at
 
 -- ---- one answer more
 
@@ -134,17 +202,6 @@ answers_more program certs answers more n answer grown count so_far here =
     let last : IsAnswer program certs (length answers) answer = subst (λ k. IsAnswer program certs k answer) (sym count) here in
     let longer = length-append answers (answer ∷ []) in
     (ap length grown ∙ omega (arith, longer, count), subst (AreAnswersSoFar program certs) (sym grown) (one_more (IsAnswer program certs) answers answer so_far last))
-
-pub again_more : (program : LaidOut) (certs : List Section) (replaced : ℕ) (callers : Callers) (before answers more : List (Option Refusal)) (n : ℕ) (old answer : Option Refusal) → more ≡ answers ++ answer ∷ [] → length answers ≡ n
-    → AreAgainSoFar program certs replaced callers before answers → slice_get before n ≡ Some old → IsAgain program certs (is_touched program.of_module replaced callers n) n old answer
-    → (length more ≡ n + 1) × AreAgainSoFar program certs replaced callers before more
-again_more program certs replaced callers before answers more n old answer grown count so_far at here =
-    let Again = λ (func : ℕ) (new : Option Refusal). (was : Option Refusal) → slice_get before func ≡ Some was → IsAgain program certs (is_touched program.of_module replaced callers func) func was new in
-    let last : Again (length answers) answer = subst (λ k. Again k answer) (sym count) (λ was is. let same : old ≡ was = cc in subst (λ x. IsAgain program certs (is_touched program.of_module replaced callers n) n x answer) same here) in
-    let longer = length-append answers (answer ∷ []) in (
-      ap length grown ∙ omega (arith, longer, count),
-      λ func was new is found. one_more Again answers answer (λ k x h w i. so_far k w x i h) last func new (subst (λ xs. slice_get xs func ≡ Some new) grown found) was is,
-    )
 
 -- these are all of them
 pub all_answers : (program : LaidOut) (certs : List Section) (answers : List (Option Refusal)) (n : ℕ) → (length answers ≡ n) × AreAnswersSoFar program certs answers → n ≡ length program.of_module.functions → AreAnswers program certs answers

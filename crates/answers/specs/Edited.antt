@@ -1,5 +1,5 @@
 -- A program in which one function is replaced, or its certificate.
-use Rattle.std.specs.Prelude.{◌≡◌, ◌≢◌, ◌==◌, ◌||◌, ℕ, Bool, true, false, List, slice_get, Option, Some, None}
+use Rattle.std.specs.Prelude.{◌≡◌, ◌≢◌, ◌<◌, ◌==◌, ◌&&◌, ◌++◌, ℕ, zero, suc, Bool, not, if◌then◌else◌, false, List, [], ◌∷◌, length, slice_get, slice_set, Option, Some, None}
 use Rattle.std.specs.List.{list_any}
 use Rattle.ir_ast.specs.declared.block.Block.{Block}
 use Rattle.ir_ast.specs.declared.function.Function.{Function}
@@ -10,8 +10,8 @@ use Rattle.layout.specs.Layouts.{LaidOut}
 use Rattle.block_rules.specs.declared.block_fault.Refusal.{Refusal}
 use Rattle.locality.specs.Local.{laid_with, called_by, LooksSame}
 use Rattle.answers.specs.Answers.{IsAnswer}
-use Rattle.answers.specs.declared.again.Callers.{Callers}
-use Rattle.answers.specs.declared.again.Callers.TheVariants.{SeeChange, SeeNone}
+use Rattle.answers.specs.declared.callers.Callers.{Callers}
+use Rattle.answers.specs.declared.callers.Callers.TheVariants.{SeeChange, SeeNone}
 
 -- ---- callers
 
@@ -32,31 +32,50 @@ block_calls m called block = list_any (instruction_calls m called) block.body
 abbrev pub calls : Module → (called : ℕ) → Function → Bool
 calls m called f = list_any (block_calls m called) f.blocks
 
+-- a function, if there is one, calls this one
+abbrev pub calls_it : Module → (called : ℕ) → Option Function → Bool
+calls_it m called None = false
+calls_it m called (Some f) = calls m called f
+
+-- the function with another number calls this one
+abbrev pub is_caller : Module → (called other : ℕ) → Bool
+is_caller m called other = not (other == called) && calls_it m called (slice_get m.functions other)
+
+-- those of the first `count` functions that call this one, but for itself, by their numbers
+abbrev pub callers_below : Module → (called : ℕ) → (count : ℕ) → List ℕ
+callers_below m called zero = []
+callers_below m called (suc count) =
+    if is_caller m called count then callers_below m called count ++ count ∷ [] else callers_below m called count
+
 -- ---- what is checked again
 
--- the answer to a function that calls this one may have changed
-abbrev pub calls_replaced : Module → (replaced : ℕ) → Option Function → Bool
-calls_replaced m replaced None = true
-calls_replaced m replaced (Some f) = calls m replaced f
+-- the functions whose answers may change where this one is replaced: itself, and its callers where they see a change
+abbrev pub touched : Module → (replaced : ℕ) → Callers → List ℕ
+touched m replaced SeeChange = replaced ∷ callers_below m replaced (length m.functions)
+touched m replaced SeeNone = replaced ∷ []
 
--- the answer to another function may have changed
-abbrev pub is_touched_by : Module → (replaced : ℕ) → Callers → (func : ℕ) → Bool
-is_touched_by m replaced SeeChange func = calls_replaced m replaced (slice_get m.functions func)
-is_touched_by m replaced SeeNone func = false
+-- there are functions of these numbers, if there are so many
+abbrev pub AreWithin : (count : ℕ) → (funcs : List ℕ) → Type 0
+AreWithin count funcs = (place func : ℕ) → slice_get funcs place ≡ Some func → func < count
 
--- the answer to a function may have changed
-abbrev pub is_touched : Module → (replaced : ℕ) → Callers → (func : ℕ) → Bool
-is_touched m replaced callers func = (func == replaced) || is_touched_by m replaced callers func
+-- the answers to the first of these functions, in their order
+abbrev pub AreAnswersToFirst : LaidOut → (certs : List Section) → (funcs : List ℕ) → List (Option Refusal) → Type 0
+AreAnswersToFirst program certs funcs answers =
+    (place func : ℕ) (answer : Option Refusal) → slice_get funcs place ≡ Some func → slice_get answers place ≡ Some answer → IsAnswer program certs func answer
 
--- the answer to a function, or the old one where that may not have changed
-abbrev pub IsAgain : LaidOut → (certs : List Section) → (touched : Bool) → (func : ℕ) → (old new : Option Refusal) → Type 0
-IsAgain program certs true func old new = IsAnswer program certs func new
-IsAgain program certs false func old new = new ≡ old
+-- the answers to these functions, in their order
+abbrev pub AreAnswersTo : LaidOut → (certs : List Section) → (funcs : List ℕ) → List (Option Refusal) → Type 0
+AreAnswersTo program certs funcs answers = (length answers ≡ length funcs) × AreAnswersToFirst program certs funcs answers
 
--- the answers to the first functions
-abbrev pub AreAgainSoFar : LaidOut → (certs : List Section) → (replaced : ℕ) → Callers → (before after : List (Option Refusal)) → Type 0
-AreAgainSoFar program certs replaced callers before after =
-    (func : ℕ) (old new : Option Refusal) → slice_get before func ≡ Some old → slice_get after func ≡ Some new → IsAgain program certs (is_touched program.of_module replaced callers func) func old new
+-- with this answer to this function, if there are both
+abbrev pub put_answer : (func : Option ℕ) → (answer : Option (Option Refusal)) → List (Option Refusal) → List (Option Refusal)
+put_answer (Some func) (Some answer) answers = slice_set answers func answer
+put_answer _ _ answers = answers
+
+-- with the answers to the first `count` of these functions in their places
+abbrev pub put_first : (funcs : List ℕ) → (anew answers : List (Option Refusal)) → (count : ℕ) → List (Option Refusal)
+put_first funcs anew answers zero = answers
+put_first funcs anew answers (suc count) = put_answer (slice_get funcs count) (slice_get anew count) (put_first funcs anew answers count)
 
 -- ---- the edit
 

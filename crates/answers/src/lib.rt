@@ -5,6 +5,6 @@ mod again;
 mod answers;
 mod callers;
 
-pub use again::{Callers, answers_again};
+pub use again::answers_again;
 pub use answers::{answers_to, first_refusal};
-pub use callers::calls;
+pub use callers::{Callers, touched_by};

@@ -4,8 +4,6 @@ use Rattle.std.specs.Fmt.{decimal}
 use Rattle.ir_ast.specs.declared.module.Module.{Module}
 use Rattle.ir_text.specs.declared.read_fault.ReadFault.{ReadFault}
 use Rattle.ir_text.specs.declared.read_fault.ReadFault.TheVariants as read
-use Rattle.layout.specs.declared.fault.LayoutFault.{LayoutFault}
-use Rattle.layout.specs.declared.fault.LayoutFault.TheVariants as layout
 use Rattle.certificate.specs.declared.fault.CertFault.{CertFault}
 use Rattle.certificate.specs.declared.fault.CertFault.TheVariants as cert
 use Rattle.certs.specs.declared.section.Section.{Section}
@@ -14,7 +12,7 @@ use Rattle.block_rules.specs.declared.block_fault.Refusal.{Refusal}
 use Rattle.module_check.specs.Accepted.{IsAccepted, IsFirstRefusal}
 use Rattle.module_check.specs.declared.verdict.Verdict.{Verdict}
 use Rattle.module_check.specs.declared.verdict.Verdict.TheVariants.{Layout}
-use Rattle.recheck.specs.Edits.{IsEdited, IsRefusedFor, module_in}
+use Rattle.recheck.specs.Edits.{IsEdited, IsEditFault, module_in}
 use Rattle.recheck.specs.Session.{State}
 use Rattle.recheck.specs.declared.edit_fault.EditFault.{EditFault}
 use Rattle.recheck.specs.declared.edit_fault.EditFault.TheVariants as edit
@@ -59,20 +57,12 @@ cert_code (cert.Missing func) = codes "C5"
 cert_code (cert.MissingBlock func block) = codes "C5"
 cert_code cert.Memory = codes "memory"
 
--- the code of a fault of layouts
-abbrev pub layout_code : LayoutFault → List ℕ
-layout_code (layout.HoldsItself number) = codes "Y1"
-layout_code (layout.TooManyWords number) = codes "Y2"
-layout_code (layout.NoSuchLayout number) = codes "Y3"
-layout_code layout.Memory = codes "memory"
-
 -- the code of the fault for which an edit is refused
 abbrev pub edit_code : EditFault → List ℕ
 edit_code edit.NoFunction = codes "L5"
 edit_code edit.NoSection = codes "C3"
 edit_code (edit.Code fault) = read_code fault
 edit_code (edit.Cert fault) = cert_code fault
-edit_code (edit.Layout fault) = layout_code fault
 edit_code edit.Memory = codes "memory"
 
 -- ---- lines
@@ -102,7 +92,7 @@ pub data OfSession (s : State) : Answer → Type 0 where
 -- the session after the edit of this number, and the line that is printed of it: the edit is taken; or it is refused, and the session stays
 pub data OfEdit (number : ℕ) (s : State) (e : Edit) : (t : State) → (line : List ℕ) → Type 0 where
   edit_taken : (t : State) (verdict : Answer) → IsEdited s e t → OfSession t verdict → OfEdit number s e t (taken_text number t.rechecked verdict)
-  edit_refused : (fault : EditFault) → fault ≢ edit.Memory → IsRefusedFor s e fault → OfEdit number s e s (refused_text number fault)
+  edit_refused : (fault : EditFault) → fault ≢ edit.Memory → IsEditFault s e fault → OfEdit number s e s (refused_text number fault)
 
 -- the session after edits, the first of which has this number, and the lines that are printed of them
 abbrev pub OfEdits : (number : ℕ) → State → List Edit → (t : State) → (lines : List ℕ) → Type 0

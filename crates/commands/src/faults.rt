@@ -174,18 +174,6 @@ fn code_of_certificate(fault: CertFault) -> &'static str
     }
 }
 
-/// The code of a fault of layouts.
-fn code_of_layouts(fault: LayoutFault) -> &'static str
-    ensures { result.now ≡ edits_spec.layout_code fault }
-{
-    match fault {
-        LayoutFault::HoldsItself(_) => "Y1",
-        LayoutFault::TooManyWords(_) => "Y2",
-        LayoutFault::NoSuchLayout(_) => "Y3",
-        LayoutFault::Memory => "memory",
-    }
-}
-
 /// The code of the fault for which an edit is refused.
 pub fn code_of_edit(fault: &EditFault) -> &'static str
     ensures { result.now ≡ edits_spec.edit_code fault.now }
@@ -195,7 +183,6 @@ pub fn code_of_edit(fault: &EditFault) -> &'static str
         EditFault::NoSection => "C3",
         EditFault::Code(fault) => code_of_module(fault),
         EditFault::Cert(fault) => code_of_certificate(*fault),
-        EditFault::Layout(fault) => code_of_layouts(*fault),
         EditFault::Memory => "memory",
     }
 }

@@ -1,33 +1,31 @@
 -- What is put in the place of a function's code and section is what the edit asks for, and what is refused is refused for its first fault.
 use Rattle.std.proofs.Common.{◌≡◌, ◌≢◌, ◌⊎◌, inl, inr, ◌<◌, ℕ, List, length, slice_get, Option, Some, None, Result, Ok, Err, refl, ap, sym, subst, ◌∙◌}
-use Rattle.std.specs.Prelude.{slice_set, IfOk, IfErr, OnOk, IfSome}
+use Rattle.std.specs.Prelude.{slice_set, IfOk, IfErr, OnOk, OnErr, IfSome}
 use Rattle.ir_ast.specs.declared.function.Function.{Function}
 use Rattle.ir_ast.specs.declared.module.Module.{Module}
 use Rattle.ir_tokens.specs.Bytes.{Text}
 use Rattle.ir_text.specs.Read.{Gives}
 use Rattle.ir_text.specs.Replaced.{IsReplaced, IsReplaceFault, put_function, with_replacement}
+use Rattle.ir_text.specs.declared.anew.Tables.{Tables}
 use Rattle.ir_text.specs.declared.read_fault.ReadFault.{ReadFault}
 use Rattle.ir_text.specs.declared.read_fault.ReadFault.TheVariants as read
 use Rattle.certs.specs.declared.section.Section.{Section}
 use Rattle.certificate.specs.Anew.{IsSection}
 use Rattle.layout.specs.Functions.{laid_with}
 use Rattle.layout.specs.Grown.{LayoutsStay}
-use Rattle.layout.specs.Layouts.{LaidOut, AreLayouts, AreSizes, IsLayoutFault}
-use Rattle.layout.specs.declared.fault.LayoutFault.{LayoutFault}
-use Rattle.layout.specs.declared.fault.LayoutFault.TheVariants as layout
-use Rattle.pools.specs.declared.word_kind.WordKind.{WordKind}
+use Rattle.layout.specs.Layouts.{LaidOut, AreLayouts, AreSizes}
 use Rattle.block_rules.specs.declared.block_fault.Refusal.{Refusal}
 use Rattle.answers.specs.Answers.{AreAnswers}
 use Rattle.edit_text.specs.declared.edit.Edit.{Edit}
 use Rattle.edit_text.specs.declared.edit.Edit.TheVariants as edit
-use Rattle.recheck.specs.Edits.{IsPut, IsSectionPut, IsCodePut, IsEditedAt, IsEdited, HasSectionFault, HasCodeFault, HasLayoutFault, HasLayoutFaultAt, IsFaultAt, IsEditFault, IsRefusedAt, IsRefusedFor, IsTaken, IsRefusedBy, code_fault, layout_fault, name_in, no_function, text_with}
+use Rattle.recheck.specs.Edits.{AreRead, IsReadAt, IsRead, IsEditedAt, IsEdited, HasSectionFault, HasCodeFault, IsFaultAt, IsEditFault, IsTaken, IsRefusedBy, code_fault, name_in, no_function, text_with}
 use Rattle.recheck.specs.Named.{function_named}
-use Rattle.recheck.specs.Put.{state, with_function, IsTextPut, IsBothPut}
+use Rattle.recheck.specs.Put.{state, with_function, IsTextPut, IsBothPut, AreReady, IsKept}
 use Rattle.recheck.specs.Session.{State, IsAnswered}
 use Rattle.recheck.specs.Told.{rechecked_by}
 use Rattle.recheck.specs.declared.edit_fault.EditFault.{EditFault}
 use Rattle.recheck.specs.declared.edit_fault.EditFault.TheVariants.{Memory}
-use Rattle.recheck.specs.declared.put.Put.{Put}
+use Rattle.recheck.specs.declared.kept.Kept.{Kept}
 use Rattle.recheck.proofs.Lists.{length_set}
 use Rattle.recheck.proofs.Puts.{put_so}
 use Rattle.recheck.proofs.Results.{same_ok, same_err, ok_or_err, err_or_ok}
@@ -101,29 +99,19 @@ module _ (m : Module) (func : ℕ) (code text : Text) (n : Module) (is : IsTheCo
   section_of_code e h = inr (n, is.is_read, h)
 
   -- a section with the code is one with the module that was read
-  pub with_code : (o : Module) (section : Section) → IsReplaced m func code o → IsSection text o func section → IsSection text n func section
-  with_code o section h of_text = subst (λ (x : Module). IsSection text x func section) (is.one o h) of_text
-
-  -- the module that was read has this fault in its layouts
-  pub layout_refused : (section : Section) (f : LayoutFault) (e : EditFault) → IsSection text n func section → e ≡ layout_fault f → (f ≢ layout.Memory → IsLayoutFault n f) → e ≢ Memory
-      → HasLayoutFault m func code text e
-  layout_refused section f e of_text same fault differs = (n, is.is_read, (section, of_text), (f, fault (λ h. differs (same ∙ ap layout_fault h)), sym same))
-
-  -- where it has layouts, it is refused for memory
-  pub layout_taken : (f : LayoutFault) (e : EditFault) → e ≡ layout_fault f → ((words : List (List WordKind)) → AreLayouts n words → f ≡ layout.Memory)
-      → (o : Module) (words : List (List WordKind)) → IsReplaced m func code o → AreLayouts o words → e ≢ Memory → ⊥
-  layout_taken f e same memory o words h laid differs = differs (same ∙ ap layout_fault (memory words (subst (λ (x : Module). AreLayouts x words) (is.one o h) laid)))
+  pub with_code : (o : Module) (section : Section) → AreRead m func code text o section → IsSection text n func section
+  with_code o section h = subst (λ (x : Module). IsSection text x func section) (is.one o h.0) h.1
 
 -- a program made anew, with the function and the section that were read
-pub both_anew : (p q : LaidOut) (certs others : List Section) (func : ℕ) (old : Function) (past section : Section) (n : Module) (code text : Text) (put : Put)
+pub both_anew : (p q : LaidOut) (certs others : List Section) (func : ℕ) (old : Function) (past section : Section) (n : Module) (code text : Text) (count : ℕ)
     → IsReplaced p.of_module func code n → IsSection text n func section → (q.of_module ≡ n) × AreLayouts n q.layouts × AreSizes n q.sizes
-    → others ≡ slice_set certs func section → slice_get p.of_module.functions func ≡ Some old → slice_get certs func ≡ Some past → AreAnswers q others put.answers
-    → put.rechecked ≡ rechecked_by q.of_module others func (Some old) (Some past) → IsBothPut p certs func code text q others put
-both_anew p q certs others func old past section n code text put is_read is laid e at past_at answers count = record {
+    → others ≡ slice_set certs func section → slice_get p.of_module.functions func ≡ Some old → slice_get certs func ≡ Some past
+    → count ≡ rechecked_by q.of_module others func (Some old) (Some past) → IsBothPut p certs func code text q others count
+both_anew p q certs others func old past section n code text count is_read is laid e at past_at counted = record {
   of_code = subst (λ (m : Module). IsReplaced p.of_module func code m) (sym laid.0) is_read;
   laid_out = subst (λ (m : Module). AreLayouts m q.layouts) (sym laid.0) laid.1;
   sized = subst (λ (m : Module). AreSizes m q.sizes) (sym laid.0) laid.2;
-  of_text = put_so p certs q others func old past section text put (subst (λ (m : Module). IsSection text m func section) (sym laid.0) is) e at past_at answers count;
+  of_text = put_so p certs q others func old past section text count (subst (λ (m : Module). IsSection text m func section) (sym laid.0) is) e at past_at counted;
 }
 
 -- ---- the function in the place of the old one
@@ -158,10 +146,10 @@ module _ (m same_m : Module) (same : same_m ≡ m) (func : ℕ) (code : Text) wh
   within_refused e only fails text x (inl h) differs = fails h.0 (to_code_fault m same_m same func code h.0 h.1) differs ∙ h.2
   within_refused e only fails text x (inr h) differs = absurd (only h.0 (to_code m same_m same func code h.0 h.1) differs)
 
-both_in_place : LayoutsStay → (p q : LaidOut) (certs others : List Section) (func : ℕ) (f : Function) (code text : Text) (put : Put)
+both_in_place : LayoutsStay → (p q : LaidOut) (certs others : List Section) (func : ℕ) (f : Function) (code text : Text) (count : ℕ)
     → q ≡ laid_with p (slice_set p.of_module.functions func f) → IsReplaced p.of_module func code (with_function p.of_module func f) → AreLayouts p.of_module p.layouts → AreSizes p.of_module p.sizes
-    → IsTextPut p certs func text q others put → IsBothPut p certs func code text q others put
-both_in_place stay p q certs others func f code text put e is_read laid sized of_text = record {
+    → IsTextPut p certs func text q others count → IsBothPut p certs func code text q others count
+both_in_place stay p q certs others func f code text count e is_read laid sized of_text = record {
   of_code = subst (λ (r : LaidOut). IsReplaced p.of_module func code r.of_module) (sym e) is_read;
   laid_out = subst (λ (r : LaidOut). AreLayouts r.of_module r.layouts) (sym e) (layouts_with stay p.of_module (slice_set p.of_module.functions func f) p.layouts laid);
   sized = subst (λ (r : LaidOut). AreSizes r.of_module r.sizes) (sym e) (sizes_with p.of_module (slice_set p.of_module.functions func f) p.sizes sized);
@@ -169,17 +157,32 @@ both_in_place stay p q certs others func f code text put e is_read laid sized of
 }
 
 -- the program with the function in the place of the old one, if it is taken
-pub place_put : LayoutsStay → (p q : LaidOut) (certs others : List Section) (func : ℕ) (f : Function) (code text : Text) (r : Result Put EditFault)
+pub place_put : LayoutsStay → (p q : LaidOut) (certs others : List Section) (func : ℕ) (f : Function) (code text : Text) (r : Result ℕ EditFault)
     → OnOk r (q ≡ laid_with p (slice_set p.of_module.functions func f)) → IsReplaced p.of_module func code (with_function p.of_module func f) → AreLayouts p.of_module p.layouts → AreSizes p.of_module p.sizes
-    → IfOk r (λ put. IsTextPut p certs func text q others put) → IfOk r (λ put. IsBothPut p certs func code text q others put)
-place_put stay p q certs others func f code text (Ok put) e is_read laid sized of_text = both_in_place stay p q certs others func f code text put e is_read laid sized of_text
+    → IfOk r (λ count. IsTextPut p certs func text q others count) → IfOk r (λ count. IsBothPut p certs func code text q others count)
+place_put stay p q certs others func f code text (Ok count) e is_read laid sized of_text = both_in_place stay p q certs others func f code text count e is_read laid sized of_text
 place_put stay p q certs others func f code text (Err x) e is_read laid sized of_text = tt
 
 -- the faults for which it is refused
-pub place_fault : (m : Module) (func : ℕ) (code text : Text) (n : Module) (r : Result Put EditFault) → IsReplaced m func code n → IfErr r (λ e. e ≢ Memory → HasSectionFault n func text e)
-    → IfErr r (λ e. e ≢ Memory → HasCodeFault m func code text e ⊎ HasLayoutFault m func code text e)
-place_fault m func code text n (Ok put) is_read h = tt
-place_fault m func code text n (Err e) is_read h = λ differs. inl (inr (n, is_read, h differs))
+pub place_fault : (m : Module) (func : ℕ) (code text : Text) (n : Module) (r : Result ℕ EditFault) → IsReplaced m func code n → IfErr r (λ e. e ≢ Memory → HasSectionFault n func text e)
+    → IfErr r (λ e. e ≢ Memory → HasCodeFault m func code text e)
+place_fault m func code text n (Ok count) is_read h = tt
+place_fault m func code text n (Err e) is_read h = λ differs. inr (n, is_read, h differs)
+
+-- ---- tables that are ready
+
+-- they are those of the program with the function in the place of the old one, or of the old one
+pub ready_in_place : (p q : LaidOut) (func : ℕ) (f : Function) (tables : Option Tables) (S T : Type 0) (r : Result ℕ EditFault) → AreReady p.of_module tables → OnOk r (q ≡ laid_with p (slice_set p.of_module.functions func f))
+    → OnErr r ((q ≡ p) × S × T) → AreReady q.of_module tables
+ready_in_place p q func f None S T r h placed kept = tt
+ready_in_place p q func f (Some tables) S T (Ok count) h placed kept = subst (λ (x : LaidOut). AreReady x.of_module (Some tables)) (sym placed) h
+ready_in_place p q func f (Some tables) S T (Err x) h placed kept = subst (λ (x : LaidOut). AreReady x.of_module (Some tables)) (sym kept.0) h
+
+-- or there are none
+pub ready_anew : (p q : LaidOut) (S : Type 0) (before after : Kept) (r : Result ℕ EditFault) → AreReady p.of_module before.tables → OnOk r (after.tables ≡ None) → OnErr r ((q ≡ p) × S × (after ≡ before)) → AreReady q.of_module after.tables
+ready_anew p q S before after (Ok count) h none kept = subst (AreReady q.of_module) (sym none) tt
+ready_anew p q S before after (Err x) h none kept =
+    subst (λ (k : Kept). AreReady q.of_module k.tables) (sym kept.2) (subst (λ (x : LaidOut). AreReady x.of_module before.tables) (sym kept.0) h)
 
 -- ---- one function
 
@@ -190,62 +193,84 @@ IsOfCode p certs func e code text =
     ⊎ ((name : Text) × (e ≡ edit.Both name code text))
 
 -- a section is in its place, and the answers go with it
-section_answered : (p : LaidOut) (certs others : List Section) (func : ℕ) (text : Text) (before : List (Option Refusal)) (put : Put) → IsAnswered p certs before → IsTextPut p certs func text p others put → IsAnswered p others put.answers
-section_answered p certs others func text before put kept h = record {
+section_answered : (p : LaidOut) (certs others : List Section) (func : ℕ) (text : Text) (before after : List (Option Refusal)) (count : ℕ) → IsAnswered p certs before → IsTextPut p certs func text p others count → AreAnswers p others after
+    → IsAnswered p others after
+section_answered p certs others func text before after count kept h are = record {
   laid_out = kept.laid_out;
   sized = kept.sized;
   one_each = ap length h.2.certs_are ∙ length_set certs func h.0 ∙ kept.one_each;
-  are_answers = h.2.answers;
+  are_answers = are;
 }
 
 -- so it is where the code is another one too
-code_answered : (p q : LaidOut) (certs others : List Section) (func : ℕ) (code text : Text) (before : List (Option Refusal)) (put : Put) → IsAnswered p certs before → IsBothPut p certs func code text q others put
-    → IsAnswered q others put.answers
-code_answered p q certs others func code text before put kept h = record {
+code_answered : (p q : LaidOut) (certs others : List Section) (func : ℕ) (code text : Text) (before after : List (Option Refusal)) (count : ℕ) → IsAnswered p certs before → IsBothPut p certs func code text q others count → AreAnswers q others after
+    → IsAnswered q others after
+code_answered p q certs others func code text before after count kept h are = record {
   laid_out = h.laid_out;
   sized = h.sized;
   one_each = ap length h.of_text.2.certs_are ∙ length_set certs func h.of_text.0 ∙ kept.one_each ∙ sym (replaced_length p.of_module func code q.of_module h.of_code);
-  are_answers = h.of_text.2.answers;
+  are_answers = are;
 }
 
-module _ (p : LaidOut) (certs : List Section) (before : List (Option Refusal)) (kept : IsAnswered p certs before) (func : ℕ) (e : Edit) where
+-- where all is as before, so are the answers
+answered_as_before : (p q : LaidOut) (certs others : List Section) (before after : List (Option Refusal)) → IsAnswered p certs before → (q ≡ p) × (others ≡ certs) × (after ≡ before) → IsAnswered q others after
+answered_as_before p q certs others before after kept same =
+    subst (λ (x : LaidOut). IsAnswered x others after) (sym same.0) (subst (λ (x : List Section). IsAnswered p x after) (sym same.1) (subst (λ (x : List (Option Refusal)). IsAnswered p certs x) (sym same.2) kept))
+
+-- what a session keeps, where a section is put in its place or refused
+pub section_kept : (p : LaidOut) (certs others : List Section) (func : ℕ) (text : Text) (before after : Kept) (r : Result ℕ EditFault) → IsKept p certs before → after.tables ≡ before.tables → IfOk r (λ count. IsTextPut p certs func text p others count)
+    → OnOk r (AreAnswers p others after.answers) → OnErr r ((others ≡ certs) × (after.answers ≡ before.answers)) → IsKept p others after
+section_kept p certs others func text before after (Ok count) kept tables put are same = record {
+  answered = section_answered p certs others func text before.answers after.answers count kept.answered put are;
+  ready = subst (AreReady p.of_module) (sym tables) kept.ready;
+}
+section_kept p certs others func text before after (Err x) kept tables put are same = record {
+  answered = answered_as_before p p certs others before.answers after.answers kept.answered (refl, same.0, same.1);
+  ready = subst (AreReady p.of_module) (sym tables) kept.ready;
+}
+
+-- and where code is
+pub code_kept : (p q : LaidOut) (certs others : List Section) (func : ℕ) (code text : Text) (before after : Kept) (r : Result ℕ EditFault) → IsKept p certs before → IfOk r (λ count. IsBothPut p certs func code text q others count)
+    → OnOk r (AreAnswers q others after.answers) → AreReady q.of_module after.tables → OnErr r ((q ≡ p) × (others ≡ certs) × (after.answers ≡ before.answers)) → IsKept q others after
+code_kept p q certs others func code text before after (Ok count) kept put are ready same = record { answered = code_answered p q certs others func code text before.answers after.answers count kept.answered put are; ready = ready }
+code_kept p q certs others func code text before after (Err x) kept put are ready same = record { answered = answered_as_before p q certs others before.answers after.answers kept.answered same; ready = ready }
+
+module _ (p : LaidOut) (certs : List Section) (func : ℕ) (e : Edit) where
   -- ---- of a section
 
   module _ (name text : Text) (is : e ≡ edit.Cert name text) where
-    pub section_edited : (others : List Section) (r : Result Put EditFault) → IfOk r (λ put. IsTextPut p certs func text p others put)
-        → (n : ℕ) → IfOk r (λ put. IsEditedAt (state p certs n) func e (state p others put.rechecked))
-    section_edited others (Ok put) h n =
-        subst (λ (x : Edit). IsEditedAt (state p certs n) func x (state p others put.rechecked)) (sym is)
-        (h.0, h.1, record { of_module = refl; laid_out = kept.laid_out; sized = kept.sized; certs = h.2.certs_are; rechecked = h.2.rechecked })
-    section_edited others (Err x) h n = tt
+    pub section_edited : (before : Kept) → IsKept p certs before → (others : List Section) (r : Result ℕ EditFault) → IfOk r (λ count. IsTextPut p certs func text p others count)
+        → (n : ℕ) → IfOk r (λ count. IsEditedAt (state p certs n) func e (state p others count))
+    section_edited before kept others (Ok count) h n =
+        subst (λ (x : Edit). IsEditedAt (state p certs n) func x (state p others count)) (sym is)
+        (p.of_module, h.0, (refl, h.1), record { of_module = refl; laid_out = kept.answered.laid_out; sized = kept.answered.sized; certs = h.2.certs_are; rechecked = h.2.rechecked })
+    section_edited before kept others (Err x) h n = tt
 
-    pub section_kept : (others : List Section) (r : Result Put EditFault) → IfOk r (λ put. IsTextPut p certs func text p others put) → IfOk r (λ put. IsAnswered p others put.answers)
-    section_kept others (Ok put) h = section_answered p certs others func text before put kept h
-    section_kept others (Err x) h = tt
+    pub section_fault_at : (r : Result ℕ EditFault) → IfErr r (λ f. f ≢ Memory → HasSectionFault p.of_module func text f) → (n : ℕ) → IfErr r (λ f. f ≢ Memory → IsFaultAt (state p certs n) func e f)
+    section_fault_at (Ok count) h n = tt
+    section_fault_at (Err f) h n = λ differs. subst (λ (x : Edit). IsFaultAt (state p certs n) func x f) (sym is) (h differs)
 
-    pub section_fault_at : (r : Result Put EditFault) → IfErr r (λ f. f ≢ Memory → HasSectionFault p.of_module func text f) → (n : ℕ) → IfErr r (λ f. f ≢ Memory → IsRefusedAt (state p certs n) func e f)
-    section_fault_at (Ok put) h n = tt
-    section_fault_at (Err f) h n = λ differs. inl (subst (λ (x : Edit). IsFaultAt (state p certs n) func x f) (sym is) (h differs))
+    pub section_taken_at : (r : Result ℕ EditFault) → ((section : Section) → IsSection text p.of_module func section → IsTaken r) → (n : ℕ) (m : Module) (section : Section) → IsReadAt (state p certs n) func e m section → IsTaken r
+    section_taken_at r only n m section h =
+        let at : (p.of_module ≡ m) × IsSection text m func section = subst (λ (x : Edit). IsReadAt (state p certs n) func x m section) is h in
+        only section (subst (λ (x : Module). IsSection text x func section) (sym at.0) at.1)
 
-    pub section_taken_at : (r : Result Put EditFault) → ((section : Section) → IsSection text p.of_module func section → IsTaken r) → (n : ℕ) (t : State) → IsEditedAt (state p certs n) func e t → IsTaken r
-    section_taken_at r only n t h = let at : IsSectionPut (state p certs n) func p.of_module text t = subst (λ (x : Edit). IsEditedAt (state p certs n) func x t) is h in only at.0 at.1
-
-    pub section_refused_at : (r : Result Put EditFault) → ((f : EditFault) → HasSectionFault p.of_module func text f → IsRefusedBy r f) → (n : ℕ) (f : EditFault) → IsFaultAt (state p certs n) func e f → IsRefusedBy r f
+    pub section_refused_at : (r : Result ℕ EditFault) → ((f : EditFault) → HasSectionFault p.of_module func text f → IsRefusedBy r f) → (n : ℕ) (f : EditFault) → IsFaultAt (state p certs n) func e f → IsRefusedBy r f
     section_refused_at r only n f h = only f (subst (λ (x : Edit). IsFaultAt (state p certs n) func x f) is h)
 
   -- ---- of code
 
   module _ (code text : Text) (is : IsOfCode p certs func e code text) where
-    to_code_put : (n : ℕ) (t : State) → IsEditedAt (state p certs n) func e t → IsCodePut (state p certs n) func code text t
-    to_code_put n t h = elim is [
-      | inl x ↦ subst (λ (y : Text). IsCodePut (state p certs n) func code y t) (sym x.2) (subst (λ (y : Edit). IsEditedAt (state p certs n) func y t) x.1 h)
-      | inr x ↦ subst (λ (y : Edit). IsEditedAt (state p certs n) func y t) x.1 h
+    to_read : (n : ℕ) (m : Module) (section : Section) → IsReadAt (state p certs n) func e m section → AreRead p.of_module func code text m section
+    to_read n m section h = elim is [
+      | inl x ↦ subst (λ (y : Text). AreRead p.of_module func code y m section) (sym x.2) (subst (λ (y : Edit). IsReadAt (state p certs n) func y m section) x.1 h)
+      | inr x ↦ subst (λ (y : Edit). IsReadAt (state p certs n) func y m section) x.1 h
     ]
 
-    of_code_put : (n : ℕ) (t : State) → IsCodePut (state p certs n) func code text t → IsEditedAt (state p certs n) func e t
-    of_code_put n t h = elim is [
-      | inl x ↦ subst (λ (y : Edit). IsEditedAt (state p certs n) func y t) (sym x.1) (subst (λ (y : Text). IsCodePut (state p certs n) func code y t) x.2 h)
-      | inr x ↦ subst (λ (y : Edit). IsEditedAt (state p certs n) func y t) (sym x.1) h
+    of_read : (n : ℕ) (m : Module) (section : Section) → AreRead p.of_module func code text m section → IsReadAt (state p certs n) func e m section
+    of_read n m section h = elim is [
+      | inl x ↦ subst (λ (y : Edit). IsReadAt (state p certs n) func y m section) (sym x.1) (subst (λ (y : Text). AreRead p.of_module func code y m section) x.2 h)
+      | inr x ↦ subst (λ (y : Edit). IsReadAt (state p certs n) func y m section) (sym x.1) h
     ]
 
     to_fault_put : (n : ℕ) (f : EditFault) → IsFaultAt (state p certs n) func e f → HasCodeFault p.of_module func code text f
@@ -260,40 +285,25 @@ module _ (p : LaidOut) (certs : List Section) (before : List (Option Refusal)) (
       | inr x ↦ subst (λ (y : Edit). IsFaultAt (state p certs n) func y f) (sym x.1) h
     ]
 
-    of_layout_put : (n : ℕ) (f : EditFault) → HasLayoutFault p.of_module func code text f → HasLayoutFaultAt (state p certs n) func e f
-    of_layout_put n f h = elim is [
-      | inl x ↦ subst (λ (y : Edit). HasLayoutFaultAt (state p certs n) func y f) (sym x.1) (subst (λ (y : Text). HasLayoutFault p.of_module func code y f) x.2 h)
-      | inr x ↦ subst (λ (y : Edit). HasLayoutFaultAt (state p certs n) func y f) (sym x.1) h
-    ]
-
-    pub code_edited : (q : LaidOut) (others : List Section) (r : Result Put EditFault) → IfOk r (λ put. IsBothPut p certs func code text q others put)
-        → (n : ℕ) → IfOk r (λ put. IsEditedAt (state p certs n) func e (state q others put.rechecked))
-    code_edited q others (Ok put) h n =
-        of_code_put n (state q others put.rechecked)
-        (q.of_module, h.of_code, (h.of_text.0, h.of_text.1, record { of_module = refl; laid_out = h.laid_out; sized = h.sized; certs = h.of_text.2.certs_are; rechecked = h.of_text.2.rechecked }))
+    pub code_edited : (q : LaidOut) (others : List Section) (r : Result ℕ EditFault) → IfOk r (λ count. IsBothPut p certs func code text q others count)
+        → (n : ℕ) → IfOk r (λ count. IsEditedAt (state p certs n) func e (state q others count))
+    code_edited q others (Ok count) h n = (
+      q.of_module,
+      h.of_text.0,
+      of_read n q.of_module h.of_text.0 (h.of_code, h.of_text.1),
+      record { of_module = refl; laid_out = h.laid_out; sized = h.sized; certs = h.of_text.2.certs_are; rechecked = h.of_text.2.rechecked },
+    )
     code_edited q others (Err x) h n = tt
 
-    pub code_kept : (q : LaidOut) (others : List Section) (r : Result Put EditFault) → IfOk r (λ put. IsBothPut p certs func code text q others put) → IfOk r (λ put. IsAnswered q others put.answers)
-    code_kept q others (Ok put) h = code_answered p q certs others func code text before put kept h
-    code_kept q others (Err x) h = tt
+    pub code_fault_at : (r : Result ℕ EditFault) → IfErr r (λ f. f ≢ Memory → HasCodeFault p.of_module func code text f) → (n : ℕ) → IfErr r (λ f. f ≢ Memory → IsFaultAt (state p certs n) func e f)
+    code_fault_at (Ok count) h n = tt
+    code_fault_at (Err f) h n = λ differs. of_fault_put n f (h differs)
 
-    pub code_fault_at : (r : Result Put EditFault) → IfErr r (λ f. f ≢ Memory → HasCodeFault p.of_module func code text f ⊎ HasLayoutFault p.of_module func code text f)
-        → (n : ℕ) → IfErr r (λ f. f ≢ Memory → IsRefusedAt (state p certs n) func e f)
-    code_fault_at (Ok put) h n = tt
-    code_fault_at (Err f) h n = λ differs. elim (h differs) [
-      | inl x ↦ inl (of_fault_put n f x)
-      | inr x ↦ inr (of_layout_put n f x)
-    ]
+    pub code_taken_at : (r : Result ℕ EditFault) → ((m : Module) (section : Section) → AreRead p.of_module func code text m section → IsTaken r)
+        → (n : ℕ) (m : Module) (section : Section) → IsReadAt (state p certs n) func e m section → IsTaken r
+    code_taken_at r only n m section h = only m section (to_read n m section h)
 
-    pub code_taken_at : (r : Result Put EditFault)
-        → ((m : Module) (section : Section) (words : List (List WordKind)) → IsReplaced p.of_module func code m → IsSection text m func section → AreLayouts m words → IsTaken r)
-        → (n : ℕ) (t : State) → IsEditedAt (state p certs n) func e t → IsTaken r
-    code_taken_at r only n t h =
-        let at = to_code_put n t h in
-        let put = at.2.2 in
-        only at.0 at.2.0 t.program.layouts at.1 at.2.1 (subst (λ (x : Module). AreLayouts x t.program.layouts) put.of_module put.laid_out)
-
-    pub code_refused_at : (r : Result Put EditFault) → ((f : EditFault) → HasCodeFault p.of_module func code text f → IsRefusedBy r f) → (n : ℕ) (f : EditFault) → IsFaultAt (state p certs n) func e f → IsRefusedBy r f
+    pub code_refused_at : (r : Result ℕ EditFault) → ((f : EditFault) → HasCodeFault p.of_module func code text f → IsRefusedBy r f) → (n : ℕ) (f : EditFault) → IsFaultAt (state p certs n) func e f → IsRefusedBy r f
     code_refused_at r only n f h = only f (to_fault_put n f h)
 
 -- ---- the function that is named
@@ -304,22 +314,22 @@ named_here m same_m same e name is found named number there =
     ap (λ (x : Module). function_named x (name_in e)) (sym same) ∙ ap (function_named same_m) (sym is) ∙ sym number ∙ there
 
 module _ (p : LaidOut) (certs : List Section) (func : ℕ) (e : Edit) (named : function_named p.of_module (name_in e) ≡ Some func) where
-  pub named_edited : (q : LaidOut) (others : List Section) (r : Result Put EditFault) → ((n : ℕ) → IfOk r (λ put. IsEditedAt (state p certs n) func e (state q others put.rechecked)))
-      → (n : ℕ) → IfOk r (λ put. IsEdited (state p certs n) e (state q others put.rechecked))
-  named_edited q others (Ok put) h n = (func, named, h n)
+  pub named_edited : (q : LaidOut) (others : List Section) (r : Result ℕ EditFault) → ((n : ℕ) → IfOk r (λ count. IsEditedAt (state p certs n) func e (state q others count)))
+      → (n : ℕ) → IfOk r (λ count. IsEdited (state p certs n) e (state q others count))
+  named_edited q others (Ok count) h n = (func, named, h n)
   named_edited q others (Err x) h n = tt
 
-  pub named_fault : (r : Result Put EditFault) → ((n : ℕ) → IfErr r (λ f. f ≢ Memory → IsRefusedAt (state p certs n) func e f)) → (n : ℕ) → IfErr r (λ f. f ≢ Memory → IsRefusedFor (state p certs n) e f)
-  named_fault (Ok put) h n = tt
+  pub named_fault : (r : Result ℕ EditFault) → ((n : ℕ) → IfErr r (λ f. f ≢ Memory → IsFaultAt (state p certs n) func e f)) → (n : ℕ) → IfErr r (λ f. f ≢ Memory → IsEditFault (state p certs n) e f)
+  named_fault (Ok count) h n = tt
   named_fault (Err f) h n = λ differs. inr (func, named, h n differs)
 
   one_name : (other : ℕ) → function_named p.of_module (name_in e) ≡ Some other → other ≡ func
   one_name other is = let same : Some other ≡ Some func = sym is ∙ named in cc
 
-  pub named_taken : (r : Result Put EditFault) → ((n : ℕ) (t : State) → IsEditedAt (state p certs n) func e t → IsTaken r) → (n : ℕ) (t : State) → IsEdited (state p certs n) e t → IsTaken r
-  named_taken r only n t h = only n t (subst (λ (f : ℕ). IsEditedAt (state p certs n) f e t) (one_name h.0 h.1) h.2)
+  pub named_taken : (r : Result ℕ EditFault) → ((n : ℕ) (m : Module) (section : Section) → IsReadAt (state p certs n) func e m section → IsTaken r) → (n : ℕ) (m : Module) (section : Section) → IsRead (state p certs n) e m section → IsTaken r
+  named_taken r only n m section h = only n m section (subst (λ (f : ℕ). IsReadAt (state p certs n) f e m section) (one_name h.0 h.1) h.2)
 
-  pub named_refused : (r : Result Put EditFault) → ((n : ℕ) (f : EditFault) → IsFaultAt (state p certs n) func e f → IsRefusedBy r f) → (n : ℕ) (f : EditFault) → IsEditFault (state p certs n) e f → IsRefusedBy r f
+  pub named_refused : (r : Result ℕ EditFault) → ((n : ℕ) (f : EditFault) → IsFaultAt (state p certs n) func e f → IsRefusedBy r f) → (n : ℕ) (f : EditFault) → IsEditFault (state p certs n) e f → IsRefusedBy r f
   named_refused r only n f (inl h) = absurd (neither (sym h.0 ∙ named)) where
     neither : ◌≡◌ {A = Option ℕ} None (Some func) → ⊥
     neither h = absurd cc
@@ -328,14 +338,14 @@ module _ (p : LaidOut) (certs : List Section) (func : ℕ) (e : Edit) (named : f
 -- ---- where no function is named
 
 module _ (p : LaidOut) (certs : List Section) (e : Edit) (none : function_named p.of_module (name_in e) ≡ None) (f : EditFault) (is : f ≡ no_function e) where
-  pub none_fault : (n : ℕ) → f ≢ Memory → IsRefusedFor (state p certs n) e f
+  pub none_fault : (n : ℕ) → f ≢ Memory → IsEditFault (state p certs n) e f
   none_fault n differs = inl (none, sym is)
 
   some_named : (func : ℕ) → function_named p.of_module (name_in e) ≡ Some func → ⊥
   some_named func h = absurd (let both : ◌≡◌ {A = Option ℕ} None (Some func) = sym none ∙ h in cc)
 
-  pub none_taken : (n : ℕ) (t : State) → IsEdited (state p certs n) e t → f ≢ Memory → ⊥
-  none_taken n t h differs = some_named h.0 h.1
+  pub none_taken : (n : ℕ) (m : Module) (section : Section) → IsRead (state p certs n) e m section → f ≢ Memory → ⊥
+  none_taken n m section h differs = some_named h.0 h.1
 
   pub none_refused : (n : ℕ) (g : EditFault) → IsEditFault (state p certs n) e g → f ≢ Memory → f ≡ g
   none_refused n g (inl h) differs = is ∙ h.1

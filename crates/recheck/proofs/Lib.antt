@@ -3,8 +3,10 @@ pub mod Results
 pub mod Verdicts
 pub mod Same
 pub mod Looks
+pub mod Tells
 pub mod Faults
 pub mod Puts
 pub mod Within
 pub mod Sizes
+pub mod Grown
 pub mod Edited

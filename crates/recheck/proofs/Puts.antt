@@ -8,15 +8,12 @@ use Rattle.certs.specs.declared.section.Section.{Section}
 use Rattle.certificate.specs.Anew.{IsSection}
 use Rattle.layout.specs.Functions.{laid_with}
 use Rattle.layout.specs.Layouts.{LaidOut}
-use Rattle.block_rules.specs.declared.block_fault.Refusal.{Refusal}
 use Rattle.locality.specs.Local.{interface_of, LooksSame}
-use Rattle.answers.specs.Answers.{AreAnswers}
 use Rattle.answers.specs.Edited.{IfUnseen, IsEdited}
-use Rattle.answers.specs.declared.again.Callers.{Callers}
-use Rattle.answers.specs.declared.again.Callers.TheVariants.{SeeChange, SeeNone}
+use Rattle.answers.specs.declared.callers.Callers.{Callers}
+use Rattle.answers.specs.declared.callers.Callers.TheVariants.{SeeChange, SeeNone}
 use Rattle.recheck.specs.Put.{IsWithCode, IsWithSection, IsPutWith, IsTextPut}
 use Rattle.recheck.specs.Told.{rechecked_by}
-use Rattle.recheck.specs.declared.put.Put.{Put}
 use Rattle.recheck.proofs.Lists.{set_back, get_other, length_set}
 
 -- there are as many functions where one is another
@@ -78,17 +75,16 @@ program_back p q r func old f e at back =
 pub certs_back : (certs others again : List Section) (func : ℕ) (past section : Section) → others ≡ slice_set certs func section → slice_get certs func ≡ Some past → again ≡ slice_set others func past → again ≡ certs
 certs_back certs others again func past section e at back = back ∙ ap (λ (l : List Section). slice_set l func past) e ∙ set_back certs func past section at
 
--- the section that was read stands in its place, with the answers and the count
-pub put_so : (p : LaidOut) (certs : List Section) (q : LaidOut) (others : List Section) (func : ℕ) (old : Function) (past section : Section) (text : Text) (put : Put)
-    → IsSection text q.of_module func section → others ≡ slice_set certs func section → slice_get p.of_module.functions func ≡ Some old → slice_get certs func ≡ Some past → AreAnswers q others put.answers
-    → put.rechecked ≡ rechecked_by q.of_module others func (Some old) (Some past) → IsTextPut p certs func text q others put
-put_so p certs q others func old past section text put is e code at answers count = (
+-- the section that was read stands in its place, with the count
+pub put_so : (p : LaidOut) (certs : List Section) (q : LaidOut) (others : List Section) (func : ℕ) (old : Function) (past section : Section) (text : Text) (count : ℕ)
+    → IsSection text q.of_module func section → others ≡ slice_set certs func section → slice_get p.of_module.functions func ≡ Some old → slice_get certs func ≡ Some past
+    → count ≡ rechecked_by q.of_module others func (Some old) (Some past) → IsTextPut p certs func text q others count
+put_so p certs q others func old past section text count is e code at counted = (
   section,
   is,
   record {
     certs_are = e;
-    answers = answers;
-    rechecked = count ∙ ap (λ (f : Option Function). rechecked_by q.of_module others func f (Some past)) (sym code)
+    rechecked = counted ∙ ap (λ (f : Option Function). rechecked_by q.of_module others func f (Some past)) (sym code)
         ∙ ap (λ (s : Option Section). rechecked_by q.of_module others func (slice_get p.of_module.functions func) s) (sym at);
   },
 )

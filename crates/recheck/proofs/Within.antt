@@ -49,7 +49,7 @@ module _ (m : Module) (func : ℕ) (bytes : Text) (tables : Tables) (name : Text
 
   -- ---- what is read
 
-  tables_same : (a : Replacement) → IsTextAnew tables func name bytes a → AreTables m a.tables → a.tables ≡ tables_of m
+  pub tables_same : (a : Replacement) → IsTextAnew tables func name bytes a → AreTables m a.tables → a.tables ≡ tables_of m
   tables_same a h are =
       let sorts : a.tables.sorts ≡ m.sorts = sorts_stay (tables_of m) func (name_of m func) bytes a (of_module a h) in
       made a.tables are sorts

@@ -11,9 +11,7 @@ use Rattle.certificate.specs.Anew.{IsSection, IsSectionFault}
 use Rattle.certificate.specs.Print.{section_text}
 use Rattle.certificate.specs.declared.fault.CertFault.{CertFault}
 use Rattle.certificate.specs.declared.fault.CertFault.TheVariants as cert
-use Rattle.layout.specs.Layouts.{AreLayouts, AreSizes, IsLayoutFault}
-use Rattle.layout.specs.declared.fault.LayoutFault.{LayoutFault}
-use Rattle.layout.specs.declared.fault.LayoutFault.TheVariants as layout
+use Rattle.layout.specs.Layouts.{AreLayouts, AreSizes}
 use Rattle.edit_text.specs.declared.edit.Edit.{Edit}
 use Rattle.edit_text.specs.declared.edit.Edit.TheVariants as edit
 use Rattle.recheck.specs.Named.{function_named}
@@ -55,25 +53,29 @@ pub record IsPut (s : State) (func : ℕ) (m : Module) (section : Section) (t : 
   pub certs : t.certs ≡ slice_set s.certs func section
   pub rechecked : t.rechecked ≡ rechecked_by t.program.of_module t.certs func (code_in s func) (section_in s func)
 
--- the session after an edit that gives the module `m` and a text of the function's section
-abbrev pub IsSectionPut : State → (func : ℕ) → Module → Text → State → Type 0
-IsSectionPut s func m text t = (section : Section) × IsSection text m func section × IsPut s func m section t
+-- a text of a function's code is read as this module, and with it a text of its section as this section
+abbrev pub AreRead : Module → (func : ℕ) → (code text : Text) → (n : Module) → Section → Type 0
+AreRead m func code text n section = IsReplaced m func code n × IsSection text n func section
 
--- the session after an edit that gives a text of the function's code, and a text of its section
-abbrev pub IsCodePut : State → (func : ℕ) → (code text : Text) → State → Type 0
-IsCodePut s func code text t = (m : Module) × IsReplaced (module_in s) func code m × IsSectionPut s func m text t
+-- The texts of an edit of one function are read as this module and this section. Where the edit gives no section, its text is that of the present section, printed with the present code.
+abbrev pub IsReadAt : State → (func : ℕ) → Edit → Module → Section → Type 0
+IsReadAt s func (edit.Code name code) m section = AreRead (module_in s) func code (kept_text s func) m section
+IsReadAt s func (edit.Cert name text) m section = (module_in s ≡ m) × IsSection text m func section
+IsReadAt s func (edit.Both name code text) m section = AreRead (module_in s) func code text m section
 
--- The session after an edit of one function. Where the edit gives no section, the text is that of the present section, printed with the present code.
+-- the session after an edit of one function, whose texts are read
 abbrev pub IsEditedAt : State → (func : ℕ) → Edit → State → Type 0
-IsEditedAt s func (edit.Code name code) t = IsCodePut s func code (kept_text s func) t
-IsEditedAt s func (edit.Cert name section) t = IsSectionPut s func (module_in s) section t
-IsEditedAt s func (edit.Both name code section) t = IsCodePut s func code section t
+IsEditedAt s func e t = (m : Module) × (section : Section) × IsReadAt s func e m section × IsPut s func m section t
 
 -- the name in an edit
 abbrev pub name_in : Edit → Text
 name_in (edit.Code name code) = name
 name_in (edit.Cert name section) = name
 name_in (edit.Both name code section) = name
+
+-- An edit is read as this module and this section: it names a function, and its texts are read as them.
+abbrev pub IsRead : State → Edit → Module → Section → Type 0
+IsRead s e m section = (func : ℕ) × (function_named (module_in s) (name_in e) ≡ Some func) × IsReadAt s func e m section
 
 -- The session after an edit that is taken: it names a function, whose code, section, or both are those of its texts.
 abbrev pub IsEdited : State → Edit → State → Type 0
@@ -101,11 +103,6 @@ abbrev pub section_fault : CertFault → EditFault
 section_fault cert.Memory = fault.Memory
 section_fault f = fault.Cert f
 
--- the fault of an edit after which the layouts have this fault
-abbrev pub layout_fault : LayoutFault → EditFault
-layout_fault layout.Memory = fault.Memory
-layout_fault f = fault.Layout f
-
 -- the fault of an edit of a function that is not there
 abbrev pub no_function : Edit → EditFault
 no_function (edit.Code name code) = fault.NoFunction
@@ -131,23 +128,3 @@ IsFaultAt s func (edit.Both name code section) e = HasCodeFault (module_in s) fu
 abbrev pub IsEditFault : State → Edit → EditFault → Type 0
 IsEditFault s e f =
     ((function_named (module_in s) (name_in e) ≡ None) × (no_function e ≡ f)) ⊎ ((func : ℕ) × (function_named (module_in s) (name_in e) ≡ Some func) × IsFaultAt s func e f)
-
--- the module with the code that is read has this fault in its layouts
-abbrev pub HasLayoutFault : Module → (func : ℕ) → (code text : Text) → EditFault → Type 0
-HasLayoutFault m func code text e =
-    (n : Module) × IsReplaced m func code n × ((section : Section) × IsSection text n func section) × ((f : LayoutFault) × IsLayoutFault n f × (layout_fault f ≡ e))
-
--- the module after an edit of one function has this fault in its layouts
-abbrev pub HasLayoutFaultAt : State → (func : ℕ) → Edit → EditFault → Type 0
-HasLayoutFaultAt s func (edit.Code name code) e = HasLayoutFault (module_in s) func code (kept_text s func) e
-HasLayoutFaultAt s func (edit.Cert name section) e = ⊥
-HasLayoutFaultAt s func (edit.Both name code section) e = HasLayoutFault (module_in s) func code section e
-
--- why the texts of an edit of one function are refused: their first fault; or they have none, and the module after it has no layouts
-abbrev pub IsRefusedAt : State → (func : ℕ) → Edit → EditFault → Type 0
-IsRefusedAt s func e f = IsFaultAt s func e f ⊎ HasLayoutFaultAt s func e f
-
--- Why an edit is refused: it names no function; or its texts are refused.
-abbrev pub IsRefusedFor : State → Edit → EditFault → Type 0
-IsRefusedFor s e f =
-    ((function_named (module_in s) (name_in e) ≡ None) × (no_function e ≡ f)) ⊎ ((func : ℕ) × (function_named (module_in s) (name_in e) ≡ Some func) × IsRefusedAt s func e f)

@@ -1,17 +1,17 @@
 -- One function with its section in a program, and what an edit gives beside them.
-use Rattle.std.specs.Prelude.{◌≡◌, ◌≢◌, ℕ, List, slice_get, slice_set, Option, Some}
+use Rattle.std.specs.Prelude.{◌≡◌, ◌≢◌, ℕ, List, slice_get, slice_set, Option, Some, None}
 use Rattle.ir_ast.specs.declared.function.Function.{Function}
 use Rattle.ir_ast.specs.declared.module.Module.{Module}
 use Rattle.ir_tokens.specs.Bytes.{Text}
-use Rattle.ir_text.specs.Replaced.{IsReplaced}
+use Rattle.ir_text.specs.Replaced.{IsReplaced, tables_of}
+use Rattle.ir_text.specs.declared.anew.Tables.{Tables}
 use Rattle.certs.specs.declared.section.Section.{Section}
 use Rattle.certificate.specs.Anew.{IsSection}
 use Rattle.layout.specs.Functions.{with_functions, laid_with}
 use Rattle.layout.specs.Layouts.{LaidOut, AreLayouts, AreSizes}
-use Rattle.answers.specs.Answers.{AreAnswers}
-use Rattle.recheck.specs.Session.{State}
+use Rattle.recheck.specs.Session.{State, IsAnswered}
 use Rattle.recheck.specs.Told.{rechecked_by}
-use Rattle.recheck.specs.declared.put.Put.{Put}
+use Rattle.recheck.specs.declared.kept.Kept.{Kept}
 
 -- a session of these parts
 abbrev pub state : LaidOut → (certs : List Section) → (rechecked : ℕ) → State
@@ -32,19 +32,28 @@ pub record IsWithSection (certs others : List Section) (func : ℕ) (past : Sect
   pub others_same : (other : ℕ) → other ≢ func → slice_get others other ≡ slice_get certs other
   pub section : slice_get certs func ≡ Some past
 
--- `section` is in the place of the function's section, `put` has the answers to all functions, and its count is the number of functions that were checked again
-pub record IsPutWith (p : LaidOut) (certs : List Section) (func : ℕ) (section : Section) (q : LaidOut) (others : List Section) (put : Put) : Type 0 where
+-- `section` is in the place of the function's section, and so many functions were checked again
+pub record IsPutWith (p : LaidOut) (certs : List Section) (func : ℕ) (section : Section) (q : LaidOut) (others : List Section) (count : ℕ) : Type 0 where
   pub certs_are : others ≡ slice_set certs func section
-  pub answers : AreAnswers q others put.answers
-  pub rechecked : put.rechecked ≡ rechecked_by q.of_module others func (slice_get p.of_module.functions func) (slice_get certs func)
+  pub rechecked : count ≡ rechecked_by q.of_module others func (slice_get p.of_module.functions func) (slice_get certs func)
 
--- the section of this text is in the place of the function's, with the answers and the count
-abbrev pub IsTextPut : (p : LaidOut) (certs : List Section) (func : ℕ) → Text → (q : LaidOut) (others : List Section) → Put → Type 0
-IsTextPut p certs func text q others put = (section : Section) × IsSection text q.of_module func section × IsPutWith p certs func section q others put
+-- the section of this text is in the place of the function's, and so many functions were checked again
+abbrev pub IsTextPut : (p : LaidOut) (certs : List Section) (func : ℕ) → Text → (q : LaidOut) (others : List Section) → (count : ℕ) → Type 0
+IsTextPut p certs func text q others count = (section : Section) × IsSection text q.of_module func section × IsPutWith p certs func section q others count
 
--- The function of this code and the section of this text are in the place of the function's, with the answers and the count. The program is laid out.
-pub record IsBothPut (p : LaidOut) (certs : List Section) (func : ℕ) (code text : Text) (q : LaidOut) (others : List Section) (put : Put) : Type 0 where
+-- The function of this code and the section of this text are in the place of the function's, and so many functions were checked again. The program is laid out.
+pub record IsBothPut (p : LaidOut) (certs : List Section) (func : ℕ) (code text : Text) (q : LaidOut) (others : List Section) (count : ℕ) : Type 0 where
   pub of_code : IsReplaced p.of_module func code q.of_module
   pub laid_out : AreLayouts q.of_module q.layouts
   pub sized : AreSizes q.of_module q.sizes
-  pub of_text : IsTextPut p certs func text q others put
+  pub of_text : IsTextPut p certs func text q others count
+
+-- tables that are ready for the reader of the next code are those of the module
+abbrev pub AreReady : Module → Option Tables → Type 0
+AreReady m None = Unit {0}
+AreReady m (Some tables) = tables ≡ tables_of m
+
+-- what a session keeps beside its program and its certificates goes with them
+pub record IsKept (program : LaidOut) (certs : List Section) (kept : Kept) : Type 0 where
+  pub answered : IsAnswered program certs kept.answers
+  pub ready : AreReady program.of_module kept.tables

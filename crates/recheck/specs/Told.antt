@@ -10,7 +10,7 @@ use Rattle.certs.specs.declared.section.Mark.TheVariants as mark
 use Rattle.certs.specs.declared.section.Promise.{Promise}
 use Rattle.certs.specs.declared.section.Section.{Section}
 use Rattle.block_rules.specs.TypeKinds.{kind_of, layout_of_kind}
-use Rattle.answers.specs.Edited.{calls}
+use Rattle.answers.specs.Edited.{is_caller}
 
 -- ---- types and marks
 
@@ -70,15 +70,6 @@ is_told_same m (Some old) (Some new) (Some past) (Some next) = tells_same m old 
 is_told_same m _ _ _ _ = false
 
 -- ---- callers
-
--- a function, if there is one, calls this one
-abbrev pub calls_it : Module → (func : ℕ) → Option Function → Bool
-calls_it m func None = false
-calls_it m func (Some f) = calls m func f
-
--- the function with another number calls this one
-abbrev pub is_caller : Module → (func other : ℕ) → Bool
-is_caller m func other = not (other == func) && calls_it m func (slice_get m.functions other)
 
 -- how many of the first `count` functions call this one, which is not counted itself
 abbrev pub callers_before : Module → (func : ℕ) → (count : ℕ) → ℕ

@@ -1,27 +1,26 @@
 //! The code of one function, read anew and put in the place of another with its section.
-ghost use Rattle.std.specs.Prelude.{◌≡◌, ◌≢◌, ◌<◌, ◌⊎◌, List, Some, true, length, slice_get, IfOk, IfErr, IfSome, OnErr};
+ghost use Rattle.std.specs.Prelude.{◌≡◌, ◌≢◌, ◌<◌, None, length, slice_get, IfOk, IfErr, IfSome, OnOk, OnErr};
 ghost use Rattle.answers.specs.Answers.{AreAnswers};
-ghost use Rattle.certificate.specs.Anew.{IsSection};
 ghost use Rattle.certs.specs.declared.section.Section.{Section as ASection};
 ghost use Rattle.ir_ast.specs.declared.module.Module.{Module as AModule};
-ghost use Rattle.ir_text.specs.Replaced.{IsReplaced, IsReplaceFault, tables_of, name_of};
+ghost use Rattle.ir_text.specs.Replaced.{IsReplaced, IsReplaceFault, name_of, tables_of};
 ghost use Rattle.ir_text.specs.declared.read_fault.ReadFault.{ReadFault as AReadFault};
-ghost use Rattle.layout.specs.Layouts.{AreLayouts, AreSizes};
-ghost use Rattle.pools.specs.declared.word_kind.WordKind.{WordKind as AWord};
-ghost use Rattle.recheck.specs.Edits.{HasCodeFault, HasLayoutFault, IsTaken, IsRefusedBy, code_fault};
-ghost use Rattle.recheck.specs.Put.{IsBothPut, with_function};
+ghost use Rattle.layout.specs.declared.fault.LayoutFault.TheVariants as layout_fault;
+ghost use Rattle.recheck.specs.Edits.{AreRead, HasCodeFault, IsTaken, IsRefusedBy, code_fault};
+ghost use Rattle.recheck.specs.Put.{AreReady, IsBothPut, IsKept, with_function};
 ghost use Rattle.recheck.specs.declared.edit_fault.EditFault.{EditFault as AFault};
 ghost use Rattle.recheck.specs.declared.edit_fault.EditFault.TheVariants.{Memory};
 
 use crate::edit_fault::EditFault;
-use crate::put::{Put, answered_anew, function_at, put_in_place, read_text};
+use crate::kept::Kept;
+use crate::put::{answer_all, function_at, put_in_place, read_text};
 use crate::tables::same_tables;
-use block_rules::Refusal;
 use certs::Certs;
 use copies::copy_function;
 use ir_ast::{FuncId, Function, Module};
-use ir_text::{copy_tables, read_function, replace};
-use layout::{Program, layouts_stay_law};
+use ir_print_law::grown_law;
+use ir_text::{Tables, copy_tables, read_function, replace};
+use layout::{LayoutFault, Program, layouts_stay_law};
 use std::alloc::{AllocError, Global};
 
 /// The name of the function with this number, empty where there is none.
@@ -44,20 +43,39 @@ fn copy_first(alloc: Global, functions: &[Function]) -> Result<Option<Function>,
     }
 }
 
-/// The function of a text, where the text adds nothing to the tables of the module.
+/// Tables of a module for the reader of code: those that are ready, or else copies.
+fn take_tables(
+    alloc: Global,
+    of_module: &Module,
+    ready: &mut Option<Tables>,
+) -> Result<Tables, AllocError>
+    requires { AreReady of_module.now ready.old }
+    ensures tables { IfOk result (λ tables. tables ≡ tables_of of_module.now) }
+    ensures none { ready.new ≡ None }
+{
+    match ready.take() {
+        Some(tables) => Ok(tables),
+        None => copy_tables(alloc, of_module),
+    }
+}
+
+/// The function of a text, where the text adds nothing to the tables of the module. Then these are ready once more.
 fn read_within(
     alloc: Global,
     of_module: &Module,
+    ready: &mut Option<Tables>,
     func: FuncId,
     code: &[u8],
 ) -> Result<Option<Function>, EditFault>
+    requires { AreReady of_module.now ready.old }
     ensures found { IfOk result (λ read. IfSome read (λ f. IsReplaced of_module.now func code.now (with_function of_module.now func f))) }
     ensures one { (n : AModule) → IsReplaced of_module.now func code.now n → IfOk result (λ read. IfSome read (λ f. n ≡ with_function of_module.now func f)) }
     ensures only { (n : AModule) → IsReplaced of_module.now func code.now n → IsTaken result }
     ensures fault { IfErr result (λ e. e ≢ Memory → (f : AReadFault) × IsReplaceFault of_module.now func code.now f × (code_fault f ≡ e)) }
     ensures only_fault { (f : AReadFault) → IsReplaceFault of_module.now func code.now f → IsRefusedBy result (code_fault f) }
+    ensures ready { AreReady of_module.now ready.new }
 {
-    let tables = copy_tables(alloc, of_module)?;
+    let tables = take_tables(alloc, of_module, ready)?;
     let read = match read_function(alloc, tables, func, name_of(of_module, func), code) {
         Ok(read) => read,
         Err(fault) => return Err(EditFault::from(fault)),
@@ -66,8 +84,22 @@ fn read_within(
         return Ok(None);
     }
     match copy_first(alloc, read.functions.as_slice()) {
-        Ok(function) => Ok(function),
+        Ok(function) => {
+            *ready = Some(read.tables);
+            Ok(function)
+        }
         Err(_) => Err(EditFault::Memory),
+    }
+}
+
+/// The fault of an edit after which no layouts were made: only memory was refused.
+fn without_layouts(fault: LayoutFault) -> EditFault
+    requires { fault ≡ layout_fault.Memory }
+    ensures { result ≡ Memory }
+{
+    match fault {
+        LayoutFault::Memory => EditFault::Memory,
+        _ => unreachable!(),
     }
 }
 
@@ -80,15 +112,20 @@ fn put_anew(
     func: FuncId,
     code: &[u8],
     text: &[u8],
-) -> Result<Put, EditFault>
+    kept: &mut Kept,
+) -> Result<u64, EditFault>
     requires function { func < length program.old.of_module.functions }
     requires section { func < length certs.old }
-    ensures put { IfOk result (λ put. IsBothPut program.old certs.old func code.now text.now program.new certs.new put) }
-    ensures kept { OnErr result ((program.new ≡ program.old) × (certs.new ≡ certs.old)) }
-    ensures fault { IfErr result (λ e. e ≢ Memory → HasCodeFault program.old.of_module func code.now text.now e ⊎ HasLayoutFault program.old.of_module func code.now text.now e) }
-    ensures only { (n : AModule) (section : ASection) (words : List (List AWord)) → IsReplaced program.old.of_module func code.now n → IsSection text.now n func section → AreLayouts n words → IsTaken result }
+    ensures put { IfOk result (λ count. IsBothPut program.old certs.old func code.now text.now program.new certs.new count) }
+    ensures answers { OnOk result (AreAnswers program.new certs.new kept.new.answers) }
+    ensures ready { OnOk result (kept.new.tables ≡ None) }
+    ensures kept { OnErr result ((program.new ≡ program.old) × (certs.new ≡ certs.old) × (kept.new ≡ kept.old)) }
+    ensures fault { IfErr result (λ e. e ≢ Memory → HasCodeFault program.old.of_module func code.now text.now e) }
+    ensures only { (n : AModule) (section : ASection) → AreRead program.old.of_module func code.now text.now n section → IsTaken result }
     ensures only_fault { (e : AFault) → HasCodeFault program.old.of_module func code.now text.now e → IsRefusedBy result e }
 {
+    grown_law();
+    layouts_stay_law();
     let of_module = match replace(alloc, program.module(), func, code) {
         Ok(of_module) => of_module,
         Err(fault) => return Err(EditFault::from(fault)),
@@ -103,16 +140,19 @@ fn put_anew(
     let anew = match Program::new(alloc, of_module) {
         Ok(anew) => anew,
         Err(refused) => {
+            let fault = refused.fault;
+            drop(refused);
             drop(section);
-            return Err(EditFault::from(refused.fault));
+            return Err(without_layouts(fault));
         }
     };
     let past = certs.replace(func, section);
     let old = function_at(program.module(), func);
-    match answered_anew(alloc, &anew, certs, func, old, &past) {
-        Ok(put) => {
+    match answer_all(alloc, &anew, certs, func, old, &past, &mut kept.answers) {
+        Ok(count) => {
             *program = anew;
-            Ok(put)
+            kept.tables = None;
+            Ok(count)
         }
         Err(_) => {
             drop(anew);
@@ -130,23 +170,31 @@ pub fn put_code(
     func: FuncId,
     code: &[u8],
     text: &[u8],
-    before: &[Option<Refusal>],
-) -> Result<Put, EditFault>
+    kept: &mut Kept,
+) -> Result<u64, EditFault>
     requires function { func < length program.old.of_module.functions }
     requires section { func < length certs.old }
-    requires answers { AreAnswers program.old certs.old before.now }
-    requires laid_out { AreLayouts program.old.of_module program.old.layouts }
-    requires sized { AreSizes program.old.of_module program.old.sizes }
-    ensures put { IfOk result (λ put. IsBothPut program.old certs.old func code.now text.now program.new certs.new put) }
-    ensures kept { OnErr result ((program.new ≡ program.old) × (certs.new ≡ certs.old)) }
-    ensures fault { IfErr result (λ e. e ≢ Memory → HasCodeFault program.old.of_module func code.now text.now e ⊎ HasLayoutFault program.old.of_module func code.now text.now e) }
-    ensures only { (n : AModule) (section : ASection) (words : List (List AWord)) → IsReplaced program.old.of_module func code.now n → IsSection text.now n func section → AreLayouts n words → IsTaken result }
+    requires kept { IsKept program.old certs.old kept.old }
+    ensures put { IfOk result (λ count. IsBothPut program.old certs.old func code.now text.now program.new certs.new count) }
+    ensures answers { OnOk result (AreAnswers program.new certs.new kept.new.answers) }
+    ensures ready { AreReady program.new.of_module kept.new.tables }
+    ensures kept { OnErr result ((program.new ≡ program.old) × (certs.new ≡ certs.old) × (kept.new.answers ≡ kept.old.answers)) }
+    ensures fault { IfErr result (λ e. e ≢ Memory → HasCodeFault program.old.of_module func code.now text.now e) }
+    ensures only { (n : AModule) (section : ASection) → AreRead program.old.of_module func code.now text.now n section → IsTaken result }
     ensures only_fault { (e : AFault) → HasCodeFault program.old.of_module func code.now text.now e → IsRefusedBy result e }
 {
     layouts_stay_law();
-    match read_within(alloc, program.module(), func, code) {
-        Ok(Some(function)) => put_in_place(alloc, program, certs, func, function, text, before),
-        Ok(None) => put_anew(alloc, program, certs, func, code, text),
+    match read_within(alloc, program.module(), &mut kept.tables, func, code) {
+        Ok(Some(function)) => put_in_place(
+            alloc,
+            program,
+            certs,
+            func,
+            function,
+            text,
+            &mut kept.answers,
+        ),
+        Ok(None) => put_anew(alloc, program, certs, func, code, text, kept),
         Err(fault) => Err(fault),
     }
 }

@@ -1,6 +1,5 @@
 use certificate::CertFault;
 use ir_text::ReadFault;
-use layout::LayoutFault;
 use std::alloc::AllocError;
 use thiserror::Error;
 
@@ -19,9 +18,6 @@ pub enum EditFault {
     /// The first fault of the section, with its place in the section's own text.
     #[error(transparent)]
     Cert(CertFault),
-    /// The module with the code has no layouts.
-    #[error(transparent)]
-    Layout(LayoutFault),
     #[error("out of memory")]
     Memory,
 }
@@ -61,20 +57,6 @@ impl From<CertFault> for EditFault {
         match fault {
             CertFault::Memory => EditFault::Memory,
             fault => EditFault::Cert(fault),
-        }
-    }
-}
-
-impl From<LayoutFault> for EditFault {
-    ghost use Rattle.std.specs.Prelude.{◌≡◌};
-    ghost use Rattle.recheck.specs.Edits.{layout_fault};
-
-    ghost from_gives = { λ fault e. e ≡ layout_fault fault };
-
-    fn from(fault: LayoutFault) -> EditFault {
-        match fault {
-            LayoutFault::Memory => EditFault::Memory,
-            fault => EditFault::Layout(fault),
         }
     }
 }

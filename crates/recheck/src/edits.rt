@@ -1,18 +1,18 @@
 //! What an edit makes of a module and its certificates.
 ghost use Rattle.std.specs.Prelude.{◌≡◌, ◌≢◌, ◌<◌, ℕ, Some, length, slice_get, IfOk, IfErr, OnErr};
-ghost use Rattle.answers.specs.Answers.{AreAnswers};
+ghost use Rattle.certs.specs.declared.section.Section.{Section as ASection};
+ghost use Rattle.ir_ast.specs.declared.module.Module.{Module as AModule};
 ghost use Rattle.recheck.specs.Edits as spec;
-ghost use Rattle.recheck.specs.Edits.{IsEdited, IsEditFault, IsRefusedFor, IsTaken, IsRefusedBy};
-ghost use Rattle.recheck.specs.Put.{state};
-ghost use Rattle.recheck.specs.Session.{State as AState, IsAnswered};
+ghost use Rattle.recheck.specs.Edits.{IsRead, IsEdited, IsEditFault, IsTaken, IsRefusedBy};
+ghost use Rattle.recheck.specs.Put.{IsKept, state};
 ghost use Rattle.recheck.specs.declared.edit_fault.EditFault.{EditFault as AFault};
 ghost use Rattle.recheck.specs.declared.edit_fault.EditFault.TheVariants.{Memory};
 
 use crate::code::put_code;
 use crate::edit_fault::EditFault;
+use crate::kept::Kept;
 use crate::named::function_named;
-use crate::put::{Put, function_at, put_section_of};
-use block_rules::Refusal;
+use crate::put::{function_at, put_section_of};
 use certificate::print_section;
 use certs::{Certs, Section};
 use edit_text::Edit;
@@ -71,17 +71,17 @@ fn put_at(
     alloc: Global,
     program: &mut Program,
     certs: &mut Certs,
-    before: &[Option<Refusal>],
+    kept: &mut Kept,
     func: FuncId,
     edit: &Edit,
-) -> Result<Put, EditFault>
+) -> Result<u64, EditFault>
     requires function { func < length program.old.of_module.functions }
-    requires answered { IsAnswered program.old certs.old before.now }
-    ensures put { (n : ℕ) → IfOk result (λ put. spec.IsEditedAt (state program.old certs.old n) func edit.now (state program.new certs.new put.rechecked)) }
-    ensures answered { IfOk result (λ put. IsAnswered program.new certs.new put.answers) }
+    requires kept { IsKept program.old certs.old kept.old }
+    ensures put { (n : ℕ) → IfOk result (λ count. spec.IsEditedAt (state program.old certs.old n) func edit.now (state program.new certs.new count)) }
+    ensures kept_so { IsKept program.new certs.new kept.new }
     ensures kept { OnErr result ((program.new ≡ program.old) × (certs.new ≡ certs.old)) }
-    ensures fault { (n : ℕ) → IfErr result (λ e. e ≢ Memory → spec.IsRefusedAt (state program.old certs.old n) func edit.now e) }
-    ensures only { (n : ℕ) (t : AState) → spec.IsEditedAt (state program.old certs.old n) func edit.now t → IsTaken result }
+    ensures fault { (n : ℕ) → IfErr result (λ e. e ≢ Memory → spec.IsFaultAt (state program.old certs.old n) func edit.now e) }
+    ensures only { (n : ℕ) (m : AModule) (section : ASection) → spec.IsReadAt (state program.old certs.old n) func edit.now m section → IsTaken result }
     ensures only_fault { (n : ℕ) (e : AFault) → spec.IsFaultAt (state program.old certs.old n) func edit.now e → IsRefusedBy result e }
 {
     match edit {
@@ -91,7 +91,7 @@ fn put_at(
             certs,
             func,
             section.as_slice(),
-            before,
+            &mut kept.answers,
         ),
         Edit::Code { code, .. } => {
             let text = match kept_text(alloc, program, certs, func) {
@@ -105,7 +105,7 @@ fn put_at(
                 func,
                 code.as_slice(),
                 text.as_slice(),
-                before,
+                kept,
             )
         }
         Edit::Both { code, section, .. } => put_code(
@@ -115,7 +115,7 @@ fn put_at(
             func,
             code.as_slice(),
             section.as_slice(),
-            before,
+            kept,
         ),
     }
 }
@@ -125,19 +125,19 @@ pub fn put_edit(
     alloc: Global,
     program: &mut Program,
     certs: &mut Certs,
-    before: &[Option<Refusal>],
+    kept: &mut Kept,
     edit: &Edit,
-) -> Result<Put, EditFault>
-    requires { IsAnswered program.old certs.old before.now }
-    ensures put { (n : ℕ) → IfOk result (λ put. IsEdited (state program.old certs.old n) edit.now (state program.new certs.new put.rechecked)) }
-    ensures answered { IfOk result (λ put. IsAnswered program.new certs.new put.answers) }
+) -> Result<u64, EditFault>
+    requires { IsKept program.old certs.old kept.old }
+    ensures put { (n : ℕ) → IfOk result (λ count. IsEdited (state program.old certs.old n) edit.now (state program.new certs.new count)) }
+    ensures kept_so { IsKept program.new certs.new kept.new }
     ensures kept { OnErr result ((program.new ≡ program.old) × (certs.new ≡ certs.old)) }
-    ensures fault { (n : ℕ) → IfErr result (λ e. e ≢ Memory → IsRefusedFor (state program.old certs.old n) edit.now e) }
-    ensures only { (n : ℕ) (t : AState) → IsEdited (state program.old certs.old n) edit.now t → IsTaken result }
+    ensures fault { (n : ℕ) → IfErr result (λ e. e ≢ Memory → IsEditFault (state program.old certs.old n) edit.now e) }
+    ensures only { (n : ℕ) (m : AModule) (section : ASection) → IsRead (state program.old certs.old n) edit.now m section → IsTaken result }
     ensures only_fault { (n : ℕ) (e : AFault) → IsEditFault (state program.old certs.old n) edit.now e → IsRefusedBy result e }
 {
     match function_named(program.module(), name_in(edit)) {
-        Some(func) => put_at(alloc, program, certs, before, func, edit),
+        Some(func) => put_at(alloc, program, certs, kept, func, edit),
         None => Err(no_function(edit)),
     }
 }

@@ -4,6 +4,7 @@
 mod code;
 mod edit_fault;
 mod edits;
+mod kept;
 mod named;
 mod put;
 mod session;

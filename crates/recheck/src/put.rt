@@ -13,7 +13,7 @@ ghost use Rattle.recheck.specs.declared.edit_fault.EditFault.TheVariants.{Memory
 
 use crate::edit_fault::EditFault;
 use crate::told::{count_checked, seen};
-use answers::{answers_again, answers_to};
+use answers::{answers_again, answers_to, touched_by};
 use block_rules::Refusal;
 use certificate::read_section;
 use certs::{Certs, Section};
@@ -21,13 +21,6 @@ use ir_ast::{FuncId, Function, Module};
 use items::Items;
 use layout::Program;
 use std::alloc::{AllocError, Global};
-
-/// What an edit gives: the answers after it, and how many functions it made be checked.
-#[derive(Drop)]
-pub struct Put {
-    pub answers: Items<Option<Refusal>>,
-    pub rechecked: u64,
-}
 
 /// The function with this number.
 pub fn function_at(module: &Module, func: FuncId) -> &Function
@@ -37,42 +30,54 @@ pub fn function_at(module: &Module, func: FuncId) -> &Function
     &module.functions.as_slice()[func.number() as usize]
 }
 
-/// The answers where the tables and all other functions and sections are the same: only this function is checked, and its
-/// callers where they see a change.
-fn answered(
+/// Makes the answers those of a program in which the tables and all other functions and sections are the same: only this function
+/// is checked, and its callers where they see a change. Returns how many the edit makes be checked.
+fn answer_anew(
     alloc: Global,
     program: &Program,
     certs: &Certs,
     func: FuncId,
     old: &Function,
     past: &Section,
-    before: &[Option<Refusal>],
-) -> Result<Put, AllocError>
-    requires { length before.now ≡ length program.now.of_module.functions }
-    ensures answers { (p : LaidOut) (past_certs : List ASection) → AreAnswers p past_certs before.now → IsWithCode p program.now func old.now → IsWithSection past_certs certs.now func past.now → IfOk result (λ put. AreAnswers program.now certs.now put.answers) }
-    ensures count { IfOk result (λ put. put.rechecked ≡ rechecked_by program.now.of_module certs.now func (Some old.now) (Some past.now)) }
+    answers: &mut Items<Option<Refusal>>,
+) -> Result<u64, AllocError>
+    requires within { func < length program.now.of_module.functions }
+    requires one_each { length answers.old ≡ length program.now.of_module.functions }
+    ensures answers { (p : LaidOut) (past_certs : List ASection) → AreAnswers p past_certs answers.old → IsWithCode p program.now func old.now → IsWithSection past_certs certs.now func past.now → OnOk result (AreAnswers program.now certs.now answers.new) }
+    ensures count { IfOk result (λ count. count ≡ rechecked_by program.now.of_module certs.now func (Some old.now) (Some past.now)) }
+    ensures kept { OnErr result (answers.new ≡ answers.old) }
 {
     let callers = seen(program.module(), certs, func, old, past);
-    let answers = answers_again(alloc, program, certs, func, callers, before)?;
-    let rechecked = count_checked(program.module(), certs, func, old, past)?;
-    Ok(Put { answers, rechecked })
+    let checked = answers_again(alloc, program, certs, func, callers, answers)?;
+    Ok(count_checked(program.module(), certs, func, old, past, checked))
 }
 
-/// The answers where more may have changed: each function is checked.
-pub fn answered_anew(
+/// Makes the answers those of a program in which more may be other: each function is checked. Returns how many the edit makes be
+/// checked.
+pub fn answer_all(
     alloc: Global,
     program: &Program,
     certs: &Certs,
     func: FuncId,
     old: &Function,
     past: &Section,
-) -> Result<Put, AllocError>
-    ensures answers { IfOk result (λ put. AreAnswers program.now certs.now put.answers) }
-    ensures count { IfOk result (λ put. put.rechecked ≡ rechecked_by program.now.of_module certs.now func (Some old.now) (Some past.now)) }
+    answers: &mut Items<Option<Refusal>>,
+) -> Result<u64, AllocError>
+    ensures answers { OnOk result (AreAnswers program.now certs.now answers.new) }
+    ensures count { IfOk result (λ count. count ≡ rechecked_by program.now.of_module certs.now func (Some old.now) (Some past.now)) }
+    ensures kept { OnErr result (answers.new ≡ answers.old) }
 {
-    let answers = answers_to(alloc, program, certs)?;
-    let rechecked = count_checked(program.module(), certs, func, old, past)?;
-    Ok(Put { answers, rechecked })
+    let callers = seen(program.module(), certs, func, old, past);
+    let touched = touched_by(alloc, program.module(), func, callers)?;
+    *answers = answers_to(alloc, program, certs)?;
+    Ok(count_checked(
+        program.module(),
+        certs,
+        func,
+        old,
+        past,
+        touched.len(),
+    ))
 }
 
 /// The section of a text.
@@ -102,12 +107,14 @@ pub fn put_section(
     func: FuncId,
     old: &Function,
     text: &[u8],
-    before: &[Option<Refusal>],
-) -> Result<Put, EditFault>
+    answers: &mut Items<Option<Refusal>>,
+) -> Result<u64, EditFault>
+    requires function { func < length program.now.of_module.functions }
     requires section { func < length certs.old }
-    requires answers { length before.now ≡ length program.now.of_module.functions }
-    ensures put { (p : LaidOut) → AreAnswers p certs.old before.now → IsWithCode p program.now func old.now → IfOk result (λ put. IsTextPut p certs.old func text.now program.now certs.new put) }
-    ensures kept { OnErr result (certs.new ≡ certs.old) }
+    requires answers { length answers.old ≡ length program.now.of_module.functions }
+    ensures put { (p : LaidOut) → IsWithCode p program.now func old.now → IfOk result (λ count. IsTextPut p certs.old func text.now program.now certs.new count) }
+    ensures answers { (p : LaidOut) → AreAnswers p certs.old answers.old → IsWithCode p program.now func old.now → OnOk result (AreAnswers program.now certs.new answers.new) }
+    ensures kept { OnErr result ((certs.new ≡ certs.old) × (answers.new ≡ answers.old)) }
     ensures fault { IfErr result (λ e. e ≢ Memory → HasSectionFault program.now.of_module func text.now e) }
     ensures only { (section : ASection) → IsSection text.now program.now.of_module func section → IsTaken result }
     ensures only_fault { (e : AFault) → HasSectionFault program.now.of_module func text.now e → IsRefusedBy result e }
@@ -117,8 +124,8 @@ pub fn put_section(
         Err(fault) => return Err(fault),
     };
     let past = certs.replace(func, section);
-    match answered(alloc, program, certs, func, old, &past, before) {
-        Ok(put) => Ok(put),
+    match answer_anew(alloc, program, certs, func, old, &past, answers) {
+        Ok(count) => Ok(count),
         Err(_) => {
             certs.replace(func, past);
             Err(EditFault::Memory)
@@ -134,21 +141,22 @@ pub fn put_in_place(
     func: FuncId,
     function: Function,
     text: &[u8],
-    before: &[Option<Refusal>],
-) -> Result<Put, EditFault>
+    answers: &mut Items<Option<Refusal>>,
+) -> Result<u64, EditFault>
     requires function { func < length program.old.of_module.functions }
     requires section { func < length certs.old }
-    requires answers { AreAnswers program.old certs.old before.now }
+    requires answers { AreAnswers program.old certs.old answers.old }
     ensures program { OnOk result (program.new ≡ laid_with program.old (slice_set program.old.of_module.functions func function)) }
-    ensures put { IfOk result (λ put. IsTextPut program.old certs.old func text.now program.new certs.new put) }
-    ensures kept { OnErr result ((program.new ≡ program.old) × (certs.new ≡ certs.old)) }
+    ensures put { IfOk result (λ count. IsTextPut program.old certs.old func text.now program.new certs.new count) }
+    ensures answers { OnOk result (AreAnswers program.new certs.new answers.new) }
+    ensures kept { OnErr result ((program.new ≡ program.old) × (certs.new ≡ certs.old) × (answers.new ≡ answers.old)) }
     ensures fault { IfErr result (λ e. e ≢ Memory → HasSectionFault (with_function program.old.of_module func function) func text.now e) }
     ensures only { (section : ASection) → IsSection text.now (with_function program.old.of_module func function) func section → IsTaken result }
     ensures only_fault { (e : AFault) → HasSectionFault (with_function program.old.of_module func function) func text.now e → IsRefusedBy result e }
 {
     let old = program.replace_function(func, function);
-    match put_section(alloc, program, certs, func, &old, text, before) {
-        Ok(put) => Ok(put),
+    match put_section(alloc, program, certs, func, &old, text, answers) {
+        Ok(count) => Ok(count),
         Err(fault) => {
             program.replace_function(func, old);
             Err(fault)
@@ -163,17 +171,18 @@ pub fn put_section_of(
     certs: &mut Certs,
     func: FuncId,
     text: &[u8],
-    before: &[Option<Refusal>],
-) -> Result<Put, EditFault>
+    answers: &mut Items<Option<Refusal>>,
+) -> Result<u64, EditFault>
     requires function { func < length program.now.of_module.functions }
     requires section { func < length certs.old }
-    requires answers { AreAnswers program.now certs.old before.now }
-    ensures put { IfOk result (λ put. IsTextPut program.now certs.old func text.now program.now certs.new put) }
-    ensures kept { OnErr result (certs.new ≡ certs.old) }
+    requires answers { AreAnswers program.now certs.old answers.old }
+    ensures put { IfOk result (λ count. IsTextPut program.now certs.old func text.now program.now certs.new count) }
+    ensures answers { OnOk result (AreAnswers program.now certs.new answers.new) }
+    ensures kept { OnErr result ((certs.new ≡ certs.old) × (answers.new ≡ answers.old)) }
     ensures fault { IfErr result (λ e. e ≢ Memory → HasSectionFault program.now.of_module func text.now e) }
     ensures only { (section : ASection) → IsSection text.now program.now.of_module func section → IsTaken result }
     ensures only_fault { (e : AFault) → HasSectionFault program.now.of_module func text.now e → IsRefusedBy result e }
 {
     let old = function_at(program.module(), func);
-    put_section(alloc, program, certs, func, old, text, before)
+    put_section(alloc, program, certs, func, old, text, answers)
 }

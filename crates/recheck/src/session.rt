@@ -1,21 +1,23 @@
 ghost use Rattle.std.specs.Prelude.{◌≡◌, ◌≢◌, List, length, IfOk, IfErr, OnOk, OnErr, MatchOption};
+ghost use Rattle.certs.specs.declared.section.Section.{Section as ASection};
+ghost use Rattle.ir_ast.specs.declared.module.Module.{Module as AModule};
 ghost use Rattle.layout.specs.Layouts.{AreLayouts};
 ghost use Rattle.module_check.specs.Accepted.{IsAccepted, IsFirstRefusal};
 ghost use Rattle.module_check.specs.declared.verdict.Verdict.TheVariants as verdict;
 ghost use Rattle.pools.specs.declared.word_kind.WordKind.{WordKind as AWord};
-ghost use Rattle.recheck.specs.Edits.{IsEdited, IsEditFault, IsRefusedFor, IsTaken, IsRefusedBy};
-ghost use Rattle.recheck.specs.Session.{IsBeginFault, State as AState};
+ghost use Rattle.recheck.specs.Edits.{IsRead, IsEdited, IsEditFault, IsTaken, IsRefusedBy};
+ghost use Rattle.recheck.specs.Session.{IsBeginFault};
 ghost use Rattle.recheck.specs.declared.edit_fault.EditFault.{EditFault as AFault};
 ghost use Rattle.recheck.specs.declared.edit_fault.EditFault.TheVariants as fault;
 
 use crate::edit_fault::EditFault;
 use crate::edits::put_edit;
+use crate::kept::Kept;
 use answers::{answers_to, first_refusal};
 use block_rules::Refusal;
 use certs::Certs;
 use edit_text::Edit;
 use ir_ast::Module;
-use items::Items;
 use layout::Program;
 use module_check::{NotAccepted, Verdict};
 use std::alloc::Global;
@@ -26,18 +28,19 @@ use std::marker::Model;
 pub struct Session {
     program: Program,
     certs: Certs,
-    answers: Items<Option<Refusal>>,
+    kept: Kept,
     rechecked: u64,
 }
 
 impl Model for Session {
-    ghost use Rattle.recheck.specs.Session.{State, IsAnswered};
+    ghost use Rattle.recheck.specs.Put.{IsKept};
+    ghost use Rattle.recheck.specs.Session.{State};
 
     ghost Value = { State };
 
     ghost view = { λ session. record { program = session.program; certs = session.certs; rechecked = session.rechecked } };
 
-    ghost invariant = { λ session. IsAnswered session.program session.certs session.answers };
+    ghost invariant = { λ session. IsKept session.program session.certs session.kept };
 }
 
 impl Session {
@@ -66,7 +69,10 @@ impl Session {
             Ok(answers) => Ok(Session {
                 program,
                 certs,
-                answers,
+                kept: Kept {
+                    answers,
+                    tables: None,
+                },
                 rechecked: 0,
             }),
             Err(_) => Err(NotAccepted {
@@ -84,25 +90,24 @@ impl Session {
         // The session is the one that comes of the edit.
         ensures taken { OnOk result (IsEdited self.old edit.now self.new) }
         ensures kept { OnErr result (self.new ≡ self.old) }
-        // An edit of which some session comes is taken, unless memory runs out.
-        ensures only { (t : AState) → IsEdited self.old edit.now t → IsTaken result }
+        // An edit that is read as a module and a section is taken, unless memory runs out.
+        ensures only { (m : AModule) (section : ASection) → IsRead self.old edit.now m section → IsTaken result }
         // What is refused is refused for its first fault.
-        ensures fault { IfErr result (λ e. e ≢ fault.Memory → IsRefusedFor self.old edit.now e) }
+        ensures fault { IfErr result (λ e. e ≢ fault.Memory → IsEditFault self.old edit.now e) }
         // What has a first fault is refused for it, unless memory runs out.
         ensures only_fault { (e : AFault) → IsEditFault self.old edit.now e → IsRefusedBy result e }
     {
-        let put = match put_edit(
+        let rechecked = match put_edit(
             alloc,
             &mut self.program,
             &mut self.certs,
-            self.answers.as_slice(),
+            &mut self.kept,
             edit,
         ) {
-            Ok(put) => put,
+            Ok(rechecked) => rechecked,
             Err(fault) => return Err(fault),
         };
-        self.answers = put.answers;
-        self.rechecked = put.rechecked;
+        self.rechecked = rechecked;
         Ok(())
     }
 
@@ -110,7 +115,7 @@ impl Session {
     pub fn verdict(&self) -> Option<Refusal>
         ensures { MatchOption result (IsAccepted self.now.program.of_module self.now.certs) (IsFirstRefusal self.now.program.of_module self.now.certs) }
     {
-        first_refusal(self.answers.as_slice())
+        first_refusal(self.kept.answers.as_slice())
     }
 
     /// How many functions the last edit made be checked: the one that it replaced, and its callers where they are told something

@@ -1,14 +1,14 @@
-//! What the callers of a function are told of it, and which other functions call it.
-ghost use Rattle.std.specs.Prelude.{◌≡◌, ◌≤◌, Some, true, length, slice_get, IfOk};
+//! What the callers of a function are told of it.
+ghost use Rattle.std.specs.Prelude.{◌≡◌, ◌+◌, Some, true, false, length, slice_get};
 ghost use Rattle.answers.specs.Edited.{IfUnseen};
+ghost use Rattle.ir_ast.specs.declared.module.Module.{Module as AModule};
 ghost use Rattle.locality.specs.Local.{interface_of};
 ghost use Rattle.recheck.specs.Told as spec;
 
-use answers::{Callers, calls};
+use answers::Callers;
 use block_rules::TypeKind;
 use certs::{Certs, Promise, Section};
 use ir_ast::{FuncId, Function, Module, Parameter, TypeId};
-use std::alloc::AllocError;
 
 fn all_written(one: &[Parameter], other: &[Parameter]) -> bool
     ensures { result ≡ spec.all_written one.now other.now }
@@ -37,16 +37,18 @@ fn same_words(past: &Section, next: &Section) -> bool
         && past.parameters.as_slice() == next.parameters.as_slice()
 }
 
-/// Whether two functions with their sections look the same to a caller, word by word.
+/// Whether two functions with their sections look the same to a caller, word by word. Then they tell it the same.
 fn looks_same(old: &Function, new: &Function, past: &Section, next: &Section) -> bool
-    ensures { result ≡ true → interface_of (Some new.now) (Some next.now) ≡ interface_of (Some old.now) (Some past.now) }
+    ensures looks { result ≡ true → interface_of (Some new.now) (Some next.now) ≡ interface_of (Some old.now) (Some past.now) }
+    ensures tells { (m : AModule) → result ≡ true → spec.tells_same m old.now new.now past.now next.now ≡ true }
 {
     same_types(old, new) && same_words(past, next)
 }
 
 /// Whether the callers of a function see that it was replaced.
 pub fn seen(module: &Module, certs: &Certs, func: FuncId, old: &Function, past: &Section) -> Callers
-    ensures { IfUnseen result (interface_of (slice_get «module».now.functions func) (slice_get certs.now func) ≡ interface_of (Some old.now) (Some past.now)) }
+    ensures unseen { IfUnseen result (interface_of (slice_get «module».now.functions func) (slice_get certs.now func) ≡ interface_of (Some old.now) (Some past.now)) }
+    ensures told { IfUnseen result (spec.is_told_same «module».now (Some old.now) (slice_get «module».now.functions func) (Some past.now) (slice_get certs.now func) ≡ true) }
 {
     let Some(new) = module.functions.get(func.number() as usize) else {
         return Callers::SeeChange;
@@ -145,48 +147,22 @@ fn is_told_same(
     tells_same(module, old, new, past, next)
 }
 
-/// Whether the function with another number calls this one.
-fn is_caller(module: &Module, func: FuncId, other: FuncId) -> bool
-    ensures { result ≡ spec.is_caller «module».now func other }
-{
-    if other == func {
-        return false;
-    }
-    match module.functions.get(other.number() as usize) {
-        None => false,
-        Some(function) => calls(module, func, function),
-    }
-}
-
-/// How many other functions call this one.
-fn count_callers(module: &Module, func: FuncId) -> Result<u32, AllocError>
-    ensures { IfOk result (λ count. count ≡ spec.callers_before «module».now func (length «module».now.functions)) }
-{
-    // No memory holds more functions than there are numbers for them.
-    let Ok(functions) = u32::try_from(module.functions.len()) else {
-        return Err(AllocError);
-    };
-    let mut count: u32 = 0;
-    for number in 0..functions {
-        if is_caller(module, func, FuncId::new(number)) {
-            count += 1;
-        }
-    }
-    Ok(count)
-}
-
-/// How many functions the edit of a function makes be checked, of which this was the code and the section before.
+/// How many functions the edit of a function makes be checked, of which this was the code and the section before. Where its callers
+/// see a change, so many functions were checked: it and all callers.
 pub fn count_checked(
     module: &Module,
     certs: &Certs,
     func: FuncId,
     old: &Function,
     past: &Section,
-) -> Result<u64, AllocError>
-    ensures { IfOk result (λ count. count ≡ spec.rechecked_by «module».now certs.now func (Some old.now) (Some past.now)) }
+    checked: usize,
+) -> u64
+    requires { spec.is_told_same «module».now (Some old.now) (slice_get «module».now.functions func) (Some past.now) (slice_get certs.now func) ≡ false → checked ≡ 1 + spec.callers_before «module».now func (length «module».now.functions) }
+    ensures { result ≡ spec.rechecked_by «module».now certs.now func (Some old.now) (Some past.now) }
 {
     if is_told_same(module, certs, func, old, past) {
-        return Ok(1);
+        1
+    } else {
+        checked as u64
     }
-    Ok(1 + u64::from(count_callers(module, func)?))
 }

@@ -1,9 +1,24 @@
-use Rattle.std.proofs.Common.{◌≡◌, ◌∙◌, length, arith}
-use Rattle.answers.proofs.Kept.{all_after}
+use Rattle.std.proofs.Common.{◌≡◌, ℕ, List, Option, length, sym, ap, subst, ◌∙◌}
+use Rattle.ir_ast.specs.declared.module.Module.{Module}
+use Rattle.block_rules.specs.declared.block_fault.Refusal.{Refusal}
+use Rattle.answers.specs.Edited.{touched, AreWithin, AreAnswersTo, put_first}
+use Rattle.answers.proofs.Kept.{all_after, touched_within}
 use Rattle.answers.proofs.again.answers_again.Goals as goal
 
-pub returns : goal.returns
-returns c = λ p old are edit.
-    let count : c.loop-number.number ≡ length c.args.before.now = omega (arith, c.loop-number-test.false, c.loop-number.auto.number-end, c.in-Ok.ensures) in
-    all_after c.locality_law.ensures.certified c.locality_law.ensures.refused p old c.args.program.now c.args.certs.now c.args.replaced c.args.callers edit c.args.before.now c.loop-number.answers are
-    (c.loop-number.invariant.0 ∙ count) c.requires c.loop-number.invariant.1
+pub answers_of-requires : goal.answers_of-requires
+answers_of-requires c =
+    touched_within c.args.program.now.of_module c.args.replaced c.args.callers c.as_slice.result.now
+    (c.as_slice.ensures ∙ c.in_ok-touched.ensures ∙ ap (λ (m : Module). touched m c.args.replaced c.args.callers) c.module.ensures.of_module) c.requires.within
+
+pub put_answers-requires-clause-within : goal.put_answers-requires-clause-within
+put_answers-requires-clause-within c =
+    subst (λ (n : ℕ). AreWithin n c.as_slice-2.result.now) (sym c.requires.one_each)
+    (touched_within c.args.program.now.of_module c.args.replaced c.args.callers c.as_slice-2.result.now
+    (c.as_slice-2.ensures ∙ c.in_ok-touched.ensures ∙ ap (λ (m : Module). touched m c.args.replaced c.args.callers) c.module.ensures.of_module) c.requires.within)
+
+pub returns-clause-again : goal.returns-clause-again
+returns-clause-again c = λ p old are edit.
+    all_after c.locality_law.ensures.certified c.locality_law.ensures.refused p old c.args.program.now c.args.certs.now c.args.replaced c.args.callers edit c.as_slice-2.result.now
+    (c.as_slice-2.ensures ∙ c.in_ok-touched.ensures ∙ ap (λ (m : Module). touched m c.args.replaced c.args.callers) c.module.ensures.of_module) c.args.answers.now c.as_slice-3.result.now are c.requires.one_each
+    (subst (λ (xs : List ℕ). AreAnswersTo c.args.program.now c.args.certs.now xs c.as_slice-3.result.now) (c.as_slice.ensures ∙ sym c.as_slice-2.ensures)
+    (subst (λ (xs : List (Option Refusal)). AreAnswersTo c.args.program.now c.args.certs.now c.as_slice.result.now xs) (sym c.as_slice-3.ensures) c.in_ok-anew.ensures)) c.put_answers.new.answers c.put_answers.ensures

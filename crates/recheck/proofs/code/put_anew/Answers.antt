@@ -1,16 +1,19 @@
-use Rattle.std.proofs.Common.{◌≡◌, ◌<◌, ℕ, Some, inl, inr, slice_get, refl, subst, sym}
+use Rattle.std.proofs.Common.{◌≡◌, ◌<◌, ℕ, List, Option, Some, inl, slice_get, refl, ap, subst, sym}
 use Rattle.ir_ast.specs.declared.module.Module.{Module}
-use Rattle.recheck.proofs.Edited.{the_code, code_taken, code_refused, code_same, only_section, with_code, section_of_code, layout_refused, layout_taken, both_anew}
+use Rattle.block_rules.specs.declared.block_fault.Refusal.{Refusal}
+use Rattle.layout.specs.Layouts.{AreLayouts}
+use Rattle.recheck.proofs.Edited.{the_code, code_taken, code_refused, code_same, only_section, with_code, section_of_code, both_anew}
+use Rattle.recheck.proofs.Grown.{layouts_of_replaced}
 use Rattle.recheck.proofs.Puts.{certs_back, as_many_sections}
 use Rattle.recheck.proofs.code.put_anew.Goals as goal
 
 -- ---- the code is refused
 
 pub returns-in-Err-clause-fault : goal.returns-in-Err-clause-fault
-returns-in-Err-clause-fault c = λ differs. inl (inl (code_refused c.args.program.now.of_module c.module.result.now c.module.ensures.of_module c.args.func c.args.code.now c.in-Err.fault c.from.result c.from.ensures c.in-Err.ensures.fault differs))
+returns-in-Err-clause-fault c = λ differs. inl (code_refused c.args.program.now.of_module c.module.result.now c.module.ensures.of_module c.args.func c.args.code.now c.in-Err.fault c.from.result c.from.ensures c.in-Err.ensures.fault differs)
 
 pub returns-in-Err-clause-only : goal.returns-in-Err-clause-only
-returns-in-Err-clause-only c = λ n section words is _ _. code_taken c.args.program.now.of_module c.module.result.now c.module.ensures.of_module c.args.func c.args.code.now c.in-Err.fault c.from.result c.from.ensures c.in-Err.ensures.only n is
+returns-in-Err-clause-only c = λ n section is. code_taken c.args.program.now.of_module c.module.result.now c.module.ensures.of_module c.args.func c.args.code.now c.in-Err.fault c.from.result c.from.ensures c.in-Err.ensures.only n is.0
 
 pub returns-in-Err-clause-only_fault : goal.returns-in-Err-clause-only_fault
 returns-in-Err-clause-only_fault c = code_same c.args.program.now.of_module c.module.result.now c.module.ensures.of_module c.args.func c.args.code.now c.in-Err.fault c.from.result c.from.ensures c.in-Err.ensures.only c.in-Err.ensures.only_fault c.args.text.now
@@ -20,12 +23,12 @@ returns-in-Err-clause-only_fault c = code_same c.args.program.now.of_module c.mo
 pub returns-in-Err-read_text-clause-fault : goal.returns-in-Err-read_text-clause-fault
 returns-in-Err-read_text-clause-fault c =
     let read = the_code c.args.program.now.of_module c.module.result.now c.module.ensures.of_module c.args.func c.args.code.now c.in-Ok.of_module c.in-Ok.ensures.found c.in-Ok.ensures.only c.in-Ok.ensures.only_fault in
-    λ differs. inl (section_of_code c.args.program.now.of_module c.args.func c.args.code.now c.args.text.now c.in-Ok.of_module read c.in-Err-read_text.fault (c.in-Err-read_text.ensures.fault differs))
+    λ differs. section_of_code c.args.program.now.of_module c.args.func c.args.code.now c.args.text.now c.in-Ok.of_module read c.in-Err-read_text.fault (c.in-Err-read_text.ensures.fault differs)
 
 pub returns-in-Err-read_text-clause-only : goal.returns-in-Err-read_text-clause-only
 returns-in-Err-read_text-clause-only c =
     let read = the_code c.args.program.now.of_module c.module.result.now c.module.ensures.of_module c.args.func c.args.code.now c.in-Ok.of_module c.in-Ok.ensures.found c.in-Ok.ensures.only c.in-Ok.ensures.only_fault in
-    λ n section words is of_text _. c.in-Err-read_text.ensures.only section (with_code c.args.program.now.of_module c.args.func c.args.code.now c.args.text.now c.in-Ok.of_module read n section is of_text)
+    λ n section is. c.in-Err-read_text.ensures.only section (with_code c.args.program.now.of_module c.args.func c.args.code.now c.args.text.now c.in-Ok.of_module read n section is)
 
 pub returns-in-Err-read_text-clause-only_fault : goal.returns-in-Err-read_text-clause-only_fault
 returns-in-Err-read_text-clause-only_fault c =
@@ -34,15 +37,12 @@ returns-in-Err-read_text-clause-only_fault c =
 
 -- ---- there are no layouts
 
-pub returns-in-Err-new-clause-fault : goal.returns-in-Err-new-clause-fault
-returns-in-Err-new-clause-fault c =
+pub without_layouts-requires : goal.without_layouts-requires
+without_layouts-requires c =
     let read = the_code c.args.program.now.of_module c.module.result.now c.module.ensures.of_module c.args.func c.args.code.now c.in-Ok.of_module c.in-Ok.ensures.found c.in-Ok.ensures.only c.in-Ok.ensures.only_fault in
-    λ differs. inr (layout_refused c.args.program.now.of_module c.args.func c.args.code.now c.args.text.now c.in-Ok.of_module read c.in-Ok-read_text.section c.in-Err-new.refused.fault c.from-in-Err-new.result c.in-Ok-read_text.ensures.found c.from-in-Err-new.ensures c.in-Err-new.ensures.fault differs)
-
-pub returns-in-Err-new-clause-only : goal.returns-in-Err-new-clause-only
-returns-in-Err-new-clause-only c =
-    let read = the_code c.args.program.now.of_module c.module.result.now c.module.ensures.of_module c.args.func c.args.code.now c.in-Ok.of_module c.in-Ok.ensures.found c.in-Ok.ensures.only c.in-Ok.ensures.only_fault in
-    λ n section words is _ laid. layout_taken c.args.program.now.of_module c.args.func c.args.code.now c.args.text.now c.in-Ok.of_module read c.in-Err-new.refused.fault c.from-in-Err-new.result c.from-in-Err-new.ensures c.in-Err-new.ensures.refused_only_so n words is laid
+    let laid = subst (λ (m : Module). AreLayouts m c.args.program.now.layouts) c.module.ensures.of_module c.module.ensures.laid_out in
+    c.in-Err-new.ensures.refused_only_so c.args.program.now.layouts
+    (layouts_of_replaced c.grown_law.ensures c.layouts_stay_law.ensures c.args.program.now.of_module c.args.func c.args.code.now c.in-Ok.of_module c.args.program.now.layouts read.is_read laid)
 
 pub returns-in-Err-new-clause-only_fault : goal.returns-in-Err-new-clause-only_fault
 returns-in-Err-new-clause-only_fault c =
@@ -51,23 +51,27 @@ returns-in-Err-new-clause-only_fault c =
 
 -- ---- it is taken, or memory runs out
 
-pub returns-in-Ok-answered_anew-clause-put : goal.returns-in-Ok-answered_anew-clause-put
-returns-in-Ok-answered_anew-clause-put c =
+pub returns-in-Ok-answer_all-clause-put : goal.returns-in-Ok-answer_all-clause-put
+returns-in-Ok-answer_all-clause-put c =
     let read = the_code c.args.program.now.of_module c.module.result.now c.module.ensures.of_module c.args.func c.args.code.now c.in-Ok.of_module c.in-Ok.ensures.found c.in-Ok.ensures.only c.in-Ok.ensures.only_fault in
-    both_anew c.args.program.now c.in-Ok-new.anew c.args.certs.now c.replace-past.new.self c.args.func c.function_at-old.result.now c.replace-past.result c.in-Ok-read_text.section c.in-Ok.of_module c.args.code.now c.args.text.now c.in-Ok-answered_anew.put
+    both_anew c.args.program.now c.in-Ok-new.anew c.args.certs.now c.replace-past.new.self c.args.func c.function_at-old.result.now c.replace-past.result c.in-Ok-read_text.section c.in-Ok.of_module c.args.code.now c.args.text.now c.in-Ok-answer_all.count
     read.is_read c.in-Ok-read_text.ensures.found c.in-Ok-new.ensures.found c.replace-past.ensures.new
     (subst (λ (m : Module). slice_get m.functions c.args.func ≡ Some c.function_at-old.result.now) c.module-2.ensures.of_module c.function_at-old.ensures)
-    c.replace-past.ensures.given_back c.in-Ok-answered_anew.ensures.answers c.in-Ok-answered_anew.ensures.count
+    c.replace-past.ensures.given_back c.in-Ok-answer_all.ensures.count
 
-pub returns-in-Ok-answered_anew-clause-only_fault : goal.returns-in-Ok-answered_anew-clause-only_fault
-returns-in-Ok-answered_anew-clause-only_fault c =
+pub returns-in-Ok-answer_all-clause-only_fault : goal.returns-in-Ok-answer_all-clause-only_fault
+returns-in-Ok-answer_all-clause-only_fault c =
     let read = the_code c.args.program.now.of_module c.module.result.now c.module.ensures.of_module c.args.func c.args.code.now c.in-Ok.of_module c.in-Ok.ensures.found c.in-Ok.ensures.only c.in-Ok.ensures.only_fault in
     λ e h. c.in-Ok-read_text.ensures.only_fault e (only_section c.args.program.now.of_module c.args.func c.args.code.now c.args.text.now c.in-Ok.of_module read e h)
 
-pub replace-requires-in-Err-answered_anew : goal.replace-requires-in-Err-answered_anew
-replace-requires-in-Err-answered_anew c =
+pub replace-requires-in-Err-answer_all : goal.replace-requires-in-Err-answer_all
+replace-requires-in-Err-answer_all c =
     subst (λ (n : ℕ). c.args.func < n) (sym (as_many_sections c.args.certs.now c.replace-past.new.self c.args.func c.in-Ok-read_text.section c.replace-past.ensures.new)) c.requires.section
 
-pub returns-in-Err-answered_anew-clause-kept : goal.returns-in-Err-answered_anew-clause-kept
-returns-in-Err-answered_anew-clause-kept c =
-    (refl, certs_back c.args.certs.now c.replace-past.new.self c.replace-in-Err-answered_anew.new.self c.args.func c.replace-past.result c.in-Ok-read_text.section c.replace-past.ensures.new c.replace-past.ensures.given_back c.replace-in-Err-answered_anew.ensures.new)
+pub returns-in-Err-answer_all-clause-kept : goal.returns-in-Err-answer_all-clause-kept
+returns-in-Err-answer_all-clause-kept c =
+    (
+      refl,
+      certs_back c.args.certs.now c.replace-past.new.self c.replace-in-Err-answer_all.new.self c.args.func c.replace-past.result c.in-Ok-read_text.section c.replace-past.ensures.new c.replace-past.ensures.given_back c.replace-in-Err-answer_all.ensures.new,
+      ap (λ (xs : List (Option Refusal)). record c.args.kept.now { answers = xs }) c.in-Err-answer_all.ensures.kept,
+    )

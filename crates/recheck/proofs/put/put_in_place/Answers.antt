@@ -6,6 +6,10 @@ use Rattle.recheck.specs.Edits.{HasSectionFault}
 use Rattle.recheck.proofs.Puts.{with_other, program_back, as_many_functions}
 use Rattle.recheck.proofs.put.put_in_place.Goals as goal
 
+pub put_section-requires-clause-function : goal.put_section-requires-clause-function
+put_section-requires-clause-function c =
+    subst (λ (n : ℕ). c.args.func < n) (sym (as_many_functions c.args.program.now c.replace_function-old.new.self c.args.func c.args.function c.replace_function-old.ensures.new)) c.requires.function
+
 pub put_section-requires-clause-answers : goal.put_section-requires-clause-answers
 put_section-requires-clause-answers c =
     c.requires.answers.one_each ∙ sym (as_many_functions c.args.program.now c.replace_function-old.new.self c.args.func c.args.function c.replace_function-old.ensures.new)
@@ -16,7 +20,12 @@ replace_function-requires c =
 
 pub returns-in-Ok-clause-put : goal.returns-in-Ok-clause-put
 returns-in-Ok-clause-put c =
-    c.in-Ok.ensures.put c.args.program.now c.requires.answers
+    c.in-Ok.ensures.put c.args.program.now
+    (with_other c.args.program.now c.replace_function-old.new.self c.args.func c.replace_function-old.result c.args.function c.replace_function-old.ensures.new c.replace_function-old.ensures.given_back)
+
+pub returns-in-Ok-clause-answers : goal.returns-in-Ok-clause-answers
+returns-in-Ok-clause-answers c =
+    c.in-Ok.ensures.answers c.args.program.now c.requires.answers
     (with_other c.args.program.now c.replace_function-old.new.self c.args.func c.replace_function-old.result c.args.function c.replace_function-old.ensures.new c.replace_function-old.ensures.given_back)
 
 pub returns-in-Ok-clause-only_fault : goal.returns-in-Ok-clause-only_fault
@@ -26,7 +35,8 @@ returns-in-Ok-clause-only_fault c = λ e h.
 pub returns-in-Err-clause-kept : goal.returns-in-Err-clause-kept
 returns-in-Err-clause-kept c = (
   program_back c.args.program.now c.replace_function-old.new.self c.replace_function.new.self c.args.func c.replace_function-old.result c.args.function c.replace_function-old.ensures.new c.replace_function-old.ensures.given_back c.replace_function.ensures.new,
-  c.in-Err.ensures.kept,
+  c.in-Err.ensures.kept.0,
+  c.in-Err.ensures.kept.1,
 )
 
 pub returns-in-Err-clause-fault : goal.returns-in-Err-clause-fault

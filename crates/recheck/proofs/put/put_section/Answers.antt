@@ -11,15 +11,19 @@ pub replace-requires : goal.replace-requires
 replace-requires c =
     subst (λ (n : ℕ). c.args.func < n) (sym (as_many_sections c.args.certs.now c.replace-past.new.self c.args.func c.in-Ok.section c.replace-past.ensures.new)) c.requires.section
 
-pub returns-in-Ok-answered-clause-put : goal.returns-in-Ok-answered-clause-put
-returns-in-Ok-answered-clause-put c = λ p are code.
-    let section = with_section c.args.certs.now c.replace-past.new.self c.args.func c.replace-past.result c.in-Ok.section c.replace-past.ensures.new c.replace-past.ensures.given_back in
-    put_so p c.args.certs.now c.args.program.now c.replace-past.new.self c.args.func c.args.old.now c.replace-past.result c.in-Ok.section c.args.text.now c.in-Ok-answered.put
+pub returns-in-Ok-answer_anew-clause-put : goal.returns-in-Ok-answer_anew-clause-put
+returns-in-Ok-answer_anew-clause-put c = λ p code.
+    put_so p c.args.certs.now c.args.program.now c.replace-past.new.self c.args.func c.args.old.now c.replace-past.result c.in-Ok.section c.args.text.now c.in-Ok-answer_anew.count
     (of_section c.args.program.now.of_module c.module.result.now c.module.ensures.of_module c.args.func c.args.text.now c.in-Ok.section c.in-Ok.ensures.found)
-    c.replace-past.ensures.new code.code c.replace-past.ensures.given_back (c.in-Ok-answered.ensures.answers p c.args.certs.now are code section) c.in-Ok-answered.ensures.count
+    c.replace-past.ensures.new code.code c.replace-past.ensures.given_back c.in-Ok-answer_anew.ensures.count
 
-pub returns-in-Ok-answered-clause-only_fault : goal.returns-in-Ok-answered-clause-only_fault
-returns-in-Ok-answered-clause-only_fault c = λ e h.
+pub returns-in-Ok-answer_anew-clause-answers : goal.returns-in-Ok-answer_anew-clause-answers
+returns-in-Ok-answer_anew-clause-answers c = λ p are code.
+    c.in-Ok-answer_anew.ensures.answers p c.args.certs.now are code
+    (with_section c.args.certs.now c.replace-past.new.self c.args.func c.replace-past.result c.in-Ok.section c.replace-past.ensures.new c.replace-past.ensures.given_back)
+
+pub returns-in-Ok-answer_anew-clause-only_fault : goal.returns-in-Ok-answer_anew-clause-only_fault
+returns-in-Ok-answer_anew-clause-only_fault c = λ e h.
     c.in-Ok.ensures.only_fault e (subst (λ (m : Module). HasSectionFault m c.args.func c.args.text.now e) (sym c.module.ensures.of_module) h)
 
 pub returns-in-Err-clause-only : goal.returns-in-Err-clause-only
@@ -31,5 +35,8 @@ returns-in-Err-clause-fault c = λ differs. subst (λ (m : Module). HasSectionFa
 pub returns-in-Err-clause-only_fault : goal.returns-in-Err-clause-only_fault
 returns-in-Err-clause-only_fault c = λ e h. c.in-Err.ensures.only_fault e (subst (λ (m : Module). HasSectionFault m c.args.func c.args.text.now e) (sym c.module.ensures.of_module) h)
 
-pub returns-in-Err-answered-clause-kept : goal.returns-in-Err-answered-clause-kept
-returns-in-Err-answered-clause-kept c = certs_back c.args.certs.now c.replace-past.new.self c.replace.new.self c.args.func c.replace-past.result c.in-Ok.section c.replace-past.ensures.new c.replace-past.ensures.given_back c.replace.ensures.new
+pub returns-in-Err-answer_anew-clause-kept : goal.returns-in-Err-answer_anew-clause-kept
+returns-in-Err-answer_anew-clause-kept c = (
+  certs_back c.args.certs.now c.replace-past.new.self c.replace.new.self c.args.func c.replace-past.result c.in-Ok.section c.replace-past.ensures.new c.replace-past.ensures.given_back c.replace.ensures.new,
+  c.in-Err-answer_anew.ensures.kept,
+)

@@ -1,17 +1,17 @@
 use Rattle.std.proofs.Common.{subst, sym}
-use Rattle.recheck.specs.Edits.{IsEdited, IsEditFault, IsRefusedFor, IsTaken, IsRefusedBy}
+use Rattle.recheck.specs.Edits.{IsRead, IsEdited, IsEditFault}
 use Rattle.recheck.specs.Put.{state}
 use Rattle.recheck.specs.Session.{State}
 use Rattle.recheck.proofs.session.Session.apply.Goals as goal
 
 pub returns-clause-taken : goal.returns-clause-taken
-returns-clause-taken c = subst (λ (s : State). IsEdited s c.args.edit.now (state c.put_edit.new.program c.put_edit.new.certs c.in-Ok.put.rechecked)) c.self.view_is (c.in-Ok.ensures.put c.self.inside.rechecked)
+returns-clause-taken c = subst (λ (s : State). IsEdited s c.args.edit.now (state c.put_edit.new.program c.put_edit.new.certs c.in-Ok.rechecked)) c.self.view_is (c.in-Ok.ensures.put c.self.inside.rechecked)
 
 pub returns-in-Err-clause-only : goal.returns-in-Err-clause-only
-returns-in-Err-clause-only c = λ t h. c.in-Err.ensures.only c.self.inside.rechecked t (subst (λ (s : State). IsEdited s c.args.edit.now t) (sym c.self.view_is) h)
+returns-in-Err-clause-only c = λ m section h. c.in-Err.ensures.only c.self.inside.rechecked m section (subst (λ (s : State). IsRead s c.args.edit.now m section) (sym c.self.view_is) h)
 
 pub returns-in-Err-clause-fault : goal.returns-in-Err-clause-fault
-returns-in-Err-clause-fault c = λ differs. subst (λ (s : State). IsRefusedFor s c.args.edit.now c.in-Err.fault) c.self.view_is (c.in-Err.ensures.fault c.self.inside.rechecked differs)
+returns-in-Err-clause-fault c = λ differs. subst (λ (s : State). IsEditFault s c.args.edit.now c.in-Err.fault) c.self.view_is (c.in-Err.ensures.fault c.self.inside.rechecked differs)
 
 pub returns-in-Err-clause-only_fault : goal.returns-in-Err-clause-only_fault
 returns-in-Err-clause-only_fault c = λ e h. c.in-Err.ensures.only_fault c.self.inside.rechecked e (subst (λ (s : State). IsEditFault s c.args.edit.now e) (sym c.self.view_is) h)
