@@ -70,14 +70,7 @@ pub fn answer_all(
     let callers = seen(program.module(), certs, func, old, past);
     let touched = touched_by(alloc, program.module(), func, callers)?;
     *answers = answers_to(alloc, program, certs)?;
-    Ok(count_checked(
-        program.module(),
-        certs,
-        func,
-        old,
-        past,
-        touched.len(),
-    ))
+    Ok(count_checked(program.module(), certs, func, old, past, touched.len()))
 }
 
 /// The section of a text.

@@ -69,9 +69,8 @@ replace-requires-in-Err-answer_all c =
     subst (λ (n : ℕ). c.args.func < n) (sym (as_many_sections c.args.certs.now c.replace-past.new.self c.args.func c.in-Ok-read_text.section c.replace-past.ensures.new)) c.requires.section
 
 pub returns-in-Err-answer_all-clause-kept : goal.returns-in-Err-answer_all-clause-kept
-returns-in-Err-answer_all-clause-kept c =
-    (
-      refl,
-      certs_back c.args.certs.now c.replace-past.new.self c.replace-in-Err-answer_all.new.self c.args.func c.replace-past.result c.in-Ok-read_text.section c.replace-past.ensures.new c.replace-past.ensures.given_back c.replace-in-Err-answer_all.ensures.new,
-      ap (λ (xs : List (Option Refusal)). record c.args.kept.now { answers = xs }) c.in-Err-answer_all.ensures.kept,
-    )
+returns-in-Err-answer_all-clause-kept c = (
+  refl,
+  certs_back c.args.certs.now c.replace-past.new.self c.replace-in-Err-answer_all.new.self c.args.func c.replace-past.result c.in-Ok-read_text.section c.replace-past.ensures.new c.replace-past.ensures.given_back c.replace-in-Err-answer_all.ensures.new,
+  ap (λ (xs : List (Option Refusal)). record c.args.kept.now { answers = xs }) c.in-Err-answer_all.ensures.kept,
+)
