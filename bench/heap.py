@@ -19,10 +19,10 @@ import os
 import shutil
 import statistics
 import subprocess
-import sys
+
+from building import TOP, build
 
 HERE = os.path.dirname(os.path.abspath(__file__))
-TOP = os.path.dirname(HERE)
 CRATE = "heap_bench"
 USES = "items lemmas pools colours heap_rule heap_words heap_table anyhow"
 
@@ -37,31 +37,6 @@ ROWS = [
     Row("claim", "claims that win a node", 1, 8 * NODES, 8 * NODES),
     Row("try", "claims that lose", NODES, NODES, 30),
 ]
-
-
-def build(scratch):
-    """Proves and builds the program in a copy of the crates; returns its path."""
-    for crate in os.listdir(os.path.join(TOP, "crates")):
-        copy(os.path.join(TOP, "crates", crate), os.path.join(scratch, "crates", crate))
-    folder = os.path.join(scratch, "crates", CRATE)
-    copy(os.path.join(HERE, "heap", CRATE), folder)
-    for path, _, names in os.walk(folder):
-        for name in names:
-            if name.endswith(".in"):
-                os.rename(os.path.join(path, name), os.path.join(path, name[: -len(".in")]))
-    with open(os.path.join(TOP, "crates.txt")) as listed, open(os.path.join(scratch, "crates.txt"), "w") as out:
-        out.write(f"{listed.read()}\n{CRATE}: {USES}\n")
-    shutil.copy(os.path.join(TOP, "HANDLES"), scratch)
-    subprocess.run(["rt", "run", "--", "read", "1", "1024", "1024"], cwd=folder, check=True, stdout=sys.stderr)
-    return os.path.join(folder, "out", CRATE)
-
-
-def copy(crate, to):
-    """Copies the sources of a crate, and leaves what was built there."""
-    for part in ("src", "specs", "proofs"):
-        shutil.rmtree(os.path.join(to, part), ignore_errors=True)
-        if os.path.isdir(os.path.join(crate, part)):
-            shutil.copytree(os.path.join(crate, part), os.path.join(to, part))
 
 
 def build_c(scratch):
@@ -97,7 +72,7 @@ def main():
     parser.add_argument("--threads", type=int, nargs="+", default=[1, 2, 4])
     options = parser.parse_args()
     os.makedirs(options.scratch, exist_ok=True)
-    program = options.program or build(options.scratch)
+    program = options.program or build(options.scratch, os.path.join(HERE, "heap", CRATE), USES, ["read", "1", "1024", "1024"])
     twin = build_c(options.scratch)
     print(f"{'million steps a second':28} threads    middle       C  times   fastest       C  times")
     for row in ROWS:

@@ -1,15 +1,13 @@
 #!/usr/bin/env python3
 """Refuses each request for memory of `dgc` in turn, and looks at what it prints.
 
-    refused.py DGC [--session PROGRAM] [--only WORD ..] [--every N]
+    refused.py DGC [--only WORD ..] [--every N]
 
 For each command it runs DGC once for each request for memory that it makes: that one is refused, by a library that is loaded
 before the program (refuse.c). Then it does so again, and refuses that request and all after it. Each run has to end with
 `error memory` and status 3, or with what it prints where memory is ample. Of `run` the turns and cycles of the collector may
 differ, and a thread may end for want of memory. Ends with status 1 where a run ends in another way, or where a command never says `error memory`. With --every it
-refuses only every Nth request. DGC has to be built by `rt run`, and not by `rt try`. With --session it does the same with a
-built `session_trial`, which may end with `memory` only before its first edit: where memory is refused for an edit, the session has
-to say what it said before, and the same edit has to end as it does where memory is ample. For use by hand.
+refuses only every Nth request. DGC has to be built by `rt run`, and not by `rt try`. For use by hand.
 """
 import argparse
 import os
@@ -61,7 +59,7 @@ class Refuser:
         return (ran.returncode, printed, ran.stderr), marked
 
     def refuse_each(self, name, words, every, ways=("REFUSE_AT", "REFUSE_FROM"), memory=(3, "", "error memory\n")):
-        """Refuses each request in turn, by these ways. Returns how many runs ended wrongly."""
+        """Refuses each request in turn, by these ways; `memory` is how a run ends that finds none. Returns how many ended wrongly."""
         ample, _ = self.ended(words)
         refused, same, wrong = 0, 0, 0
         for way in ways:
@@ -89,7 +87,6 @@ class Refuser:
 def main():
     options = argparse.ArgumentParser(description=__doc__.split("\n")[0])
     options.add_argument("dgc")
-    options.add_argument("--session")
     options.add_argument("--only", nargs="+", default=[""])
     options.add_argument("--every", type=int, default=1)
     options = options.parse_args()
@@ -97,9 +94,6 @@ def main():
         refuser = Refuser(os.path.abspath(options.dgc), folder)
         wrong = [refuser.refuse_each(name, words, options.every) for name, words in COMMANDS.items()
                  if any(word in name for word in options.only)]
-        if options.session:
-            trial = Refuser(os.path.abspath(options.session), folder)
-            wrong.append(trial.refuse_each("session", "", options.every, ["REFUSE_AT"], (1, "memory\n", "")))
     sys.exit(1 if sum(wrong) else 0)
 
 
