@@ -54,7 +54,7 @@ abbrev pub touched : Module → (replaced : ℕ) → Callers → List ℕ
 touched m replaced SeeChange = replaced ∷ callers_below m replaced (length m.functions)
 touched m replaced SeeNone = replaced ∷ []
 
--- there are functions of these numbers, if there are so many
+-- each of these numbers is below `count`
 abbrev pub AreWithin : (count : ℕ) → (funcs : List ℕ) → Type 0
 AreWithin count funcs = (place func : ℕ) → slice_get funcs place ≡ Some func → func < count
 

@@ -32,16 +32,16 @@ pub record IsWithSection (certs others : List Section) (func : ℕ) (past : Sect
   pub others_same : (other : ℕ) → other ≢ func → slice_get others other ≡ slice_get certs other
   pub section : slice_get certs func ≡ Some past
 
--- `section` is in the place of the function's section, and so many functions were checked again
+-- `section` is in the place of the function's section, and `count` functions were checked again
 pub record IsPutWith (p : LaidOut) (certs : List Section) (func : ℕ) (section : Section) (q : LaidOut) (others : List Section) (count : ℕ) : Type 0 where
   pub certs_are : others ≡ slice_set certs func section
   pub rechecked : count ≡ rechecked_by q.of_module others func (slice_get p.of_module.functions func) (slice_get certs func)
 
--- the section of this text is in the place of the function's, and so many functions were checked again
+-- the section of this text is in the place of the function's, and `count` functions were checked again
 abbrev pub IsTextPut : (p : LaidOut) (certs : List Section) (func : ℕ) → Text → (q : LaidOut) (others : List Section) → (count : ℕ) → Type 0
 IsTextPut p certs func text q others count = (section : Section) × IsSection text q.of_module func section × IsPutWith p certs func section q others count
 
--- The function of this code and the section of this text are in the place of the function's, and so many functions were checked again. The program is laid out.
+-- The function of this code and the section of this text are in the place of the function's, and `count` functions were checked again. The program is laid out.
 pub record IsBothPut (p : LaidOut) (certs : List Section) (func : ℕ) (code text : Text) (q : LaidOut) (others : List Section) (count : ℕ) : Type 0 where
   pub of_code : IsReplaced p.of_module func code q.of_module
   pub laid_out : AreLayouts q.of_module q.layouts

@@ -148,7 +148,7 @@ fn is_told_same(
 }
 
 /// How many functions the edit of a function makes be checked, of which this was the code and the section before. Where its callers
-/// see a change, so many functions were checked: it and all callers.
+/// see a change, `checked` is how many were checked: it and all callers.
 pub fn count_checked(
     module: &Module,
     certs: &Certs,
