@@ -275,10 +275,7 @@ fn stores_slot(scene: &Scene, stored: TypeId, value: &Known, s: SlotId) -> bool
         stored,
         scene.slots.held_type(s),
         TypeKind::of_slot(scene.module(), scene.slots, s),
-    ) && known_fits(
-        TypeKind::of_slot(scene.module(), scene.slots, s),
-        value,
-    )
+    ) && known_fits(TypeKind::of_slot(scene.module(), scene.slots, s), value)
 }
 
 /// Whether a value may be stored at a place.
