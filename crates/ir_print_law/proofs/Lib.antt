@@ -118,11 +118,13 @@ pub mod LongerTypes
 pub mod LongerOps
 pub mod FoundNames
 pub mod DefinedWithin
+pub mod PartsWithin
 pub mod OpsWithin
 pub mod WithinRead
 pub mod AnewState
 pub mod AnewRead
 pub mod ReplacedWhole
 pub mod Growth
+pub mod PartsLonger
 pub mod WithinLonger
 pub mod ReplacedWithin

@@ -1,10 +1,12 @@
--- Printed operations on memory are read as these operations again.
-use Rattle.std.proofs.Common.{◌≡◌, ℕ, Bool, false, List, [], ◌∷◌, ◌++◌, None, refl, sym, subst, arith, append_assoc, ap, true}
+-- Printed operations on memory are read as these operations again; and their numbers are within the tables.
+use Rattle.std.proofs.Common.{◌≡◌, ◌≤◌, ℕ, Bool, false, List, [], ◌∷◌, ◌++◌, length, None, refl, sym, subst, arith, append_assoc, ap, true}
 use Rattle.std.specs.Prelude.{codes}
+use Rattle.std.proofs.lemmas.Option.{slice_get_within}
 use Rattle.grammar.specs.Grammar.{pure, ◌>>=◌, ◌>>◌}
 use Rattle.ir_ast.specs.declared.argument.Argument.{Argument}
 use Rattle.ir_ast.specs.declared.function.Function.{Function}
 use Rattle.ir_ast.specs.declared.function.LocalSort.TheVariants as local
+use Rattle.ir_ast.specs.declared.ir_type.IrType.TheVariants as type
 use Rattle.ir_ast.specs.declared.memory.MemoryOp.{MemoryOp}
 use Rattle.ir_ast.specs.declared.memory.MemoryOp.TheVariants as memory
 use Rattle.ir_ast.specs.declared.module.Module.{Module}
@@ -27,9 +29,13 @@ use Rattle.ir_print.specs.Operands.{operand_text, typed_text, argument_text}
 use Rattle.ir_print.specs.Parts.{typed, placed_text}
 use Rattle.ir_print.specs.Standing.{IsSeam, AreBlanks, Stands}
 use Rattle.ir_print.specs.Types.{type_text}
-use Rattle.ir_print_law.specs.Memory.{IsMemoryOpAgain, IsMemoryOp, memory_gives_value}
+use Rattle.ir_print_law.specs.Memory.{IsMemoryOpAgain, IsMemoryOp, IsMemoryOpWithin, memory_gives_value}
+use Rattle.ir_print_law.specs.ModuleNames.{HasModuleNames}
 use Rattle.ir_print_law.specs.Parts.{IsType, IsOperand, IsPlaceType}
 use Rattle.ir_print_law.specs.Shapes.{Shape, Pointer, HasShape}
+use Rattle.ir_print_law.proofs.DefinedWithin.{AreDefinedWithin}
+use Rattle.ir_print_law.proofs.PartsLonger.{MeansAsMuch, type_longer, operand_longer}
+use Rattle.ir_print_law.proofs.PartsWithin.{Wide, type_within, operand_within}
 use Rattle.ir_print_law.proofs.State.{Invariant, Ready, Reads}
 use Rattle.ir_print_law.proofs.Shown.{shown, IsTypeRead, read_stays}
 use Rattle.ir_print_law.proofs.Steps.{given, sign_reads, word_skipped, unlike, grows_further, later_before}
@@ -287,3 +293,27 @@ memory_longer m types fs more same f (memory.Load loaded place_type place) h =
     (h.0, scalar_again m types fs more same h.0 loaded h.1, place_again m types fs more same h.0 loaded place_type h.2, operand_again m types fs more same f None place h.3)
 memory_longer m types fs more same f (memory.Store stored value place_type place) h =
     (h.0, scalar_again m types fs more same h.0 stored h.1, operand_again m types fs more same f (bits_of_shape h.0) value h.2, place_again m types fs more same h.0 stored place_type h.3, operand_again m types fs more same f None place h.4)
+
+-- ---- types and names within the tables
+
+module _ (m : Module) (f : Function) (own : HasModuleNames m) (h : AreDefinedWithin f) where
+  pub memory_within : (x : MemoryOp) → Wide m f (λ m f. IsMemoryOp m f x) → IsMemoryOpWithin m f x
+  memory_within (memory.Alloca held) is = type_within m f own h (is []).0 held [] (is []).1.0
+  memory_within (memory.Load loaded place_type place) is = (
+    type_within m f own h (is []).0 loaded [] (is []).1.0,
+    slice_get_within m.types place_type (type.Pointer loaded) (is []).2.0,
+    operand_within m f own h place (λ more. (None, (is more).3)),
+  )
+  memory_within (memory.Store stored value place_type place) is = (
+    type_within m f own h (is []).0 stored [] (is []).1.0,
+    operand_within m f own h value (λ more. (bits_of_shape (is more).0, (is more).2)),
+    slice_get_within m.types place_type (type.Pointer stored) (is []).3.0,
+    operand_within m f own h place (λ more. (None, (is more).4)),
+  )
+
+module _ (m n : Module) (types : length m.types ≤ length n.types) (names : MeansAsMuch m n) (f : Function) where
+  pub memory_within_longer : (x : MemoryOp) → IsMemoryOpWithin m f x → IsMemoryOpWithin n f x
+  memory_within_longer (memory.Alloca held) h = type_longer m n types names held h
+  memory_within_longer (memory.Load loaded place_type place) h = (type_longer m n types names loaded h.0, type_longer m n types names place_type h.1, operand_longer m n types names f place h.2)
+  memory_within_longer (memory.Store stored value place_type place) h =
+      (type_longer m n types names stored h.0, operand_longer m n types names f value h.1, type_longer m n types names place_type h.2, operand_longer m n types names f place h.3)

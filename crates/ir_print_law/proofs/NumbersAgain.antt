@@ -1,5 +1,5 @@
--- Printed operations on integers, and conditions, are read as they were printed.
-use Rattle.std.proofs.Common.{◌≡◌, ℕ, ◌+◌, Bool, true, false, not, List, [], ◌∷◌, ◌++◌, slice_get, None, Some, refl, ap, subst, ◌∙◌, arith, append_assoc}
+-- Printed operations on integers, and conditions, are read as they were printed; and their numbers are within the tables.
+use Rattle.std.proofs.Common.{◌≡◌, ◌≤◌, ℕ, ◌+◌, Bool, true, false, not, List, [], ◌∷◌, ◌++◌, length, slice_get, None, Some, refl, ap, subst, ◌∙◌, arith, append_assoc}
 use Rattle.std.specs.Prelude.{codes}
 use Rattle.grammar.specs.Grammar.{pure, ◌>>=◌, ◌>>◌}
 use Rattle.ir_ast.specs.declared.argument.Argument.{Argument}
@@ -35,9 +35,13 @@ use Rattle.ir_print.specs.Parts.{typed, pair_text, converted_text}
 use Rattle.ir_print.specs.Standing.{Stands, IsSeam, AreBlanks}
 use Rattle.ir_print.specs.Types.{type_text}
 use Rattle.name_text.specs.Names.{is_plain}
-use Rattle.ir_print_law.specs.Numbers.{IsNumberOpAgain, IsNumberOp}
+use Rattle.ir_print_law.specs.ModuleNames.{HasModuleNames}
+use Rattle.ir_print_law.specs.Numbers.{IsNumberOpAgain, IsNumberOp, IsNumberOpWithin}
 use Rattle.ir_print_law.specs.Parts.{ArePair, IsConverted, IsCondition}
 use Rattle.ir_print_law.specs.Shapes.{Integer}
+use Rattle.ir_print_law.proofs.DefinedWithin.{AreDefinedWithin}
+use Rattle.ir_print_law.proofs.PartsLonger.{MeansAsMuch, pair_longer, converted_longer}
+use Rattle.ir_print_law.proofs.PartsWithin.{Wide, pair_within, converted_within}
 use Rattle.ir_print_law.proofs.State.{Invariant, Ready, Reads, Any}
 use Rattle.ir_print_law.proofs.Shown.{shown}
 use Rattle.ir_print_law.proofs.Steps.{looked, given, word_skipped, word_seen, intern_reads, grows_further, later_before}
@@ -314,3 +318,17 @@ pub number_longer : (m : Module) (types : List IrType) (fs : List Function) (mor
 number_longer m types fs more same f (number.Arithmetic kind t x y) h = pair_again m types fs more same f t x y h
 number_longer m types fs more same f (number.Resize kind from x to) h = converted_again m types fs more same f from x to h
 number_longer m types fs more same f (number.Compare kind t x y) h = pair_again m types fs more same f t x y h
+
+-- ---- types and names within the tables
+
+module _ (m : Module) (f : Function) (own : HasModuleNames m) (h : AreDefinedWithin f) where
+  pub number_within : (x : NumberOp) → Wide m f (λ m f. IsNumberOp m f x) → IsNumberOpWithin m f x
+  number_within (number.Arithmetic kind written first second) is = pair_within m f own h written first second is
+  number_within (number.Resize kind from x to) is = converted_within m f own h from x to is
+  number_within (number.Compare kind written first second) is = pair_within m f own h written first second is
+
+module _ (m n : Module) (types : length m.types ≤ length n.types) (names : MeansAsMuch m n) (f : Function) where
+  pub number_within_longer : (x : NumberOp) → IsNumberOpWithin m f x → IsNumberOpWithin n f x
+  number_within_longer (number.Arithmetic kind written first second) h = pair_longer m n types names f written first second h
+  number_within_longer (number.Resize kind from x to) h = converted_longer m n types names f from x to h
+  number_within_longer (number.Compare kind written first second) h = pair_longer m n types names f written first second h

@@ -19,11 +19,12 @@ use Rattle.ir_print_law.specs.Within.{IsFunctionWithin, IsStructWithin, IsGlobal
 use Rattle.ir_print_law.proofs.AnewRead.{function_read}
 use Rattle.ir_print_law.proofs.Known.{all_so}
 use Rattle.ir_print_law.proofs.LongerTypes.{with_types}
-use Rattle.ir_print_law.proofs.OpsWithin.{functions_have}
+use Rattle.ir_print_law.proofs.PartsWithin.{functions_have}
 use Rattle.ir_print_law.proofs.ReplacedWhole.{all_set, edited, read_edits}
 use Rattle.ir_print_law.proofs.Tables.{Begins}
 use Rattle.ir_print_law.proofs.WithinRead.{IsInnerOf}
-use Rattle.ir_print_law.proofs.WithinLonger.{MeansAsMuch, type_longer, declare_longer, function_longer}
+use Rattle.ir_print_law.proofs.PartsLonger.{MeansAsMuch, type_longer}
+use Rattle.ir_print_law.proofs.WithinLonger.{declare_longer, function_longer}
 
 -- ---- lists
 

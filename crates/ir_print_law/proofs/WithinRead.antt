@@ -21,7 +21,8 @@ use Rattle.ir_print_law.proofs.FunctionNames.{function_names}
 use Rattle.ir_print_law.proofs.FunctionsRead.{function_parts}
 use Rattle.ir_print_law.proofs.Known.{all_so}
 use Rattle.ir_print_law.proofs.ModuleRead.{FunctionKeeps, read_so, read_is_printable, read_has_names}
-use Rattle.ir_print_law.proofs.OpsWithin.{wide_module, wide, globals_have, declares_have, functions_have, globals_stay, functions_stay, shape_within, void_within, blocks_within}
+use Rattle.ir_print_law.proofs.OpsWithin.{blocks_within}
+use Rattle.ir_print_law.proofs.PartsWithin.{wide_module, wide, globals_have, declares_have, functions_have, globals_stay, functions_stay, shape_within, void_within}
 use Rattle.ir_print_law.proofs.Outside.{Outside}
 use Rattle.ir_print_law.proofs.Reading.{Reading, used_symbols}
 use Rattle.ir_print_law.proofs.Tables.{begins_itself, begins_further, begins_with}
