@@ -28,12 +28,9 @@ impl Walk {
     fn new(alloc: Global, cells: u32) -> Result<Self, AllocError>
         ensures { IfOk result (λ walk. walk ≡ walks.begun cells) }
     {
-        let mut met = Items::new(alloc);
-        for _cell in 0..cells {
-            met.push(false)?;
-        }
+        let met = vec![in alloc; false; cells as usize]?;
         Ok(Walk {
-            met,
+            met: Items::from_vec(met),
             order: Items::new(alloc),
             blue: None,
             reborn: None,
