@@ -20,7 +20,7 @@ use Rattle.ir_print_law.proofs.MemoryAgain.{memory_within_longer}
 
 module _ (m n : Module) (types : length m.types ≤ length n.types) (names : MeansAsMuch m n) where
   pub declare_longer : (x : Declare) → IsDeclareWithin m x → IsDeclareWithin n x
-  declare_longer x h = (names.symbols x.symbol h.0, type_longer m n types names x.returned h.1, all_so (HasType m) (HasType n) x.parameters type_longer m n types names h.2)
+  declare_longer x h = (names.symbols x.symbol h.0, type_longer m n types names x.returned h.1, all_so (HasType m) (HasType n) x.parameters (type_longer m n types names) h.2)
 
   module _ (f : Function) where
     op_longer : (x : Op) → IsOpWithin m f x → IsOpWithin n f x
