@@ -12,7 +12,7 @@ use Rattle.ir_ast.specs.declared.operand.Operand.TheVariants.{Constant as Writte
 use Rattle.ir_ast.specs.declared.runtime.Runtime.{Runtime}
 use Rattle.ir_ast.specs.declared.runtime.Runtime.TheVariants.{Alloc, Safepoint, GcRoot, GcRead, GcWrite}
 use Rattle.layout.specs.Layouts.{LaidOut}
-use Rattle.shadow_stack.specs.Slots.{SlotTable, held_type}
+use Rattle.shadow_stack.specs.Slots.{SlotTable}
 use Rattle.certs.specs.declared.section.Promise.{Promise}
 use Rattle.certs.specs.declared.section.Section.{Section}
 use Rattle.facts.specs.declared.known.Known.TheVariants.{Nothing}
@@ -26,7 +26,7 @@ use Rattle.block_rules.specs.declared.rule.Rule.TheVariants.{K1, K2, K3, K9, K10
 use Rattle.block_rules.specs.declared.standing.Standing.{Standing}
 use Rattle.block_rules.specs.Operands.{slot_named, known_of, is_available, is_typed, known_fits, is_value, is_current, is_null, is_no_slot}
 use Rattle.block_rules.specs.Signature.{is_written_as}
-use Rattle.block_rules.specs.TypeKinds.{kind_of, is_reference}
+use Rattle.block_rules.specs.TypeKinds.{kind_of, slot_kind, is_reference}
 use Rattle.block_rules.specs.Barriers.{read_conditions, write_conditions, after_read_call, after_write}
 use Rattle.block_rules.specs.Promises.{promises_in, promised_in, callee_mark, given_by, show_promises}
 
@@ -46,15 +46,10 @@ all_current facts arguments = list_all (λ argument. is_current facts (known_of 
 abbrev pub no_slots : SlotTable → List Argument → Bool
 no_slots slots arguments = list_all (λ argument. is_no_slot slots argument.operand) arguments
 
--- a slot of this type holds references
-abbrev pub holds_reference : Module → (held : Option ℕ) → Bool
-holds_reference m None = false
-holds_reference m (Some held) = is_reference (kind_of m held)
-
 -- K9: a gcroot is in the head, names a reference slot that no gcroot named before, and its metadata is null
 abbrev pub is_unrooted : Module → SlotTable → FactSet → (slot : Option ℕ) → Bool
 is_unrooted m slots facts None = false
-is_unrooted m slots facts (Some s) = holds_reference m (held_type slots s) && not (slot_at facts.slots s).rooted
+is_unrooted m slots facts (Some s) = is_reference (slot_kind m slots s) && not (slot_at facts.slots s).rooted
 
 -- a gcroot with these arguments is allowed
 abbrev pub may_root : Module → SlotTable → FactSet → (in_head : Bool) → List Argument → Bool

@@ -9,7 +9,7 @@ use Rattle.layout.specs.Globals.{global_word}
 use Rattle.layout.specs.Layouts.{LaidOut}
 use Rattle.pools.specs.declared.word_kind.WordKind.{WordKind}
 use Rattle.pools.specs.declared.word_set.WordSet.{WordSet}
-use Rattle.shadow_stack.specs.Slots.{SlotTable, slot_of, held_type}
+use Rattle.shadow_stack.specs.Slots.{SlotTable, slot_of}
 use Rattle.facts.specs.declared.known.Known.{Known}
 use Rattle.facts.specs.declared.known.Known.TheVariants.{Nothing, Number, Cell, Null, Address, GlobalAddress}
 use Rattle.facts.specs.Facts.{FactSet, known_at, define, off_base}
@@ -17,7 +17,7 @@ use Rattle.block_rules.specs.declared.type_kind.TypeKind.{TypeKind}
 use Rattle.block_rules.specs.declared.type_kind.TypeKind.TheVariants.{Bits, Reference}
 use Rattle.block_rules.specs.Operands.{known_of}
 use Rattle.block_rules.specs.Places.{layout_of_word, loads_words, define_held}
-use Rattle.block_rules.specs.TypeKinds.{kind_of, place_kind, may_be_reference, fits_layout, layout_of_kind}
+use Rattle.block_rules.specs.TypeKinds.{kind_of, slot_kind, place_kind, may_be_reference, fits_layout, layout_of_kind}
 use Rattle.block_rules.specs.Bounds.{below_next}
 
 -- null of a reference type is null of each, and null of an address of references likewise
@@ -35,11 +35,6 @@ casts_constant m from to _ = false
 abbrev pub casts_slot : (held to : TypeKind) → Bool
 casts_slot (Reference layout) to = fits_layout layout to
 casts_slot _ to = false
-
--- the same by the types
-abbrev pub casts_held : Module → (to : ℕ) → (held : Option ℕ) → Bool
-casts_held m to None = false
-casts_held m to (Some held) = casts_slot (kind_of m held) (place_kind m to)
 
 -- words of a layout may be named as a place of this kind: all are references to one layout, and it fits
 abbrev pub casts_words : (layouts : List (List WordKind)) → (layout : ℕ) → WordSet → (to : TypeKind) → Bool
@@ -76,7 +71,7 @@ casts_known p facts to (GlobalAddress symbol) = casts_global p.of_module to symb
 -- a name names a slot, or a value
 abbrev pub casts_local : LaidOut → SlotTable → FactSet → (to : ℕ) → Known → (slot : Option ℕ) → Bool
 casts_local p slots facts to known None = casts_known p facts to known
-casts_local p slots facts to known (Some s) = casts_held p.of_module to (held_type slots s)
+casts_local p slots facts to known (Some s) = casts_slot (slot_kind p.of_module slots s) (place_kind p.of_module to)
 
 -- a bitcast to another type keeps the layout
 abbrev pub casts_other : LaidOut → SlotTable → FactSet → (from to : ℕ) → Operand → Bool

@@ -20,7 +20,7 @@ use Rattle.block_rules.specs.declared.wanted_word.WantedWord.TheVariants as want
 use Rattle.block_rules.specs.declared.type_kind.TypeKind.{TypeKind}
 use Rattle.block_rules.specs.declared.type_kind.TypeKind.TheVariants.{Bits, Reference, AnyReference}
 use Rattle.block_rules.specs.Operands.{slot_named, known_of, known_fits, is_null_constant}
-use Rattle.block_rules.specs.TypeKinds.{kind_of, is_any_reference, is_word}
+use Rattle.block_rules.specs.TypeKinds.{kind_of, slot_kind, is_any_reference, is_word}
 
 -- a value may be loaded from a slot: the load writes the type that the slot holds, or i8*; a slot that does not exist holds nothing
 abbrev pub loads_slot : Module → (written : ℕ) → (held : Option ℕ) → Bool
@@ -33,10 +33,10 @@ moves_kind same written (Bits bits) = same
 moves_kind same written (Reference layout) = same || is_any_reference written
 moves_kind same written _ = false
 
--- the same by the types; a slot that does not exist holds nothing
-abbrev pub moves : Module → (written : ℕ) → (held : Option ℕ) → Bool
-moves m written None = false
-moves m written (Some held) = moves_kind (written == held) (kind_of m written) (kind_of m held)
+-- the same by the types, and what the slot holds; a slot that does not exist holds nothing
+abbrev pub moves : Module → (written : ℕ) → (held : Option ℕ) → TypeKind → Bool
+moves m written None kind = false
+moves m written (Some held) kind = moves_kind (written == held) (kind_of m written) kind
 
 -- a word that is there holds what is wanted
 abbrev pub holds_wanted : WantedWord → Option WordKind → Bool
@@ -147,14 +147,9 @@ stores_known p facts kind value (Address base words) = stores_base p kind value 
 stores_known p facts kind value (GlobalAddress symbol) = stores_word kind value (global_word p.of_module symbol)
 stores_known p facts kind value _ = false
 
--- what is known of a value fits what a slot holds
-abbrev pub fits_held : Module → Known → (held : Option ℕ) → Bool
-fits_held m value None = false
-fits_held m value (Some held) = known_fits (kind_of m held) value
-
--- a slot may take a value: its type may be stored there, and what is known of the value fits
+-- a slot may take a value: its type may be stored there, and what is known of the value fits what the slot holds
 abbrev pub stores_slot : Module → SlotTable → (stored : ℕ) → (value : Known) → (slot : ℕ) → Bool
-stores_slot m slots stored value s = moves m stored (held_type slots s) && fits_held m value (held_type slots s)
+stores_slot m slots stored value s = moves m stored (held_type slots s) (slot_kind m slots s) && known_fits (slot_kind m slots s) value
 
 -- the same for the slot that a name names, or by what is known of the name where it names none
 abbrev pub stores_local : LaidOut → SlotTable → FactSet → Known → (stored : ℕ) → (value : Known) → (slot : Option ℕ) → Bool
@@ -177,11 +172,6 @@ abbrev pub load_kind : (v s : ℕ) → TypeKind → FactSet → FactSet
 load_kind v s (Bits bits) facts = define v (Number bits None) facts
 load_kind v s (Reference layout) facts = load_slot v s layout facts
 load_kind v s _ facts = define v Nothing facts
-
--- by the type that the slot holds
-abbrev pub load_held_type : Module → (v s : ℕ) → (held : Option ℕ) → FactSet → FactSet
-load_held_type m v s None facts = define v Nothing facts
-load_held_type m v s (Some held) facts = load_kind v s (kind_of m held) facts
 
 -- a load of this kind from words of a layout is a number of its bits, or null or a held cell
 abbrev pub load_words : (layouts : List (List WordKind)) → (v : ℕ) → (layout : ℕ) → WordSet → TypeKind → FactSet → FactSet
@@ -211,7 +201,7 @@ load_known p v kind _ facts = define v Nothing facts
 -- after a load, by the slot that the place is
 abbrev pub load_place : LaidOut → SlotTable → (v loaded : ℕ) → Operand → (slot : Option ℕ) → FactSet → FactSet
 load_place p slots v loaded place None facts = load_known p v (kind_of p.of_module loaded) (known_of facts place) facts
-load_place p slots v loaded place (Some s) facts = load_held_type p.of_module v s (held_type slots s) facts
+load_place p slots v loaded place (Some s) facts = load_kind v s (slot_kind p.of_module slots s) facts
 
 -- after a load
 abbrev pub after_load : LaidOut → SlotTable → (v loaded : ℕ) → (place : Operand) → FactSet → FactSet

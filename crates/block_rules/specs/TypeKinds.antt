@@ -4,6 +4,7 @@ use Rattle.ir_ast.specs.declared.module.Module.{Module}
 use Rattle.ir_ast.specs.declared.ir_type.IrType.{IrType}
 use Rattle.ir_ast.specs.declared.ir_type.IrType.TheVariants.{Void, Integer, Pointer, Array, EmptyStruct, Struct, Named}
 use Rattle.types.specs.References.{pointee, struct_named}
+use Rattle.shadow_stack.specs.Slots.{SlotTable, held_type, slot_layout}
 use Rattle.block_rules.specs.declared.type_kind.TypeKind.{TypeKind}
 use Rattle.block_rules.specs.declared.type_kind.TypeKind.TheVariants.{NoValue, Bits, Reference, AnyReference, Address, Other}
 
@@ -54,6 +55,16 @@ kind_at m (Some part) = kind_of m part
 -- what a pointer type of the module points to
 abbrev pub place_kind : Module → (written : ℕ) → TypeKind
 place_kind m written = kind_at m (pointee m written)
+
+-- what a slot of this type and layout holds: references to cells of its layout, and without one what its type is
+abbrev pub kind_held : Module → (held layout : Option ℕ) → TypeKind
+kind_held m None layout = Other
+kind_held m (Some held) None = kind_of m held
+kind_held m (Some held) (Some layout) = Reference layout
+
+-- what a slot holds
+abbrev pub slot_kind : Module → SlotTable → (slot : ℕ) → TypeKind
+slot_kind m slots slot = kind_held m (held_type slots slot) (slot_layout slots slot)
 
 -- tests of a kind
 abbrev pub is_void : TypeKind → Bool

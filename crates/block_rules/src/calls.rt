@@ -3,7 +3,7 @@ ghost use Rattle.std.specs.List.{list_all, zip};
 ghost use Rattle.std.specs.Option.{option_copied};
 ghost use Rattle.block_rules.specs.FirstFailing.{first_failing};
 ghost use Rattle.block_rules.specs.Signature.{callee_of};
-ghost use Rattle.block_rules.specs.Calls.{all_available, all_values, all_current, no_slots, holds_reference, is_unrooted, may_root, numbers_one_of, numbers_layout, number_layouts, root_conditions, alloc_conditions, safepoint_conditions, is_written_for, is_written_with, defined_conditions, takes_slot, takes_address, is_taken, all_taken, refused_conditions, read_call_conditions, write_call_conditions, call_conditions, after_root, after_root_call, alloc_numbered, alloc_layout, after_alloc, after_alloc_call, drop_arguments, receive_result, after_defined, after_call};
+ghost use Rattle.block_rules.specs.Calls.{all_available, all_values, all_current, no_slots, is_unrooted, may_root, numbers_one_of, numbers_layout, number_layouts, root_conditions, alloc_conditions, safepoint_conditions, is_written_for, is_written_with, defined_conditions, takes_slot, takes_address, is_taken, all_taken, refused_conditions, read_call_conditions, write_call_conditions, call_conditions, after_root, after_root_call, alloc_numbered, alloc_layout, after_alloc, after_alloc_call, drop_arguments, receive_result, after_defined, after_call};
 
 use crate::barrier::{after_read_call, after_write, read_refusal, write_refusal};
 use crate::callee::Callee;
@@ -268,21 +268,13 @@ fn refused_refusal(
     ])
 }
 
-fn holds_reference(module: &Module, held: Option<TypeId>) -> bool
-    ensures { result ≡ holds_reference «module».now held }
-{
-    match held {
-        Some(held) => TypeKind::of(module, held).is_reference(),
-        None => false,
-    }
-}
-
 fn is_unrooted(scene: &Scene, facts: &Facts, slot: Option<SlotId>) -> bool
     ensures { result ≡ is_unrooted scene.now.program.now.of_module scene.now.slots.now facts.now slot }
 {
     match slot {
         Some(s) => {
-            holds_reference(scene.module(), scene.slots.held_type(s)) && !facts.slot(s).rooted
+            TypeKind::of_slot(scene.module(), scene.slots, s).is_reference()
+                && !facts.slot(s).rooted
         }
         None => false,
     }

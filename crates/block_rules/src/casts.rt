@@ -2,7 +2,7 @@ ghost use Rattle.std.specs.Prelude.{◌≡◌, OnOk};
 ghost use Rattle.facts.specs.Facts.{is_on, off_base};
 ghost use Rattle.block_rules.specs.FirstFailing.{first_failing};
 ghost use Rattle.block_rules.specs.Rules.{cast_conditions};
-ghost use Rattle.block_rules.specs.Casts.{casts_null, casts_constant, casts_slot, casts_held, casts_words, casts_base, casts_to, casts_global, casts_operand, casts_known, casts_other, may_cast, layout_of_null, cast_number, cast_constant, cast_local, after_cast};
+ghost use Rattle.block_rules.specs.Casts.{casts_null, casts_constant, casts_slot, casts_words, casts_base, casts_to, casts_global, casts_operand, casts_known, casts_other, may_cast, layout_of_null, cast_number, cast_constant, cast_local, after_cast};
 
 use crate::conditions::first_failing;
 use crate::numbers::below_next;
@@ -36,15 +36,12 @@ fn casts_constant(module: &Module, from: TypeId, to: TypeId, constant: Constant)
     }
 }
 
-fn casts_held(module: &Module, to: TypeId, held: Option<TypeId>) -> bool
-    ensures { result ≡ casts_held «module».now to held }
+fn casts_slot(held: TypeKind, to: TypeKind) -> bool
+    ensures { result ≡ casts_slot held to }
 {
     match held {
-        Some(held) => match TypeKind::of(module, held) {
-            TypeKind::Reference(layout) => TypeKind::of_place(module, to).fits_layout(layout),
-            _ => false,
-        },
-        None => false,
+        TypeKind::Reference(layout) => to.fits_layout(layout),
+        _ => false,
     }
 }
 
@@ -109,7 +106,10 @@ fn casts_other(scene: &Scene, facts: &Facts, from: TypeId, to: TypeId, operand: 
     match operand {
         Operand::Constant(constant) => casts_constant(scene.module(), from, to, *constant),
         Operand::Local(v) => match scene.slots.slot_of(*v) {
-            Some(s) => casts_held(scene.module(), to, scene.slots.held_type(s)),
+            Some(s) => casts_slot(
+                TypeKind::of_slot(scene.module(), scene.slots, s),
+                TypeKind::of_place(scene.module(), to),
+            ),
             None => casts_known(scene.program, facts, to, &facts.known(*v)),
         },
         operand => casts_known(scene.program, facts, to, &known_of(facts, operand)),

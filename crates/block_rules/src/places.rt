@@ -2,7 +2,7 @@ ghost use Rattle.std.specs.Prelude.{◌≡◌, OnOk, Some};
 ghost use Rattle.pools.specs.Layouts.{kind_of_word};
 ghost use Rattle.facts.specs.Facts.{drop_fresh_of};
 ghost use Rattle.block_rules.specs.Operands.{known_of};
-ghost use Rattle.block_rules.specs.Places.{loads_slot, moves_kind, moves, holds_wanted, layout_of_word, cell_words, each_word, first_layout, one_reference, wanted_by_load, loads_words, loads_base, loads_word, loads_known, may_load, wanted_by_store, wanted_by_value, fits_words, stores_base, fits_word, stores_word, stores_known, fits_held, stores_slot, may_store, define_held, load_kind, load_held_type, load_words, load_base, load_word, load_known, load_place, after_load, after_store};
+ghost use Rattle.block_rules.specs.Places.{loads_slot, moves_kind, moves, holds_wanted, layout_of_word, cell_words, each_word, first_layout, one_reference, wanted_by_load, loads_words, loads_base, loads_word, loads_known, may_load, wanted_by_store, wanted_by_value, fits_words, stores_base, fits_word, stores_word, stores_known, stores_slot, may_store, define_held, load_kind, load_words, load_base, load_word, load_known, load_place, after_load, after_store};
 
 use crate::operands::{is_null_constant, known_fits, known_of, slot_named};
 use crate::scene::Scene;
@@ -34,15 +34,11 @@ fn moves_kind(same: bool, written: TypeKind, held: TypeKind) -> bool
     }
 }
 
-fn moves(module: &Module, written: TypeId, held: Option<TypeId>) -> bool
-    ensures { result ≡ moves «module».now written held }
+fn moves(module: &Module, written: TypeId, held: Option<TypeId>, kind: TypeKind) -> bool
+    ensures { result ≡ moves «module».now written held kind }
 {
     match held {
-        Some(held) => moves_kind(
-            written == held,
-            TypeKind::of(module, written),
-            TypeKind::of(module, held),
-        ),
+        Some(held) => moves_kind(written == held, TypeKind::of(module, written), kind),
         None => false,
     }
 }
@@ -271,20 +267,18 @@ pub fn stores_known(
     }
 }
 
-fn fits_held(module: &Module, value: &Known, held: Option<TypeId>) -> bool
-    ensures { result ≡ fits_held «module».now value.now held }
-{
-    match held {
-        Some(held) => known_fits(TypeKind::of(module, held), value),
-        None => false,
-    }
-}
-
 fn stores_slot(scene: &Scene, stored: TypeId, value: &Known, s: SlotId) -> bool
     ensures { result ≡ stores_slot scene.now.program.now.of_module scene.now.slots.now stored value.now s }
 {
-    moves(scene.module(), stored, scene.slots.held_type(s))
-        && fits_held(scene.module(), value, scene.slots.held_type(s))
+    moves(
+        scene.module(),
+        stored,
+        scene.slots.held_type(s),
+        TypeKind::of_slot(scene.module(), scene.slots, s),
+    ) && known_fits(
+        TypeKind::of_slot(scene.module(), scene.slots, s),
+        value,
+    )
 }
 
 /// Whether a value may be stored at a place.
@@ -344,21 +338,6 @@ fn load_kind(facts: &mut Facts, v: ValueId, s: SlotId, kind: TypeKind) -> Result
         TypeKind::Bits(bits) => facts.define(v, Known::Number { bits, below: None }),
         TypeKind::Reference(layout) => facts.load_slot(v, s, layout),
         _ => facts.define(v, Known::Nothing),
-    }
-}
-
-fn load_held_type(
-    module: &Module,
-    facts: &mut Facts,
-    v: ValueId,
-    s: SlotId,
-    held: Option<TypeId>,
-) -> Result<(), AllocError>
-    ensures { OnOk result (facts.new ≡ load_held_type «module».now v s held facts.old) }
-{
-    match held {
-        Some(held) => load_kind(facts, v, s, TypeKind::of(module, held)),
-        None => facts.define(v, Known::Nothing),
     }
 }
 
@@ -447,7 +426,10 @@ pub fn after_load(
     ensures { OnOk result (facts.new ≡ after_load scene.now.program.now scene.now.slots.now v loaded place.now facts.old) }
 {
     match slot_named(scene.slots, place) {
-        Some(s) => load_held_type(scene.module(), facts, v, s, scene.slots.held_type(s)),
+        Some(s) => {
+            let kind = TypeKind::of_slot(scene.module(), scene.slots, s);
+            load_kind(facts, v, s, kind)
+        }
         None => {
             let kind = TypeKind::of(scene.module(), loaded);
             let known = known_of(facts, place);

@@ -1,9 +1,10 @@
 ghost use Rattle.std.specs.Prelude.{◌≡◌, slice_get};
 ghost use Rattle.types.specs.References.{struct_named};
-ghost use Rattle.block_rules.specs.TypeKinds.{kind_of, kind_of_type, pointer_kind, pointer_to, place_kind, struct_pointer, is_pointer, may_be_reference, is_integer, is_word, is_reference, is_void, is_bits, is_any_reference, layout_of_kind, fits_layout};
+ghost use Rattle.block_rules.specs.TypeKinds.{kind_of, kind_of_type, pointer_kind, pointer_to, place_kind, slot_kind, struct_pointer, is_pointer, may_be_reference, is_integer, is_word, is_reference, is_void, is_bits, is_any_reference, layout_of_kind, fits_layout};
 
 use ir_ast::{IrType, Module, StructNameId, TypeId};
 use pools::LayoutId;
+use shadow_stack::{SlotId, Slots};
 use types::pointee;
 
 /// What a written type is to the rules.
@@ -41,6 +42,17 @@ impl TypeKind {
         match pointee(module, written) {
             Some(part) => TypeKind::of(module, part),
             None => TypeKind::Other,
+        }
+    }
+
+    /// What a slot holds.
+    pub fn of_slot(module: &Module, slots: &Slots, slot: SlotId) -> Self
+        ensures { result ≡ slot_kind «module».now slots.now slot }
+    {
+        match (slots.held_type(slot), slots.layout(slot)) {
+            (None, _) => TypeKind::Other,
+            (Some(held), None) => TypeKind::of(module, held),
+            (Some(_), Some(layout)) => TypeKind::Reference(layout),
         }
     }
 

@@ -524,6 +524,7 @@ module _ (m : Module) (f : Function) (named : IsNamed m) (own : IsNamedFunction 
 
       by : (s : Option LocalSort) → slice_get f.sorts value ≡ s → fact_fits m (family_of_sort m f s) said ≡ true → is_value_sort s ≡ true
       by (Some (local.Value written)) is e = refl
+      by (Some (local.Slot held)) is e = refl
       by (Some (local.Element block place)) is e = refl
       by (Some local.Unknown) is e = absurd (none said e)
       by (Some (local.Block block)) is e = absurd (none said e)

@@ -50,6 +50,7 @@ value_sort f value e = by (slice_get f.sorts value) e
     by : (s : Option LocalSort) → is_value_sort s ≡ true → value_by (Some value) s ≡ naming.Named value
     by None e = absurd cc
     by (Some (local.Value written)) e = refl
+    by (Some (local.Slot held)) e = refl
     by (Some (local.Element block place)) e = refl
     by (Some local.Unknown) e = absurd cc
     by (Some (local.Block block)) e = absurd cc

@@ -196,6 +196,7 @@ module _ (m : Module) (f : Function) (named : IsNamed m) (own : IsNamedFunction 
 
       by : (s : Option LocalSort) → promise_fits m (family_of_sort m f s) p ≡ true → is_value_sort s ≡ true
       by (Some (local.Value written)) e = refl
+      by (Some (local.Slot held)) e = refl
       by (Some (local.Element block place)) e = refl
       by (Some local.Unknown) e = absurd (none e)
       by (Some (local.Block block)) e = absurd (none e)

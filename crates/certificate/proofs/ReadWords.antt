@@ -144,6 +144,7 @@ value_is f w v e = by_name (name_in sigil.Local w) e
     by_sort : (p : ℕ) (s : Option LocalSort) → slice_get f.sorts p ≡ s → value_by (Some p) s ≡ naming.Named v → (p ≡ v) × (is_value_sort s ≡ true)
     by_sort p None is e = absurd cc
     by_sort p (Some (local.Value written)) is e = (let q : p ≡ v = cc in q, refl)
+    by_sort p (Some (local.Slot held)) is e = (let q : p ≡ v = cc in q, refl)
     by_sort p (Some (local.Element block place)) is e = (let q : p ≡ v = cc in q, refl)
     by_sort p (Some local.Unknown) is e = absurd cc
     by_sort p (Some (local.Block block)) is e = absurd cc

@@ -61,6 +61,7 @@ local_at f (Some value) = slice_get f.sorts value
 -- a parameter or an instruction's value
 abbrev pub value_by : Option ℕ → Option LocalSort → Naming
 value_by (Some value) (Some (local.Value written)) = Named value
+value_by (Some value) (Some (local.Slot held)) = Named value
 value_by (Some value) (Some (local.Element block place)) = Named value
 value_by _ _ = Unknown
 

@@ -69,6 +69,7 @@ fn value_named(function: &Function, key: &[u8]) -> Naming
         None => Naming::Unknown,
         Some(value) => match function.sorts.get(value) {
             Some(LocalSort::Value(_)) => Naming::Named(value as u32),
+            Some(LocalSort::Slot(_)) => Naming::Named(value as u32),
             Some(LocalSort::Element { .. }) => Naming::Named(value as u32),
             _ => Naming::Unknown,
         },

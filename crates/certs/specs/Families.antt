@@ -44,6 +44,7 @@ family_of_element m (Some part) = family_of_pointer m part
 -- what a value of this sort is
 abbrev pub family_of_sort : Module → Function → Option LocalSort → Family
 family_of_sort m f (Some (sort.Value written)) = family_of_type m written
+family_of_sort m f (Some (sort.Slot held)) = family_of_pointer m held
 family_of_sort m f (Some (sort.Element block place)) = family_of_element m (element_of m (instruction_at f block place))
 family_of_sort m f _ = Nothing
 

@@ -108,6 +108,7 @@ fact_fits m family (fact.GlobalAddress symbol) = is_address family && is_some (g
 -- a parameter or an instruction's value
 abbrev pub is_value_sort : Option LocalSort → Bool
 is_value_sort (Some (local.Value written)) = true
+is_value_sort (Some (local.Slot held)) = true
 is_value_sort (Some (local.Element block place)) = true
 is_value_sort _ = false
 

@@ -73,6 +73,7 @@ pub fn family_of_value(module: &Module, function: &Function, value: ValueId) -> 
 {
     match function.sorts.get(value.number() as usize) {
         Some(LocalSort::Value(written)) => family_of_type(module, *written),
+        Some(LocalSort::Slot(held)) => family_of_pointer(module, *held),
         Some(LocalSort::Element { block, place }) => {
             match element_of(module, function, *block, *place) {
                 Some(part) => family_of_pointer(module, part),

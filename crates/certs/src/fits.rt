@@ -160,7 +160,7 @@ fn is_value(function: &Function, value: ValueId) -> bool
 {
     matches!(
         function.sorts.get(value.number() as usize),
-        Some(LocalSort::Value(_) | LocalSort::Element { .. })
+        Some(LocalSort::Value(_) | LocalSort::Slot(_) | LocalSort::Element { .. })
     )
 }
 

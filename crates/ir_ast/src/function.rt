@@ -13,6 +13,8 @@ pub enum LocalSort {
     Unknown,
     /// A parameter's or an instruction's value, of the type that it is given.
     Value(TypeId),
+    /// A slot that holds a value of this type: the name of an alloca.
+    Slot(TypeId),
     /// The value of the getelementptr at this place of this block's body: a pointer to the part that its indices select.
     Element { block: BlockId, place: u32 },
     Block(BlockId),

@@ -2,24 +2,22 @@
 use Rattle.std.specs.Prelude.{ℕ, None}
 use Rattle.grammar.specs.Grammar.{pure, ◌>>=◌, ◌>>◌}
 use Rattle.ir_tokens.specs.declared.token.Kind.TheVariants as k
-use Rattle.ir_ast.specs.declared.ir_type.IrType.TheVariants as type
 use Rattle.ir_ast.specs.declared.argument.Argument.{Argument}
 use Rattle.ir_ast.specs.declared.memory.MemoryOp.{MemoryOp}
 use Rattle.ir_ast.specs.declared.memory.MemoryOp.TheVariants as memory
 use Rattle.ir_forms.specs.declared.written.WrittenType.{WrittenType}
 use Rattle.ir_forms.specs.Input.{Form, skip, expect}
-use Rattle.ir_forms.specs.Names.{set_type}
-use Rattle.ir_forms.specs.Written.{scalar, intern, pointer_again, bits_of}
+use Rattle.ir_forms.specs.Names.{set_type, set_slot}
+use Rattle.ir_forms.specs.Written.{scalar, pointer_again, bits_of}
 use Rattle.ir_forms.specs.Operand.{operand}
 use Rattle.ir_forms.specs.Decorations.{optional}
 
--- `alloca T`, whose value is a pointer to T
+-- `alloca T`, whose name means a slot that holds a T
 unfoldable pub alloca : ℕ → Form MemoryOp
 alloca value = do
   skip
   held ← scalar
-  slot ← intern (type.Pointer held.id)
-  set_type value slot
+  set_slot value held.id
   pure (memory.Alloca held.id)
 
 -- `T* V`, a place of a T that is written before it

@@ -213,6 +213,7 @@ abbrev pub is_local : Option LocalSort → Bool
 is_local None = false
 is_local (Some local.Unknown) = false
 is_local (Some (local.Value t)) = true
+is_local (Some (local.Slot held)) = true
 is_local (Some (local.Element block place)) = true
 is_local (Some (local.Block b)) = true
 
@@ -321,6 +322,10 @@ set_sort value sort = step (λ _. tt) (with_sort value sort) (with_sort_falls va
 abbrev pub set_type : ℕ → ℕ → Form (Unit {0})
 set_type value shown = set_sort value (local.Value shown)
 
+-- the name means a slot that holds a value of this type
+abbrev pub set_slot : ℕ → ℕ → Form (Unit {0})
+set_slot value held = set_sort value (local.Slot held)
+
 -- the name means the value of the getelementptr at this place of this block's body
 abbrev pub set_element : ℕ → ℕ → ℕ → Form (Unit {0})
 set_element value block place = set_sort value (local.Element block place)
@@ -382,6 +387,7 @@ abbrev pub is_wanted : Wanted → Option LocalSort → Bool
 is_wanted wanted None = false
 is_wanted wanted (Some local.Unknown) = false
 is_wanted wanted (Some (local.Value t)) = wants_value wanted
+is_wanted wanted (Some (local.Slot held)) = wants_value wanted
 is_wanted wanted (Some (local.Element block place)) = wants_value wanted
 is_wanted wanted (Some (local.Block b)) = wants_block wanted b
 

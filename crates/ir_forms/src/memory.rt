@@ -7,7 +7,7 @@ use crate::decorating::optional;
 use crate::fault::Fault;
 use crate::input::Input;
 use crate::written::{WrittenType, bits_of};
-use ir_ast::{Argument, IrType, MemoryOp, ValueId};
+use ir_ast::{Argument, MemoryOp, ValueId};
 use ir_tokens::Kind;
 use std::alloc::Global;
 
@@ -17,8 +17,7 @@ pub fn alloca(alloc: Global, input: &mut Input<'_>, value: ValueId) -> Result<Me
 {
     input.skip();
     let held = input.scalar(alloc)?.id;
-    let slot = input.intern(IrType::Pointer(held))?;
-    input.set_type(value, slot);
+    input.set_slot(value, held);
     Ok(MemoryOp::Alloca(held))
 }
 

@@ -71,7 +71,12 @@ fn is_local(sort: Option<LocalSort>) -> bool
 {
     matches!(
         sort,
-        Some(LocalSort::Value(_) | LocalSort::Element { .. } | LocalSort::Block(_))
+        Some(
+            LocalSort::Value(_)
+                | LocalSort::Slot(_)
+                | LocalSort::Element { .. }
+                | LocalSort::Block(_)
+        )
     )
 }
 
@@ -266,6 +271,14 @@ impl<'a> Input<'a> {
             .define(value.number() as usize, LocalSort::Value(shown));
     }
 
+    /// This name means a slot that holds a value of this type.
+    pub fn set_slot(&mut self, value: ValueId, held: TypeId)
+        ensures { (form.set_slot value held).read self.old ≡ Ok (tt, self.new) }
+    {
+        self.locals
+            .define(value.number() as usize, LocalSort::Slot(held));
+    }
+
     /// The value that this name means is the one of the getelementptr at this place of this block's body.
     pub fn set_element(&mut self, value: ValueId, block: BlockId, place: u32)
         ensures { (form.set_element value block place).read self.old ≡ Ok (tt, self.new) }
@@ -413,7 +426,9 @@ fn is_wanted(wanted: Wanted, sort: Option<LocalSort>) -> bool
     ensures { result ≡ form.is_wanted wanted sort }
 {
     match &sort {
-        Some(LocalSort::Value(_) | LocalSort::Element { .. }) => wants_value(wanted),
+        Some(LocalSort::Value(_) | LocalSort::Slot(_) | LocalSort::Element { .. }) => {
+            wants_value(wanted)
+        }
         Some(LocalSort::Block(block)) => wants_block(wanted, block.number()),
         _ => false,
     }

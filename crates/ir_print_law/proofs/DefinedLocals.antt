@@ -29,12 +29,14 @@ sorted_as n sort t less P h =
 value_sort : (g : Progress) (n : ℕ) (sort : LocalSort) → IsIn g.values n → IsValueSort sort → IsSortOf g n sort
 value_sort g n local.Unknown there is = tt
 value_sort g n (local.Value t) there is = there
+value_sort g n (local.Slot held) there is = there
 value_sort g n (local.Element block place) there is = there
 value_sort g n (local.Block b) there is = absurd is
 
 value_known : (sort : LocalSort) → IsValueSort sort → is_local (Some sort) ≡ true
 value_known local.Unknown is = absurd is
 value_known (local.Value t) is = refl
+value_known (local.Slot held) is = refl
 value_known (local.Element block place) is = refl
 value_known (local.Block b) is = absurd is
 
@@ -61,6 +63,7 @@ value_sorted g n t unnamed sort is h =
 label_further : (g : Progress) (n k : ℕ) (sort : LocalSort) → IsSortOf g k sort → IsSortOf (with_named_label g n) k sort
 label_further g n k local.Unknown h = tt
 label_further g n k (local.Value t) h = h
+label_further g n k (local.Slot held) h = h
 label_further g n k (local.Element block place) h = h
 label_further g n k (local.Block b) h = stays g.labels (g.labels ++ n ∷ []) b k (begins_with g.labels (n ∷ [])) h
 
@@ -136,6 +139,9 @@ wanted_is g t unnamed wanted n h is = by wanted (slice_get t.sorts n) is (h.sort
   by wants.Value (Some (local.Value t)) e s = s (local.Value t) refl
   by wants.Block (Some (local.Value t)) e s = absurd cc
   by wants.Target (Some (local.Value t)) e s = absurd cc
+  by wants.Value (Some (local.Slot held)) e s = s (local.Slot held) refl
+  by wants.Block (Some (local.Slot held)) e s = absurd cc
+  by wants.Target (Some (local.Slot held)) e s = absurd cc
   by wants.Value (Some (local.Element block place)) e s = s (local.Element block place) refl
   by wants.Block (Some (local.Element block place)) e s = absurd cc
   by wants.Target (Some (local.Element block place)) e s = absurd cc

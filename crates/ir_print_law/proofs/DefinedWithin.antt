@@ -132,6 +132,7 @@ module _ (f : Function) where
     by None same is = absurd cc
     by (Some local.Unknown) same is = absurd cc
     by (Some (local.Value t)) same is = tt
+    by (Some (local.Slot held)) same is = tt
     by (Some (local.Element block place)) same is = tt
     by (Some (local.Block b)) same is = absurd (places.disjoint n there (in_list (whole_of f).labels b n (names.sorted n (local.Block b) same)))
 

@@ -136,12 +136,14 @@ value_begun f seen values labels t uses k h =
 -- the sort of a value
 abbrev pub IsValueSort : LocalSort → Type 0
 IsValueSort (local.Value shown) = Unit {0}
+IsValueSort (local.Slot held) = Unit {0}
 IsValueSort (local.Element block place) = Unit {0}
 IsValueSort _ = ⊥
 
 right_value : (sort : LocalSort) → IsValueSort sort → is_wanted wants.Value (Some sort) ≡ true
 right_value local.Unknown is = absurd is
 right_value (local.Value shown) is = refl
+right_value (local.Slot held) is = refl
 right_value (local.Element block place) is = refl
 right_value (local.Block number) is = absurd is
 

@@ -85,6 +85,7 @@ names_stay (n ∷ ns) names more within b =
 abbrev pub IsSortOf : Progress → ℕ → LocalSort → Type 0
 IsSortOf g n local.Unknown = Unit {0}
 IsSortOf g n (local.Value t) = IsIn g.values n
+IsSortOf g n (local.Slot held) = IsIn g.values n
 IsSortOf g n (local.Element block place) = IsIn g.values n
 IsSortOf g n (local.Block b) = slice_get g.labels b ≡ Some n
 
@@ -154,6 +155,7 @@ key_is_new g t unnamed key n h at none there =
 sort_further : (g : Progress) (n k : ℕ) (sort : LocalSort) → IsSortOf g k sort → IsSortOf (with_named_value g n) k sort
 sort_further g n k local.Unknown h = tt
 sort_further g n k (local.Value t) h = in_longer g.values n k h
+sort_further g n k (local.Slot held) h = in_longer g.values n k h
 sort_further g n k (local.Element block place) h = in_longer g.values n k h
 sort_further g n k (local.Block b) h = h
 

@@ -2,7 +2,6 @@
 use Rattle.std.proofs.Common.{◌≡◌, ℕ, Bool, true, false, refl, sym, subst}
 use Rattle.ir_ast.specs.declared.function.Function.{Function}
 use Rattle.ir_ast.specs.declared.function.LocalSort.TheVariants as local
-use Rattle.ir_ast.specs.declared.ir_type.IrType.TheVariants as type
 use Rattle.ir_ast.specs.declared.memory.MemoryOp.{MemoryOp}
 use Rattle.ir_ast.specs.declared.memory.MemoryOp.TheVariants as memory
 use Rattle.ir_ast.specs.declared.module.Module.{Module}
@@ -19,7 +18,6 @@ use Rattle.ir_print_law.proofs.Forms.{Keeps, Same}
 use Rattle.ir_print_law.proofs.Operands.{operand_keeps}
 use Rattle.ir_print_law.proofs.Passes.{skip_passes, expect_passes}
 use Rattle.ir_print_law.proofs.Reading.{Within, Naming}
-use Rattle.ir_print_law.proofs.Tokens.{intern_goes}
 use Rattle.ir_print_law.proofs.TypesThat.{scalar_of, scalar_keeps}
 use Rattle.ir_print_law.proofs.ValueSorts.{Gives, ends}
 
@@ -33,17 +31,14 @@ module _ {m : Module} {f : Function} {value : ℕ} (n : Naming m f value) where
   alloca_keeps i x o h fore =
       let r = n.within.reading in
       let t = h.3 in
-      let u = t.3 in
       let a = skip_passes r i h.0 h.1 h.2 fore in
       let b = scalar_keeps r h.1 t.0 t.1 t.2 a.0 in
-      let c = intern_goes r (type.Pointer t.0.id) t.1 tt u.0 u.1 u.2 b.0 in
-      let d = ends n (local.Value u.0) tt (memory.Alloca t.0.id) u.1 x o u.3 c.0 in (
-        d.0,
+      let c = ends n (local.Slot t.0.id) tt (memory.Alloca t.0.id) t.1 x o t.3 b.0 in (
+        c.0,
         λ back.
-            let db = d.1 back in
-            let cb = c.1 db.0 in
+            let cb = c.1 back in
             let bb = b.1 cb.0 in
-            ((a.1 bb.0).0, subst (IsGivingMemory m f true) db.1 ((bb.1.0.0, scalar_of m t.0 bb.1), refl)),
+            ((a.1 bb.0).0, subst (IsGivingMemory m f true) cb.1 ((bb.1.0.0, scalar_of m t.0 bb.1), refl)),
       )
 
   pub load_keeps : Gives n (load value) (IsGivingMemory m f true)

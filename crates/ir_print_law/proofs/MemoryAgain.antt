@@ -1,11 +1,10 @@
 -- Printed operations on memory are read as these operations again.
-use Rattle.std.proofs.Common.{◌≡◌, ℕ, ◌+◌, Bool, false, List, [], ◌∷◌, ◌++◌, slice_get, None, Some, refl, sym, subst, arith, append_assoc, ap, true}
+use Rattle.std.proofs.Common.{◌≡◌, ℕ, Bool, false, List, [], ◌∷◌, ◌++◌, None, refl, sym, subst, arith, append_assoc, ap, true}
 use Rattle.std.specs.Prelude.{codes}
 use Rattle.grammar.specs.Grammar.{pure, ◌>>=◌, ◌>>◌}
 use Rattle.ir_ast.specs.declared.argument.Argument.{Argument}
 use Rattle.ir_ast.specs.declared.function.Function.{Function}
 use Rattle.ir_ast.specs.declared.function.LocalSort.TheVariants as local
-use Rattle.ir_ast.specs.declared.ir_type.IrType.TheVariants as type
 use Rattle.ir_ast.specs.declared.memory.MemoryOp.{MemoryOp}
 use Rattle.ir_ast.specs.declared.memory.MemoryOp.TheVariants as memory
 use Rattle.ir_ast.specs.declared.module.Module.{Module}
@@ -18,7 +17,7 @@ use Rattle.ir_forms.specs.Cursor.{sees, kind, same_kind}
 use Rattle.ir_forms.specs.declared.input.Input.{Input}
 use Rattle.ir_forms.specs.declared.written.WrittenType.{WrittenType}
 use Rattle.ir_forms.specs.Input.{Form, advanced, skip, expect}
-use Rattle.ir_forms.specs.Names.{set_type}
+use Rattle.ir_forms.specs.Names.{set_type, set_slot}
 use Rattle.ir_forms.specs.Operand as form
 use Rattle.ir_forms.specs.Written as w
 use Rattle.ir_forms.specs.Decorations.{optional, either}
@@ -33,7 +32,7 @@ use Rattle.ir_print_law.specs.Parts.{IsType, IsOperand, IsPlaceType}
 use Rattle.ir_print_law.specs.Shapes.{Shape, Pointer, HasShape}
 use Rattle.ir_print_law.proofs.State.{Invariant, Ready, Reads}
 use Rattle.ir_print_law.proofs.Shown.{shown, IsTypeRead, read_stays}
-use Rattle.ir_print_law.proofs.Steps.{given, sign_reads, word_skipped, intern_reads, unlike, grows_further, later_before}
+use Rattle.ir_print_law.proofs.Steps.{given, sign_reads, word_skipped, unlike, grows_further, later_before}
 use Rattle.ir_print_law.proofs.Types.{EndsType}
 use Rattle.ir_print_law.proofs.WholeTypes.{type_begins}
 use Rattle.ir_print_law.proofs.PrintedTypes.{type_shown, read_again, scalar_reads}
@@ -223,25 +222,19 @@ module _ {m : Module} {f : Function} (v u : Invariant m f) where
       let type_is = type_shown m shape held scalar.0.0 scalar.0.1 in
       let ready = subst (λ (y : Text). Ready v s i (gap ++ (codes "alloca" ++ (32 ∷ (y ++ rest))))) type_is ready in
       let behind = 32 ∷ (shown false shape ++ rest) in
-      on v u skip (λ _. held_form) i behind rest (s + 1) s (λ _ o. advanced i ≡ o) good
-      (word_skipped v (codes "alloca") i gap behind s (s + 1) blanks refl refl (omega arith) ready)
+      on v u skip (λ _. held_form) i behind rest s s (λ _ o. advanced i ≡ o) good
+      (word_skipped v (codes "alloca") i gap behind s s blanks refl refl (omega arith) ready)
       (λ _ o ready g e.
-      on v u w.scalar slot_form o rest rest (s + 1) s (IsTypeRead shape 64) good
-      (scalar_reads v shape o (32 ∷ []) rest (s + 1) scalar.0.2 scalar.0.1 scalar.1 refl ends ready)
-      (λ p q ready h read.
-      on v u (w.intern (type.Pointer p.id)) (set_form p) q rest rest s s (λ n o. slice_get o.types n ≡ Some (type.Pointer p.id)) good
-      (intern_reads v (type.Pointer p.id) q rest s tt ready)
-      (λ slot r ready hh there. set_reads v u (λ n others. IsMemoryOpAgain m n f.locals others) value (local.Value slot) (memory.Alloca held) (memory.Alloca p.id) r rest s sets refl ready
-      (λ n others later. read_again m shape held p.id q n others scalar.0.0 read.has_shape (later_before q r n others hh later)))))
+      on v u w.scalar set_form o rest rest s s (IsTypeRead shape 64) good
+      (scalar_reads v shape o (32 ∷ []) rest s scalar.0.2 scalar.0.1 scalar.1 refl ends ready)
+      (λ p q ready h read. set_reads v u (λ n others. IsMemoryOpAgain m n f.locals others) value (local.Slot p.id) (memory.Alloca held) (memory.Alloca p.id) q rest s sets refl ready
+      (λ n others later. read_again m shape held p.id q n others scalar.0.0 read.has_shape later)))
     where
-      set_form : WrittenType → ℕ → Form MemoryOp
-      set_form p slot = set_type value slot >> pure (memory.Alloca p.id)
-
-      slot_form : WrittenType → Form MemoryOp
-      slot_form p = w.intern (type.Pointer p.id) >>= set_form p
+      set_form : WrittenType → Form MemoryOp
+      set_form p = set_slot value p.id >> pure (memory.Alloca p.id)
 
       held_form : Form MemoryOp
-      held_form = w.scalar >>= slot_form
+      held_form = w.scalar >>= set_form
 
   -- an operation on memory is one of instructions
   as_memory : (form : Form MemoryOp) (x : MemoryOp) (i : Input) (rest : Text) (s : ℕ) → Reads u s form i rest (MemoryAgain m f.locals x) → Reads u s (as_op op.Memory form) i rest (OpAgain m f.locals (op.Memory x))

@@ -64,6 +64,7 @@ line_ends rest ends = (ends.0, λ i at. line_of (kind i.cursor) (ends.1 i at))
 value_sort : (sort : LocalSort) → parts.IsValueSort sort → IsValueSort sort
 value_sort local.Unknown e = absurd cc
 value_sort (local.Value shown) e = tt
+value_sort (local.Slot held) e = tt
 value_sort (local.Element block place) e = tt
 value_sort (local.Block number) e = absurd cc
 

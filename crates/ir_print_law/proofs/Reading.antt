@@ -61,6 +61,7 @@ pub record Within (m : Module) (f : Function) : Type 1 where
 -- what a name means that is a value
 abbrev pub IsValueSort : LocalSort → Type 0
 IsValueSort (local.Value t) = Unit {0}
+IsValueSort (local.Slot held) = Unit {0}
 IsValueSort (local.Element block place) = Unit {0}
 IsValueSort _ = ⊥
 

@@ -41,6 +41,7 @@ HasLocal f value = value < length f.locals
 -- what a local name stands for is a value
 abbrev pub IsOfValue : Option LocalSort → Type 0
 IsOfValue (Some (local.Value t)) = Unit {0}
+IsOfValue (Some (local.Slot held)) = Unit {0}
 IsOfValue (Some (local.Element block place)) = Unit {0}
 IsOfValue _ = ⊥
 

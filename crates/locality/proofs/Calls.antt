@@ -1,7 +1,7 @@
 -- What is asked of a call of a function that is known, and what is known after it, does not depend on functions.
 use Rattle.std.specs.List.{list_all}
 use Rattle.std.specs.Prelude.{Bool, List, None, Option, Some, [], false, not, refl, ℕ, ◌&&◌, ◌||◌, ◌∷◌, ◌≡◌}
-use Rattle.block_rules.specs.Calls.{after_defined, all_available, all_current, all_taken, all_values, alloc_conditions, defined_conditions, drop_arguments, holds_reference, is_taken, is_unrooted, is_written_with, may_root, no_slots, number_layouts, numbers_layout, read_call_conditions, receive_result, refused_conditions, root_conditions, safepoint_conditions, takes_address, takes_slot, write_call_conditions}
+use Rattle.block_rules.specs.Calls.{after_defined, all_available, all_current, all_taken, all_values, alloc_conditions, defined_conditions, drop_arguments, is_taken, is_unrooted, is_written_with, may_root, no_slots, number_layouts, numbers_layout, read_call_conditions, receive_result, refused_conditions, root_conditions, safepoint_conditions, takes_address, takes_slot, write_call_conditions}
 use Rattle.block_rules.specs.Operands.{is_null, known_fits, known_of, slot_named}
 use Rattle.block_rules.specs.Promises.{callee_mark, given_by, promised_in, promises_in, show_promises}
 use Rattle.block_rules.specs.TypeKinds.{is_reference}
@@ -18,8 +18,8 @@ use Rattle.ir_ast.specs.declared.operand.Operand.TheVariants.{Constant as Writte
 use Rattle.ir_ast.specs.declared.runtime.Runtime.TheVariants.{Alloc, GcRead, GcRoot, GcWrite, Safepoint}
 use Rattle.layout.specs.Layouts.{LaidOut}
 use Rattle.safepoints.specs.Marks.{after_mark, is_may, marks_agree}
-use Rattle.shadow_stack.specs.Slots.{SlotTable, held_type}
-use Rattle.locality.proofs.Operands.{is_typed_same, is_value_same, kind_of_same}
+use Rattle.shadow_stack.specs.Slots.{SlotTable}
+use Rattle.locality.proofs.Operands.{is_typed_same, is_value_same, kind_of_same, slot_kind_same}
 use Rattle.locality.proofs.Places.{read_conditions_same, write_conditions_same}
 use Rattle.locality.proofs.Signature.{is_written_as_same}
 use Rattle.locality.specs.Local.{laid_with, with_functions}
@@ -27,16 +27,9 @@ use Rattle.locality.specs.Local.{laid_with, with_functions}
 pub all_values_same : (m : Module) (fs : List Function) → all_values (with_functions m fs) ≡ all_values m
 all_values_same m fs = λ along f facts arguments. list_all (λ argument. is_value_same m fs along f facts argument.written argument.operand) arguments
 
-holds_reference_by : (m : Module) (fs : List Function) (held : Option ℕ) → holds_reference (with_functions m fs) held ≡ holds_reference m held
-holds_reference_by m fs None = refl
-holds_reference_by m fs (Some held) = λ along. is_reference (kind_of_same m fs along held)
-
-pub holds_reference_same : (m : Module) (fs : List Function) → holds_reference (with_functions m fs) ≡ holds_reference m
-holds_reference_same m fs = λ along held. holds_reference_by m fs held along
-
 is_unrooted_by : (m : Module) (fs : List Function) (slots : SlotTable) (facts : FactSet) (slot : Option ℕ) → is_unrooted (with_functions m fs) slots facts slot ≡ is_unrooted m slots facts slot
 is_unrooted_by m fs slots facts None = refl
-is_unrooted_by m fs slots facts (Some s) = λ along. holds_reference_same m fs along (held_type slots s) && not (slot_at facts.slots s).rooted
+is_unrooted_by m fs slots facts (Some s) = λ along. is_reference (slot_kind_same m fs along slots s) && not (slot_at facts.slots s).rooted
 
 pub is_unrooted_same : (m : Module) (fs : List Function) → is_unrooted (with_functions m fs) ≡ is_unrooted m
 is_unrooted_same m fs = λ along slots facts slot. is_unrooted_by m fs slots facts slot along

@@ -1,6 +1,6 @@
 -- What is asked of bitcasts, and what is known after them, does not depend on functions.
 use Rattle.std.specs.Prelude.{List, None, Option, Some, false, refl, ℕ, ◌&&◌, ◌==◌, ◌||◌, ◌≡◌}
-use Rattle.block_rules.specs.Casts.{after_cast, cast_constant, cast_number, casts_base, casts_constant, casts_global, casts_held, casts_known, casts_local, casts_null, casts_operand, casts_other, casts_slot, casts_to, casts_words, layout_of_null, may_cast}
+use Rattle.block_rules.specs.Casts.{after_cast, cast_constant, cast_number, casts_base, casts_constant, casts_global, casts_known, casts_local, casts_null, casts_operand, casts_other, casts_slot, casts_to, casts_words, layout_of_null, may_cast}
 use Rattle.block_rules.specs.Operands.{known_of}
 use Rattle.block_rules.specs.Places.{define_held, layout_of_word}
 use Rattle.block_rules.specs.TypeKinds.{fits_layout, may_be_reference}
@@ -16,8 +16,8 @@ use Rattle.ir_ast.specs.declared.operand.Operand.TheVariants.{CastGlobal, Consta
 use Rattle.layout.specs.Globals.{global_word}
 use Rattle.layout.specs.Layouts.{LaidOut}
 use Rattle.pools.specs.declared.word_set.WordSet.{WordSet}
-use Rattle.shadow_stack.specs.Slots.{SlotTable, held_type, slot_of}
-use Rattle.locality.proofs.Operands.{kind_of_same, place_kind_same}
+use Rattle.shadow_stack.specs.Slots.{SlotTable, slot_of}
+use Rattle.locality.proofs.Operands.{kind_of_same, place_kind_same, slot_kind_same}
 use Rattle.locality.specs.Local.{laid_with, with_functions}
 
 pub casts_null_same : (m : Module) (fs : List Function) → casts_null (with_functions m fs) ≡ casts_null m
@@ -30,13 +30,6 @@ casts_constant_by m fs from to _ = refl
 
 pub casts_constant_same : (m : Module) (fs : List Function) → casts_constant (with_functions m fs) ≡ casts_constant m
 casts_constant_same m fs = λ along from to constant. casts_constant_by m fs from to constant along
-
-casts_held_by : (m : Module) (fs : List Function) (to : ℕ) (held : Option ℕ) → casts_held (with_functions m fs) to held ≡ casts_held m to held
-casts_held_by m fs to None = refl
-casts_held_by m fs to (Some held) = λ along. casts_slot (kind_of_same m fs along held) (place_kind_same m fs along to)
-
-pub casts_held_same : (m : Module) (fs : List Function) → casts_held (with_functions m fs) ≡ casts_held m
-casts_held_same m fs = λ along to held. casts_held_by m fs to held along
 
 casts_base_by : (p : LaidOut) (fs : List Function) (to : ℕ) (words : WordSet) (base : Known) → casts_base (laid_with p fs) to words base ≡ casts_base p to words base
 casts_base_by p fs to words (Cell class layout stale) = λ along. casts_words p.layouts layout words (place_kind_same p.of_module fs along to)
@@ -68,7 +61,7 @@ casts_known_same p fs = λ along facts to known. casts_known_by p fs facts to kn
 
 casts_local_by : (p : LaidOut) (fs : List Function) (slots : SlotTable) (facts : FactSet) (to : ℕ) (known : Known) (slot : Option ℕ) → casts_local (laid_with p fs) slots facts to known slot ≡ casts_local p slots facts to known slot
 casts_local_by p fs slots facts to known None = λ along. casts_known_same p fs along facts to known
-casts_local_by p fs slots facts to known (Some s) = λ along. casts_held_same p.of_module fs along to (held_type slots s)
+casts_local_by p fs slots facts to known (Some s) = λ along. casts_slot (slot_kind_same p.of_module fs along slots s) (place_kind_same p.of_module fs along to)
 
 pub casts_local_same : (p : LaidOut) (fs : List Function) → casts_local (laid_with p fs) ≡ casts_local p
 casts_local_same p fs = λ along slots facts to known slot. casts_local_by p fs slots facts to known slot along

@@ -1,13 +1,14 @@
 -- What a written type is to the rules, and what they ask of an operand, does not depend on functions.
 use Rattle.std.specs.Prelude.{List, None, Option, Some, refl, slice_get, ℕ, ◌&&◌, ◌==◌, ◌≡◌}
 use Rattle.block_rules.specs.Operands.{constant_fits, is_typed, is_value, known_fits, known_of}
-use Rattle.block_rules.specs.TypeKinds.{kind_at, kind_in, kind_of, kind_of_type, place_kind, pointer_kind, pointer_to, struct_pointer}
+use Rattle.block_rules.specs.TypeKinds.{kind_at, kind_held, kind_in, kind_of, kind_of_type, place_kind, pointer_kind, pointer_to, slot_kind, struct_pointer}
 use Rattle.ir_ast.specs.declared.function.Function.{Function}
 use Rattle.ir_ast.specs.declared.ir_type.IrType.{IrType}
 use Rattle.ir_ast.specs.declared.ir_type.IrType.TheVariants.{Array, EmptyStruct, Integer, Named, Pointer, Struct, Void}
 use Rattle.ir_ast.specs.declared.module.Module.{Module}
 use Rattle.ir_ast.specs.declared.operand.Operand.{Operand}
 use Rattle.ir_ast.specs.declared.operand.Operand.TheVariants.{CastGlobal, Constant as Written, Global, Local}
+use Rattle.shadow_stack.specs.Slots.{held_type, slot_layout}
 use Rattle.locality.proofs.Types.{has_type_same, pointee_same, points_to_global_same, struct_named_same}
 use Rattle.locality.specs.Local.{with_functions}
 
@@ -55,6 +56,14 @@ kind_of_same m fs = λ along written. kind_in_same m fs along (slice_get m.types
 kind_at_by : (m : Module) (fs : List Function) (part : Option ℕ) → kind_at (with_functions m fs) part ≡ kind_at m part
 kind_at_by m fs None = refl
 kind_at_by m fs (Some part) = λ along. kind_of_same m fs along part
+
+kind_held_by : (m : Module) (fs : List Function) (held layout : Option ℕ) → kind_held (with_functions m fs) held layout ≡ kind_held m held layout
+kind_held_by m fs None layout = refl
+kind_held_by m fs (Some held) None = λ along. kind_of_same m fs along held
+kind_held_by m fs (Some held) (Some layout) = refl
+
+pub slot_kind_same : (m : Module) (fs : List Function) → slot_kind (with_functions m fs) ≡ slot_kind m
+slot_kind_same m fs = λ along slots slot. kind_held_by m fs (held_type slots slot) (slot_layout slots slot) along
 
 pub kind_at_same : (m : Module) (fs : List Function) → kind_at (with_functions m fs) ≡ kind_at m
 kind_at_same m fs = λ along part. kind_at_by m fs part along

@@ -2,7 +2,7 @@
 use Rattle.std.specs.Prelude.{List, None, Option, Some, [], is_some, not, refl, ℕ, ◌&&◌, ◌==◌, ◌||◌, ◌∷◌, ◌≡◌}
 use Rattle.block_rules.specs.Barriers.{after_read, after_read_call, is_own_place, is_read, is_write, may_read, may_write, names_object, needs_no_barrier, read_conditions, write_conditions}
 use Rattle.block_rules.specs.Operands.{is_available, is_based, is_current, is_no_slot, is_null_constant, known_fits, known_of, slot_named}
-use Rattle.block_rules.specs.Places.{after_load, fits_held, load_base, load_held_type, load_kind, load_known, load_place, loads_base, loads_known, loads_local, loads_slot, may_load, may_store, moves, moves_kind, stores_base, stores_known, stores_local, stores_slot}
+use Rattle.block_rules.specs.Places.{after_load, load_base, load_kind, load_known, load_place, loads_base, loads_known, loads_local, loads_slot, may_load, may_store, moves, moves_kind, stores_base, stores_known, stores_local, stores_slot}
 use Rattle.block_rules.specs.TypeKinds.{is_any_reference, is_word, may_be_reference}
 use Rattle.block_rules.specs.declared.rule.Rule.TheVariants.{K1, K10, K12, K19, K2, K3, K4, K7}
 use Rattle.block_rules.specs.declared.type_kind.TypeKind.{TypeKind}
@@ -20,7 +20,7 @@ use Rattle.layout.specs.Layouts.{LaidOut}
 use Rattle.pools.specs.declared.word_set.WordSet.{WordSet}
 use Rattle.shadow_stack.specs.Slots.{SlotTable, held_type, slot_of}
 use Rattle.locality.proofs.Casts.{casts_operand_same}
-use Rattle.locality.proofs.Operands.{is_typed_same, is_value_same, kind_of_same}
+use Rattle.locality.proofs.Operands.{is_typed_same, is_value_same, kind_of_same, slot_kind_same}
 use Rattle.locality.proofs.Signature.{is_written_as_same}
 use Rattle.locality.specs.Local.{laid_with, with_functions}
 
@@ -31,12 +31,12 @@ loads_slot_by m fs written (Some held) = λ along. (written == held) || is_any_r
 pub loads_slot_same : (m : Module) (fs : List Function) → loads_slot (with_functions m fs) ≡ loads_slot m
 loads_slot_same m fs = λ along written held. loads_slot_by m fs written held along
 
-moves_by : (m : Module) (fs : List Function) (written : ℕ) (held : Option ℕ) → moves (with_functions m fs) written held ≡ moves m written held
-moves_by m fs written None = refl
-moves_by m fs written (Some held) = λ along. moves_kind (written == held) (kind_of_same m fs along written) (kind_of_same m fs along held)
+moves_by : (m : Module) (fs : List Function) (written : ℕ) (held : Option ℕ) (kind : TypeKind) → moves (with_functions m fs) written held kind ≡ moves m written held kind
+moves_by m fs written None kind = refl
+moves_by m fs written (Some held) kind = λ along. moves_kind (written == held) (kind_of_same m fs along written) kind
 
 pub moves_same : (m : Module) (fs : List Function) → moves (with_functions m fs) ≡ moves m
-moves_same m fs = λ along written held. moves_by m fs written held along
+moves_same m fs = λ along written held kind. moves_by m fs written held kind along
 
 loads_base_by : (p : LaidOut) (fs : List Function) (kind : TypeKind) (words : WordSet) (base : Known) → loads_base (laid_with p fs) kind words base ≡ loads_base p kind words base
 loads_base_by p fs kind words (Cell class layout stale) = refl
@@ -85,15 +85,8 @@ stores_known_by p fs facts kind value _ = refl
 pub stores_known_same : (p : LaidOut) (fs : List Function) → stores_known (laid_with p fs) ≡ stores_known p
 stores_known_same p fs = λ along facts kind value place. stores_known_by p fs facts kind value place along
 
-fits_held_by : (m : Module) (fs : List Function) (value : Known) (held : Option ℕ) → fits_held (with_functions m fs) value held ≡ fits_held m value held
-fits_held_by m fs value None = refl
-fits_held_by m fs value (Some held) = λ along. known_fits (kind_of_same m fs along held) value
-
-pub fits_held_same : (m : Module) (fs : List Function) → fits_held (with_functions m fs) ≡ fits_held m
-fits_held_same m fs = λ along value held. fits_held_by m fs value held along
-
 pub stores_slot_same : (m : Module) (fs : List Function) → stores_slot (with_functions m fs) ≡ stores_slot m
-stores_slot_same m fs = λ along slots stored value s. moves_same m fs along stored (held_type slots s) && fits_held_same m fs along value (held_type slots s)
+stores_slot_same m fs = λ along slots stored value s. moves_same m fs along stored (held_type slots s) (slot_kind_same m fs along slots s) && known_fits (slot_kind_same m fs along slots s) value
 
 stores_local_by : (p : LaidOut) (fs : List Function) (slots : SlotTable) (facts : FactSet) (place : Known) (stored : ℕ) (value : Known) (slot : Option ℕ) → stores_local (laid_with p fs) slots facts place stored value slot ≡ stores_local p slots facts place stored value slot
 stores_local_by p fs slots facts place stored value None = λ along. stores_known_same p fs along facts (kind_of_same p.of_module fs along stored) value place
@@ -109,13 +102,6 @@ may_store_by p fs slots facts stored value place = λ along. stores_known_same p
 
 pub may_store_same : (p : LaidOut) (fs : List Function) → may_store (laid_with p fs) ≡ may_store p
 may_store_same p fs = λ along slots facts stored value place. may_store_by p fs slots facts stored value place along
-
-load_held_type_by : (m : Module) (fs : List Function) (v : ℕ) (s : ℕ) (held : Option ℕ) (facts : FactSet) → load_held_type (with_functions m fs) v s held facts ≡ load_held_type m v s held facts
-load_held_type_by m fs v s None facts = refl
-load_held_type_by m fs v s (Some held) facts = λ along. load_kind v s (kind_of_same m fs along held) facts
-
-pub load_held_type_same : (m : Module) (fs : List Function) → load_held_type (with_functions m fs) ≡ load_held_type m
-load_held_type_same m fs = λ along v s held facts. load_held_type_by m fs v s held facts along
 
 load_base_by : (p : LaidOut) (fs : List Function) (v : ℕ) (kind : TypeKind) (words : WordSet) (base : Known) (facts : FactSet) → load_base (laid_with p fs) v kind words base facts ≡ load_base p v kind words base facts
 load_base_by p fs v kind words (Cell class layout stale) facts = refl
@@ -134,7 +120,7 @@ load_known_same p fs = λ along v kind known facts. load_known_by p fs v kind kn
 
 load_place_by : (p : LaidOut) (fs : List Function) (slots : SlotTable) (v : ℕ) (loaded : ℕ) (place : Operand) (slot : Option ℕ) (facts : FactSet) → load_place (laid_with p fs) slots v loaded place slot facts ≡ load_place p slots v loaded place slot facts
 load_place_by p fs slots v loaded place None facts = λ along. load_known_same p fs along v (kind_of_same p.of_module fs along loaded) (known_of facts place) facts
-load_place_by p fs slots v loaded place (Some s) facts = λ along. load_held_type_same p.of_module fs along v s (held_type slots s) facts
+load_place_by p fs slots v loaded place (Some s) facts = λ along. load_kind v s (slot_kind_same p.of_module fs along slots s) facts
 
 pub load_place_same : (p : LaidOut) (fs : List Function) → load_place (laid_with p fs) ≡ load_place p
 load_place_same p fs = λ along slots v loaded place slot facts. load_place_by p fs slots v loaded place slot facts along

@@ -1,5 +1,5 @@
 -- The slots of a function do not depend on other functions.
-use Rattle.std.specs.Prelude.{List, None, Option, Some, [], if◌then◌else◌, is_some, refl, slice_get, ℕ, ◌++◌, ◌∷◌, ◌≡◌}
+use Rattle.std.specs.Prelude.{List, None, Option, Some, [], if◌then◌else◌, is_some, map, refl, slice_get, ℕ, ◌++◌, ◌∷◌, ◌≡◌}
 use Rattle.ir_ast.specs.declared.block.Block.{Block}
 use Rattle.ir_ast.specs.declared.function.Function.{Function}
 use Rattle.ir_ast.specs.declared.instr.Instr.{Instr}
@@ -48,4 +48,4 @@ with_roots_of_same m fs = λ along names held blocks roots. with_roots_of_by m f
 pub slots_of_same : (m : Module) (fs : List Function) → slots_of (with_functions m fs) ≡ slots_of m
 slots_of_same m fs = λ along f. let draft = draft_of f in
     let names = names_of draft.origins in
-    record { names = names; held = draft.held; roots = with_roots_of_same m fs along names draft.held f.blocks [] }
+    record { names = names; held = draft.held; layouts = map (referenced_layout_same m fs along) draft.held; roots = with_roots_of_same m fs along names draft.held f.blocks [] }

@@ -3,7 +3,7 @@ use Rattle.std.specs.Prelude.{List, None, Option, Some, [], refl, slice_get, suc
 use Rattle.ir_ast.specs.declared.argument.Argument.{Argument}
 use Rattle.ir_ast.specs.declared.function.Function.{Function}
 use Rattle.ir_ast.specs.declared.function.LocalSort.{LocalSort}
-use Rattle.ir_ast.specs.declared.function.LocalSort.TheVariants.{Element as ElementOf, Value}
+use Rattle.ir_ast.specs.declared.function.LocalSort.TheVariants.{Element as ElementOf, Slot, Value}
 use Rattle.ir_ast.specs.declared.instr.Instr.{Instr}
 use Rattle.ir_ast.specs.declared.ir_type.IrType.{IrType}
 use Rattle.ir_ast.specs.declared.ir_type.IrType.TheVariants.{Array, EmptyStruct, Integer, Named, Pointer, Struct, Void}
@@ -16,7 +16,7 @@ use Rattle.types.specs.Elements.{body_named, body_of_layout, element_type, field
 use Rattle.types.specs.Globals.{global_held, global_named, held_by, points_to_global, sort_at}
 use Rattle.types.specs.References.{layout_behind, layout_of_struct, pointee, referenced_layout, struct_at, struct_named}
 use Rattle.types.specs.RuntimeCall.{runtime_called, runtime_of_sort}
-use Rattle.types.specs.ValueTypes.{element_of, element_of_op, has_type, instruction_at, is_same, is_value_of}
+use Rattle.types.specs.ValueTypes.{element_of, element_of_op, has_type, instruction_at, is_same, is_value_of, points_to}
 use Rattle.locality.specs.Local.{with_functions}
 
 pub pointee_same : (m : Module) (fs : List Function) → pointee (with_functions m fs) ≡ pointee m
@@ -153,9 +153,13 @@ element_of_by m fs (Some instr) = λ along. element_of_op_same m fs along instr.
 pub element_of_same : (m : Module) (fs : List Function) → element_of (with_functions m fs) ≡ element_of m
 element_of_same m fs = λ along instr. element_of_by m fs instr along
 
+pub points_to_same : (m : Module) (fs : List Function) → points_to (with_functions m fs) ≡ points_to m
+points_to_same m fs = λ along written part. is_same (pointee_same m fs along written) part
+
 is_value_of_by : (m : Module) (fs : List Function) (f : Function) (written : ℕ) (sort : Option LocalSort) → is_value_of (with_functions m fs) f written sort ≡ is_value_of m f written sort
 is_value_of_by m fs f written (Some (Value given)) = refl
-is_value_of_by m fs f written (Some (ElementOf block place)) = λ along. is_same (pointee_same m fs along written) (element_of_same m fs along (instruction_at f block place))
+is_value_of_by m fs f written (Some (Slot held)) = λ along. points_to_same m fs along written (Some held)
+is_value_of_by m fs f written (Some (ElementOf block place)) = λ along. points_to_same m fs along written (element_of_same m fs along (instruction_at f block place))
 is_value_of_by m fs f written _ = refl
 
 pub is_value_of_same : (m : Module) (fs : List Function) → is_value_of (with_functions m fs) ≡ is_value_of m
@@ -185,4 +189,4 @@ pub global_held_same : (m : Module) (fs : List Function) → global_held (with_f
 global_held_same m fs = λ along symbol. held_by_same m fs along (global_named_same m fs along symbol)
 
 pub points_to_global_same : (m : Module) (fs : List Function) → points_to_global (with_functions m fs) ≡ points_to_global m
-points_to_global_same m fs = λ along written symbol. is_same (pointee_same m fs along written) (global_held_same m fs along symbol)
+points_to_global_same m fs = λ along written symbol. points_to_same m fs along written (global_held_same m fs along symbol)

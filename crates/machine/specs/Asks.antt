@@ -29,10 +29,10 @@ use Rattle.ir_ast.specs.declared.runtime.Runtime.TheVariants as runtime
 use Rattle.pools.specs.Layouts.{kind_of_word}
 use Rattle.layout.specs.Layouts.{LaidOut}
 use Rattle.types.specs.Elements.{element_type}
-use Rattle.types.specs.References.{pointee, referenced_layout}
+use Rattle.types.specs.References.{pointee}
 use Rattle.types.specs.RuntimeCall.{runtime_called}
 use Rattle.types.specs.ValueTypes.{target_of}
-use Rattle.shadow_stack.specs.Slots.{SlotTable, operand_slot, held_type, is_reference_held}
+use Rattle.shadow_stack.specs.Slots.{SlotTable, operand_slot, held_type, slot_layout}
 use Rattle.machine.specs.declared.value.Place.{Place}
 use Rattle.machine.specs.declared.value.Place.TheVariants as place
 use Rattle.machine.specs.declared.value.Value.{Value}
@@ -50,28 +50,19 @@ only_if b action = if b then action else Wrong
 
 -- ---- slots
 
--- a value of this type may be stored in a slot: the slot's own type, or i8* where it is a reference
-abbrev pub is_slot_type : Module → (held written : ℕ) → Bool
-is_slot_type m held written = (held == written) || (is_some (referenced_layout m held) && is_byte_pointer m written)
+-- a value of this type may be stored in a slot: the slot's own type, or i8* where it holds references
+abbrev pub is_slot_type : Module → (layout : Option ℕ) → (held written : ℕ) → Bool
+is_slot_type m layout held written = (held == written) || (is_some layout && is_byte_pointer m written)
 
 -- the same of the type that a slot holds
-abbrev pub is_held_as : Module → (held : Option ℕ) → (written : ℕ) → Bool
-is_held_as m None written = false
-is_held_as m (Some held) written = is_slot_type m held written
+abbrev pub is_held_as : Module → (layout held : Option ℕ) → (written : ℕ) → Bool
+is_held_as m layout None written = false
+is_held_as m layout (Some held) written = is_slot_type m layout held written
 
 -- a value of this type may be loaded from a slot: the slot's own type, or i8*
 abbrev pub is_loaded_as : Module → (held : Option ℕ) → (written : ℕ) → Bool
 is_loaded_as m None written = false
 is_loaded_as m (Some held) written = (held == written) || is_byte_pointer m written
-
--- a value fits a type: where the type is a reference, it is of its layout
-abbrev pub fits_type : Module → (written : ℕ) → Value → Bool
-fits_type m written v = fits_layout_of (referenced_layout m written) v
-
--- the same of the type that a slot holds
-abbrev pub fits_held : Module → (held : Option ℕ) → Value → Bool
-fits_held m None v = false
-fits_held m (Some held) v = fits_type m held v
 
 -- ---- bitcasts
 
@@ -98,18 +89,13 @@ abbrev pub is_slot_under : Module → (held : Option ℕ) → (part : ℕ) → B
 is_slot_under m None part = false
 is_slot_under m (Some layout) part = refers_to m layout part
 
--- the layout of the references that a slot holds
-abbrev pub held_layout : Module → (held : Option ℕ) → Option ℕ
-held_layout m None = None
-held_layout m (Some held) = referenced_layout m held
-
 -- a bitcast of a slot: to its own type, or where it holds references to i8** or to a place of references of its layout
-abbrev pub may_cast_slot : Module → (held : Option ℕ) → (from to : ℕ) → Bool
-may_cast_slot m held from to = (from == to) || leads_to (is_slot_under m (held_layout m held)) (pointee m to)
+abbrev pub may_cast_slot : Module → (layout : Option ℕ) → (from to : ℕ) → Bool
+may_cast_slot m layout from to = (from == to) || leads_to (is_slot_under m layout) (pointee m to)
 
 -- by the slot that the operand names, if it names one
 abbrev pub cast_of : LaidOut → Function → SlotTable → List Value → Cast → Option ℕ → Action
-cast_of p f slots registers x (Some slot) = only_if (is_local_of p.of_module f x.from x.operand && may_cast_slot p.of_module (held_type slots slot) x.from x.to) Local
+cast_of p f slots registers x (Some slot) = only_if (is_local_of p.of_module f x.from x.operand && may_cast_slot p.of_module (slot_layout slots slot) x.from x.to) Local
 cast_of p f slots registers x None =
     only_if (is_typed p.of_module f slots x.from x.operand && may_cast p x.from x.to (value_of p.of_module registers x.from x.operand)) Local
 
@@ -148,7 +134,7 @@ barrier_action p stored v (Some (place.Global g)) = only_if (takes_value p.of_mo
 -- a store to a slot of a value that fits what the slot holds, or to an address
 abbrev pub store_action : LaidOut → SlotTable → (stored : ℕ) → (usable : Bool) → Value → Option ℕ → Option Place → Action
 store_action p slots stored usable v (Some slot) address =
-    only_if (usable && (is_held_as p.of_module (held_type slots slot) stored && fits_held p.of_module (held_type slots slot) v)) Local
+    only_if (usable && (is_held_as p.of_module (slot_layout slots slot) (held_type slots slot) stored && fits_layout_of (slot_layout slots slot) v)) Local
 store_action p slots stored usable v None address = if usable then plain_action p stored v address else Wrong
 
 -- ---- getelementptr, integers and references
@@ -234,16 +220,16 @@ declare_of_sort m _ = None
 abbrev pub declare_of : Module → (callee : ℕ) → Option Declare
 declare_of m callee = declare_of_sort m (slice_get m.sorts callee)
 
--- the slot that a gcroot call names, where it is of reference type
-abbrev pub is_root_place : Module → SlotTable → Option ℕ → Bool
-is_root_place m slots None = false
-is_root_place m slots (Some slot) = is_reference_held m (held_type slots slot)
+-- the slot that a gcroot call names, where it holds references
+abbrev pub is_root_place : SlotTable → Option ℕ → Bool
+is_root_place slots None = false
+is_root_place slots (Some slot) = is_some (slot_layout slots slot)
 
--- gcroot stores null in a slot of reference type
+-- gcroot stores null in a slot that holds references
 abbrev pub gcroot_action : Module → Function → SlotTable → List Value → (returned : ℕ) → List Argument → Action
 gcroot_action m f slots registers returned (place ∷ metadata ∷ []) =
     only_if (are_gcroot_types m returned (place.written ∷ metadata.written ∷ [])
-    && (is_root_place m slots (slot_at_place m f slots place.written place.operand) && is_usable m f slots registers metadata.written metadata.operand)) Local
+    && (is_root_place slots (slot_at_place m f slots place.written place.operand) && is_usable m f slots registers metadata.written metadata.operand)) Local
 gcroot_action m f slots registers returned arguments = Wrong
 
 -- gcread reads a place, for an object

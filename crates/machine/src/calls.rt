@@ -88,10 +88,10 @@ fn declare_of(of_module: &Module, callee: SymbolId) -> Option<&Declare>
 }
 
 fn is_root_place(scene: &Scene<'_>, slot: Option<SlotId>) -> bool
-    ensures { result ≡ is_root_place scene.now.program.now.of_module scene.now.slots.now slot }
+    ensures { result ≡ is_root_place scene.now.slots.now slot }
 {
     match slot {
-        Some(slot) => scene.slots.is_reference(scene.of_module(), slot),
+        Some(slot) => scene.slots.layout(slot).is_some(),
         None => false,
     }
 }

@@ -3,7 +3,7 @@ ghost use Rattle.std.specs.Prelude.{◌≡◌};
 ghost use Rattle.pools.specs.Layouts.{kind_of_word};
 ghost use Rattle.shadow_stack.specs.Slots.{operand_slot};
 ghost use Rattle.machine.specs.Elements.{global_kind};
-ghost use Rattle.machine.specs.Asks.{may_cast_place, may_cast_value, may_cast, is_slot_under, held_layout, may_cast_slot, cast_action};
+ghost use Rattle.machine.specs.Asks.{may_cast_place, may_cast_value, may_cast, is_slot_under, may_cast_slot, cast_action};
 
 use crate::action::{Action, only_if};
 use crate::elements::{global_kind, kind_of_word};
@@ -14,7 +14,7 @@ use crate::value::{Place, Value};
 use ir_ast::{Cast, Module, TypeId};
 use layout::Program;
 use pools::LayoutId;
-use types::{is_reference, pointee};
+use types::pointee;
 
 fn may_cast_place(program: &Program, to: TypeId, place: &Place) -> bool
     ensures { result ≡ may_cast_place program.now to place.now }
@@ -50,13 +50,6 @@ fn may_cast(program: &Program, from: TypeId, to: TypeId, value: &Value) -> bool
     is_set(value) && (from == to || may_cast_value(program, from, to, value))
 }
 
-/// The layout of the references that a slot of this type holds.
-fn held_layout(of_module: &Module, held: Option<TypeId>) -> Option<LayoutId>
-    ensures { result ≡ held_layout of_module.now held }
-{
-    is_reference(of_module, held?)
-}
-
 fn is_slot_under(of_module: &Module, held: Option<LayoutId>, part: TypeId) -> bool
     ensures { result ≡ is_slot_under of_module.now held part }
 {
@@ -66,14 +59,14 @@ fn is_slot_under(of_module: &Module, held: Option<LayoutId>, part: TypeId) -> bo
     }
 }
 
-fn may_cast_slot(of_module: &Module, held: Option<TypeId>, from: TypeId, to: TypeId) -> bool
-    ensures { result ≡ may_cast_slot of_module.now held from to }
+fn may_cast_slot(of_module: &Module, layout: Option<LayoutId>, from: TypeId, to: TypeId) -> bool
+    ensures { result ≡ may_cast_slot of_module.now layout from to }
 {
     if from == to {
         return true;
     }
     match pointee(of_module, to) {
-        Some(part) => is_slot_under(of_module, held_layout(of_module, held), part),
+        Some(part) => is_slot_under(of_module, layout, part),
         None => false,
     }
 }
@@ -86,7 +79,7 @@ pub fn cast_action(scene: &Scene<'_>, cast: &Cast) -> Action
     match operand_slot(scene.slots, &operand) {
         Some(slot) => only_if(
             is_local_of(scene, from, &operand)
-                && may_cast_slot(scene.of_module(), scene.slots.held_type(slot), from, to),
+                && may_cast_slot(scene.of_module(), scene.slots.layout(slot), from, to),
             Action::Local,
         ),
         None => only_if(

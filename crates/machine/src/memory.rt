@@ -2,7 +2,7 @@
 ghost use Rattle.std.specs.Prelude.{◌≡◌};
 ghost use Rattle.machine.specs.Elements.{is_read_as, takes_value};
 ghost use Rattle.machine.specs.Kinds.{slot_at_place, address_at_place, is_usable, value_of};
-ghost use Rattle.machine.specs.Asks.{is_slot_type, is_held_as, is_loaded_as, fits_type, fits_held, read_action, load_action, plain_action, barrier_action, store_action, memory_action};
+ghost use Rattle.machine.specs.Asks.{is_slot_type, is_held_as, is_loaded_as, read_action, load_action, plain_action, barrier_action, store_action, memory_action};
 ghost use Rattle.machine.specs.Machine.{slot_value, read_at, loaded_from};
 
 use crate::action::{Action, only_if};
@@ -16,22 +16,26 @@ use crate::scene::Scene;
 use crate::value::{Place, Value};
 use ir_ast::{MemoryOp, Module, Operand, TypeId};
 use layout::Program;
+use pools::LayoutId;
 use shadow_stack::SlotId;
-use types::is_reference;
 
-fn is_slot_type(of_module: &Module, held: TypeId, written: TypeId) -> bool
-    ensures { result ≡ is_slot_type of_module.now held written }
+fn is_slot_type(of_module: &Module, layout: Option<LayoutId>, held: TypeId, written: TypeId) -> bool
+    ensures { result ≡ is_slot_type of_module.now layout held written }
 {
-    held == written
-        || (is_reference(of_module, held).is_some() && is_byte_pointer(of_module, written))
+    held == written || (layout.is_some() && is_byte_pointer(of_module, written))
 }
 
-/// Whether a slot of this type is stored to under a type.
-fn is_held_as(of_module: &Module, held: Option<TypeId>, written: TypeId) -> bool
-    ensures { result ≡ is_held_as of_module.now held written }
+/// Whether a slot of this layout and type is stored to under a type.
+fn is_held_as(
+    of_module: &Module,
+    layout: Option<LayoutId>,
+    held: Option<TypeId>,
+    written: TypeId,
+) -> bool
+    ensures { result ≡ is_held_as of_module.now layout held written }
 {
     match held {
-        Some(held) => is_slot_type(of_module, held, written),
+        Some(held) => is_slot_type(of_module, layout, held, written),
         None => false,
     }
 }
@@ -42,15 +46,6 @@ fn is_loaded_as(of_module: &Module, held: Option<TypeId>, written: TypeId) -> bo
 {
     match held {
         Some(held) => held == written || is_byte_pointer(of_module, written),
-        None => false,
-    }
-}
-
-fn fits_held(of_module: &Module, held: Option<TypeId>, value: &Value) -> bool
-    ensures { result ≡ fits_held of_module.now held value.now }
-{
-    match held {
-        Some(held) => fits_layout_of(is_reference(of_module, held), value),
         None => false,
     }
 }
@@ -191,11 +186,12 @@ fn store_action(
     let usable = is_usable(scene, stored, operand);
     match slot_at_place(scene, place_type, place) {
         Some(slot) => {
+            let layout = scene.slots.layout(slot);
             let held = scene.slots.held_type(slot);
             only_if(
                 usable
-                    && (is_held_as(scene.of_module(), held, stored)
-                        && fits_held(scene.of_module(), held, &value)),
+                    && (is_held_as(scene.of_module(), layout, held, stored)
+                        && fits_layout_of(layout, &value)),
                 Action::Local,
             )
         }

@@ -19,10 +19,11 @@ use Rattle.shadow_stack.specs.declared.draft.Draft.{Draft}
 use Rattle.types.specs.References.{referenced_layout}
 use Rattle.types.specs.RuntimeCall.{runtime_called}
 
--- which slot each local name names, by the name's number; the type that each slot holds; the roots, in the order in which gcroot calls name them
+-- which slot each local name names, by the name's number; the type that each slot holds, and the layout of the references that it holds, if it holds references; the roots, in the order in which gcroot calls name them
 pub record SlotTable : Type 0 where
   pub names : List (Option ℕ)
   pub held : List ℕ
+  pub layouts : List (Option ℕ)
   pub roots : List ℕ
 
 -- the slot that a local name names, if it names one
@@ -32,6 +33,10 @@ slot_of slots value = unwrap_or (slice_get slots.names value) None
 -- the type that a slot holds
 abbrev pub held_type : SlotTable → (slot : ℕ) → Option ℕ
 held_type slots slot = slice_get slots.held slot
+
+-- the layout of the references that a slot holds, if there is such a slot and it holds references
+abbrev pub slot_layout : SlotTable → (slot : ℕ) → Option ℕ
+slot_layout slots slot = unwrap_or (slice_get slots.layouts slot) None
 
 -- whether a slot is among these
 abbrev pub is_among : List ℕ → (slot : ℕ) → Bool
@@ -142,7 +147,7 @@ abbrev pub slots_of : Module → Function → SlotTable
 slots_of m f =
     let draft = draft_of f in
     let names = names_of draft.origins in
-    record { names = names; held = draft.held; roots = with_roots_of m names draft.held f.blocks [] }
+    record { names = names; held = draft.held; layouts = map (referenced_layout m) draft.held; roots = with_roots_of m names draft.held f.blocks [] }
 
 -- exactly the names that name a slot have one
 abbrev pub NamesAreExact : List Origin → List (Option ℕ) → Type 0

@@ -1,11 +1,13 @@
-ghost use Rattle.std.specs.Prelude.{◌≡◌, ◌<◌, [], ◌∷◌, ◌++◌, length, slice_index_or, false, IfOk, OnOk};
-ghost use Rattle.shadow_stack.specs.Slots.{SlotTable, slots_of, slot_of, held_type, is_among, is_reference_held, with_root, with_roots, with_roots_of, slot_rooted_by, first_slot, operand_slot, NamesAreExact, draft_of};
+ghost use Rattle.std.specs.Prelude.{◌≡◌, ◌<◌, [], ◌∷◌, ◌++◌, length, map, slice_index_or, false, IfOk, OnOk};
+ghost use Rattle.types.specs.References.{referenced_layout};
+ghost use Rattle.shadow_stack.specs.Slots.{SlotTable, slots_of, slot_of, held_type, slot_layout, is_among, is_reference_held, with_root, with_roots, with_roots_of, slot_rooted_by, first_slot, operand_slot, NamesAreExact, draft_of};
 
 use crate::draft::Draft;
 use crate::hops::names_of;
 use crate::slot_id::SlotId;
 use ir_ast::{Argument, Block, Function, Instr, Module, Op, Operand, Runtime, TypeId, ValueId};
 use items::Items;
+use pools::LayoutId;
 use std::alloc::{AllocError, Global};
 use std::marker::Model;
 use types::{is_reference, runtime_called};
@@ -15,6 +17,8 @@ use types::{is_reference, runtime_called};
 pub struct Slots {
     names: Items<Option<SlotId>>,
     held: Items<TypeId>,
+    /// The layout of the references that each slot holds, if it holds references.
+    layouts: Items<Option<LayoutId>>,
     roots: Items<SlotId>,
     /// Whether each slot is a root.
     rooted: Items<bool>,
@@ -26,7 +30,7 @@ impl Model for Slots {
 
     ghost Value = { SlotTable };
 
-    ghost view = { λ slots. record { names = slots.names; held = slots.held; roots = slots.roots } };
+    ghost view = { λ slots. record { names = slots.names; held = slots.held; layouts = slots.layouts; roots = slots.roots } };
 
     ghost invariant = { λ slots. (length slots.rooted ≡ length slots.held) × ((slot : ℕ) → unwrap_or (slice_get slots.rooted slot) false ≡ is_among slots.roots slot) };
 }
@@ -38,10 +42,12 @@ impl Slots {
     {
         let draft = Draft::of(alloc, function)?;
         let names = names_of(alloc, draft.origins.as_slice())?;
+        let layouts = layouts_of(alloc, module, draft.held.as_slice())?;
         let rooted = vec![in alloc; false; draft.held.len()]?;
         let mut slots = Slots {
             names,
             held: draft.held,
+            layouts: Items::from_vec(layouts),
             roots: Items::new(alloc),
             rooted: Items::from_vec(rooted),
         };
@@ -65,6 +71,16 @@ impl Slots {
     {
         match self.held.get(slot.number()) {
             Some(held) => Some(*held),
+            None => None,
+        }
+    }
+
+    /// The layout of the references that a slot holds, if there is such a slot and it holds references.
+    pub fn layout(&self, slot: SlotId) -> Option<LayoutId>
+        ensures { result ≡ slot_layout self.now slot }
+    {
+        match self.layouts.get(slot.number()) {
+            Some(layout) => *layout,
             None => None,
         }
     }
@@ -141,7 +157,7 @@ impl Slots {
     }
 
     /// Whether a slot is of reference type.
-    pub fn is_reference(&self, module: &Module, slot: SlotId) -> bool
+    fn is_reference(&self, module: &Module, slot: SlotId) -> bool
         ensures { result ≡ is_reference_held «module».now (held_type self.now slot) }
     {
         match self.held_type(slot) {
@@ -179,4 +195,16 @@ impl Slots {
             _ => None,
         }
     }
+}
+
+fn layouts_of(
+    alloc: Global,
+    module: &Module,
+    held: &[TypeId],
+) -> Result<Vec<Option<LayoutId>>, AllocError>
+    ensures { IfOk result (λ layouts. layouts.items ≡ map (referenced_layout «module».now) held.now) }
+{
+    held.iter()
+        .map(|held| is_reference(module, *held))
+        .collect(alloc)
 }

@@ -17,7 +17,7 @@ use Rattle.pools.specs.declared.word_set.WordSet.{WordSet}
 use Rattle.layout.specs.Globals.{IsHeapFor, global_word}
 use Rattle.layout.specs.Layouts.{LaidOut}
 use Rattle.types.specs.ValueTypes.{has_type}
-use Rattle.shadow_stack.specs.Slots.{SlotTable, slot_of, held_type}
+use Rattle.shadow_stack.specs.Slots.{SlotTable, slot_of, held_type, slot_layout}
 use Rattle.certs.specs.declared.section.Section.{Section}
 use Rattle.facts.specs.declared.known.Known.{Known}
 use Rattle.facts.specs.declared.known.Known.TheVariants.{Nothing, Number, Cell, Null, Address, GlobalAddress}
@@ -31,7 +31,7 @@ use Rattle.block_rules.specs.Casts as c
 use Rattle.block_rules.specs.Operands as o
 use Rattle.block_rules.specs.Places.{define_held, first_layout, cell_words, wanted_by_load, each_word}
 use Rattle.block_rules.specs.Rules.{cast_conditions, after_op}
-use Rattle.block_rules.specs.TypeKinds.{kind_of, place_kind, fits_layout, may_be_reference}
+use Rattle.block_rules.specs.TypeKinds.{kind_of, kind_held, place_kind, fits_layout, may_be_reference}
 use Rattle.machine.specs.declared.value.Value.{Value}
 use Rattle.machine.specs.declared.value.Value.TheVariants as value
 use Rattle.machine.specs.declared.frame.Frame.{Frame}
@@ -39,8 +39,9 @@ use Rattle.machine.specs.Asks as a
 use Rattle.machine.specs.Kinds as k
 use Rattle.machine.specs.Kinds.{register_at, wrapped, bits_at, value_of, constant_value}
 use Rattle.machine.specs.Machine as mc
+use Rattle.machine.specs.Machine.{slot_value}
 use Rattle.machine.specs.Log.{Log}
-use Rattle.soundness.specs.Meaning.{Cells, Guarded, IsReferenceTo, IsOwn, IsAddressOf, IsGlobal, AreApart, Means, Holds}
+use Rattle.soundness.specs.Meaning.{Cells, Guarded, IsReferenceTo, IsOwn, IsAddressOf, IsGlobal, AreApart, Means, FitsSlot, Holds}
 use Rattle.soundness.proofs.Lists.{at_other}
 use Rattle.soundness.proofs.KindLemmas.{refers_same, leads_same, constant_passes, bits_are}
 use Rattle.soundness.proofs.Keep.{Beside, forget_cell, off_cell, without_same, means_without, known_within}
@@ -124,9 +125,11 @@ module _ (heap : Setup) (p : LaidOut) (certs : List Section) (reaches : Bool) (f
         → Goes heap p table frame.slots reaches guarded log (after_op p certs table result (op.Cast (bitcast from (operand.Local u) to)) facts) (a.cast_of p f table frame.registers (bitcast from (operand.Local u) to) (slot_of table u)) (λ given. mc.cast_from result (register_at frame.registers u) (slot_of table u) frame)
     slot_goes result u s is k2 k19 =
         subst (λ x. Goes heap p table frame.slots reaches guarded log (after_op p certs table result (op.Cast (bitcast from (operand.Local u) to)) facts) (a.cast_of p f table frame.registers (bitcast from (operand.Local u) to) x) (λ given. mc.cast_from result (register_at frame.registers u) x frame)) (sym is)
-        (goes_local heap p table frame.slots reaches guarded log _ _ _ (rw (k2, casts (rw is at k19)) refl) (kept result)) where
-          casts : ((from == to) || c.casts_held p.of_module to (held_type table s)) ≡ true → a.may_cast_slot p.of_module (held_type table s) from to ≡ true
-          casts e = chosen (from == to) (c.casts_held p.of_module to (held_type table s)) _ e (held_casts p.of_module to (held_type table s))
+        (goes_local heap p table frame.slots reaches guarded log _ _ _ (rw (k2, casts (held_type table s) (h.slot_types s) (rw is at k19)) refl) (kept result)) where
+          casts : (held : Option ℕ) → FitsSlot heap p.of_module guarded log held (slot_layout table s) (slot_value frame.slots s) → ((from == to) || c.casts_slot (kind_held p.of_module held (slot_layout table s)) (place_kind p.of_module to)) ≡ true
+              → a.may_cast_slot p.of_module (slot_layout table s) from to ≡ true
+          casts None fits e = chosen (from == to) false _ e (λ bad. absurd cc)
+          casts (Some held) fits e = chosen (from == to) (c.casts_slot (kind_held p.of_module (Some held) (slot_layout table s)) (place_kind p.of_module to)) _ e (held_casts p.of_module to held (slot_layout table s) fits.with_type)
 
           kept : (result : Option ℕ) → (more : Cells) × Holds heap p table guarded log more (after_op p certs table result (op.Cast (bitcast from (operand.Local u) to)) facts) frame.registers frame.slots
           kept None = (cells, h)

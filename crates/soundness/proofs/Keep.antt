@@ -8,8 +8,7 @@ use Rattle.lemmas.specs.Numbers.{test_true, test_yes, test_false}
 use Rattle.lemmas.specs.Bools.{or_parts}
 use Rattle.pools.specs.Heap.{Setup}
 use Rattle.layout.specs.Layouts.{LaidOut}
-use Rattle.types.specs.References.{referenced_layout}
-use Rattle.shadow_stack.specs.Slots.{SlotTable, held_type}
+use Rattle.shadow_stack.specs.Slots.{SlotTable, held_type, slot_layout}
 use Rattle.facts.specs.declared.known.Class.{Class}
 use Rattle.facts.specs.declared.known.Known.{Known}
 use Rattle.facts.specs.declared.known.Known.TheVariants.{Nothing, Number, Cell, Null, Address, GlobalAddress}
@@ -275,9 +274,9 @@ module _ (heap : Setup) (p : LaidOut) (table : SlotTable) (guarded : Guarded) (l
     reference_grows None v r = r
     reference_grows (Some l) v r = (r.0, own_grows later held v r.1)
 
-    slot_grows : (held_type : Option ℕ) (v : Value) → FitsSlot heap p.of_module guarded log held_type v → FitsSlot heap p.of_module guarded later held_type v
-    slot_grows None v r = r
-    slot_grows (Some t) v r = record { integer = r.integer; reference = λ z. reference_grows (referenced_layout p.of_module t) v (r.reference z) }
+    slot_grows : (held_type layout : Option ℕ) (v : Value) → FitsSlot heap p.of_module guarded log held_type layout v → FitsSlot heap p.of_module guarded later held_type layout v
+    slot_grows None layout v r = r
+    slot_grows (Some t) layout v r = record { with_type = r.with_type; integer = r.integer; reference = λ z. reference_grows layout v (r.reference z) }
 
     -- where the values of the fresh classes stay fresh
     pub classes_log_keeps : ((c : ℕ) → (class_at facts.classes c).fresh ≡ true → IsNullOrFresh log (cells c) → IsNullOrFresh later (cells c)) → Holds heap p table guarded later cells facts registers slots
@@ -289,7 +288,7 @@ module _ (heap : Setup) (p : LaidOut) (table : SlotTable) (guarded : Guarded) (l
       values = λ v. means_grow (known_at facts.values v) (register_at registers v) (h.values v);
       classes = λ c. record { nonnull = (h.classes c).nonnull; fresh = λ z. fresh c z ((h.classes c).fresh z) };
       tests = h.tests;
-      slot_types = λ s. slot_grows (held_type table s) (slot_value slots s) (h.slot_types s);
+      slot_types = λ s. slot_grows (held_type table s) (slot_layout table s) (slot_value slots s) (h.slot_types s);
       slot_facts = h.slot_facts;
       alone = h.alone;
       alone_in_slots = h.alone_in_slots;

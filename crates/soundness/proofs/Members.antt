@@ -18,7 +18,7 @@ use Rattle.pools.specs.declared.word_kind.WordKind.{WordKind}
 use Rattle.pools.specs.declared.word_set.WordSet.{WordSet}
 use Rattle.layout.specs.Globals.{global_word}
 use Rattle.layout.specs.Layouts.{LaidOut}
-use Rattle.shadow_stack.specs.Slots.{SlotTable, slot_of, held_type}
+use Rattle.shadow_stack.specs.Slots.{SlotTable, slot_of}
 use Rattle.certs.specs.declared.section.Fact.TheVariants as fact
 use Rattle.certs.specs.declared.section.Line.{Line}
 use Rattle.certs.specs.declared.section.Line.TheVariants as line
@@ -40,8 +40,8 @@ use Rattle.block_rules.specs.declared.callee.Callee.TheVariants.{OfRuntime, OfMo
 use Rattle.block_rules.specs.declared.type_kind.TypeKind.{TypeKind}
 use Rattle.block_rules.specs.declared.type_kind.TypeKind.TheVariants.{NoValue, Bits, Reference, AnyReference, Address as AddressKind, Other}
 use Rattle.block_rules.specs.Operands.{slot_named, known_of, is_nonnull}
-use Rattle.block_rules.specs.Places.{first_layout, cell_words, define_held, load_kind, load_held_type, layout_of_word, load_word, load_words, load_base, load_known, load_place, after_store}
-use Rattle.block_rules.specs.TypeKinds.{kind_of}
+use Rattle.block_rules.specs.Places.{first_layout, cell_words, define_held, load_kind, layout_of_word, load_word, load_words, load_base, load_known, load_place, after_store}
+use Rattle.block_rules.specs.TypeKinds.{kind_of, slot_kind}
 use Rattle.block_rules.specs.Barriers.{after_read, after_read_call, after_write}
 use Rattle.block_rules.specs.Bounds.{below_next}
 use Rattle.block_rules.specs.Promises.{given_by, promised_in, callee_mark}
@@ -268,11 +268,6 @@ module _ (facts : FactSet) (members : HaveMembers facts) where
   load_kind_members v s AddressKind = define_members v Nothing facts members
   load_kind_members v s Other = define_members v Nothing facts members
 
-  -- by the type that the slot holds
-  load_held_members : (m : Module) (v s : ℕ) (held : Option ℕ) → HaveMembers (load_held_type m v s held facts)
-  load_held_members m v s None = define_members v Nothing facts members
-  load_held_members m v s (Some held) = load_kind_members v s (kind_of m held)
-
   -- a value is what a word of a layout holds
   load_words_members : (layouts : List (List WordKind)) (v layout : ℕ) (words : WordSet) (kind : TypeKind) → HaveMembers (load_words layouts v layout words kind facts)
   load_words_members layouts v layout words (Bits bits) = define_members v (Number bits None) facts members
@@ -312,7 +307,7 @@ module _ (facts : FactSet) (members : HaveMembers facts) where
   -- after a load
   pub load_place_members : (p : LaidOut) (table : SlotTable) (v loaded : ℕ) (place : Operand) (slot : Option ℕ) → HaveMembers (load_place p table v loaded place slot facts)
   load_place_members p table v loaded place None = load_known_members p v (kind_of p.of_module loaded) (known_of facts place)
-  load_place_members p table v loaded place (Some s) = load_held_members p.of_module v s (held_type table s)
+  load_place_members p table v loaded place (Some s) = load_kind_members v s (slot_kind p.of_module table s)
 
   -- after a store
   pub stored_members : (x : Operand) (slot : Option ℕ) → HaveMembers (after_store (known_of facts x) slot facts)

@@ -1,6 +1,6 @@
 -- Loads from slots, and stores to slots.
 use Rattle.std.proofs.Common.{◌≡◌, ◌≢◌, ℕ, ◌<◌, List, length, refl, sym, ap, ◌∙◌, subst, arith, true, false, Bool, Option, Some, None, inl, inr, slice_set}
-use Rattle.std.specs.Prelude.{◌==◌, ◌||◌, ◌&&◌, is_some}
+use Rattle.std.specs.Prelude.{◌==◌, ◌||◌, ◌&&◌}
 use Rattle.std.proofs.lemmas.List.{length-set}
 use Rattle.lemmas.specs.Numbers.{test_true, test_yes}
 use Rattle.lemmas.specs.Bools.{and_parts, or_second, or_first}
@@ -11,9 +11,8 @@ use Rattle.ir_ast.specs.declared.operand.Operand.{Operand}
 use Rattle.ir_ast.specs.declared.operand.Operand.TheVariants as operand
 use Rattle.pools.specs.Heap.{Setup}
 use Rattle.layout.specs.Layouts.{LaidOut}
-use Rattle.types.specs.References.{referenced_layout}
 use Rattle.types.specs.ValueTypes.{has_type}
-use Rattle.shadow_stack.specs.Slots.{SlotTable, slot_of, held_type}
+use Rattle.shadow_stack.specs.Slots.{SlotTable, slot_of, held_type, slot_layout, is_reference_held}
 use Rattle.certs.specs.declared.section.Section.{Section}
 use Rattle.facts.specs.declared.known.Class.{Class}
 use Rattle.facts.specs.declared.known.Known.{Known}
@@ -24,7 +23,7 @@ use Rattle.block_rules.specs.declared.type_kind.TypeKind.TheVariants.{NoValue, B
 use Rattle.block_rules.specs.Operands as o
 use Rattle.block_rules.specs.Places as r
 use Rattle.block_rules.specs.Rules.{after_memory}
-use Rattle.block_rules.specs.TypeKinds.{kind_of, is_integer, is_any_reference, layout_of_kind}
+use Rattle.block_rules.specs.TypeKinds.{kind_of, kind_held, is_integer, is_any_reference}
 use Rattle.machine.specs.declared.value.Value.{Value}
 use Rattle.machine.specs.declared.value.Value.TheVariants as value
 use Rattle.machine.specs.declared.frame.Frame.{Frame}
@@ -34,9 +33,11 @@ use Rattle.machine.specs.Kinds.{register_at, value_of, fits_layout_of}
 use Rattle.machine.specs.Machine as mc
 use Rattle.machine.specs.Machine.{slot_value}
 use Rattle.machine.specs.Log.{Log}
-use Rattle.soundness.specs.Meaning.{Cells, Guarded, IsReferenceTo, IsOwn, IsInteger, IsMember, AreApart, Means, FitsReference, FitsHeld, FitsSlot, Holds}
+use Rattle.soundness.specs.Meaning.{Cells, Guarded, IsReferenceTo, IsOwn, IsInteger, IsMember, AreApart, Means, GoesWithType, FitsHeld, FitsSlot, Holds}
 use Rattle.soundness.proofs.Lists.{turned, got_set, longer, at_end}
-use Rattle.soundness.proofs.KindLemmas.{integer_same, layout_same, bytes_same, bits_are}
+use Rattle.soundness.proofs.KindLemmas.{integer_same, bytes_same, bits_are}
+use Rattle.soundness.proofs.SameKinds.{no_reference}
+use Rattle.soundness.proofs.Roots.{reference_no_integer}
 use Rattle.soundness.proofs.Keep.{forget_keeps, put_keeps}
 use Rattle.soundness.proofs.Change.{apart_turned, extend, extend_new, define_plain, learn_keeps, add_keeps}
 use Rattle.soundness.proofs.SlotsKeep.{other_class, Fits, slot_keeps, fact_keeps}
@@ -50,16 +51,16 @@ module _ (p : LaidOut) (f : Function) (table : SlotTable) where
   place_is written v s k2 is = rw k2 is
 
   -- a type under which a slot is stored to
-  moves_is : (written held : ℕ) → r.moves_kind (written == held) (kind_of p.of_module written) (kind_of p.of_module held) ≡ true → a.is_slot_type p.of_module held written ≡ true
-  moves_is written held e = by (kind_of p.of_module held) refl e where
-    by : (x : TypeKind) → kind_of p.of_module held ≡ x → r.moves_kind (written == held) (kind_of p.of_module written) x ≡ true → a.is_slot_type p.of_module held written ≡ true
+  moves_is : (written held : ℕ) (layout : Option ℕ) → GoesWithType p.of_module held layout → r.moves_kind (written == held) (kind_of p.of_module written) (kind_held p.of_module (Some held) layout) ≡ true → a.is_slot_type p.of_module layout held written ≡ true
+  moves_is written held (Some layout) goes e = pick (written == held) refl e where
+    pick : (b : Bool) → (written == held) ≡ b → (b || is_any_reference (kind_of p.of_module written)) ≡ true → a.is_slot_type p.of_module (Some layout) held written ≡ true
+    pick true same e = or_first (held == written) (k.is_byte_pointer p.of_module written) (turned written held same)
+    pick false same e = or_second (held == written) (k.is_byte_pointer p.of_module written) (sym (bytes_same p.of_module written) ∙ e)
+  moves_is written held None goes e = by (kind_of p.of_module held) refl e where
+    by : (x : TypeKind) → kind_of p.of_module held ≡ x → r.moves_kind (written == held) (kind_of p.of_module written) x ≡ true → a.is_slot_type p.of_module None held written ≡ true
     by NoValue is e = absurd cc
-    by (Bits bits) is e = or_first (held == written) (is_some (referenced_layout p.of_module held) && k.is_byte_pointer p.of_module written) (turned written held e)
-    by (Reference layout) is e = pick (written == held) refl e where
-      pick : (b : Bool) → (written == held) ≡ b → (b || is_any_reference (kind_of p.of_module written)) ≡ true → a.is_slot_type p.of_module held written ≡ true
-      pick true same e = or_first (held == written) (is_some (referenced_layout p.of_module held) && k.is_byte_pointer p.of_module written) (turned written held same)
-      pick false same e = or_second (held == written) (is_some (referenced_layout p.of_module held) && k.is_byte_pointer p.of_module written)
-          (rw (sym (layout_same p.of_module held) ∙ ap layout_of_kind is, sym (bytes_same p.of_module written) ∙ e) refl)
+    by (Bits bits) is e = or_first (held == written) false (turned written held e)
+    by (Reference layout) is e = absurd (no_reference p.of_module held layout goes is)
     by AnyReference is e = absurd cc
     by AddressKind is e = absurd cc
     by Other is e = absurd cc
@@ -71,11 +72,6 @@ module _ (p : LaidOut) (f : Function) (table : SlotTable) where
     pick : (b : Bool) → (written == held) ≡ b → (b || is_any_reference (kind_of p.of_module written)) ≡ true → a.is_loaded_as p.of_module (Some held) written ≡ true
     pick true same e = or_first (held == written) (k.is_byte_pointer p.of_module written) (turned written held same)
     pick false same e = or_second (held == written) (k.is_byte_pointer p.of_module written) (sym (bytes_same p.of_module written) ∙ e)
-
-  -- by the type that a slot holds
-  pub held_as : (written : ℕ) (held : Option ℕ) → r.moves p.of_module written held ≡ true → a.is_held_as p.of_module held written ≡ true
-  held_as written None e = absurd cc
-  held_as written (Some held) e = moves_is written held e
 
 module _ (heap : Setup) (p : LaidOut) (certs : List Section) (reaches : Bool) (f : Function) (table : SlotTable) (guarded : Guarded) (log : Log) (cells : Cells) (facts : FactSet) (frame : Frame) (h : Holds heap p table guarded log cells facts frame.registers frame.slots) where
   -- ---- loads
@@ -159,8 +155,8 @@ module _ (heap : Setup) (p : LaidOut) (certs : List Section) (reaches : Bool) (f
       by (Some c) is = (cells, learn_keeps heap p table guarded log cells (set_known v (Cell c layout false) rest) there frame.slots (joins c is) c nonnull (λ z w. (kept.slot_facts s).nonnull z (((kept.slot_facts s).holds c is).0 ∙ w)))
       by None is = (more, held_so nonnull (kept.slot_facts s).nonnull is)
 
-  -- what a slot of this kind holds, under its new name
-  load_of_kind : (v s held : ℕ) (x : TypeKind) → kind_of p.of_module held ≡ x → HaveMembers (forget v facts) → FitsHeld heap p.of_module guarded log held (slot_value frame.slots s)
+  -- what a slot without a layout holds, under its new name
+  load_of_kind : (v s held : ℕ) (x : TypeKind) → kind_of p.of_module held ≡ x → HaveMembers (forget v facts) → FitsHeld heap p.of_module guarded log held None (slot_value frame.slots s)
       → (more : Cells) × Holds heap p table guarded log more (r.load_kind v s x facts) (slice_set frame.registers v (slot_value frame.slots s)) frame.slots
   load_of_kind v s held (Bits bits) is members fits =
       let i = fits.integer (sym (integer_same p.of_module held) ∙ ap is_integer is) in (
@@ -168,19 +164,20 @@ module _ (heap : Setup) (p : LaidOut) (certs : List Section) (reaches : Bool) (f
         define_plain heap p table guarded log cells facts frame.registers frame.slots h v (Number bits None) (slot_value frame.slots s) (λ d l st e. cc)
             (subst (λ b. IsInteger b None (slot_value frame.slots s)) (bits_are p.of_module held bits is) i),
       )
-  load_of_kind v s held (Reference layout) is members fits =
-      let q = subst (λ l. FitsReference heap guarded log l (slot_value frame.slots s)) (sym (layout_same p.of_module held) ∙ ap layout_of_kind is) (fits.reference (sym (integer_same p.of_module held) ∙ ap is_integer is)) in
-      reference_loaded v s layout members q.0 q.1
+  load_of_kind v s held (Reference layout) is members fits = absurd (no_reference p.of_module held layout fits.with_type is)
   load_of_kind v s held NoValue is members fits = (cells, define_plain heap p table guarded log cells facts frame.registers frame.slots h v Nothing (slot_value frame.slots s) (λ d l st e. cc) tt)
   load_of_kind v s held AnyReference is members fits = (cells, define_plain heap p table guarded log cells facts frame.registers frame.slots h v Nothing (slot_value frame.slots s) (λ d l st e. cc) tt)
   load_of_kind v s held AddressKind is members fits = (cells, define_plain heap p table guarded log cells facts frame.registers frame.slots h v Nothing (slot_value frame.slots s) (λ d l st e. cc) tt)
   load_of_kind v s held Other is members fits = (cells, define_plain heap p table guarded log cells facts frame.registers frame.slots h v Nothing (slot_value frame.slots s) (λ d l st e. cc) tt)
 
-  -- by the type that the slot holds
-  load_of_type : (v s : ℕ) (held : Option ℕ) → HaveMembers (forget v facts) → FitsSlot heap p.of_module guarded log held (slot_value frame.slots s)
-      → (more : Cells) × Holds heap p table guarded log more (r.load_held_type p.of_module v s held facts) (slice_set frame.registers v (slot_value frame.slots s)) frame.slots
-  load_of_type v s None members fits = (cells, define_plain heap p table guarded log cells facts frame.registers frame.slots h v Nothing (slot_value frame.slots s) (λ d l st e. cc) tt)
-  load_of_type v s (Some held) members fits = load_of_kind v s held (kind_of p.of_module held) refl members fits
+  -- by its type and its layout
+  load_of_type : (v s : ℕ) (held layout : Option ℕ) → HaveMembers (forget v facts) → FitsSlot heap p.of_module guarded log held layout (slot_value frame.slots s)
+      → (more : Cells) × Holds heap p table guarded log more (r.load_kind v s (kind_held p.of_module held layout) facts) (slice_set frame.registers v (slot_value frame.slots s)) frame.slots
+  load_of_type v s None layout members fits = (cells, define_plain heap p table guarded log cells facts frame.registers frame.slots h v Nothing (slot_value frame.slots s) (λ d l st e. cc) tt)
+  load_of_type v s (Some held) None members fits = load_of_kind v s held (kind_of p.of_module held) refl members fits
+  load_of_type v s (Some held) (Some layout) members fits =
+      let q = fits.reference (reference_no_integer p.of_module held fits.with_type) in
+      reference_loaded v s layout members q.0 q.1
 
   -- a load from a slot
   pub slot_load_goes : (result : Option ℕ) (loaded place_type u s : ℕ) → ((v : ℕ) → result ≡ Some v → HaveMembers (forget v facts)) → slot_of table u ≡ Some s → has_type p.of_module f place_type u ≡ true → r.loads_slot p.of_module loaded (held_type table s) ≡ true
@@ -196,13 +193,21 @@ module _ (heap : Setup) (p : LaidOut) (certs : List Section) (reaches : Bool) (f
         loaded_keeps : (result : Option ℕ) → ((v : ℕ) → result ≡ Some v → HaveMembers (forget v facts))
             → (more : Cells) × Holds heap p table guarded log more (after_memory p table result (memory.Load loaded place_type (operand.Local u)) facts) (mc.set_register result (slot_value frame.slots s) frame).registers (mc.set_register result (slot_value frame.slots s) frame).slots
         loaded_keeps None members = (cells, h)
-        loaded_keeps (Some v) members = rw is (load_of_type v s (held_type table s) (members v refl) (h.slot_types s))
+        loaded_keeps (Some v) members = rw is (load_of_type v s (held_type table s) (slot_layout table s) (members v refl) (h.slot_types s))
 
   -- ---- stores
 
   -- what is stored in a slot of references is a reference of its layout
-  number_in : (stored held n layout : ℕ) → kind_of p.of_module held ≡ Reference layout → o.fits_bits n (kind_of p.of_module stored) ≡ true → r.moves_kind (stored == held) (kind_of p.of_module stored) (Reference layout) ≡ true → ⊥
+  number_in : (stored held n layout : ℕ) → is_reference_held p.of_module (Some held) ≡ true → o.fits_bits n (kind_of p.of_module stored) ≡ true → r.moves_kind (stored == held) (kind_of p.of_module stored) (Reference layout) ≡ true → ⊥
   number_in stored held n layout is fits moves = pick (stored == held) refl moves where
+    integers : (y : TypeKind) → o.fits_bits n y ≡ true → is_integer y ≡ true
+    integers NoValue e = absurd cc
+    integers (Bits bits) e = refl
+    integers (Reference l) e = absurd cc
+    integers AnyReference e = absurd cc
+    integers AddressKind e = absurd cc
+    integers Other e = absurd cc
+
     by : (y : TypeKind) → o.fits_bits n y ≡ true → is_any_reference y ≡ true → ⊥
     by NoValue e z = absurd cc
     by (Bits bits) e z = absurd cc
@@ -212,7 +217,9 @@ module _ (heap : Setup) (p : LaidOut) (certs : List Section) (reaches : Bool) (f
     by Other e z = absurd cc
 
     pick : (b : Bool) → (stored == held) ≡ b → (b || is_any_reference (kind_of p.of_module stored)) ≡ true → ⊥
-    pick true same e = let x : o.fits_bits n (Reference layout) ≡ true = subst (λ y. o.fits_bits n y ≡ true) (ap (kind_of p.of_module) (test_true stored held same) ∙ is) fits in absurd cc
+    pick true same e =
+        let whole : is_integer (kind_of p.of_module held) ≡ true = integers (kind_of p.of_module held) (subst (λ y. o.fits_bits n (kind_of p.of_module y) ≡ true) (test_true stored held same) fits) in
+        absurd (let y = sym whole ∙ integer_same p.of_module held ∙ reference_no_integer p.of_module held is in cc)
     pick false same e = by (kind_of p.of_module stored) fits e
 
   -- what is known as a current reference to a layout is one, and is own
@@ -227,7 +234,7 @@ module _ (heap : Setup) (p : LaidOut) (certs : List Section) (reaches : Bool) (f
   known_reference layout (GlobalAddress g) v means is fits current = absurd cc
 
   -- what is stored under the type of a slot of references is one, and is own
-  reference_stored : (stored held layout : ℕ) (x : Operand) → kind_of p.of_module held ≡ Reference layout → o.is_available table facts x ≡ true → o.is_value p.of_module f facts stored x ≡ true → o.is_current facts (o.known_of facts x) ≡ true → o.slot_named table x ≡ None
+  reference_stored : (stored held layout : ℕ) (x : Operand) → is_reference_held p.of_module (Some held) ≡ true → o.is_available table facts x ≡ true → o.is_value p.of_module f facts stored x ≡ true → o.is_current facts (o.known_of facts x) ≡ true → o.slot_named table x ≡ None
       → r.moves_kind (stored == held) (kind_of p.of_module stored) (Reference layout) ≡ true → o.known_fits (Reference layout) (o.known_of facts x) ≡ true
       → IsReferenceTo heap layout (value_of p.of_module frame.registers stored x) × IsOwn log guarded (value_of p.of_module frame.registers stored x)
   reference_stored stored held layout (operand.Constant (constant.Number n)) is k1 k2 k3 none moves fits = absurd (number_in stored held n layout is (and_parts (o.fits_bits n (kind_of p.of_module stored)) true k2).0 moves)
@@ -238,45 +245,43 @@ module _ (heap : Setup) (p : LaidOut) (certs : List Section) (reaches : Bool) (f
   reference_stored stored held layout (operand.CastGlobal a b c) is k1 k2 k3 none moves fits = absurd (no_value _ k2)
 
   -- what is stored fits the slot
-  module _ (stored held : ℕ) (x : Operand) (k1 : o.is_available table facts x ≡ true) (k2 : o.is_value p.of_module f facts stored x ≡ true) (k3 : o.is_current facts (o.known_of facts x) ≡ true) (none : o.slot_named table x ≡ None)
-      (moves : r.moves_kind (stored == held) (kind_of p.of_module stored) (kind_of p.of_module held) ≡ true) (fits : o.known_fits (kind_of p.of_module held) (o.known_of facts x) ≡ true) where
+  module _ (stored held : ℕ) (x : Operand) (k1 : o.is_available table facts x ≡ true) (k2 : o.is_value p.of_module f facts stored x ≡ true) (k3 : o.is_current facts (o.known_of facts x) ≡ true) (none : o.slot_named table x ≡ None) where
     abbrev given : Value
     given = value_of p.of_module frame.registers stored x
 
-    value_fits : FitsHeld heap p.of_module guarded log held given × (fits_layout_of (referenced_layout p.of_module held) given ≡ true)
-    value_fits = by (kind_of p.of_module held) refl moves fits where
-      no_layout : (y : TypeKind) → kind_of p.of_module held ≡ y → layout_of_kind y ≡ None → fits_layout_of (referenced_layout p.of_module held) given ≡ true
-      no_layout y is e = ap (λ l. fits_layout_of l given) (sym (layout_same p.of_module held) ∙ ap layout_of_kind is ∙ e)
-
-      of_layout : (layout : ℕ) (v : Value) → IsReferenceTo heap layout v → k.fits_layout layout v ≡ true
-      of_layout layout value.Unset q = absurd q
-      of_layout layout (value.Number n) q = absurd q
-      of_layout layout value.Null q = refl
-      of_layout layout (value.Cell own at) q = test_yes own layout q.0
-      of_layout layout (value.Address at) q = absurd q
-
-      by : (y : TypeKind) → kind_of p.of_module held ≡ y → r.moves_kind (stored == held) (kind_of p.of_module stored) y ≡ true → o.known_fits y (o.known_of facts x) ≡ true → FitsHeld heap p.of_module guarded log held given × (fits_layout_of (referenced_layout p.of_module held) given ≡ true)
-      by NoValue is moves fits = absurd cc
-      by (Bits bits) is moves fits =
+    value_fits : (layout : Option ℕ) → GoesWithType p.of_module held layout → r.moves_kind (stored == held) (kind_of p.of_module stored) (kind_held p.of_module (Some held) layout) ≡ true → o.known_fits (kind_held p.of_module (Some held) layout) (o.known_of facts x) ≡ true
+        → FitsHeld heap p.of_module guarded log held layout given × (fits_layout_of layout given ≡ true)
+    value_fits (Some layout) goes moves fits =
+        let q = reference_stored stored held layout x goes k1 k2 k3 none moves fits in (
+          record {
+            with_type = goes;
+            integer = λ z. absurd (let y = sym z ∙ reference_no_integer p.of_module held goes in cc);
+            reference = λ z. q;
+          },
+          of_layout layout given q.0,
+        ) where
+          of_layout : (layout : ℕ) (v : Value) → IsReferenceTo heap layout v → k.fits_layout layout v ≡ true
+          of_layout layout value.Unset q = absurd q
+          of_layout layout (value.Number n) q = absurd q
+          of_layout layout value.Null q = refl
+          of_layout layout (value.Cell own at) q = test_yes own layout q.0
+          of_layout layout (value.Address at) q = absurd q
+    value_fits None goes moves fits = by (kind_of p.of_module held) refl moves where
+      by : (y : TypeKind) → kind_of p.of_module held ≡ y → r.moves_kind (stored == held) (kind_of p.of_module stored) y ≡ true → FitsHeld heap p.of_module guarded log held None given × (true ≡ true)
+      by NoValue is moves = absurd cc
+      by (Bits bits) is moves =
           let i = integer_is heap p certs reaches f table guarded log cells facts frame h stored bits x (ap (kind_of p.of_module) (test_true stored held moves) ∙ is) k1 k2 none in (
             record {
+              with_type = goes;
               integer = λ z. subst (λ b. IsInteger b None given) (sym (bits_are p.of_module held bits is)) (record { number = i.number; is = i.is; fits = i.fits; under = tt });
               reference = λ z. absurd (let y = sym z ∙ sym (integer_same p.of_module held) ∙ ap is_integer is in cc);
             },
-            no_layout (Bits bits) is refl,
+            refl,
           )
-      by (Reference layout) is moves fits =
-          let q = reference_stored stored held layout x is k1 k2 k3 none moves fits in
-          let l : referenced_layout p.of_module held ≡ Some layout = sym (layout_same p.of_module held) ∙ ap layout_of_kind is in (
-            record {
-              integer = λ z. absurd (let y = sym z ∙ sym (integer_same p.of_module held) ∙ ap is_integer is in cc);
-              reference = λ z. subst (λ o. FitsReference heap guarded log o given) (sym l) q;
-            },
-            ap (λ o. fits_layout_of o given) l ∙ of_layout layout given q.0,
-          )
-      by AnyReference is moves fits = absurd cc
-      by AddressKind is moves fits = absurd cc
-      by Other is moves fits = absurd cc
+      by (Reference layout) is moves = absurd (no_reference p.of_module held layout goes is)
+      by AnyReference is moves = absurd cc
+      by AddressKind is moves = absurd cc
+      by Other is moves = absurd cc
 
   -- of a slot nothing is known where it takes what no class names
   apart_plain : (s : ℕ) (given : Value) → ((c : ℕ) → AreApart (cells c) given) → Fits cells facts (record (slot_at facts.slots s) { nonnull = false; holds = None }) given
@@ -292,7 +297,7 @@ module _ (heap : Setup) (p : LaidOut) (certs : List Section) (reaches : Bool) (f
 
   -- what the slot is then known to hold
   stored_keeps : (stored s : ℕ) (x : Operand) → o.is_available table facts x ≡ true → o.is_value p.of_module f facts stored x ≡ true → o.is_current facts (o.known_of facts x) ≡ true → o.slot_named table x ≡ None
-      → FitsSlot heap p.of_module guarded log (held_type table s) (value_of p.of_module frame.registers stored x) → Holds heap p table guarded log cells (store_slot s (o.known_of facts x) facts) frame.registers (slice_set frame.slots s (value_of p.of_module frame.registers stored x))
+      → FitsSlot heap p.of_module guarded log (held_type table s) (slot_layout table s) (value_of p.of_module frame.registers stored x) → Holds heap p table guarded log cells (store_slot s (o.known_of facts x) facts) frame.registers (slice_set frame.slots s (value_of p.of_module frame.registers stored x))
   stored_keeps stored s (operand.Constant (constant.Number n)) k1 k2 k3 none fits = slot_keeps heap p table guarded log cells facts frame.registers frame.slots h s _ _ fits (apart_plain s _ (apart_number _ _ refl))
   stored_keeps stored s (operand.Constant (constant.Truth b)) k1 k2 k3 none fits = absurd cc
   stored_keeps stored s (operand.Constant constant.Null) k1 k2 k3 none fits = slot_keeps heap p table guarded log cells facts frame.registers frame.slots h s _ _ fits (apart_plain s _ (apart_null _ refl))
@@ -325,16 +330,18 @@ module _ (heap : Setup) (p : LaidOut) (certs : List Section) (reaches : Bool) (f
       subst (λ y. Goes heap p table frame.slots reaches guarded log (after_memory p table result (memory.Store stored x place_type (operand.Local u)) facts)
       (a.store_action p table stored (k.is_usable p.of_module f table frame.registers stored x) (value_of p.of_module frame.registers stored x) y (k.address_at_place p.of_module f table frame.registers place_type (operand.Local u)))
       (λ given. mc.set_slot y (value_of p.of_module frame.registers stored x) frame)) (sym (place_is p f table place_type u s k2p is))
-      (by (held_type table s) refl stores) where
+      (by (held_type table s) refl (h.slot_types s) stores) where
         new : Value
         new = value_of p.of_module frame.registers stored x
 
-        by : (held : Option ℕ) → held_type table s ≡ held → (r.moves p.of_module stored held && r.fits_held p.of_module (o.known_of facts x) held) ≡ true
+        by : (held : Option ℕ) → held_type table s ≡ held → FitsSlot heap p.of_module guarded log held (slot_layout table s) (slot_value frame.slots s)
+            → (r.moves p.of_module stored held (kind_held p.of_module held (slot_layout table s)) && o.known_fits (kind_held p.of_module held (slot_layout table s)) (o.known_of facts x)) ≡ true
             → Goes heap p table frame.slots reaches guarded log (after_memory p table result (memory.Store stored x place_type (operand.Local u)) facts)
             (a.store_action p table stored (k.is_usable p.of_module f table frame.registers stored x) new (Some s) (k.address_at_place p.of_module f table frame.registers place_type (operand.Local u))) (λ given. mc.set_slot (Some s) new frame)
-        by None at e = absurd cc
-        by (Some held) at e =
-            let b = and_parts (r.moves p.of_module stored (Some held)) (o.known_fits (kind_of p.of_module held) (o.known_of facts x)) e in
-            let q = value_fits stored held x k1 k2 k3 none b.0 b.1 in
-            goes_local heap p table frame.slots reaches guarded log _ _ _ (rw (at, usable heap p certs reaches f table guarded log cells facts frame h stored x k1 k2 none, held_as p f table stored (Some held) b.0, q.1) refl)
-            (cells, subst (λ z. Holds heap p table guarded log cells (r.after_store (o.known_of facts x) z facts) frame.registers (slice_set frame.slots s new)) (sym is) (stored_keeps stored s x k1 k2 k3 none (subst (λ y. FitsSlot heap p.of_module guarded log y new) (sym at) q.0)))
+        by None at fits e = absurd cc
+        by (Some held) at fits e =
+            let kind = kind_held p.of_module (Some held) (slot_layout table s) in
+            let b = and_parts (r.moves p.of_module stored (Some held) kind) (o.known_fits kind (o.known_of facts x)) e in
+            let q = value_fits stored held x k1 k2 k3 none (slot_layout table s) fits.with_type b.0 b.1 in
+            goes_local heap p table frame.slots reaches guarded log _ _ _ (rw (at, usable heap p certs reaches f table guarded log cells facts frame h stored x k1 k2 none, moves_is p f table stored held (slot_layout table s) fits.with_type b.0, q.1) refl)
+            (cells, subst (λ z. Holds heap p table guarded log cells (r.after_store (o.known_of facts x) z facts) frame.registers (slice_set frame.slots s new)) (sym is) (stored_keeps stored s x k1 k2 k3 none (subst (λ y. FitsSlot heap p.of_module guarded log y (slot_layout table s) new) (sym at) q.0)))

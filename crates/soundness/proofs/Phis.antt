@@ -43,6 +43,7 @@ module _ (m : Module) (f : Function) (table : SlotTable) where
   value_typed written v None e = absurd cc
   value_typed written v (Some sort.Unknown) e = absurd cc
   value_typed written v (Some (sort.Value type)) e = e
+  value_typed written v (Some (sort.Slot held)) e = absurd cc
   value_typed written v (Some (sort.Element block place)) e = absurd cc
   value_typed written v (Some (sort.Block block)) e = absurd cc
 

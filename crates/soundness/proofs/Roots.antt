@@ -1,5 +1,5 @@
 -- The roots of a thread are null or held.
-use Rattle.std.proofs.Common.{◌≡◌, ℕ, zero, suc, ◌<◌, List, [], ◌∷◌, ◌++◌, length, map, refl, subst, arith, true, false, Bool, Option, Some, None, is_some, slice_get}
+use Rattle.std.proofs.Common.{◌≡◌, ℕ, zero, suc, ◌<◌, List, [], ◌∷◌, ◌++◌, length, map, refl, sym, subst, arith, true, false, Bool, Option, Some, None, is_some, slice_get}
 use Rattle.std.specs.Prelude.{◌&&◌, if◌then◌else◌, slice_index_or}
 use Rattle.std.specs.List.{list_all, Contains}
 use Rattle.ir_ast.specs.declared.block.Block.{Block}
@@ -11,7 +11,7 @@ use Rattle.ir_ast.specs.declared.module.Module.{Module}
 use Rattle.pools.specs.Heap.{Setup}
 use Rattle.layout.specs.Layouts.{LaidOut}
 use Rattle.types.specs.References.{part_of_pointer, layout_behind, referenced_layout}
-use Rattle.shadow_stack.specs.Slots.{SlotTable, slots_of, held_type, is_among, is_reference_held, slot_rooted_by, with_root, with_roots, with_roots_of}
+use Rattle.shadow_stack.specs.Slots.{SlotTable, slots_of, held_type, slot_layout, is_among, is_reference_held, slot_rooted_by, with_root, with_roots, with_roots_of}
 use Rattle.facts.specs.Facts.{FactSet}
 use Rattle.machine.specs.declared.frame.Frame.{Frame}
 use Rattle.machine.specs.declared.value.Value.{Value}
@@ -68,6 +68,13 @@ no_integer m held layout e = by (slice_get m.types held) e where
   by (Some (type.Struct first rest)) e = refl
   by (Some (type.Named name)) e = refl
 
+-- a slot of reference type holds no integer
+pub reference_no_integer : (m : Module) (held : ℕ) → is_reference_held m (Some held) ≡ true → is_integer (slice_get m.types held) ≡ false
+reference_no_integer m held e = by (referenced_layout m held) refl e where
+  by : (layout : Option ℕ) → referenced_layout m held ≡ layout → is_some layout ≡ true → is_integer (slice_get m.types held) ≡ false
+  by None is e = absurd cc
+  by (Some layout) is e = no_integer m held layout is
+
 module _ (heap : Setup) (p : LaidOut) (f : Function) (guarded : Guarded) (log : Log) (cells : Cells) (facts : FactSet) (frame : Frame) (h : Holds heap p (slots_of p.of_module f) guarded log cells facts frame.registers frame.slots) where
   -- the slots of the function
   abbrev table : SlotTable
@@ -82,14 +89,12 @@ module _ (heap : Setup) (p : LaidOut) (f : Function) (guarded : Guarded) (log : 
   own_held (value.Address at) own = absurd own
 
   -- a slot of reference type holds null or a held cell
-  slot_held : (held : Option ℕ) (v : Value) → FitsSlot heap p.of_module guarded log held v → is_reference_held p.of_module held ≡ true → IsNullOrHeld log v
-  slot_held None v fits is = absurd cc
-  slot_held (Some held) v fits is = by (referenced_layout p.of_module held) refl is where
-    by : (layout : Option ℕ) → referenced_layout p.of_module held ≡ layout → is_some layout ≡ true → IsNullOrHeld log v
-    by None e is = absurd cc
-    by (Some layout) e is =
-        let r : FitsReference heap guarded log (Some layout) v = subst (λ l. FitsReference heap guarded log l v) e (fits.reference (no_integer p.of_module held layout e)) in
-        own_held v r.1
+  slot_held : (held layout : Option ℕ) (v : Value) → FitsSlot heap p.of_module guarded log held layout v → is_reference_held p.of_module held ≡ true → IsNullOrHeld log v
+  slot_held None layout v fits is = absurd cc
+  slot_held (Some held) layout v fits is = by layout (fits.reference (reference_no_integer p.of_module held is)) where
+    by : (layout : Option ℕ) → FitsReference heap guarded log layout v → IsNullOrHeld log v
+    by None r = subst (IsNullOrHeld log) (sym r) tt
+    by (Some layout) r = own_held v r.1
 
   each_held : (roots : List ℕ) → AllReferences p.of_module table.names table.held roots → (root : Value) (place : ℕ) → place < length (map (slot_value frame.slots) roots)
       → slice_index_or (map (slot_value frame.slots) roots) place root ≡ root → IsNullOrHeld log root
@@ -101,7 +106,7 @@ module _ (heap : Setup) (p : LaidOut) (f : Function) (guarded : Guarded) (log : 
         → slice_index_or (map (slot_value frame.slots) roots) place root ≡ root → IsNullOrHeld log root)
         → IsNullOrHeld log root
     pick false is all place lt e behind = absurd cc
-    pick true is all zero lt e behind = subst (IsNullOrHeld log) e (slot_held (held_type table slot) (slot_value frame.slots slot) (h.slot_types slot) is)
+    pick true is all zero lt e behind = subst (IsNullOrHeld log) e (slot_held (held_type table slot) (slot_layout table slot) (slot_value frame.slots slot) (h.slot_types slot) is)
     pick true is all (suc place) lt e behind = behind all root place (omega (arith, lt)) e
 
   -- the roots of the frame

@@ -207,7 +207,7 @@ module _ (heap : Setup) (program : LaidOut) (heap_is : IsHeapFor heap program) (
       → AllGiven heap program (GuardedBy saves) log f.parameters (promises_in (slice_get certs function)) arguments
       → (now : Saved) × IsAt heap program certs (GuardedBy saves) log (mc.entry_frame program.of_module f function into arguments) f now now.facts
   entered saves log into function f arguments there all =
-      let h = entry_holds heap program (slots_of program.of_module f) (GuardedBy saves) log (length f.locals) f.parameters (promises_in (slice_get certs function)) arguments all in
+      let h = entry_holds heap program (slots_of program.of_module f) (GuardedBy saves) log (length f.locals) f.parameters (promises_in (slice_get certs function)) arguments refl all in
       let c = first_certified function f there in (
         record { facts = entry_facts (scene function f); cells = h.0 },
         record {

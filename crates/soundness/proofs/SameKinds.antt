@@ -10,10 +10,11 @@ use Rattle.block_rules.specs.declared.type_kind.TypeKind.{TypeKind}
 use Rattle.block_rules.specs.declared.type_kind.TypeKind.TheVariants.{NoValue, Bits, Reference, AnyReference, Address as AddressKind, Other}
 use Rattle.block_rules.specs.Casts as c
 use Rattle.block_rules.specs.Places.{wanted_by_load, holds_wanted}
-use Rattle.block_rules.specs.TypeKinds.{kind_of, kind_at, place_kind, fits_layout, layout_of_kind, is_any_reference, may_be_reference}
+use Rattle.block_rules.specs.TypeKinds.{kind_of, kind_at, kind_held, place_kind, fits_layout, layout_of_kind, is_any_reference, may_be_reference}
 use Rattle.machine.specs.Asks as a
 use Rattle.machine.specs.Kinds as k
 use Rattle.machine.specs.Kinds.{refers_to, is_layout}
+use Rattle.soundness.specs.Meaning.{GoesWithType}
 use Rattle.soundness.proofs.Lists.{turned}
 use Rattle.soundness.proofs.KindLemmas.{refers_same, layout_same, bytes_same, leads_same}
 
@@ -60,14 +61,18 @@ module _ (m : Module) where
   layout_refers layout AddressKind e = absurd cc
   layout_refers layout Other e = absurd cc
 
+  -- a type that says no layout is no reference to one
+  pub no_reference : (held layout : ℕ) → referenced_layout m held ≡ None → kind_of m held ≡ Reference layout → ⊥
+  no_reference held layout none is = let e : Some layout ≡ None = sym (ap layout_of_kind is) ∙ layout_same m held ∙ none in cc
+
   -- a slot that holds references to a layout, under another type
-  pub held_casts : (to : ℕ) (held : Option ℕ) → c.casts_held m to held ≡ true → k.leads_to (a.is_slot_under m (a.held_layout m held)) (pointee m to) ≡ true
-  held_casts to None e = absurd cc
-  held_casts to (Some held) e = by (kind_of m held) refl e where
-    by : (x : TypeKind) → kind_of m held ≡ x → c.casts_slot x (place_kind m to) ≡ true → k.leads_to (a.is_slot_under m (referenced_layout m held)) (pointee m to) ≡ true
+  pub held_casts : (to held : ℕ) (layout : Option ℕ) → GoesWithType m held layout → c.casts_slot (kind_held m (Some held) layout) (place_kind m to) ≡ true → k.leads_to (a.is_slot_under m layout) (pointee m to) ≡ true
+  held_casts to held (Some layout) goes e = place_refers layout to e
+  held_casts to held None goes e = by (kind_of m held) refl e where
+    by : (x : TypeKind) → kind_of m held ≡ x → c.casts_slot x (place_kind m to) ≡ true → k.leads_to (a.is_slot_under m None) (pointee m to) ≡ true
     by NoValue is e = absurd cc
     by (Bits bits) is e = absurd cc
-    by (Reference layout) is e = subst (λ l. k.leads_to (a.is_slot_under m l) (pointee m to) ≡ true) (sym (sym (layout_same m held) ∙ ap layout_of_kind is)) (place_refers layout to e)
+    by (Reference layout) is e = absurd (no_reference held layout goes is)
     by AnyReference is e = absurd cc
     by AddressKind is e = absurd cc
     by Other is e = absurd cc

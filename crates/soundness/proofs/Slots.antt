@@ -1,5 +1,5 @@
 -- The slots of a certified function: each that has a name and is of reference type is a root; the others hold null.
-use Rattle.std.proofs.Common.{◌≡◌, ℕ, zero, suc, List, [], ◌∷◌, ◌++◌, length, map, refl, sym, ap, ◌∙◌, subst, arith, true, false, Bool, Option, Some, None, inl, inr, is_some, slice_get, slice_set}
+use Rattle.std.proofs.Common.{◌≡◌, ℕ, zero, suc, List, [], ◌∷◌, ◌++◌, length, map, refl, sym, ap, ◌∙◌, subst, arith, true, false, Bool, Option, Some, None, inl, inr, slice_get, slice_set}
 use Rattle.std.specs.Prelude.{◌==◌, ◌||◌, ◌⊎◌, unwrap_or}
 use Rattle.std.specs.List.{Contains}
 use Rattle.lemmas.specs.Numbers.{test_true}
@@ -14,7 +14,6 @@ use Rattle.ir_ast.specs.declared.op.Op.{Op}
 use Rattle.ir_ast.specs.declared.op.Op.TheVariants as op
 use Rattle.ir_ast.specs.declared.operand.Operand.{Operand}
 use Rattle.ir_ast.specs.declared.operand.Operand.TheVariants as operand
-use Rattle.types.specs.References.{referenced_layout}
 use Rattle.shadow_stack.specs.declared.draft.Draft.{Draft}
 use Rattle.shadow_stack.specs.declared.draft.Origin.{Origin}
 use Rattle.shadow_stack.specs.declared.draft.Origin.TheVariants.{Nowhere, Slot, Same}
@@ -28,7 +27,7 @@ use Rattle.machine.specs.Kinds as k
 use Rattle.machine.specs.Machine.{slot_value, initial}
 use Rattle.soundness.proofs.KindLemmas.{integer_same}
 use Rattle.soundness.proofs.Lists.{at_set, at_set_got, replicated}
-use Rattle.soundness.proofs.Roots.{no_integer}
+use Rattle.soundness.proofs.Roots.{reference_no_integer}
 
 -- ---- the allocas that have names
 
@@ -120,13 +119,6 @@ by_name : (g : Origin → Option ℕ) (origins : List Origin) (v s : ℕ) → or
 by_name g [] v s e = absurd cc
 by_name g (o ∷ origins) zero s e = ap g e
 by_name g (o ∷ origins) (suc v) s e = by_name g origins v s e
-
--- a slot of reference type holds no integer
-reference_no_integer : (m : Module) (held : ℕ) → is_some (referenced_layout m held) ≡ true → k.is_integer (slice_get m.types held) ≡ false
-reference_no_integer m held e = by (referenced_layout m held) refl e where
-  by : (layout : Option ℕ) → referenced_layout m held ≡ layout → is_some layout ≡ true → k.is_integer (slice_get m.types held) ≡ false
-  by None is e = absurd cc
-  by (Some layout) is e = no_integer m held layout is
 
 -- each slot of reference type that has a name is a root, where the rules allow each alloca
 abbrev pub NamesRoots : Module → SlotTable → Type 0

@@ -3,7 +3,7 @@ use Rattle.std.proofs.Common.{◌≡◌, ◌≢◌, ℕ, zero, suc, List, [], �
 use Rattle.std.proofs.lemmas.List.{length-set}
 use Rattle.pools.specs.Heap.{Setup}
 use Rattle.layout.specs.Layouts.{LaidOut}
-use Rattle.shadow_stack.specs.Slots.{SlotTable, held_type}
+use Rattle.shadow_stack.specs.Slots.{SlotTable, held_type, slot_layout}
 use Rattle.facts.specs.declared.known.Known.TheVariants.{Cell}
 use Rattle.facts.specs.declared.known.SlotFact.{SlotFact}
 use Rattle.facts.specs.Facts.{FactSet, known_at, slot_at, class_at, open_slot, lost_class, holds_class, clear_slot, set_slot, drop_fresh, drop_held, end_slot}
@@ -34,7 +34,7 @@ pub record Fits (cells : Cells) (facts : FactSet) (slot : SlotFact) (new : Value
 
 module _ (heap : Setup) (p : LaidOut) (table : SlotTable) (guarded : Guarded) (log : Log) (cells : Cells) (facts : FactSet) (registers slots : List Value) (h : Holds heap p table guarded log cells facts registers slots) where
   -- a slot takes a value, and this is known of it
-  pub slot_keeps : (s : ℕ) (slot : SlotFact) (new : Value) → FitsSlot heap p.of_module guarded log (held_type table s) new → Fits cells facts slot new
+  pub slot_keeps : (s : ℕ) (slot : SlotFact) (new : Value) → FitsSlot heap p.of_module guarded log (held_type table s) (slot_layout table s) new → Fits cells facts slot new
       → Holds heap p table guarded log cells (set_slot s slot facts) registers (slice_set slots s new)
   slot_keeps s slot new fits k = record {
     registers_size = h.registers_size;
@@ -44,7 +44,7 @@ module _ (heap : Setup) (p : LaidOut) (table : SlotTable) (guarded : Guarded) (l
     values = h.values;
     classes = h.classes;
     tests = h.tests;
-    slot_types = λ t. at_set_got (FitsSlot heap p.of_module guarded log (held_type table t)) slots s t new value.Unset (λ e. subst (λ x. FitsSlot heap p.of_module guarded log (held_type table x) new) e fits) (h.slot_types t);
+    slot_types = λ t. at_set_got (FitsSlot heap p.of_module guarded log (held_type table t) (slot_layout table t)) slots s t new value.Unset (λ e. subst (λ x. FitsSlot heap p.of_module guarded log (held_type table x) (slot_layout table x) new) e fits) (h.slot_types t);
     slot_facts = λ t. at_set2 (SlotMeans cells (length facts.classes)) facts.slots slots s t slot open_slot new value.Unset (sym h.slots_size) (λ e. k.means) (λ ne. h.slot_facts t)
         (record { nonnull = λ z. absurd cc; holds = λ c z. absurd cc });
     alone = h.alone;

@@ -1,5 +1,5 @@
 -- Where references are stale: what a safepoint leaves, and what outlasts one.
-use Rattle.std.proofs.Common.{◌≡◌, ◌≢◌, ℕ, zero, suc, ◌+◌, ◌<◌, ◌≤◌, List, [], ◌∷◌, length, map, refl, sym, ap, ◌∙◌, subst, arith, true, false, Bool, Option, Some, None, inl, inr, is_some}
+use Rattle.std.proofs.Common.{◌≡◌, ◌≢◌, ℕ, zero, suc, ◌+◌, ◌<◌, ◌≤◌, List, [], ◌∷◌, length, map, refl, sym, ap, ◌∙◌, subst, arith, true, false, Bool, Option, Some, None, inl, inr}
 use Rattle.std.proofs.lemmas.List.{length-map}
 use Rattle.std.proofs.lemmas.List.FromFn.{length-enumerate_from}
 use Rattle.std.specs.Prelude.{◌⊎◌}
@@ -8,8 +8,7 @@ use Rattle.lemmas.specs.Lists.{at_map}
 use Rattle.lemmas.specs.Bools.{or_parts}
 use Rattle.pools.specs.Heap.{Setup}
 use Rattle.layout.specs.Layouts.{LaidOut}
-use Rattle.types.specs.References.{referenced_layout}
-use Rattle.shadow_stack.specs.Slots.{SlotTable, held_type, is_reference_held}
+use Rattle.shadow_stack.specs.Slots.{SlotTable, held_type, slot_layout, is_reference_held}
 use Rattle.facts.specs.declared.known.Class.{Class}
 use Rattle.facts.specs.declared.known.Known.{Known}
 use Rattle.facts.specs.declared.known.Known.TheVariants.{Nothing, Number, Cell, Null, Address, GlobalAddress}
@@ -21,7 +20,7 @@ use Rattle.machine.specs.declared.value.Value.TheVariants as value
 use Rattle.machine.specs.Kinds.{register_at}
 use Rattle.machine.specs.Machine.{slot_value}
 use Rattle.machine.specs.Log.{Log, Held, IsReferredTo}
-use Rattle.soundness.specs.Meaning.{Cells, Guarded, IsOwn, IsNullOrFresh, Means, ClassMeans, FitsReference, FitsSlot, SlotMeans, Holds}
+use Rattle.soundness.specs.Meaning.{Cells, Guarded, IsOwn, IsNullOrFresh, Means, ClassMeans, GoesWithType, FitsReference, FitsSlot, SlotMeans, Holds}
 use Rattle.soundness.proofs.Keep.{known_within}
 
 -- ---- what a safepoint makes of the facts
@@ -104,12 +103,12 @@ own_of _ v = value.Number 0
 
 module _ (heap : Setup) (p : LaidOut) (table : SlotTable) (guarded : Guarded) (log : Log) where
   -- what is known of slots outlasts a log where what the reference slots hold stays own
-  slot_stays : (later : Log) (held : Option ℕ) (v : Value) → (is_reference_held p.of_module held ≡ true → IsOwn log guarded v → IsOwn later guarded v) → FitsSlot heap p.of_module guarded log held v → FitsSlot heap p.of_module guarded later held v
-  slot_stays later None v stays fits = tt
-  slot_stays later (Some held) v stays fits = record { integer = fits.integer; reference = λ z. by (referenced_layout p.of_module held) refl (fits.reference z) } where
-    by : (layout : Option ℕ) → referenced_layout p.of_module held ≡ layout → FitsReference heap guarded log layout v → FitsReference heap guarded later layout v
-    by None e r = r
-    by (Some l) e r = (r.0, stays (ap is_some e) r.1)
+  slot_stays : (later : Log) (held layout : Option ℕ) (v : Value) → (is_reference_held p.of_module held ≡ true → IsOwn log guarded v → IsOwn later guarded v) → FitsSlot heap p.of_module guarded log held layout v → FitsSlot heap p.of_module guarded later held layout v
+  slot_stays later None layout v stays fits = tt
+  slot_stays later (Some held) layout v stays fits = record { with_type = fits.with_type; integer = fits.integer; reference = λ z. by layout fits.with_type (fits.reference z) } where
+    by : (layout : Option ℕ) → GoesWithType p.of_module held layout → FitsReference heap guarded log layout v → FitsReference heap guarded later layout v
+    by None goes r = r
+    by (Some l) goes r = (r.0, stays goes r.1)
 
   module _ (cells : Cells) (facts : FactSet) (registers slots : List Value) (h : Holds heap p table guarded log cells facts registers slots) where
     -- the values of the classes after a safepoint
@@ -170,7 +169,7 @@ module _ (heap : Setup) (p : LaidOut) (table : SlotTable) (guarded : Guarded) (l
           (means_stale later room v (known_at facts.values v) refl (within_values facts.values v) (h.values v));
       classes = λ c. class_from (λ x. ClassMeans later x (stale_cells c)) facts.classes facts.classes facts.values c (class_stale later c (known_at facts.values c) refl) (lost_means later (stale_cells c));
       tests = h.tests;
-      slot_types = λ s. slot_stays later (held_type table s) (slot_value slots s) (stays s) (h.slot_types s);
+      slot_types = λ s. slot_stays later (held_type table s) (slot_layout table s) (slot_value slots s) (stays s) (h.slot_types s);
       slot_facts = λ s. subst (λ x. SlotMeans stale_cells (length (make_stale facts).classes) x (slot_value slots s)) (sym (at_map (end_hold facts.classes) facts.slots s open_slot refl))
           (record { nonnull = hold_stale (slot_at facts.slots s) (slot_value slots s) (h.slot_facts s); holds = λ c z. absurd cc });
       alone = λ v w c d l k stale ea eb fr ne. absurd (let x = stale_unfresh facts v c l stale ea in cc);
@@ -213,7 +212,7 @@ module _ (heap : Setup) (p : LaidOut) (table : SlotTable) (guarded : Guarded) (l
     values = λ v. by v (known_at facts.values v) refl (h.values v);
     classes = λ c. record { nonnull = (h.classes c).nonnull; fresh = still.unfresh later c };
     tests = h.tests;
-    slot_types = λ s. slot_stays heap p table guarded log later (held_type table s) (slot_value slots s) (stays s) (h.slot_types s);
+    slot_types = λ s. slot_stays heap p table guarded log later (held_type table s) (slot_layout table s) (slot_value slots s) (stays s) (h.slot_types s);
     slot_facts = h.slot_facts;
     alone = h.alone;
     alone_in_slots = h.alone_in_slots;

@@ -1,8 +1,8 @@
 -- The start of a thread: what the entry begins with holds there.
-use Rattle.std.proofs.Common.{◌≡◌, ℕ, zero, suc, ◌<◌, ◌^◌, List, [], ◌∷◌, ◌++◌, length, map, replicate, refl, sym, ap, ◌∙◌, subst, arith, true, false, Bool, Option, Some, None, slice_get, slice_set}
+use Rattle.std.proofs.Common.{◌≡◌, ℕ, zero, suc, ◌<◌, ◌^◌, List, [], ◌∷◌, ◌++◌, length, map, replicate, refl, sym, ap, ◌∙◌, subst, arith, true, false, Bool, Option, Some, None, is_some, slice_get, slice_set}
 use Rattle.std.proofs.lemmas.List.{length-map, length-replicate, length-set}
 use Rattle.std.proofs.lemmas.Nat.{pow_pos}
-use Rattle.std.specs.Prelude.{not}
+use Rattle.std.specs.Prelude.{not, unwrap_or}
 use Rattle.std.specs.List.{list_any}
 use Rattle.lemmas.specs.Numbers.{test_true}
 use Rattle.lemmas.specs.Bools.{and_parts, or_neither}
@@ -31,7 +31,7 @@ use Rattle.machine.specs.WrappedFits.{wrapped_fits}
 use Rattle.machine.specs.Machine.{slot_value, initial, with_arguments}
 use Rattle.machine.specs.Start.{is_reference_parameter, argument_fits, arguments_fit, argument_values}
 use Rattle.machine.specs.Log.{Log}
-use Rattle.soundness.specs.Meaning.{Cells, Guarded, IsBelow, IsInteger, Means, ClassMeans, WasTested, FitsReference, FitsSlot, SlotMeans, Holds}
+use Rattle.soundness.specs.Meaning.{Cells, Guarded, IsBelow, IsInteger, Means, ClassMeans, WasTested, GoesWithType, FitsReference, FitsSlot, SlotMeans, Holds}
 use Rattle.soundness.proofs.Change.{at_more}
 use Rattle.soundness.proofs.Lists.{got, replicated}
 use Rattle.soundness.specs.Discipline.{MeetPromises}
@@ -102,10 +102,14 @@ module _ (heap : Setup) (p : LaidOut) (table : SlotTable) (guarded : Guarded) (l
   null_fits None = refl
   null_fits (Some layout) = (tt, tt)
 
-  -- each slot begins with what fits its type
-  initial_fits : (held : List ℕ) (s : ℕ) → FitsSlot heap p.of_module guarded log (slice_get held s) (got value.Unset (map (initial p.of_module) held) s)
+  -- each slot begins with what fits its type, where its layout is that of its type
+  initial_fits : (held : List ℕ) (s : ℕ) → FitsSlot heap p.of_module guarded log (slice_get held s) (unwrap_or (slice_get (map (referenced_layout p.of_module) held) s) None) (got value.Unset (map (initial p.of_module) held) s)
   initial_fits [] s = tt
-  initial_fits (first ∷ held) zero = record { integer = whole; reference = null } where
+  initial_fits (first ∷ held) zero = record { with_type = goes (referenced_layout p.of_module first) refl; integer = whole; reference = null } where
+    goes : (layout : Option ℕ) → referenced_layout p.of_module first ≡ layout → GoesWithType p.of_module first layout
+    goes None e = e
+    goes (Some layout) e = ap is_some e
+
     whole : is_integer (slice_get p.of_module.types first) ≡ true → IsInteger (bits_at p.of_module first) None (initial p.of_module first)
     whole e = rw e (zero_fits (bits_at p.of_module first))
 
@@ -114,8 +118,8 @@ module _ (heap : Setup) (p : LaidOut) (table : SlotTable) (guarded : Guarded) (l
   initial_fits (first ∷ held) (suc s) = initial_fits held s
 
   -- nothing is known of registers that were never set, and of slots that hold what they begin with
-  pub nothing_holds : (count : ℕ) → Holds heap p table guarded log (λ c. value.Null) (nothing_known count (length table.held)) (replicate count value.Unset) (map (initial p.of_module) table.held)
-  nothing_holds count = record {
+  pub nothing_holds : (count : ℕ) → table.layouts ≡ map (referenced_layout p.of_module) table.held → Holds heap p table guarded log (λ c. value.Null) (nothing_known count (length table.held)) (replicate count value.Unset) (map (initial p.of_module) table.held)
+  nothing_holds count same = record {
     registers_size = length-replicate count value.Unset ∙ sym (length-replicate count Nothing);
     tests_size = length-replicate count value.Unset ∙ sym (length-replicate count None);
     slots_size = length-map table.held (initial p.of_module) ∙ sym (length-replicate (length table.held) open_slot);
@@ -123,7 +127,7 @@ module _ (heap : Setup) (p : LaidOut) (table : SlotTable) (guarded : Guarded) (l
     values = λ v. subst (λ k. Means heap p guarded log (λ c. value.Null) (length (replicate count lost_class)) (replicate count value.Unset) k (register_at (replicate count value.Unset) v)) (sym (unknown v)) tt;
     classes = λ c. subst (λ class. ClassMeans log class value.Null) (sym (replicated count c lost_class)) (record { nonnull = λ z. absurd cc; fresh = λ z. tt });
     tests = λ v. subst (λ test. WasTested p.of_module (replicate count value.Unset) test (register_at (replicate count value.Unset) v)) (sym (replicated count v None)) tt;
-    slot_types = λ s. initial_fits table.held s;
+    slot_types = λ s. subst (λ layouts. FitsSlot heap p.of_module guarded log (slice_get table.held s) (unwrap_or (slice_get layouts s) None) (slot_value (map (initial p.of_module) table.held) s)) (sym same) (initial_fits table.held s);
     slot_facts = λ s. subst (λ slot. SlotMeans (λ c. value.Null) (length (replicate count lost_class)) slot (slot_value (map (initial p.of_module) table.held) s)) (sym (replicated (length table.held) s open_slot)) (record { nonnull = λ z. absurd cc; holds = λ c z. absurd cc });
     alone = λ v w c d l k stale e z fresh ne. tt;
     alone_in_slots = λ v s c l stale e fresh out. tt;
@@ -150,10 +154,10 @@ module _ (heap : Setup) (p : LaidOut) (table : SlotTable) (guarded : Guarded) (l
       parameters_hold first.0 (receive parameter.value g promise facts) (slice_set registers parameter.value argument) slots parameters promises arguments first.1 (receive_unfresh parameter.value g promise facts unfresh) all.1
 
   -- what a function begins with holds of a frame that enters it
-  pub entry_holds : (count : ℕ) (parameters : List Parameter) (promises : List (Option Promise)) (arguments : List Value) → AllGiven heap p guarded log parameters promises arguments
+  pub entry_holds : (count : ℕ) (parameters : List Parameter) (promises : List (Option Promise)) (arguments : List Value) → table.layouts ≡ map (referenced_layout p.of_module) table.held → AllGiven heap p guarded log parameters promises arguments
       → (more : Cells) × Holds heap p table guarded log more (facts_of_parameters count (length table.held) (parameters_given p.of_module parameters promises)) (with_arguments parameters arguments (replicate count value.Unset)) (map (initial p.of_module) table.held)
-  entry_holds count parameters promises arguments all =
-      parameters_hold (λ c. value.Null) (nothing_known count (length table.held)) (replicate count value.Unset) (map (initial p.of_module) table.held) parameters promises arguments (nothing_holds count)
+  entry_holds count parameters promises arguments same all =
+      parameters_hold (λ c. value.Null) (nothing_known count (length table.held)) (replicate count value.Unset) (map (initial p.of_module) table.held) parameters promises arguments (nothing_holds count same)
       (λ c. ap (λ x. x.fresh) (replicated count c lost_class)) all
 
   -- ---- the arguments of a start

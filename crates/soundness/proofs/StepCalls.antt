@@ -13,21 +13,20 @@ use Rattle.ir_ast.specs.declared.runtime.Runtime.{Runtime}
 use Rattle.ir_ast.specs.declared.runtime.Runtime.TheVariants as runtime
 use Rattle.pools.specs.Heap.{Setup}
 use Rattle.layout.specs.Layouts.{LaidOut}
-use Rattle.types.specs.References.{referenced_layout}
 use Rattle.types.specs.ValueTypes.{has_type}
 use Rattle.safepoints.specs.Marks.{is_may}
-use Rattle.shadow_stack.specs.Slots.{SlotTable, held_type, is_reference_held}
+use Rattle.shadow_stack.specs.Slots.{SlotTable, held_type, slot_layout}
 use Rattle.certs.specs.declared.section.Section.{Section}
 use Rattle.facts.specs.Facts.{FactSet, AreFacts, known_at, define_new, root_slot, make_stale}
 use Rattle.block_rules.specs.declared.signature.RuntimeType.TheVariants as types
 use Rattle.block_rules.specs.declared.standing.Standing.{Standing}
 use Rattle.block_rules.specs.declared.type_kind.TypeKind.{TypeKind}
 use Rattle.block_rules.specs.declared.type_kind.TypeKind.TheVariants.{NoValue, Bits, Reference, AnyReference, Address as AddressKind, Other}
-use Rattle.block_rules.specs.Calls.{safepoint_conditions, root_conditions, alloc_conditions, after_root, after_root_call, after_alloc_call, is_unrooted, holds_reference, number_layouts, numbers_layout, all_values}
+use Rattle.block_rules.specs.Calls.{safepoint_conditions, root_conditions, alloc_conditions, after_root, after_root_call, after_alloc_call, is_unrooted, number_layouts, numbers_layout, all_values}
 use Rattle.block_rules.specs.Operands as o
 use Rattle.block_rules.specs.FirstFailing.{first_failing}
 use Rattle.block_rules.specs.Signature.{is_runtime_type, is_declared_as, is_written_as}
-use Rattle.block_rules.specs.TypeKinds.{kind_of, is_reference, is_integer, layout_of_kind}
+use Rattle.block_rules.specs.TypeKinds.{kind_of, kind_held, slot_kind, is_reference, layout_of_kind}
 use Rattle.machine.specs.declared.value.Reference.{Reference as Ref}
 use Rattle.machine.specs.declared.value.Value.{Value}
 use Rattle.machine.specs.declared.value.Value.TheVariants as value
@@ -41,14 +40,15 @@ use Rattle.machine.specs.Kinds as k
 use Rattle.machine.specs.Machine as mc
 use Rattle.machine.specs.Machine.{slot_value}
 use Rattle.machine.specs.Log.{Log, Held, HoldsCell, GivesCell, IsFresh, StaysHeld, StaysFresh, Possible}
-use Rattle.soundness.specs.Meaning.{Cells, Guarded, IsOwn, AreApart, FitsReference, FitsHeld, FitsSlot, Holds}
+use Rattle.soundness.specs.Meaning.{Cells, Guarded, IsOwn, AreApart, GoesWithType, FitsReference, FitsHeld, FitsSlot, Holds}
 use Rattle.soundness.proofs.Lists.{got}
-use Rattle.soundness.proofs.KindLemmas.{integer_same, layout_same, void_same}
+use Rattle.soundness.proofs.KindLemmas.{layout_same, void_same}
 use Rattle.soundness.proofs.Keep.{log_keeps, known_within}
 use Rattle.soundness.proofs.Change.{apart_turned, new_keeps}
 use Rattle.soundness.proofs.SlotsKeep.{slot_keeps}
 use Rattle.soundness.proofs.Stale.{own_later, root_own, stale_cells, stale_keeps}
 use Rattle.soundness.specs.Goes.{HasRoots, Goes}
+use Rattle.soundness.proofs.Roots.{reference_no_integer}
 use Rattle.soundness.proofs.Callees.{one_parameter, two_parameters, alloc_types, alloc_declared, root_types, root_declared}
 use Rattle.soundness.proofs.Steps.{goes_local, usable, null_fits, fresh_apart}
 use Rattle.soundness.proofs.RulesHold.{rules_hold}
@@ -128,11 +128,11 @@ module _ (heap : Setup) (p : LaidOut) (certs : List Section) (reaches : Bool) (f
     of_layout None v e = subst (AreApart (value.Cell n at)) (sym e) tt
     of_layout (Some l) v r = own_apart log guarded n at v free r.1
 
-    of_type : (held : ℕ) (b : Bool) → k.is_integer (slice_get p.of_module.types held) ≡ b → FitsHeld heap p.of_module guarded log held (slot_value frame.slots t) → AreApart (value.Cell n at) (slot_value frame.slots t)
+    of_type : (held : ℕ) (b : Bool) → k.is_integer (slice_get p.of_module.types held) ≡ b → FitsHeld heap p.of_module guarded log held (slot_layout table t) (slot_value frame.slots t) → AreApart (value.Cell n at) (slot_value frame.slots t)
     of_type held true e fits = subst (AreApart (value.Cell n at)) (sym (fits.integer e).is) tt
-    of_type held false e fits = of_layout (referenced_layout p.of_module held) (slot_value frame.slots t) (fits.reference e)
+    of_type held false e fits = of_layout (slot_layout table t) (slot_value frame.slots t) (fits.reference e)
 
-    by : (held : Option ℕ) → held_type table t ≡ held → FitsSlot heap p.of_module guarded log held (slot_value frame.slots t) → AreApart (value.Cell n at) (slot_value frame.slots t)
+    by : (held : Option ℕ) → held_type table t ≡ held → FitsSlot heap p.of_module guarded log held (slot_layout table t) (slot_value frame.slots t) → AreApart (value.Cell n at) (slot_value frame.slots t)
     by None e fits = subst (AreApart (value.Cell n at)) (sym (past_end table.held frame.slots t h.held_size e)) tt
     by (Some held) e fits = of_type held (k.is_integer (slice_get p.of_module.types held)) refl fits
 
@@ -214,14 +214,16 @@ module _ (heap : Setup) (p : LaidOut) (certs : List Section) (reaches : Bool) (f
   -- ---- gcroot
 
   -- a slot of a reference kind is one to the machine, and may hold null
-  is_held : (held : ℕ) → is_reference (kind_of p.of_module held) ≡ true → (is_some (referenced_layout p.of_module held) ≡ true) × FitsHeld heap p.of_module guarded log held value.Null
-  is_held held e = (
-    ap is_some (sym (layout_same p.of_module held)) ∙ layout_there (kind_of p.of_module held) e,
+  is_held : (held : ℕ) (layout : Option ℕ) → GoesWithType p.of_module held layout → is_reference (kind_held p.of_module (Some held) layout) ≡ true → (is_some layout ≡ true) × FitsHeld heap p.of_module guarded log held layout value.Null
+  is_held held (Some layout) goes e = (
+    refl,
     record {
-      integer = λ z. absurd (no_integer (kind_of p.of_module held) e (integer_same p.of_module held ∙ z));
-      reference = λ z. null_fits heap guarded log (referenced_layout p.of_module held) value.Null refl;
+      with_type = goes;
+      integer = λ z. absurd (let y = sym z ∙ reference_no_integer p.of_module held goes in cc);
+      reference = λ z. null_fits heap guarded log (Some layout) value.Null refl;
     },
-  ) where
+  )
+  is_held held None goes e = absurd (let y = sym (layout_there (kind_of p.of_module held) e) ∙ ap is_some (layout_same p.of_module held ∙ goes) in cc) where
     layout_there : (x : TypeKind) → is_reference x ≡ true → is_some (layout_of_kind x) ≡ true
     layout_there NoValue e = absurd cc
     layout_there (Bits bits) e = absurd cc
@@ -230,18 +232,10 @@ module _ (heap : Setup) (p : LaidOut) (certs : List Section) (reaches : Bool) (f
     layout_there AddressKind e = absurd cc
     layout_there Other e = absurd cc
 
-    no_integer : (x : TypeKind) → is_reference x ≡ true → is_integer x ≡ true → ⊥
-    no_integer NoValue e z = absurd cc
-    no_integer (Bits bits) e z = absurd cc
-    no_integer (Reference layout) e z = absurd cc
-    no_integer AnyReference e z = absurd cc
-    no_integer AddressKind e z = absurd cc
-    no_integer Other e z = absurd cc
-
-  -- the same of what is known of a slot
-  root_held : (held : Option ℕ) → holds_reference p.of_module held ≡ true → (is_reference_held p.of_module held ≡ true) × FitsSlot heap p.of_module guarded log held value.Null
-  root_held None e = absurd cc
-  root_held (Some held) e = is_held held e
+  -- the same of a slot that holds something that fits
+  root_held : (held layout : Option ℕ) (v : Value) → FitsSlot heap p.of_module guarded log held layout v → is_reference (kind_held p.of_module held layout) ≡ true → (is_some layout ≡ true) × FitsSlot heap p.of_module guarded log held layout value.Null
+  root_held None layout v fits e = absurd cc
+  root_held (Some held) layout v fits e = is_held held layout fits.with_type e
 
   -- null may be used as the metadata of a gcroot
   null_usable : (written : ℕ) (x : Operand) → o.is_null x ≡ true → o.is_value p.of_module f facts written x ≡ true → k.is_usable p.of_module f table frame.registers written x ≡ true
@@ -259,11 +253,11 @@ module _ (heap : Setup) (p : LaidOut) (certs : List Section) (reaches : Bool) (f
 
   -- a gcroot of this slot, which takes null
   root_of_slot : (defined : Option Function) → (d : Declare) (place metadata : Argument) (s : ℕ) → o.slot_named table place.operand ≡ Some s → a.are_gcroot_types p.of_module d.returned d.parameters ≡ true → a.are_gcroot_types p.of_module returned (place.written ∷ metadata.written ∷ []) ≡ true
-      → o.is_value p.of_module f facts place.written place.operand ≡ true → o.is_value p.of_module f facts metadata.written metadata.operand ≡ true → o.is_null metadata.operand ≡ true → holds_reference p.of_module (held_type table s) ≡ true
+      → o.is_value p.of_module f facts place.written place.operand ≡ true → o.is_value p.of_module f facts metadata.written metadata.operand ≡ true → o.is_null metadata.operand ≡ true → is_reference (slot_kind p.of_module table s) ≡ true
       → Goes heap p table frame.slots reaches guarded log (after_root_call table (place ∷ metadata ∷ []) facts) (call_action (place ∷ metadata ∷ []) (Some d) defined (Some runtime.GcRoot)) (behind_call (place ∷ metadata ∷ []) (Some runtime.GcRoot))
   root_of_slot defined d place metadata s is declared written k2p k2m null reference =
       let there = slot_place place.written s place.operand is k2p in
-      let held = root_held (held_type table s) reference in
+      let held = root_held (held_type table s) (slot_layout table s) (slot_value frame.slots s) (h.slot_types s) reference in
       subst (λ x. Goes heap p table frame.slots reaches guarded log (after_root x facts) (call_action (place ∷ metadata ∷ []) (Some d) defined (Some runtime.GcRoot)) (behind_call (place ∷ metadata ∷ []) (Some runtime.GcRoot))) (sym is)
       (subst (λ x. Goes heap p table frame.slots reaches guarded log (root_slot s facts) (call_action (place ∷ metadata ∷ []) (Some d) defined (Some runtime.GcRoot)) (λ given. mc.set_slot x value.Null frame)) (sym there)
       (goes_local heap p table frame.slots reaches guarded log _ _ _ (rw (declared, written, there, held.0, null_usable metadata.written metadata.operand null k2m) refl)
@@ -281,7 +275,7 @@ module _ (heap : Setup) (p : LaidOut) (certs : List Section) (reaches : Bool) (f
             → Goes heap p table frame.slots reaches guarded log (after_root_call table (place ∷ metadata ∷ []) facts) (call_action (place ∷ metadata ∷ []) (Some d) defined (Some runtime.GcRoot)) (behind_call (place ∷ metadata ∷ []) (Some runtime.GcRoot))
         slot place metadata None is unrooted written k2p k2m null = absurd cc
         slot place metadata (Some s) is unrooted written k2p k2m null =
-            root_of_slot defined d place metadata s is (root_declared p.of_module d declared) written k2p k2m null (and_parts (holds_reference p.of_module (held_type table s)) _ unrooted).0
+            root_of_slot defined d place metadata s is (root_declared p.of_module d declared) written k2p k2m null (and_parts (is_reference (slot_kind p.of_module table s)) _ unrooted).0
 
         two : (place metadata : Argument) → first_failing (root_conditions p.of_module f table here facts returned (place ∷ metadata ∷ [])) ≡ None
             → Goes heap p table frame.slots reaches guarded log (after_root_call table (place ∷ metadata ∷ []) facts) (call_action (place ∷ metadata ∷ []) (Some d) defined (Some runtime.GcRoot)) (behind_call (place ∷ metadata ∷ []) (Some runtime.GcRoot))

@@ -7,7 +7,7 @@ use Rattle.pools.specs.WordSets.{has_word}
 use Rattle.layout.specs.Layouts.{LaidOut}
 use Rattle.types.specs.Globals.{global_named}
 use Rattle.types.specs.References.{referenced_layout}
-use Rattle.shadow_stack.specs.Slots.{SlotTable, held_type}
+use Rattle.shadow_stack.specs.Slots.{SlotTable, held_type, slot_layout, is_reference_held}
 use Rattle.facts.specs.declared.known.Class.{Class}
 use Rattle.facts.specs.declared.known.Known.{Known}
 use Rattle.facts.specs.declared.known.Known.TheVariants.{Nothing, Number, Cell, Null, Address, GlobalAddress}
@@ -106,20 +106,26 @@ WasTested m registers None v = Unit {0}
 WasTested m registers (Some test) v =
     (written : ℕ) × (v ≡ compared test.kind (bits_at m written) (register_at registers test.tested) (constant_value m written test.constant))
 
--- what a slot that holds no integer holds: null or an own cell of the layout to which its type refers, and else null
+-- what a slot that holds no integer holds: null or an own cell of its layout, and without one null
 abbrev pub FitsReference : Setup → Guarded → Log → Option ℕ → Value → Type 0
 FitsReference heap guarded log None v = v ≡ value.Null
 FitsReference heap guarded log (Some layout) v = IsReferenceTo heap layout v × IsOwn log guarded v
 
--- what a slot holds fits its type
-pub record FitsHeld (heap : Setup) (m : Module) (guarded : Guarded) (log : Log) (held : ℕ) (v : Value) : Type 0 where
+-- the layout of a slot goes with its type: only a slot of reference type has one, and each has one whose type refers to a layout
+abbrev pub GoesWithType : Module → (held : ℕ) → (layout : Option ℕ) → Type 0
+GoesWithType m held None = referenced_layout m held ≡ None
+GoesWithType m held (Some layout) = is_reference_held m (Some held) ≡ true
+
+-- what a slot holds fits its type and its layout
+pub record FitsHeld (heap : Setup) (m : Module) (guarded : Guarded) (log : Log) (held : ℕ) (layout : Option ℕ) (v : Value) : Type 0 where
+  pub with_type : GoesWithType m held layout
   pub integer : is_integer (slice_get m.types held) ≡ true → IsInteger (bits_at m held) None v
-  pub reference : is_integer (slice_get m.types held) ≡ false → FitsReference heap guarded log (referenced_layout m held) v
+  pub reference : is_integer (slice_get m.types held) ≡ false → FitsReference heap guarded log layout v
 
 -- if there is such a slot
-abbrev pub FitsSlot : Setup → Module → Guarded → Log → Option ℕ → Value → Type 0
-FitsSlot heap m guarded log None v = Unit {0}
-FitsSlot heap m guarded log (Some held) v = FitsHeld heap m guarded log held v
+abbrev pub FitsSlot : Setup → Module → Guarded → Log → (held layout : Option ℕ) → Value → Type 0
+FitsSlot heap m guarded log None layout v = Unit {0}
+FitsSlot heap m guarded log (Some held) layout v = FitsHeld heap m guarded log held layout v
 
 -- what is known of a slot holds of its value
 pub record SlotMeans (cells : Cells) (count : ℕ) (slot : SlotFact) (v : Value) : Type 0 where
@@ -135,7 +141,7 @@ pub record Holds (heap : Setup) (p : LaidOut) (table : SlotTable) (guarded : Gua
   pub values : (v : ℕ) → Means heap p guarded log cells (length facts.classes) registers (known_at facts.values v) (register_at registers v)
   pub classes : (c : ℕ) → ClassMeans log (class_at facts.classes c) (cells c)
   pub tests : (v : ℕ) → WasTested p.of_module registers (test_at facts.tests v) (register_at registers v)
-  pub slot_types : (s : ℕ) → FitsSlot heap p.of_module guarded log (held_type table s) (slot_value slots s)
+  pub slot_types : (s : ℕ) → FitsSlot heap p.of_module guarded log (held_type table s) (slot_layout table s) (slot_value slots s)
   pub slot_facts : (s : ℕ) → SlotMeans cells (length facts.classes) (slot_at facts.slots s) (slot_value slots s)
   -- no available reference outside a fresh class names its cell, and no slot outside does
   pub alone : (v w c d l k : ℕ) (stale : Bool) → known_at facts.values v ≡ Cell c l stale → known_at facts.values w ≡ Cell d k false

@@ -4,8 +4,7 @@ use Rattle.ir_ast.specs.declared.items_of_module.Global.{Global as AGlobal}
 use Rattle.ir_ast.specs.declared.items_of_module.SymbolSort.{SymbolSort}
 use Rattle.ir_ast.specs.declared.items_of_module.SymbolSort.TheVariants.{Global}
 use Rattle.ir_ast.specs.declared.module.Module.{Module}
-use Rattle.types.specs.References.{pointee}
-use Rattle.types.specs.ValueTypes.{is_same}
+use Rattle.types.specs.ValueTypes.{points_to}
 
 -- what a global name with this number means, if it is there
 abbrev pub sort_at : Module → Option ℕ → Option SymbolSort
@@ -37,4 +36,4 @@ global_held m symbol = held_by m (global_named m symbol)
 
 -- a written type is that of pointers to what the global of this name holds
 abbrev pub points_to_global : Module → (written symbol : ℕ) → Bool
-points_to_global m written symbol = is_same (pointee m written) (global_held m symbol)
+points_to_global m written symbol = points_to m written (global_held m symbol)

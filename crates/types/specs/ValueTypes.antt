@@ -3,7 +3,7 @@ use Rattle.std.specs.Prelude.{ℕ, Bool, false, ◌==◌, Option, Some, None, sl
 use Rattle.ir_ast.specs.declared.block.Block.{Block as ABlock}
 use Rattle.ir_ast.specs.declared.function.Function.{Function}
 use Rattle.ir_ast.specs.declared.function.LocalSort.{LocalSort}
-use Rattle.ir_ast.specs.declared.function.LocalSort.TheVariants.{Value, Element as ElementOf, Block}
+use Rattle.ir_ast.specs.declared.function.LocalSort.TheVariants.{Value, Slot, Element as ElementOf, Block}
 use Rattle.ir_ast.specs.declared.instr.Instr.{Instr}
 use Rattle.ir_ast.specs.declared.module.Module.{Module}
 use Rattle.ir_ast.specs.declared.op.Op.{Op}
@@ -35,10 +35,15 @@ abbrev pub is_same : Option ℕ → Option ℕ → Bool
 is_same (Some one) (Some other) = one == other
 is_same _ _ = false
 
+-- a written type is that of the place of this part, if there is one
+abbrev pub points_to : Module → (written : ℕ) → (part : Option ℕ) → Bool
+points_to m written part = is_same (pointee m written) part
+
 -- whether what a local name means is a value of this written type
 abbrev pub is_value_of : Module → Function → (written : ℕ) → Option LocalSort → Bool
 is_value_of m f written (Some (Value given)) = given == written
-is_value_of m f written (Some (ElementOf block place)) = is_same (pointee m written) (element_of m (instruction_at f block place))
+is_value_of m f written (Some (Slot held)) = points_to m written (Some held)
+is_value_of m f written (Some (ElementOf block place)) = points_to m written (element_of m (instruction_at f block place))
 is_value_of m f written _ = false
 
 -- whether a local name is a value of this written type

@@ -1,7 +1,7 @@
 ghost use Rattle.std.specs.Prelude.{◌≡◌};
 ghost use Rattle.types.specs.Globals.{global_named, global_held, points_to_global};
 
-use crate::reference::pointee;
+use crate::reference::points_to;
 use ir_ast::{GlobalId, Module, SymbolId, SymbolSort, TypeId};
 
 /// The global that a global name names.
@@ -27,8 +27,5 @@ pub fn global_held(module: &Module, symbol: SymbolId) -> Option<TypeId>
 pub fn points_to_global(module: &Module, written: TypeId, symbol: SymbolId) -> bool
     ensures { result ≡ points_to_global «module».now written symbol }
 {
-    match (pointee(module, written), global_held(module, symbol)) {
-        (Some(part), Some(held)) => part == held,
-        _ => false,
-    }
+    points_to(module, written, global_held(module, symbol))
 }

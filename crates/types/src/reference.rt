@@ -1,5 +1,6 @@
 ghost use Rattle.std.specs.Prelude.{◌≡◌};
 ghost use Rattle.types.specs.References.{pointee, referenced_layout, struct_named};
+ghost use Rattle.types.specs.ValueTypes.{points_to};
 
 use ir_ast::{IrType, Module, TypeId};
 use pools::LayoutId;
@@ -11,6 +12,16 @@ pub fn pointee(module: &Module, written: TypeId) -> Option<TypeId>
     match module.types.get(written)? {
         IrType::Pointer(part) => Some(part),
         _ => None,
+    }
+}
+
+/// Whether a written type is that of the place of this part, if there is one.
+pub(crate) fn points_to(module: &Module, written: TypeId, part: Option<TypeId>) -> bool
+    ensures { result ≡ points_to «module».now written part }
+{
+    match (pointee(module, written), part) {
+        (Some(one), Some(other)) => one == other,
+        _ => false,
     }
 }
 

@@ -2,7 +2,7 @@ ghost use Rattle.std.specs.Prelude.{◌≡◌};
 ghost use Rattle.types.specs.ValueTypes.{element_of, instruction_at, has_type, target_of};
 
 use crate::element::element_type;
-use crate::reference::pointee;
+use crate::reference::points_to;
 use ir_ast::{BlockId, Function, LocalSort, Module, Op, TypeId, ValueId};
 
 /// The type that the getelementptr at a place of a block's body selects.
@@ -28,15 +28,12 @@ pub fn has_type(module: &Module, function: &Function, written: TypeId, value: Va
 {
     match function.sorts.get(value.number() as usize) {
         Some(LocalSort::Value(given)) => *given == written,
-        Some(LocalSort::Element { block, place }) => {
-            match (
-                pointee(module, written),
-                element_of(module, function, *block, *place),
-            ) {
-                (Some(one), Some(other)) => one == other,
-                _ => false,
-            }
-        }
+        Some(LocalSort::Slot(held)) => points_to(module, written, Some(*held)),
+        Some(LocalSort::Element { block, place }) => points_to(
+            module,
+            written,
+            element_of(module, function, *block, *place),
+        ),
         _ => false,
     }
 }
