@@ -1,19 +1,16 @@
 -- Which rows a safepoint changes.
-use Rattle.std.proofs.Common.{◌≡◌, ◌<◌, ◌⊎◌, ℕ, length, List, [], ◌∷◌, ◌++◌, refl, sym, ap, subst, inl, inr, ◌∙◌, ◌+◌, add-one, drop-cons, drop, get_or, true, false, Bool, slice_set}
-use Rattle.std.proofs.lemmas.Bool.{cases_lt}
-use Rattle.std.proofs.lemmas.List.{get_or_past, get_or-set_other}
+use Rattle.std.proofs.Common.{◌≡◌, ◌<◌, ◌⊎◌, ℕ, length, List, [], ◌∷◌, ◌++◌, refl, sym, ap, subst, inl, inr, ◌∙◌, ◌+◌, add-one, drop-cons, drop, get_or, true, false, Bool}
 use Rattle.std.specs.Prelude.{not, ◌&&◌, ◌==◌, if◌then◌else◌, replicate}
-use Rattle.lemmas.specs.Bools.{yes_or_no, not_true}
+use Rattle.lemmas.specs.Bools.{not_true}
 use Rattle.lemmas.specs.Numbers.{test_true, test_same}
 use Rattle.facts.specs.declared.known.Class.{Class}
 use Rattle.facts.specs.declared.known.Known.{Known}
 use Rattle.facts.specs.declared.known.Known.TheVariants.{Nothing, Number, Cell, Null, Address, GlobalAddress}
 use Rattle.facts.specs.declared.row.Row.{Row}
-use Rattle.facts.specs.Facts.{class_at, is_of, off_base, stale_of}
-use Rattle.facts.specs.Lines.{move}
-use Rattle.facts.specs.Sheets.{blank, row_at, IsOne, OnlyMarked, OnlyCurrent, EachRow, each, is_settled_as, is_settled, with_current, known_nonnull, settled_class, off_row, move_row, keep_row, settle_row, stale_row, row_is_of, with_row_of}
-use Rattle.facts.proofs.Sets.{set_is}
-use Rattle.facts.proofs.Sheets.{same_or_not, length_each, each_row, one_more, one_last, blank_at}
+use Rattle.facts.specs.Facts.{class_at, off_base, stale_of}
+use Rattle.facts.specs.Sheets.{blank, row_at, IsOne, OnlyMarked, OnlyCurrent, EachRow, each, is_settled_as, is_settled, known_nonnull, settled_class, off_row, keep_row, settle_row, stale_row, row_is_of, with_row_of}
+use Rattle.facts.proofs.Listed.{row_after}
+use Rattle.facts.proofs.Sheets.{length_each, each_row, one_more, one_last, blank_at}
 
 -- ---- rows that a safepoint leaves
 
@@ -99,13 +96,10 @@ off_settled v u row = by row.known where
 
 module _ (change : ℕ → Row → Row) (leaves : (v : ℕ) → change v blank ≡ blank) (before after : List Row) (each : EachRow change before after) where
   at : (v : ℕ) → row_at after v ≡ change v (row_at before v)
-  at v = elim (cases_lt v (length before)) [ inl lt ↦ each.1 v lt | inr past ↦ get_or_past after v blank (rw each.0 past) ∙ sym (ap (change v) (get_or_past before v blank past) ∙ leaves v) ]
+  at = row_after change leaves before after each
 
   pub marked_after : (marked : List ℕ) → OnlyMarked marked before → OnlyMarked marked after
   marked_after marked only v = elim (only v) [ inl one ↦ inl one | inr e ↦ inr (at v ∙ ap (change v) e ∙ leaves v) ]
-
-  pub current_after : (current : List ℕ) → ((v : ℕ) (row : Row) → is_settled v row ≡ true → is_settled v (change v row) ≡ true) → OnlyCurrent current before → OnlyCurrent current after
-  current_after current keeps only v = elim (only v) [ inl one ↦ inl one | inr e ↦ inr (subst (λ (row : Row). is_settled v row ≡ true) (sym (at v)) (keeps v (row_at before v) e)) ]
 
   -- no row, once all are as a safepoint leaves them
   pub none_after : ((v : ℕ) (row : Row) → is_settled v (change v row) ≡ true) → OnlyCurrent [] after
@@ -114,44 +108,6 @@ module _ (change : ℕ → Row → Row) (leaves : (v : ℕ) → change v blank �
 -- a change that leaves the rows that are not listed is one of all rows
 pub each_listed : (change : ℕ → Row → Row) → ((v : ℕ) (row : Row) → change v (change v row) ≡ change v row) → (listed : List ℕ) (rows : List Row) → ((v : ℕ) → v < length rows → IsOne v listed ⊎ (change v (row_at rows v) ≡ row_at rows v)) → EachRow change rows (each change listed rows)
 each_listed change twice listed rows seen = (length_each change listed rows, each_row change twice listed rows seen)
-
--- ---- a row that is written
-
-module _ (v : ℕ) (row : Row) (current : List ℕ) (rows : List Row) (only : OnlyCurrent current rows) where
-  abbrev after : List Row
-  after = slice_set rows v row
-
-  now_settled : is_settled v row ≡ true → is_settled v (row_at after v) ≡ true
-  now_settled e = set_is (is_settled v) rows v row blank true e refl
-
-  as_before : (u : ℕ) → (v ≡ u → ⊥) → IsOne u current ⊎ (is_settled u (row_at after u) ≡ true)
-  as_before u ne = elim (only u) [ inl one ↦ inl one | inr e ↦ inr (subst (λ (r : Row). is_settled u r ≡ true) (sym (get_or-set_other rows v u row blank (λ x. ne (sym x)))) e) ]
-
-  pub set_current : OnlyCurrent (with_current v (row_at rows v) row current) after
-  set_current u = pick (is_settled v (row_at rows v)) refl (is_settled v row) refl (same_or_not v u) where
-    one_of : (b : Bool) → IsOne u current → IsOne u (if b then current ++ v ∷ [] else current)
-    one_of true one = one_more u v current one
-    one_of false one = one
-
-    old : IsOne u current ⊎ (is_settled u (row_at after u) ≡ true) → IsOne u (with_current v (row_at rows v) row current) ⊎ (is_settled u (row_at after u) ≡ true)
-    old (inl one) = inl (one_of (is_settled v (row_at rows v) && not (is_settled v row)) one)
-    old (inr e) = inr e
-
-    was : is_settled v (row_at rows v) ≡ false → v ≡ u → IsOne u current ⊎ (is_settled v (row_at rows v) ≡ true) → IsOne u current
-    was e same (inl one) = one
-    was e same (inr h) = absurd cc
-
-    pick : (a : Bool) → is_settled v (row_at rows v) ≡ a → (b : Bool) → is_settled v row ≡ b → (v ≡ u) ⊎ (v ≡ u → ⊥) → IsOne u (with_current v (row_at rows v) row current) ⊎ (is_settled u (row_at after u) ≡ true)
-    pick a e b h (inr ne) = old (as_before u ne)
-    pick a e true h (inl same) = inr (subst (λ x. is_settled x (row_at after x) ≡ true) same (now_settled h))
-    pick true e false h (inl same) = inl (rw (e, h) (subst (λ x. IsOne x (current ++ v ∷ [])) same (one_last v current)))
-    pick false e false h (inl same) = old (inl (was e same (subst (λ x. IsOne x current ⊎ (is_settled v (row_at rows v) ≡ true)) same (only v))))
-
-  pub change_current : (is_settled v (row_at rows v) ≡ true → is_settled v row ≡ true) → OnlyCurrent current after
-  change_current keeps u = pick (same_or_not v u) where
-    pick : (v ≡ u) ⊎ (v ≡ u → ⊥) → IsOne u current ⊎ (is_settled u (row_at after u) ≡ true)
-    pick (inr ne) = as_before u ne
-    pick (inl same) = elim (only v) [ inl one ↦ inl (subst (λ x. IsOne x current) same one) | inr e ↦ inr (subst (λ x. is_settled x (row_at after x) ≡ true) same (now_settled (keeps e))) ]
 
 -- blank rows stay blank at a safepoint
 pub blank_current : (current : List ℕ) (count : ℕ) (rows : List Row) → rows ≡ replicate count blank → OnlyCurrent current rows
@@ -175,23 +131,6 @@ module _ (c : ℕ) (rows : List Row) (marked : List ℕ) (i : ℕ) (lt : i < len
     | inl same ↦ inl (subst (IsOne v) (sym (is ∙ ap (λ b. if b then current ++ u ∷ [] else current) (subst (λ x. row_is_of c rows x ≡ true) (sym same) of))) (subst (λ x. IsOne x (current ++ u ∷ [])) same (one_last u current)))
     | inr rest ↦ inr (subst (λ n. IsOne v (drop n marked)) (sym (add-one i)) rest)
   ]
-
--- ---- a class is another now
-
-unmoved : (from to : ℕ) (known : Known) → is_of from known ≡ false → move from to known ≡ known
-unmoved from to (Cell c layout stale) e = ap (λ b. Cell (if b then to else c) layout stale) e
-unmoved from to Nothing e = refl
-unmoved from to (Number bits below) e = refl
-unmoved from to Null e = refl
-unmoved from to (Address base words) e = refl
-unmoved from to (GlobalAddress g) e = refl
-
-pub moved_current : (from to : ℕ) (rows next : List Row) → EachRow (λ u. move_row from to) rows next → (marked current noted : List ℕ) → OnlyMarked marked rows → OnlyCurrent current rows
-    → ((v : ℕ) → IsOne v current → IsOne v noted) → ((v : ℕ) → IsOne v marked → row_is_of from rows v ≡ true → IsOne v noted) → OnlyCurrent noted next
-moved_current from to rows next each marked current noted filled only kept listed v = elim (only v) [ inl one ↦ inl (kept v one) | inr e ↦ pick e (yes_or_no (is_of from (row_at rows v).known)) ] where
-  pick : is_settled v (row_at rows v) ≡ true → (is_of from (row_at rows v).known ≡ true) ⊎ (is_of from (row_at rows v).known ≡ false) → IsOne v noted ⊎ (is_settled v (row_at next v) ≡ true)
-  pick e (inl of) = elim (filled v) [ inl one ↦ inl (listed v one of) | inr empty ↦ absurd (let none = ap (λ (row : Row). is_of from row.known) empty in cc) ]
-  pick e (inr off) = inr (subst (λ (row : Row). is_settled v row ≡ true) (sym (at (λ u. move_row from to) (λ u. refl) rows next each v ∙ ap (λ (k : Known). record (row_at rows v) { known = k }) (unmoved from to (row_at rows v).known off))) e)
 
 -- ---- a safepoint
 

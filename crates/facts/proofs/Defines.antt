@@ -7,6 +7,7 @@ use Rattle.std.proofs.lemmas.List.{ext_get_or, get_or_past, get_or-set_same, get
 use Rattle.std.specs.Prelude.{not, ◌&&◌, ◌||◌, ◌==◌, if◌then◌else◌}
 use Rattle.std.specs.List.{list_any}
 use Rattle.lemmas.specs.Numbers.{test_no, test_same}
+use Rattle.facts.specs.declared.guests.Home.{Home}
 use Rattle.facts.specs.declared.known.Class.{Class}
 use Rattle.facts.specs.declared.known.Known.{Known}
 use Rattle.facts.specs.declared.known.Known.TheVariants.{Nothing, Number, Cell, Null, Address, GlobalAddress}
@@ -15,15 +16,18 @@ use Rattle.facts.specs.declared.row.Row.{Row}
 use Rattle.facts.specs.declared.sweeps.Change.TheVariants.{Off}
 use Rattle.facts.specs.declared.uses.Use.{Use}
 use Rattle.facts.specs.Facts.{is_of, off_base, off_test, values_without}
+use Rattle.facts.specs.Guests.{OnlyGuests, is_home}
 use Rattle.facts.specs.Sheets.{blank, row_at, known_of, class_of, test_of, names, IsOne, EachRow, OnlyMarked, OnlyCurrent, with_mark, with_current, is_settled, off_row, changed, row_is_of, other_is_of}
 use Rattle.facts.specs.Uses.{chain, IsUser, OnlyUsers, SameUses}
 use Rattle.facts.specs.Values.{facts_of_rows, defined, defined_row}
 use Rattle.facts.proofs.Changes.{off_less}
-use Rattle.facts.proofs.Current.{marked_after, current_after, off_settled, set_current}
-use Rattle.facts.proofs.Marked.{any_marked}
+use Rattle.facts.proofs.Current.{marked_after, off_settled}
+use Rattle.facts.proofs.Homes.{OnlyMembers, as_many, off_home, put_guests}
+use Rattle.facts.proofs.Listed.{Unless, with_row, unless_after, set_unless}
+use Rattle.facts.proofs.Marked.{any_listed}
 use Rattle.facts.proofs.Says.{same_facts, each_same, each_mapped}
 use Rattle.facts.proofs.Sets.{set_empty, set_part}
-use Rattle.facts.proofs.Sheets.{same_or_not, one_more, set_marked, change_marked}
+use Rattle.facts.proofs.Sheets.{same_or_not, one_more, set_marked}
 use Rattle.facts.proofs.Users.{users_set}
 
 -- ---- the rows that name a value end to name it
@@ -70,16 +74,24 @@ module _ (v : ℕ) (rows : List Row) where
       pick (inl same) = subst (λ x. IsOne x (with_mark v (row_at rows v) marked) ⊎ (row_at after x ≡ blank)) same (elim (set_marked v row marked rows only v) [ inl one ↦ inl one | inr e ↦ inr (row_there ∙ e) ])
       pick (inr ne) = elim (marked_after (changed (Off v)) (λ w. refl) rows offs off_each marked only u) [ inl one ↦ inl (more _ one) | inr e ↦ inr (other_row u ne ∙ e) ]
 
-    pub defined_current : (current : List ℕ) → OnlyCurrent current rows → OnlyCurrent (with_current v (row_at rows v) row current) after
-    defined_current current only u = pick (same_or_not v u) where
-      more : (b : Bool) → IsOne u current → IsOne u (if b then current ++ v ∷ [] else current)
-      more true one = one_more u v current one
+    pub defined_unless : (p : ℕ → Row → Bool) → ((u : ℕ) → p u blank ≡ true) → ((u : ℕ) (r : Row) → p u r ≡ true → p u (off_row v r) ≡ true) → (listed : List ℕ) → Unless p listed rows → Unless p (with_row p v (row_at rows v) row listed) after
+    defined_unless p of_blank keeps listed only u = pick (same_or_not v u) where
+      more : (b : Bool) → IsOne u listed → IsOne u (if b then listed ++ v ∷ [] else listed)
+      more true one = one_more u v listed one
       more false one = one
 
-      pick : (v ≡ u) ⊎ (v ≡ u → ⊥) → IsOne u (with_current v (row_at rows v) row current) ⊎ (is_settled u (row_at after u) ≡ true)
-      pick (inl same) = subst (λ x. IsOne x (with_current v (row_at rows v) row current) ⊎ (is_settled x (row_at after x) ≡ true)) same
-          (elim (set_current v row current rows only v) [ inl one ↦ inl one | inr e ↦ inr (ap (is_settled v) row_there ∙ e) ])
-      pick (inr ne) = elim (current_after (changed (Off v)) (λ w. refl) rows offs off_each current (off_settled v) only u) [ inl one ↦ inl (more _ one) | inr e ↦ inr (ap (is_settled u) (other_row u ne) ∙ e) ]
+      pick : (v ≡ u) ⊎ (v ≡ u → ⊥) → IsOne u (with_row p v (row_at rows v) row listed) ⊎ (p u (row_at after u) ≡ true)
+      pick (inl same) = subst (λ x. IsOne x (with_row p v (row_at rows v) row listed) ⊎ (p x (row_at after x) ≡ true)) same
+          (elim (set_unless p of_blank v row listed rows only v) [ inl one ↦ inl one | inr e ↦ inr (ap (p v) row_there ∙ e) ])
+      pick (inr ne) = elim (unless_after (changed (Off v)) (λ w. refl) rows offs off_each p listed keeps only u) [ inl one ↦ inl (more _ one) | inr e ↦ inr (ap (p u) (other_row u ne) ∙ e) ]
+
+    pub defined_current : (current : List ℕ) → OnlyCurrent current rows → OnlyCurrent (with_current v (row_at rows v) row current) after
+    defined_current current only = defined_unless is_settled (λ u. refl) (off_settled v) current only
+
+    pub defined_guests : (homes : List Home) (guests : List ℕ) → OnlyGuests guests homes rows → IsOne v guests ⊎ (is_home (length rows) homes v row ≡ true) → OnlyGuests guests homes after
+    defined_guests homes guests only noted = put_guests v row offs homes guests
+        (as_many homes guests rows offs off_each.0 (unless_after (changed (Off v)) (λ w. refl) rows offs off_each (is_home (length rows) homes) guests (off_home (length rows) homes v) only))
+        (subst (λ n. IsOne v guests ⊎ (is_home n homes v row ≡ true)) (sym off_each.0) noted)
 
     pub defined_users : (uses : List Use) → OnlyUsers uses rows → row.used ≡ (row_at rows v).used → ((w : ℕ) → names w row ≡ true → w < length rows → IsUser uses rows v w) → OnlyUsers uses after
     defined_users uses only same says = users_set uses offs v row (off_users uses only) (same ∙ sym (ap (λ (r : Row). r.used) (at_off v)))
@@ -114,9 +126,13 @@ module _ (v c : ℕ) (rows : List Row) where
     pick (inl same) = subst (λ x. other_is_of v c rows x ≡ row_is_of c without x) same (ap (λ b. not b && row_is_of c rows v) (test_same v) ∙ sym (ap (λ (row : Row). is_of c row.known) (set_empty rows v blank)))
     pick (inr ne) = ap (λ b. not b && row_is_of c rows u) (test_no u v (λ e. ne (sym e))) ∙ sym (ap (λ (row : Row). is_of c row.known) (get_or-set_other rows v u blank blank (λ e. ne (sym e))))
 
-  pub other_marked : (marked : List ℕ) → OnlyMarked marked rows → list_any (other_is_of v c rows) marked ≡ list_any (is_of c) (slice_set (map known_of rows) v Nothing)
-  other_marked marked only = any_same (other_is_of v c rows) (row_is_of c without) other_is marked
-      ∙ any_marked c marked without (change_marked v blank marked rows only (λ e. refl)) ∙ ap (list_any (is_of c)) (map-set known_of rows v blank)
+  pub other_listed : (listed : List ℕ) → OnlyMembers c listed rows → list_any (other_is_of v c rows) listed ≡ list_any (is_of c) (slice_set (map known_of rows) v Nothing)
+  other_listed listed only = any_same (other_is_of v c rows) (row_is_of c without) other_is listed
+      ∙ any_listed c listed without (λ u. members u (same_or_not v u)) ∙ ap (list_any (is_of c)) (map-set known_of rows v blank)
+    where
+      members : (u : ℕ) → (v ≡ u) ⊎ (v ≡ u → ⊥) → IsOne u listed ⊎ (is_of c (row_at without u).known ≡ false)
+      members u (inl same) = inr (subst (λ x. is_of c (row_at without x).known ≡ false) same (ap (λ (row : Row). is_of c row.known) (set_empty rows v blank)))
+      members u (inr ne) = elim (only u) [ inl one ↦ inl one | inr e ↦ inr (ap (λ (row : Row). is_of c row.known) (get_or-set_other rows v u blank blank (λ x. ne (sym x))) ∙ e) ]
 
 off_of : (v c : ℕ) (known : Known) → is_of c (off_base v known) ≡ is_of c known
 off_of v c (Address base words) = pick (base == v) where

@@ -1,6 +1,9 @@
 pub mod Sets
 mod Sheets
+mod Listed
 mod Current
+mod Homes
+mod Houses
 mod Marked
 mod Says
 mod Users

@@ -16,6 +16,7 @@ use Rattle.facts.specs.declared.sweeps.Change.TheVariants.{Off, Move, Settle}
 use Rattle.facts.specs.Facts.{is_of, is_on, off_base, off_test}
 use Rattle.facts.specs.Lines.{moved, move, covers_value}
 use Rattle.facts.specs.Sheets.{blank, row_at, known_of, class_of, IsOne, OnlyMarked, each, EachRow, off_row, move_row, keep_row, settle_row, changed, row_is_of, covers_row}
+use Rattle.facts.proofs.Homes.{OnlyMembers}
 use Rattle.facts.proofs.Sets.{found, or_true}
 use Rattle.facts.proofs.Sheets.{length_each, each_row}
 
@@ -136,11 +137,11 @@ none_found : (c : ℕ) (rows : List Row) → ((u : ℕ) → is_of c (row_at rows
 none_found c [] h = refl
 none_found c (row ∷ rows) h = rw (h zero) (none_found c rows (λ u. h (suc u)))
 
-pub any_marked : (c : ℕ) (marked : List ℕ) (rows : List Row) → OnlyMarked marked rows → list_any (row_is_of c rows) marked ≡ list_any (is_of c) (map known_of rows)
-any_marked c marked rows only = pick (list_any (row_is_of c rows) marked) refl where
-  pick : (b : Bool) → list_any (row_is_of c rows) marked ≡ b → list_any (row_is_of c rows) marked ≡ list_any (is_of c) (map known_of rows)
-  pick true e = e ∙ sym (any_there c rows marked e)
-  pick false e = e ∙ sym (none_found c rows (λ u. elim (only u) [ inl one ↦ none_there c rows marked e u one | inr empty ↦ ap (λ row. is_of c row.known) empty ]))
+pub any_listed : (c : ℕ) (listed : List ℕ) (rows : List Row) → OnlyMembers c listed rows → list_any (row_is_of c rows) listed ≡ list_any (is_of c) (map known_of rows)
+any_listed c listed rows only = pick (list_any (row_is_of c rows) listed) refl where
+  pick : (b : Bool) → list_any (row_is_of c rows) listed ≡ b → list_any (row_is_of c rows) listed ≡ list_any (is_of c) (map known_of rows)
+  pick true e = e ∙ sym (any_there c rows listed e)
+  pick false e = e ∙ sym (none_found c rows (λ u. elim (only u) [ inl one ↦ none_there c rows listed e u one | inr off ↦ off ]))
 
 -- ---- whether all rows of a class are listed there as of another
 
@@ -158,14 +159,18 @@ all_pairs_back p [] ys dx dy h = refl
 all_pairs_back p (x ∷ xs) [] dx dy h = refl
 all_pairs_back p (x ∷ xs) (y ∷ ys) dx dy h = rw (h zero) (all_pairs_back p xs ys dx dy (λ u. h (suc u)))
 
--- a value of which nothing is known here is covered
+-- a value that is not of the class here is covered
+off_covers : (c d : ℕ) (here there : Known) → is_of c here ≡ false → covers_value c d (here, there) ≡ true
+off_covers c d here (Cell e layout stale) off = rw off (or_true (e == d))
+off_covers c d here Nothing off = refl
+off_covers c d here (Number bits below) off = refl
+off_covers c d here Null off = refl
+off_covers c d here (Address base words) off = refl
+off_covers c d here (GlobalAddress g) off = refl
+
+-- and one of which nothing is known
 pub none_covers : (c d : ℕ) (known : Known) → covers_value c d (Nothing, known) ≡ true
-none_covers c d (Cell e layout stale) = or_true (e == d)
-none_covers c d Nothing = refl
-none_covers c d (Number bits below) = refl
-none_covers c d Null = refl
-none_covers c d (Address base words) = refl
-none_covers c d (GlobalAddress g) = refl
+none_covers c d known = off_covers c d Nothing known refl
 
 module _ (c d : ℕ) (here there : List Row) where
   abbrev Covers : ℕ → Type 0
@@ -196,9 +201,9 @@ module _ (c d : ℕ) (here there : List Row) where
     pick false e false i = e ∙ sym i
     pick false e true i = let all = all_back marked (λ u. sym (pairs u) ∙ all_pairs_there (covers_value c d) (map known_of here) (map known_of there) Nothing Nothing (λ k. refl) (none_covers c d) i u) in absurd cc
 
-  -- the rows that are marked here decide, and those that are marked there
-  pub covers_here : (marked : List ℕ) → OnlyMarked marked here → list_all (covers_row c d here there) marked ≡ list_all (covers_value c d) (zip (map known_of here) (map known_of there))
-  covers_here marked only = covers_by marked (λ u. elim (only u) [ inl one ↦ inl one | inr empty ↦ inr (ap (λ row. covers_value c d (row.known, (row_at there u).known)) empty ∙ none_covers c d (row_at there u).known) ])
+  -- the rows that may be of the class here decide, and those that are marked there
+  pub covers_here : (listed : List ℕ) → OnlyMembers c listed here → list_all (covers_row c d here there) listed ≡ list_all (covers_value c d) (zip (map known_of here) (map known_of there))
+  covers_here listed only = covers_by listed (λ u. elim (only u) [ inl one ↦ inl one | inr off ↦ inr (off_covers c d (row_at here u).known (row_at there u).known off) ])
 
   pub covers_there : (marked : List ℕ) → OnlyMarked marked there → list_all (covers_row c d here there) marked ≡ list_all (covers_value c d) (zip (map known_of here) (map known_of there))
   covers_there marked only = covers_by marked (λ u. elim (only u) [ inl one ↦ inl one | inr empty ↦ inr (ap (λ row. covers_value c d ((row_at here u).known, row.known)) empty) ])

@@ -6,6 +6,7 @@ mod class_set;
 mod contents;
 mod edges;
 mod facts;
+mod guests;
 mod kept;
 mod known;
 mod laws;

@@ -1,4 +1,4 @@
-ghost use Rattle.std.specs.Prelude.{◌≡◌, true, ◌<◌, ◌++◌, map, length, replicate, slice_set, IfOk, OnOk, OnErr};
+ghost use Rattle.std.specs.Prelude.{◌≡◌, ◌⊎◌, true, ◌<◌, ◌++◌, map, length, replicate, slice_set, IfOk, OnOk, OnErr};
 ghost use Rattle.std.specs.List.{list_any, list_all, zip};
 ghost use Rattle.facts.specs.Facts.{is_of, class_at};
 ghost use Rattle.facts.specs.Lines.{covers_value};
@@ -8,6 +8,7 @@ ghost use Rattle.facts.specs.Sheets.{row_at, blank, EachRow, changed, off_row, k
 ghost use Rattle.facts.specs.Uses.{OnlyUsers};
 
 use crate::class_id::ClassId;
+use crate::guests::{self, Home};
 use crate::kept::KeptSheet;
 use crate::known::Class;
 use crate::numbered::{number_rows, numbers_of, write_rows};
@@ -25,18 +26,23 @@ pub(crate) struct Sheet {
     marked: Vec<usize>,
     /// The rows that the next safepoint may change.
     current: Vec<usize>,
+    /// The values for which the classes that were added were made, in order.
+    homes: Vec<Home>,
+    /// The rows that may be of a class which was made for another value.
+    guests: Vec<usize>,
 }
 
 impl Model for Sheet {
     ghost use Rattle.std.specs.Prelude.{List};
     ghost use Rattle.facts.specs.declared.row.Row.{Row};
     ghost use Rattle.facts.specs.Sheets.{OnlyMarked, OnlyCurrent};
+    ghost use Rattle.facts.specs.Guests.{OnlyGuests};
 
     ghost Value = { List Row };
 
     ghost view = { λ sheet. sheet.rows.items };
 
-    ghost invariant = { λ sheet. OnlyMarked sheet.marked.items sheet.rows.items × OnlyCurrent sheet.current.items sheet.rows.items };
+    ghost invariant = { λ sheet. OnlyMarked sheet.marked.items sheet.rows.items × OnlyCurrent sheet.current.items sheet.rows.items × OnlyGuests sheet.guests.items sheet.homes.items sheet.rows.items };
 }
 
 impl Clone for Sheet {
@@ -46,10 +52,14 @@ impl Clone for Sheet {
         let rows = Vec::from_slice(*self.rows.allocator(), &self.rows)?;
         let marked = Vec::from_slice(*self.marked.allocator(), &self.marked)?;
         let current = Vec::from_slice(*self.current.allocator(), &self.current)?;
+        let homes = Vec::from_slice(*self.homes.allocator(), &self.homes)?;
+        let guests = Vec::from_slice(*self.guests.allocator(), &self.guests)?;
         Ok(Sheet {
             rows,
             marked,
             current,
+            homes,
+            guests,
         })
     }
 }
@@ -64,6 +74,8 @@ impl Sheet {
             rows,
             marked: Vec::new(alloc),
             current: Vec::new(alloc),
+            homes: Vec::new(alloc),
+            guests: Vec::new(alloc),
         })
     }
 
@@ -98,13 +110,16 @@ impl Sheet {
             sweeps::mark(&mut self.marked, &self.rows, at)?;
             let before = sweeps::row_at(&self.rows, at);
             sweeps::note(&mut self.current, at, &before, &row)?;
+            guests::note_guest(&mut self.guests, &mut self.homes, &self.rows, at, &row)?;
             self.rows[at] = row;
         }
         Ok(())
     }
 
-    /// A row that is filled, or that stays blank, is this from now on; a safepoint changes it only where it did.
+    /// A row that is filled, or that stays blank, is this from now on; a safepoint changes it only where it did. Its value is known
+    /// to be what it was, or nothing is known of it.
     pub fn change(&mut self, at: usize, row: Row)
+        requires known { (row.known ≡ (row_at self.old at).known) ⊎ (row.known ≡ Nothing) }
         requires filled { row_at self.old at ≡ blank → row ≡ blank }
         requires settled { is_settled at (row_at self.old at) ≡ true → is_settled at row ≡ true }
         ensures { self.new ≡ slice_set self.old at row }
@@ -121,6 +136,8 @@ impl Sheet {
         sweeps::copy(&mut self.rows, &self.marked, &[]);
         self.marked.clear();
         self.current.clear();
+        self.homes.clear();
+        self.guests.clear();
     }
 
     /// The rows are those of a sheet of the same length.
@@ -131,10 +148,14 @@ impl Sheet {
     {
         let marked = Vec::from_slice(alloc, &other.marked)?;
         let current = Vec::from_slice(alloc, &other.current)?;
+        let homes = Vec::from_slice(alloc, &other.homes)?;
+        let guests = Vec::from_slice(alloc, &other.guests)?;
         sweeps::copy(&mut self.rows, &self.marked, &[]);
         sweeps::copy(&mut self.rows, &marked, &other.rows);
         self.marked = marked;
         self.current = current;
+        self.homes = homes;
+        self.guests = guests;
         Ok(())
     }
 
@@ -144,10 +165,14 @@ impl Sheet {
     {
         let rows = number_rows(alloc, &self.rows, &self.marked)?;
         let current = Vec::from_slice(alloc, &self.current)?;
+        let homes = Vec::from_slice(alloc, &self.homes)?;
+        let guests = Vec::from_slice(alloc, &self.guests)?;
         Ok(KeptSheet {
             count: self.rows.len(),
             rows,
             current,
+            homes,
+            guests,
         })
     }
 
@@ -159,10 +184,14 @@ impl Sheet {
     {
         let marked = numbers_of(alloc, &kept.rows)?;
         let current = Vec::from_slice(alloc, &kept.current)?;
+        let homes = Vec::from_slice(alloc, &kept.homes)?;
+        let guests = Vec::from_slice(alloc, &kept.guests)?;
         sweeps::copy(&mut self.rows, &self.marked, &[]);
         write_rows(&mut self.rows, &kept.rows);
         self.marked = marked;
         self.current = current;
+        self.homes = homes;
+        self.guests = guests;
         Ok(())
     }
 
@@ -184,8 +213,21 @@ impl Sheet {
         sweeps::mark(&mut self.marked, &self.rows, at)?;
         let before = sweeps::row_at(&self.rows, at);
         sweeps::note(&mut self.current, at, &before, &row)?;
+        guests::note_guest(&mut self.guests, &mut self.homes, &self.rows, at, &row)?;
         sweeps::end_names(&mut self.rows, &self.marked, uses, v);
         sweeps::write(&mut self.rows, at, row);
+        Ok(())
+    }
+
+    /// The class that is added next is made for a value.
+    pub fn own(&mut self, v: ValueId) -> Result<(), AllocError>
+        ensures { self.new ≡ self.old }
+    {
+        let owner = v.number() as usize;
+        self.homes.push(Home {
+            owner,
+            second: owner,
+        })?;
         Ok(())
     }
 
@@ -195,6 +237,7 @@ impl Sheet {
         ensures err { OnErr result (self.new ≡ self.old) }
     {
         sweeps::note_class(&mut self.current, &self.rows, &self.marked, from)?;
+        sweeps::note_class(&mut self.guests, &self.rows, &self.marked, from)?;
         sweeps::sweep(&mut self.rows, &self.marked, &Change::Move(from, to));
         Ok(())
     }
@@ -206,28 +249,33 @@ impl Sheet {
         sweeps::keep_rows(&mut self.rows, &self.current, added);
         sweeps::sweep(&mut self.rows, &self.current, &Change::Settle);
         self.current.clear();
+        self.homes.clear();
+        self.guests.clear();
     }
 
     /// Whether some value is of this class.
     pub fn any_of(&self, c: ClassId) -> bool
         ensures { result ≡ list_any (is_of c) (map known_of self.now) }
     {
-        sweeps::any_of(&self.rows, &self.marked, c)
+        let home = guests::home_of(self.rows.len(), &self.homes, c);
+        guests::any_of(&self.rows, &self.guests, home, c)
     }
 
     /// Whether some value but `v` is of this class.
     pub fn any_other(&self, v: ValueId, c: ClassId) -> bool
         ensures { result ≡ list_any (is_of c) (slice_set (map known_of self.now) v Nothing) }
     {
-        sweeps::any_other(&self.rows, &self.marked, v.number() as usize, c)
+        let home = guests::home_of(self.rows.len(), &self.homes, c);
+        guests::any_other(&self.rows, &self.guests, home, v.number() as usize, c)
     }
 
     /// Whether all values of a class here are listed there as of another.
     pub fn covers(&self, there: &Sheet, c: ClassId, d: ClassId) -> bool
         ensures { result ≡ list_all (covers_value c d) (zip (map known_of self.now) (map known_of there.now)) }
     {
-        if self.marked.len() < there.marked.len() {
-            sweeps::covers(&self.rows, &self.marked, &there.rows, c, d)
+        if self.guests.len() < there.marked.len() {
+            let home = guests::home_of(self.rows.len(), &self.homes, c);
+            guests::covers(&self.rows, &self.guests, home, &there.rows, c, d)
         } else {
             sweeps::covers(&self.rows, &there.marked, &there.rows, c, d)
         }

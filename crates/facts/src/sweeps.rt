@@ -282,13 +282,15 @@ pub fn any_other(rows: &[Row], marked: &[usize], v: usize, c: ClassId) -> bool
     marked.iter().any(|u| other_is_of(v, c, rows, *u))
 }
 
-fn other_is_of(v: usize, c: ClassId, rows: &[Row], at: usize) -> bool
+/// Whether a row, if it is not that of `v`, is of this class.
+pub fn other_is_of(v: usize, c: ClassId, rows: &[Row], at: usize) -> bool
     ensures { result ≡ other_is_of v c rows.now at }
 {
     at != v && row_is_of(c, rows, at)
 }
 
-fn row_is_of(c: ClassId, rows: &[Row], at: usize) -> bool
+/// Whether a row is of this class.
+pub fn row_is_of(c: ClassId, rows: &[Row], at: usize) -> bool
     ensures { result ≡ row_is_of c rows.now at }
 {
     rows::is_of(c, row_at(rows, at).known)
@@ -301,7 +303,8 @@ pub fn covers(here: &[Row], marked: &[usize], there: &[Row], c: ClassId, d: Clas
     marked.iter().all(|u| covers_row(c, d, here, there, *u))
 }
 
-fn covers_row(c: ClassId, d: ClassId, here: &[Row], there: &[Row], at: usize) -> bool
+/// Whether a row, if it is of a class, is listed there as of another.
+pub fn covers_row(c: ClassId, d: ClassId, here: &[Row], there: &[Row], at: usize) -> bool
     ensures { result ≡ covers_row c d here.now there.now at }
 {
     rows::covers_value(c, d, row_at(here, at).known, row_at(there, at).known)

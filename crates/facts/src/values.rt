@@ -205,6 +205,7 @@ impl Values {
             layout,
             stale,
         };
+        self.sheet.own(v)?;
         let count = self.added.len();
         self.added.push(class)?;
         let result = define_row(&mut self.sheet, &self.uses, v, known, None);

@@ -1,16 +1,23 @@
-use Rattle.std.proofs.Common.{◌∙◌, ap, List, ℕ, slice_set}
+use Rattle.std.proofs.Common.{◌≡◌, ◌∙◌, ap, arith, length, List, ℕ, Option, slice_set}
 use Rattle.std.specs.Prelude.{map}
 use Rattle.std.specs.List.{list_any}
 use Rattle.facts.specs.declared.known.Known.TheVariants.{Nothing}
+use Rattle.facts.specs.declared.guests.Home.{Home}
 use Rattle.facts.specs.declared.row.Row.{Row}
 use Rattle.facts.specs.Facts.{is_of}
+use Rattle.facts.specs.Guests.{home_of, members}
 use Rattle.facts.specs.Sheets.{other_is_of, known_of}
-use Rattle.facts.proofs.Defines.{other_marked}
+use Rattle.facts.proofs.Defines.{other_listed}
+use Rattle.facts.proofs.Homes.{only_members, same_home}
 use Rattle.facts.proofs.sheet.Sheet.any_other.Goals as goal
 
 pub returns : goal.returns
-returns c = c.any_other.ensures ∙ ap (λ (at : ℕ). list_any (other_is_of at c.args.c c.deref.result.now) c.deref-2.result.now) c.number.ensures
-    ∙ ap (λ (rows : List Row). list_any (other_is_of c.args.v c.args.c rows) c.deref-2.result.now) c.deref.ensures.value
-    ∙ ap (λ (marked : List ℕ). list_any (other_is_of c.args.v c.args.c c.self.inside.rows.items) marked) c.deref-2.ensures.value
-    ∙ other_marked c.args.v c.args.c c.self.inside.rows.items c.self.inside.marked.items c.self.invariant.0
-    ∙ ap (λ (rows : List Row). list_any (is_of c.args.c) (slice_set (map known_of rows) c.args.v Nothing)) c.self.view_is
+returns c =
+    let rows : List Row = c.self.inside.rows.items in
+    let owner : c.home_of-home.result ≡ home_of (length rows) c.self.inside.homes.items c.args.c = c.home_of-home.ensures ∙ same_home c.args.c c.len.result (length rows) c.deref.result.now c.self.inside.homes.items (omega (arith, c.len.ensures, c.self.inside.rows.ok.0)) c.deref.ensures.value in
+    c.any_other.ensures ∙ ap (λ (at : ℕ). list_any (other_is_of at c.args.c c.deref-2.result.now) (members c.home_of-home.result c.deref-3.result.now)) c.number.ensures
+    ∙ ap (λ (l : List Row). list_any (other_is_of c.args.v c.args.c l) (members c.home_of-home.result c.deref-3.result.now)) c.deref-2.ensures.value
+    ∙ ap (λ (guests : List ℕ). list_any (other_is_of c.args.v c.args.c rows) (members c.home_of-home.result guests)) c.deref-3.ensures.value
+    ∙ ap (λ (owner : Option Home). list_any (other_is_of c.args.v c.args.c rows) (members owner c.self.inside.guests.items)) owner
+    ∙ other_listed c.args.v c.args.c rows (members (home_of (length rows) c.self.inside.homes.items c.args.c) c.self.inside.guests.items) (only_members c.args.c c.self.inside.guests.items c.self.inside.homes.items rows c.self.invariant.2)
+    ∙ ap (λ (l : List Row). list_any (is_of c.args.c) (slice_set (map known_of l) c.args.v Nothing)) c.self.view_is

@@ -1,16 +1,18 @@
 use Rattle.std.proofs.Common.{◌≡◌, ◌∙◌, ap, length, replicate, [], ℕ, List}
 use Rattle.facts.specs.Sheets.{blank, each, copied}
 use Rattle.facts.proofs.Current.{blank_current}
+use Rattle.facts.proofs.Homes.{blank_guests}
 use Rattle.facts.proofs.Sheets.{wiped_all, all_blank}
 use Rattle.facts.proofs.sheet.Sheet.clear.Goals as goal
 
-empty : (c : goal.After-clear-2) → c.copy.new.rows.items ≡ replicate (length c.self.inside.rows.items) blank
+empty : (c : goal.After-clear-4) → c.copy.new.rows.items ≡ replicate (length c.self.inside.rows.items) blank
 empty c = c.copy.ensures ∙ ap (λ (m : List ℕ). each (copied []) m c.self.inside.rows.items) c.deref.ensures.value ∙ wiped_all c.self.inside.marked.items c.self.inside.rows.items c.self.invariant.0
 
 pub invariant_of-self : goal.invariant_of-self
 invariant_of-self c = (
   all_blank c.clear.new.self.items (length c.self.inside.rows.items) c.copy.new.rows.items (empty c),
   blank_current c.clear-2.new.self.items (length c.self.inside.rows.items) c.copy.new.rows.items (empty c),
+  blank_guests c.clear-4.new.self.items c.clear-3.new.self.items (length c.self.inside.rows.items) c.copy.new.rows.items (empty c),
 )
 
 pub returns : goal.returns

@@ -2,6 +2,7 @@ use Rattle.std.proofs.Common.{◌≡◌, ◌∙◌, ap, arith, length, map, sym,
 use Rattle.facts.specs.declared.row.Row.{Row}
 use Rattle.facts.specs.Numbered.{numbered_at, among_blank}
 use Rattle.facts.specs.Sheets.{OnlyCurrent}
+use Rattle.facts.proofs.Homes.{guests_of}
 use Rattle.facts.proofs.KeptRows.{kept_all}
 use Rattle.facts.proofs.sheet.Sheet.keep.Goals as goal
 
@@ -19,9 +20,10 @@ module _ (c : goal.After-len) where
   same_rows = ap (λ (n : ℕ). among_blank n c.in_ok-rows.rows.items) count ∙ ap (among_blank (length here)) numbered ∙ kept_all c.self.inside.marked.items here c.self.invariant.0
 
 pub invariant_of-result : goal.invariant_of-result
-invariant_of-result c =
-    subst (λ (rows : List Row). OnlyCurrent c.in_ok-current.current.items rows) (sym (same_rows c))
-    (subst (λ (us : List ℕ). OnlyCurrent us c.self.inside.rows.items) (sym (c.in_ok-current.ensures.items ∙ c.deref-3.ensures.value)) c.self.invariant.1)
+invariant_of-result c = (
+  subst (λ (rows : List Row). OnlyCurrent c.in_ok-current.current.items rows) (sym (same_rows c)) (subst (λ (us : List ℕ). OnlyCurrent us (here c)) (sym (c.in_ok-current.ensures.items ∙ c.deref-3.ensures.value)) c.self.invariant.1),
+  guests_of c.in_ok-guests.guests.items c.self.inside.guests.items c.in_ok-homes.homes.items c.self.inside.homes.items (among_blank c.len.result c.in_ok-rows.rows.items) (here c) (c.in_ok-guests.ensures.items ∙ c.deref-5.ensures.value) (c.in_ok-homes.ensures.items ∙ c.deref-4.ensures.value) (same_rows c) c.self.invariant.2,
+)
 
 pub returns : goal.returns
 returns c = same_rows c ∙ c.self.view_is

@@ -7,10 +7,11 @@ use Rattle.facts.specs.declared.row.Row.{Row}
 use Rattle.facts.specs.Facts.{lost_class, class_at}
 use Rattle.facts.specs.Sheets.{blank, row_at, each, EachRow, OnlyMarked, OnlyCurrent, class_of, keep_row, settle_row, stale_row}
 use Rattle.facts.proofs.Current.{stale_all, stale_marked, stale_none}
+use Rattle.facts.proofs.Homes.{stale_guests}
 use Rattle.facts.proofs.Marked.{settle_twice}
 use Rattle.facts.proofs.sheet.Sheet.make_stale.Goals as goal
 
-module _ (c : goal.After-clear) where
+module _ (c : goal.After-clear-3) where
   abbrev before : List Row
   before = c.self.inside.rows.items
 
@@ -30,11 +31,15 @@ module _ (c : goal.After-clear) where
   is = c.sweep.ensures ∙ ap (λ (us : List ℕ). each settle_row us c.keep_rows.new.rows.items) c.deref-2.ensures.value
       ∙ ap (each settle_row current) (c.keep_rows.ensures ∙ ap (λ (us : List ℕ). each (keep_row classes) us before) c.deref.ensures.value)
 
+  stale : EachRow (stale_row classes) before c.sweep.new.rows.items
+  stale = subst (λ (rows : List Row). EachRow (stale_row classes) before rows) (sym is) (stale_all classes current before own c.self.invariant.1 settle_twice)
+
 pub invariant_of-self : goal.invariant_of-self
 invariant_of-self c = (
   subst (λ (rows : List Row). OnlyMarked c.self.inside.marked.items rows) (sym (is c)) (stale_marked (classes c) (current c) (before c) (own c) c.self.invariant.1 settle_twice c.self.inside.marked.items c.self.invariant.0),
   subst (λ (us : List ℕ). OnlyCurrent us c.sweep.new.rows.items) (sym c.clear.ensures.items) (subst (λ (rows : List Row). OnlyCurrent [] rows) (sym (is c)) (stale_none (classes c) (current c) (before c) (own c) c.self.invariant.1 settle_twice)),
+  stale_guests (classes c) c.clear-3.new.self.items c.clear-2.new.self.items (before c) c.sweep.new.rows.items (stale c),
 )
 
 pub returns : goal.returns
-returns c = subst (λ (rows : List Row). EachRow (stale_row (map class_of rows ++ c.args.added.now)) rows c.sweep.new.rows.items) c.self.view_is (subst (λ (rows : List Row). EachRow (stale_row (classes c)) (before c) rows) (sym (is c)) (stale_all (classes c) (current c) (before c) (own c) c.self.invariant.1 settle_twice))
+returns c = subst (λ (rows : List Row). EachRow (stale_row (map class_of rows ++ c.args.added.now)) rows c.sweep.new.rows.items) c.self.view_is (stale c)

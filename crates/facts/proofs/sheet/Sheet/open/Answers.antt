@@ -3,12 +3,13 @@ use Rattle.facts.specs.declared.numbered.Numbered.{Numbered}
 use Rattle.facts.specs.declared.row.Row.{Row}
 use Rattle.facts.specs.Numbered.{number_of, written, among_blank}
 use Rattle.facts.specs.Sheets.{OnlyMarked, OnlyCurrent, blank, each, copied}
+use Rattle.facts.proofs.Homes.{guests_of}
 use Rattle.facts.proofs.KeptRows.{length_among, written_marked}
 use Rattle.facts.proofs.Sheets.{wiped_all}
 use Rattle.facts.proofs.sheet.Sheet.open.Goals as goal
-use Rattle.facts.proofs.sheet.Sheet.open.Goals.{After-drop-self-inside-2}
+use Rattle.facts.proofs.sheet.Sheet.open.Goals.{After-drop-self-inside-4}
 
-module _ (c : After-drop-self-inside-2) where
+module _ (c : After-drop-self-inside-4) where
   abbrev kept : List Row
   kept = among_blank c.kept.inside.count c.kept.inside.rows.items
 
@@ -18,19 +19,26 @@ module _ (c : After-drop-self-inside-2) where
   same_current : c.in_ok-current.current.items ≡ c.kept.inside.current.items
   same_current = c.in_ok-current.ensures.items ∙ c.deref-2.ensures.value
 
+  same_homes : c.in_ok-homes.homes.items ≡ c.kept.inside.homes.items
+  same_homes = c.in_ok-homes.ensures.items ∙ c.deref-3.ensures.value
+
+  same_guests : c.in_ok-guests.guests.items ≡ c.kept.inside.guests.items
+  same_guests = c.in_ok-guests.ensures.items ∙ c.deref-4.ensures.value
+
   long : length c.self.inside.rows.items ≡ c.kept.inside.count
   long = ap length c.self.view_is ∙ c.requires ∙ sym (ap length c.kept.view_is) ∙ length_among c.kept.inside.count c.kept.inside.rows.items
 
   cleared : c.copy.new.rows.items ≡ replicate c.kept.inside.count blank
-  cleared = c.copy.ensures ∙ ap (λ (m : List ℕ). each (copied []) m c.self.inside.rows.items) c.deref-3.ensures.value ∙ wiped_all c.self.inside.marked.items c.self.inside.rows.items c.self.invariant.0 ∙ ap (λ (n : ℕ). replicate n blank) long
+  cleared = c.copy.ensures ∙ ap (λ (m : List ℕ). each (copied []) m c.self.inside.rows.items) c.deref-5.ensures.value ∙ wiped_all c.self.inside.marked.items c.self.inside.rows.items c.self.invariant.0 ∙ ap (λ (n : ℕ). replicate n blank) long
 
   same_rows : c.write_rows.new.rows.items ≡ kept
-  same_rows = c.write_rows.ensures ∙ ap (λ (numbered : List Numbered). written numbered c.copy.new.rows.items) c.deref-4.ensures.value ∙ ap (written c.kept.inside.rows.items) cleared
+  same_rows = c.write_rows.ensures ∙ ap (λ (numbered : List Numbered). written numbered c.copy.new.rows.items) c.deref-6.ensures.value ∙ ap (written c.kept.inside.rows.items) cleared
 
 pub invariant_of-self : goal.invariant_of-self
 invariant_of-self c = (
   subst (λ (rows : List Row). OnlyMarked c.in_ok-marked.marked.items rows) (sym (same_rows c)) (subst (λ (marked : List ℕ). OnlyMarked marked (kept c)) (sym (same_marks c)) (written_marked c.kept.inside.count c.kept.inside.rows.items)),
-  subst (λ (rows : List Row). OnlyCurrent c.in_ok-current.current.items rows) (sym (same_rows c)) (subst (λ (us : List ℕ). OnlyCurrent us (kept c)) (sym (same_current c)) c.kept.invariant),
+  subst (λ (rows : List Row). OnlyCurrent c.in_ok-current.current.items rows) (sym (same_rows c)) (subst (λ (us : List ℕ). OnlyCurrent us (kept c)) (sym (same_current c)) c.kept.invariant.0),
+  guests_of c.in_ok-guests.guests.items c.kept.inside.guests.items c.in_ok-homes.homes.items c.kept.inside.homes.items c.write_rows.new.rows.items (kept c) (same_guests c) (same_homes c) (same_rows c) c.kept.invariant.1,
 )
 
 pub returns-clause-ok : goal.returns-clause-ok

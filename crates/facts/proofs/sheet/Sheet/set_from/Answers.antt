@@ -1,29 +1,37 @@
 use Rattle.std.proofs.Common.{◌≡◌, ◌∙◌, ap, length, replicate, [], sym, List, ℕ, subst}
 use Rattle.facts.specs.declared.row.Row.{Row}
 use Rattle.facts.specs.Sheets.{OnlyMarked, OnlyCurrent, blank, each, copied}
+use Rattle.facts.proofs.Homes.{guests_of}
 use Rattle.facts.proofs.Sheets.{wiped_all, copied_all}
 use Rattle.facts.proofs.sheet.Sheet.set_from.Goals as goal
-use Rattle.facts.proofs.sheet.Sheet.set_from.Goals.{After-drop-self-inside-2}
+use Rattle.facts.proofs.sheet.Sheet.set_from.Goals.{After-drop-self-inside-4}
 
-module _ (c : After-drop-self-inside-2) where
+module _ (c : After-drop-self-inside-4) where
   same_marks : c.in_ok-marked.marked.items ≡ c.other.inside.marked.items
   same_marks = c.in_ok-marked.ensures.items ∙ c.deref.ensures.value
 
   same_current : c.in_ok-current.current.items ≡ c.other.inside.current.items
   same_current = c.in_ok-current.ensures.items ∙ c.deref-2.ensures.value
 
+  same_homes : c.in_ok-homes.homes.items ≡ c.other.inside.homes.items
+  same_homes = c.in_ok-homes.ensures.items ∙ c.deref-3.ensures.value
+
+  same_guests : c.in_ok-guests.guests.items ≡ c.other.inside.guests.items
+  same_guests = c.in_ok-guests.ensures.items ∙ c.deref-4.ensures.value
+
   long : length c.self.inside.rows.items ≡ length c.other.inside.rows.items
   long = ap length c.self.view_is ∙ c.requires ∙ sym (ap length c.other.view_is)
 
   same_rows : c.copy-2.new.rows.items ≡ c.other.inside.rows.items
-  same_rows = c.copy-2.ensures ∙ ap (λ others. each (copied others) c.deref-4.result.now c.copy.new.rows.items) c.deref-5.ensures.value ∙ copied_all c.deref-4.result.now c.copy.new.rows.items c.other.inside.rows.items
-      (subst (λ (marked : List ℕ). OnlyMarked marked c.other.inside.rows.items) (sym (c.deref-4.ensures.value ∙ same_marks)) c.other.invariant.0)
-      (c.copy.ensures ∙ ap (λ m. each (copied []) m c.self.inside.rows.items) c.deref-3.ensures.value ∙ wiped_all c.self.inside.marked.items c.self.inside.rows.items c.self.invariant.0 ∙ ap (λ n. replicate n blank) long)
+  same_rows = c.copy-2.ensures ∙ ap (λ others. each (copied others) c.deref-6.result.now c.copy.new.rows.items) c.deref-7.ensures.value ∙ copied_all c.deref-6.result.now c.copy.new.rows.items c.other.inside.rows.items
+      (subst (λ (marked : List ℕ). OnlyMarked marked c.other.inside.rows.items) (sym (c.deref-6.ensures.value ∙ same_marks)) c.other.invariant.0)
+      (c.copy.ensures ∙ ap (λ m. each (copied []) m c.self.inside.rows.items) c.deref-5.ensures.value ∙ wiped_all c.self.inside.marked.items c.self.inside.rows.items c.self.invariant.0 ∙ ap (λ n. replicate n blank) long)
 
 pub invariant_of-self : goal.invariant_of-self
 invariant_of-self c = (
   subst (λ (rows : List Row). OnlyMarked c.in_ok-marked.marked.items rows) (sym (same_rows c)) (subst (λ (marked : List ℕ). OnlyMarked marked c.other.inside.rows.items) (sym (same_marks c)) c.other.invariant.0),
   subst (λ (rows : List Row). OnlyCurrent c.in_ok-current.current.items rows) (sym (same_rows c)) (subst (λ (us : List ℕ). OnlyCurrent us c.other.inside.rows.items) (sym (same_current c)) c.other.invariant.1),
+  guests_of c.in_ok-guests.guests.items c.other.inside.guests.items c.in_ok-homes.homes.items c.other.inside.homes.items c.copy-2.new.rows.items c.other.inside.rows.items (same_guests c) (same_homes c) (same_rows c) c.other.invariant.2,
 )
 
 pub returns-clause-ok : goal.returns-clause-ok

@@ -1,0 +1,100 @@
+-- Rows that are listed, where something holds of each row that is not.
+use Rattle.std.proofs.Common.{◌≡◌, ◌⊎◌, ℕ, length, List, [], ◌∷◌, ◌++◌, refl, sym, ap, subst, inl, inr, ◌∙◌, true, false, Bool, slice_set}
+use Rattle.std.proofs.lemmas.Bool.{cases_lt}
+use Rattle.std.proofs.lemmas.List.{get_or_past, get_or-set_other}
+use Rattle.std.specs.Prelude.{not, ◌&&◌, if◌then◌else◌}
+use Rattle.lemmas.specs.Bools.{yes_or_no}
+use Rattle.facts.specs.declared.known.Known.{Known}
+use Rattle.facts.specs.declared.known.Known.TheVariants.{Nothing, Number, Cell, Null, Address, GlobalAddress}
+use Rattle.facts.specs.declared.row.Row.{Row}
+use Rattle.facts.specs.Facts.{is_of}
+use Rattle.facts.specs.Lines.{move}
+use Rattle.facts.specs.Sheets.{blank, row_at, IsOne, OnlyMarked, EachRow, move_row, row_is_of}
+use Rattle.facts.proofs.Sets.{set_is}
+use Rattle.facts.proofs.Sheets.{same_or_not, one_more, one_last}
+
+-- this holds of each row that is not listed
+abbrev pub Unless : (p : ℕ → Row → Bool) → (listed : List ℕ) → List Row → Type 0
+Unless p listed rows = (v : ℕ) → IsOne v listed ⊎ (p v (row_at rows v) ≡ true)
+
+-- the rows that are listed once v has another row
+abbrev pub with_row : (p : ℕ → Row → Bool) → (v : ℕ) → (before after : Row) → List ℕ → List ℕ
+with_row p v before after listed = if p v before && not (p v after) then listed ++ v ∷ [] else listed
+
+-- ---- all rows change
+
+module _ (change : ℕ → Row → Row) (leaves : (v : ℕ) → change v blank ≡ blank) (before after : List Row) (each : EachRow change before after) where
+  pub row_after : (v : ℕ) → row_at after v ≡ change v (row_at before v)
+  row_after v = elim (cases_lt v (length before)) [ inl lt ↦ each.1 v lt | inr past ↦ get_or_past after v blank (rw each.0 past) ∙ sym (ap (change v) (get_or_past before v blank past) ∙ leaves v) ]
+
+  pub unless_after : (p : ℕ → Row → Bool) (listed : List ℕ) → ((v : ℕ) (row : Row) → p v row ≡ true → p v (change v row) ≡ true) → Unless p listed before → Unless p listed after
+  unless_after p listed keeps only v = elim (only v) [ inl one ↦ inl one | inr e ↦ inr (subst (λ (row : Row). p v row ≡ true) (sym (row_after v)) (keeps v (row_at before v) e)) ]
+
+-- ---- a row that is written
+
+module _ (p : ℕ → Row → Bool) (of_blank : (v : ℕ) → p v blank ≡ true) (v : ℕ) (row : Row) (listed : List ℕ) (rows : List Row) (only : Unless p listed rows) where
+  abbrev after : List Row
+  after = slice_set rows v row
+
+  holds_now : p v row ≡ true → p v (row_at after v) ≡ true
+  holds_now e = set_is (p v) rows v row blank true e (of_blank v)
+
+  as_before : (u : ℕ) → (v ≡ u → ⊥) → IsOne u listed ⊎ (p u (row_at after u) ≡ true)
+  as_before u ne = elim (only u) [ inl one ↦ inl one | inr e ↦ inr (subst (λ (r : Row). p u r ≡ true) (sym (get_or-set_other rows v u row blank (λ x. ne (sym x)))) e) ]
+
+  pub set_unless : Unless p (with_row p v (row_at rows v) row listed) after
+  set_unless u = pick (p v (row_at rows v)) refl (p v row) refl (same_or_not v u) where
+    one_of : (b : Bool) → IsOne u listed → IsOne u (if b then listed ++ v ∷ [] else listed)
+    one_of true one = one_more u v listed one
+    one_of false one = one
+
+    old : IsOne u listed ⊎ (p u (row_at after u) ≡ true) → IsOne u (with_row p v (row_at rows v) row listed) ⊎ (p u (row_at after u) ≡ true)
+    old (inl one) = inl (one_of (p v (row_at rows v) && not (p v row)) one)
+    old (inr e) = inr e
+
+    was : p v (row_at rows v) ≡ false → v ≡ u → IsOne u listed ⊎ (p v (row_at rows v) ≡ true) → IsOne u listed
+    was e same (inl one) = one
+    was e same (inr h) = absurd cc
+
+    pick : (a : Bool) → p v (row_at rows v) ≡ a → (b : Bool) → p v row ≡ b → (v ≡ u) ⊎ (v ≡ u → ⊥) → IsOne u (with_row p v (row_at rows v) row listed) ⊎ (p u (row_at after u) ≡ true)
+    pick a e b h (inr ne) = old (as_before u ne)
+    pick a e true h (inl same) = inr (subst (λ x. p x (row_at after x) ≡ true) same (holds_now h))
+    pick true e false h (inl same) = inl (rw (e, h) (subst (λ x. IsOne x (listed ++ v ∷ [])) same (one_last v listed)))
+    pick false e false h (inl same) = old (inl (was e same (subst (λ x. IsOne x listed ⊎ (p v (row_at rows v) ≡ true)) same (only v))))
+
+  -- a row that is listed, or of which it holds
+  pub put_unless : IsOne v listed ⊎ (p v row ≡ true) → Unless p listed after
+  put_unless noted u = pick (same_or_not v u) where
+    pick : (v ≡ u) ⊎ (v ≡ u → ⊥) → IsOne u listed ⊎ (p u (row_at after u) ≡ true)
+    pick (inr ne) = as_before u ne
+    pick (inl same) = elim noted [ inl one ↦ inl (subst (λ x. IsOne x listed) same one) | inr e ↦ inr (subst (λ x. p x (row_at after x) ≡ true) same (holds_now e)) ]
+
+  pub change_unless : (p v (row_at rows v) ≡ true → p v row ≡ true) → Unless p listed after
+  change_unless keeps u = pick (same_or_not v u) where
+    pick : (v ≡ u) ⊎ (v ≡ u → ⊥) → IsOne u listed ⊎ (p u (row_at after u) ≡ true)
+    pick (inr ne) = as_before u ne
+    pick (inl same) = elim (only v) [ inl one ↦ inl (subst (λ x. IsOne x listed) same one) | inr e ↦ inr (subst (λ x. p x (row_at after x) ≡ true) same (holds_now (keeps e))) ]
+
+-- more rows are listed
+pub more_unless : (p : ℕ → Row → Bool) (v : ℕ) (before after : Row) (listed next : List ℕ) (rows : List Row) → next ≡ with_row p v before after listed → Unless p listed rows → Unless p next rows
+more_unless p v before after listed next rows e only u = elim (only u) [ inl one ↦ inl (subst (IsOne u) (sym e) (pick (p v before && not (p v after)) one)) | inr h ↦ inr h ] where
+  pick : (b : Bool) → IsOne u listed → IsOne u (if b then listed ++ v ∷ [] else listed)
+  pick true one = one_more u v listed one
+  pick false one = one
+
+-- ---- a class is another now
+
+unmoved : (from to : ℕ) (known : Known) → is_of from known ≡ false → move from to known ≡ known
+unmoved from to (Cell c layout stale) e = ap (λ b. Cell (if b then to else c) layout stale) e
+unmoved from to Nothing e = refl
+unmoved from to (Number bits below) e = refl
+unmoved from to Null e = refl
+unmoved from to (Address base words) e = refl
+unmoved from to (GlobalAddress g) e = refl
+
+pub moved_unless : (p : ℕ → Row → Bool) (from to : ℕ) (rows next : List Row) → EachRow (λ u. move_row from to) rows next → (marked listed noted : List ℕ) → OnlyMarked marked rows → Unless p listed rows
+    → ((v : ℕ) → IsOne v listed → IsOne v noted) → ((v : ℕ) → IsOne v marked → row_is_of from rows v ≡ true → IsOne v noted) → Unless p noted next
+moved_unless p from to rows next each marked listed noted filled only kept listed_of v = elim (only v) [ inl one ↦ inl (kept v one) | inr e ↦ pick e (yes_or_no (is_of from (row_at rows v).known)) ] where
+  pick : p v (row_at rows v) ≡ true → (is_of from (row_at rows v).known ≡ true) ⊎ (is_of from (row_at rows v).known ≡ false) → IsOne v noted ⊎ (p v (row_at next v) ≡ true)
+  pick e (inl of) = elim (filled v) [ inl one ↦ inl (listed_of v one of) | inr empty ↦ absurd (let none = ap (λ (row : Row). is_of from row.known) empty in cc) ]
+  pick e (inr off) = inr (subst (λ (row : Row). p v row ≡ true) (sym (row_after (λ u. move_row from to) (λ u. refl) rows next each v ∙ ap (λ (k : Known). record (row_at rows v) { known = k }) (unmoved from to (row_at rows v).known off))) e)
