@@ -237,7 +237,9 @@ impl Sheet {
         ensures err { OnErr result (self.new ≡ self.old) }
     {
         sweeps::note_class(&mut self.current, &self.rows, &self.marked, from)?;
-        sweeps::note_class(&mut self.guests, &self.rows, &self.marked, from)?;
+        let home = guests::home_of(self.rows.len(), &self.homes, from);
+        guests::note_owner(&mut self.guests, home)?;
+        guests::note_second(&mut self.guests, home)?;
         sweeps::sweep(&mut self.rows, &self.marked, &Change::Move(from, to));
         Ok(())
     }
