@@ -15,7 +15,7 @@ use Rattle.clap.specs.declared.error.Error.{Error}
 use Rattle.clap.proofs.OnLiterals.{clap_on_literals}
 use Rattle.clap.proofs.WalkLemmas.{first_value-rows, one_text-rows}
 use Rattle.commands.specs.Asked.{Asked, fault_of_error, is_memory_kind}
-use Rattle.commands.specs.declared.asked.Line.{Line}
+use Rattle.commands.specs.declared.asked.CommandLine.{CommandLine}
 use Rattle.commands.specs.declared.asked.LineFault.{LineFault}
 use Rattle.commands.specs.declared.asked.LineFault.TheVariants.{Memory, Words}
 use Rattle.commands.specs.Grammar.{IsRefusalOf, asked_in, asked_of, dgc_app, number_in, number_of, paths_in}
@@ -88,7 +88,7 @@ is_refusal words error kind = by_kind (is_memory_kind (kind_of error)) kind refl
     by_kind false (inl memory) is = absurd (true≢false (sym (ap is_memory_kind memory) ∙ is))
     by_kind false (inr among) is = among
 
-pub refuses : (words : List Text) (error : Error) (result : Result Line LineFault) → HasKind (fault_of dgc_app words) error
+pub refuses : (words : List Text) (error : Error) (result : Result CommandLine LineFault) → HasKind (fault_of dgc_app words) error
     → IsErrAnd result (λ fault. fault ≡ fault_of_error error) → IfErr result (IsRefusalOf words)
 refuses words error (Ok line) kind is = tt
 refuses words error (Err fault) kind is = subst (IsRefusalOf words) (sym is) (is_refusal words error kind)

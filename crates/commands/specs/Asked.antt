@@ -5,8 +5,8 @@ use Rattle.clap.specs.declared.error.Error.{Error}
 use Rattle.clap.specs.declared.error.kind.ErrorKind.{ErrorKind}
 use Rattle.clap.specs.declared.error.kind.ErrorKind.TheVariants.{OutOfMemory}
 use Rattle.serving.specs.declared.beside.Limits.{Limits}
-use Rattle.commands.specs.declared.asked.Line.{Line}
-use Rattle.commands.specs.declared.asked.Line.TheVariants.{Check, Make, Recheck, Replay, Soak, Run}
+use Rattle.commands.specs.declared.asked.CommandLine.{CommandLine}
+use Rattle.commands.specs.declared.asked.CommandLine.TheVariants.{Check, Make, Recheck, Replay, Soak, Run}
 use Rattle.commands.specs.declared.asked.LineFault.{LineFault}
 use Rattle.commands.specs.declared.asked.LineFault.TheVariants.{Memory, Words}
 use Rattle.commands.specs.declared.asked.Why.{Why}
@@ -30,7 +30,7 @@ pub data Asked : Type 0 where
   run : (module_path certificate_path trace_path : Text) (limits : Limits) → Asked
 
 -- what a line asks for, as plain text and numbers
-abbrev pub asked_by : Line → Asked
+abbrev pub asked_by : CommandLine → Asked
 asked_by (Check line) = check line.module_path.now line.certificate_path.now line.workers
 asked_by (Make line) = make line.module_path.now line.why
 asked_by (Recheck line) = recheck line.module_path.now line.certificate_path.now line.edits_path.now

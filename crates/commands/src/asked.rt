@@ -66,7 +66,7 @@ pub struct RunLine<'a> {
 
 /// A command with the paths of its files and its options.
 #[derive(Clone, Copy, PartialEq, Eq)]
-pub enum Line<'a> {
+pub enum CommandLine<'a> {
     Check(CheckLine<'a>),
     Make(MakeLine<'a>),
     Recheck(RecheckLine<'a>),
@@ -106,20 +106,20 @@ impl From<AllocError> for LineFault {
     }
 }
 
-impl<'a> Line<'a> {
+impl<'a> CommandLine<'a> {
     /// The paths of the command's files, in the line's order.
     pub fn paths(&self, alloc: Global) -> Result<Vec<&'a str>, AllocError>
         ensures { IfOk result (λ paths. map (λ path. path.now) paths.items ≡ paths_of (asked_by self.now)) }
     {
         let paths = match *self {
-            Line::Check(asked) => vec![in alloc; asked.module_path, asked.certificate_path]?,
-            Line::Make(asked) => vec![in alloc; asked.module_path]?,
-            Line::Recheck(asked) => {
+            CommandLine::Check(asked) => vec![in alloc; asked.module_path, asked.certificate_path]?,
+            CommandLine::Make(asked) => vec![in alloc; asked.module_path]?,
+            CommandLine::Recheck(asked) => {
                 vec![in alloc; asked.module_path, asked.certificate_path, asked.edits_path]?
             }
-            Line::Replay(asked) => vec![in alloc; asked.module_path, asked.trace_path]?,
-            Line::Soak(asked) => vec![in alloc; asked.module_path, asked.trace_path]?,
-            Line::Run(asked) => {
+            CommandLine::Replay(asked) => vec![in alloc; asked.module_path, asked.trace_path]?,
+            CommandLine::Soak(asked) => vec![in alloc; asked.module_path, asked.trace_path]?,
+            CommandLine::Run(asked) => {
                 vec![in alloc; asked.module_path, asked.certificate_path, asked.trace_path]?
             }
         };

@@ -4,7 +4,7 @@ ghost use Rattle.commands.specs.Asked.{asked_by, HasWorkers};
 ghost use Rattle.commands.specs.Commands.{OfCommand, Says};
 ghost use Rattle.commands.specs.Files as spec;
 
-use crate::asked::Line;
+use crate::asked::CommandLine;
 use crate::checking::check_files;
 use crate::making::make_file;
 use crate::rechecking::recheck_files;
@@ -21,7 +21,7 @@ use std::thread::Threads;
 pub fn work<O: Write, E: Write>(
     rt: &(impl Threads + Sync),
     alloc: Global,
-    line: &Line<'_>,
+    line: &CommandLine<'_>,
     files: &[Option<Vec<u8>>],
     out: &mut O,
     err: &mut E,
@@ -30,11 +30,11 @@ pub fn work<O: Write, E: Write>(
     ensures { IfOk result (Says (OfCommand (asked_by line.now) (spec.file_at files.now)) (O.contents out.old) (O.contents out.new) (E.contents err.old) (E.contents err.new)) }
 {
     match *line {
-        Line::Check(asked) => check_files(rt, alloc, asked, files, out, err),
-        Line::Make(asked) => make_file(alloc, asked, files, out, err),
-        Line::Recheck(asked) => recheck_files(alloc, asked, files, out, err),
-        Line::Replay(asked) => replay_files(alloc, asked, files, out, err),
-        Line::Soak(asked) => soak_files(rt, alloc, asked, files, out, err),
-        Line::Run(asked) => run_files(rt, alloc, asked, files, out, err),
+        CommandLine::Check(asked) => check_files(rt, alloc, asked, files, out, err),
+        CommandLine::Make(asked) => make_file(alloc, asked, files, out, err),
+        CommandLine::Recheck(asked) => recheck_files(alloc, asked, files, out, err),
+        CommandLine::Replay(asked) => replay_files(alloc, asked, files, out, err),
+        CommandLine::Soak(asked) => soak_files(rt, alloc, asked, files, out, err),
+        CommandLine::Run(asked) => run_files(rt, alloc, asked, files, out, err),
     }
 }

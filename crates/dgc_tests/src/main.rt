@@ -39,7 +39,7 @@ mod texts;
 #[cfg(test)]
 mod worker_tests;
 
-use row::Row;
+use row::CommandRow;
 use row_failure::RowFailure;
 use std::io::Write;
 use std::process::ExitCode;
@@ -64,7 +64,7 @@ fn compare_row<O: Write>(
     name: &str,
     out: &mut O,
 ) -> Result<bool, RowFailure> {
-    let row = Row::read(rt, name)?;
+    let row = CommandRow::read(rt, name)?;
     let printed = row.printed(rt, [].as_slice())?;
     let is_alike = printed.compare(out, name, row.wanted())?;
     if !row.is_plain_check() {

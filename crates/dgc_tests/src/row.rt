@@ -13,7 +13,7 @@ use std::thread::Threads;
 
 /// A command line with the folder of its files, and what it has to print.
 #[derive(Drop)]
-pub struct Row {
+pub struct CommandRow {
     /// The folder of its files.
     folder: String,
     /// The words of its command line, the program's name first.
@@ -32,9 +32,9 @@ fn bytes_of(rt: &(impl Runtime + AllocGlobal), path: &str) -> Result<Option<Vec<
     }
 }
 
-impl Row {
+impl CommandRow {
     /// Reads the row of this name.
-    pub fn read(rt: &(impl Runtime + AllocGlobal), name: &str) -> Result<Row, RowFailure> {
+    pub fn read(rt: &(impl Runtime + AllocGlobal), name: &str) -> Result<CommandRow, RowFailure> {
         let alloc = rt.alloc();
         let folder = format!(in alloc; "rows/{name}")?;
         let args = fs::read_to_string(rt, format!(in alloc; "{folder}/args")?.as_str())?;
@@ -44,7 +44,7 @@ impl Row {
             words.push(word.to_owned(alloc)?)?;
         }
         let wanted = Printed::read(rt, folder.as_str())?;
-        Ok(Row {
+        Ok(CommandRow {
             folder,
             words,
             wanted,

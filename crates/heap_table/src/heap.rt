@@ -10,7 +10,7 @@ ghost use Rattle.heap_table.specs.Nexts.{IsNext, StoresStage};
 use crate::makes::Makes;
 use crate::mutator::Mutator;
 use colours::{Ask, Place};
-use heap_words::Words;
+use heap_words::SharedWords;
 use pools::{LayoutId, Pools};
 use std::marker::{Brand, Model};
 
@@ -18,7 +18,7 @@ use std::marker::{Brand, Model};
 /// word; no call takes a lock, waits, or tries a word again.
 #[derive(Drop)]
 pub struct Heap<'a> {
-    pub(crate) words: Words<'a>,
+    pub(crate) words: SharedWords<'a>,
     pub(crate) pools: &'a Pools,
 }
 

@@ -8,7 +8,7 @@ use crate::heap::Heap;
 use crate::mutator::Mutator;
 use crate::sweeper::Sweeper;
 use heap_rule::Plan;
-use heap_words::{Token, Words};
+use heap_words::{SharedWords, Token};
 use items::Items;
 use std::alloc::{AllocError, Global};
 use trace_sweep::Collector;
@@ -34,7 +34,7 @@ impl<'a> Heap<'a> {
         let layouts = plan.layouts.count();
         let mut mutators = Vec::with_capacity(alloc, threads)?;
         let collector = Collector::new(pools, plan.layouts, plan.globals, threads);
-        let (words, mut tokens, token) = Words::new(alloc, plan)?;
+        let (words, mut tokens, token) = SharedWords::new(alloc, plan)?;
         let heap = Heap { words, pools };
         let sweeper = Sweeper { token, collector };
         while let Some(token) = tokens.pop() {

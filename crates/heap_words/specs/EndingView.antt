@@ -1,6 +1,6 @@
 -- What contracts see of words whose tokens come back, and what these keep.
 use Rattle.std.specs.Prelude.{◌≡◌}
-use Rattle.heap_words.specs.declared.ending.Ending.TheInside.{Inside}
+use Rattle.heap_words.specs.declared.ending.ReturningWords.TheInside.{Inside}
 use Rattle.heap_words.specs.Endings.{Gathered}
 
 -- the words and what came back, as contracts see them

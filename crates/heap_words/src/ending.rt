@@ -2,19 +2,19 @@ ghost use Rattle.std.specs.Prelude.{◌≡◌, [], ◌∷◌};
 
 use crate::closed_words::ClosedWords;
 use crate::token::Token;
-use crate::words::Words;
+use crate::words::SharedWords;
 use atomic_table::Seat;
 use heap_rule::{Gathers, Knowledge};
 use std::marker::Model;
 
 /// The words of a heap whose tokens come back one by one. It takes no memory.
 #[derive(Drop)]
-pub struct Ending<'a> {
-    words: Words<'a>,
+pub struct ReturningWords<'a> {
+    words: SharedWords<'a>,
     seat: Seat<(), Knowledge>,
 }
 
-impl<'a> Model for Ending<'a> {
+impl<'a> Model for ReturningWords<'a> {
     ghost use Rattle.heap_words.specs.Endings.{Gathered};
 
     ghost Value = { Gathered };
@@ -26,20 +26,20 @@ impl<'a> Model for Ending<'a> {
     ghost invariant = { IsEnding };
 }
 
-impl<'a> Words<'a> {
+impl<'a> SharedWords<'a> {
     ghost use Rattle.heap_words.specs.Tokens.{IsOf};
 
     /// Ends the sharing of the words, with the first token that comes back.
-    pub fn end(self, first: Token) -> Ending<'a>
+    pub fn end(self, first: Token) -> ReturningWords<'a>
         requires { IsOf self first }
         ensures { result ≡ record { setup = self.entry.setup; table = self.entry.table; shares = first.share ∷ [] } }
     {
         let Token { seat } = first;
-        Ending { words: self, seat }
+        ReturningWords { words: self, seat }
     }
 }
 
-impl<'a> Ending<'a> {
+impl<'a> ReturningWords<'a> {
     ghost use Rattle.heap_words.specs.Endings.{IsBackAt, Ends};
 
     /// One token more comes back.
@@ -60,8 +60,8 @@ impl<'a> Ending<'a> {
         ensures setup { result.setup ≡ self.entry.setup }
         ensures run { Ends self.entry.setup self.entry.shares result }
     {
-        let Ending { words, seat } = self;
-        let Words {
+        let ReturningWords { words, seat } = self;
+        let SharedWords {
             table,
             plan,
             starts,

@@ -8,6 +8,6 @@ mod token;
 mod words;
 
 pub use closed_words::ClosedWords;
-pub use ending::Ending;
+pub use ending::ReturningWords;
 pub use token::Token;
-pub use words::Words;
+pub use words::SharedWords;

@@ -7,17 +7,20 @@ ghost use Rattle.heap_words.specs.Places.{AreStarts};
 ghost use Rattle.heap_words.specs.Opening.{opening_word, stage_at_start};
 
 use crate::token::Token;
-use crate::words::Words;
+use crate::words::SharedWords;
 use atomic_table::{Seat, Table};
 use colours::DONE;
 use heap_rule::{Deals, Knowledge, Plan};
 use std::alloc::{AllocError, Global};
 
-impl<'a> Words<'a> {
+impl<'a> SharedWords<'a> {
     ghost use Rattle.heap_words.specs.Tokens.{IsOf, IsFresh, AreFresh};
 
     /// The words of a heap that is set up so, with a token for each thread, in their order, and one for the collector.
-    pub fn new(alloc: Global, plan: Plan<'a>) -> Result<(Words<'a>, Vec<Token>, Token), AllocError>
+    pub fn new(
+        alloc: Global,
+        plan: Plan<'a>,
+    ) -> Result<(SharedWords<'a>, Vec<Token>, Token), AllocError>
         requires setup { IsSetup plan }
         requires threads { plan.threads < 2 ^ 32 }
         requires globals { length plan.globals < 2 ^ 32 }
@@ -30,7 +33,7 @@ impl<'a> Words<'a> {
         is_small(&plan);
         let mut tokens = Vec::with_capacity(alloc, threads)?;
         let starts = starts_of(alloc, &plan)?;
-        let (words, mut seat) = Words::open(alloc, plan, starts)?;
+        let (words, mut seat) = SharedWords::open(alloc, plan, starts)?;
         for thread in 0..threads {
             let token = words.deal(&mut seat, thread);
             tokens.push(token)?;
@@ -44,7 +47,7 @@ impl<'a> Words<'a> {
         alloc: Global,
         plan: Plan<'a>,
         starts: Vec<usize>,
-    ) -> Result<(Words<'a>, Seat<(), Knowledge>), AllocError>
+    ) -> Result<(SharedWords<'a>, Seat<(), Knowledge>), AllocError>
         requires setup { IsSetup plan }
         requires starts { AreStarts plan starts.items }
         requires small { size plan < 2 ^ 63 }
@@ -53,7 +56,7 @@ impl<'a> Words<'a> {
     {
         let opening = opening_words(alloc, &plan, starts[plan.pools.cells() as usize])?;
         let (table, seat) = Table::of_words(alloc, &opening, &plan)?;
-        let words = Words {
+        let words = SharedWords {
             table,
             plan,
             starts,

@@ -14,14 +14,14 @@ use std::marker::Model;
 
 /// The shared words of a heap: the posted stage, the stages of the threads, and the colour and the words of each cell.
 #[derive(Drop)]
-pub struct Words<'a> {
+pub struct SharedWords<'a> {
     pub(crate) table: Table<(), Knowledge, Plan<'a>, OneRun, Global>,
     pub(crate) plan: Plan<'a>,
     /// Where each cell begins, and where the table ends.
     pub(crate) starts: Vec<usize>,
 }
 
-impl<'a> Model for Words<'a> {
+impl<'a> Model for SharedWords<'a> {
     ghost use Rattle.heap_words.specs.Tokens.{Shared};
 
     ghost Value = { Shared };
@@ -33,7 +33,7 @@ impl<'a> Model for Words<'a> {
     ghost invariant = { IsKept };
 }
 
-impl<'a> Words<'a> {
+impl<'a> SharedWords<'a> {
     ghost use Rattle.heap_words.specs.Tokens.{IsOf, IsNow};
 
     /// Makes one operation on one word, as a step of the token's actor. Returns what the word held before; of a store, what was

@@ -1,8 +1,8 @@
 -- Where reading is in a text.
 use Rattle.std.specs.Prelude.{◌≡◌, ℕ, ◌<◌, ◌≤◌, Bool, true, false, [], ◌++◌, length}
 use Rattle.std.specs.List.{list_all}
-use Rattle.ir_tokens.specs.declared.class.Class.{Class}
-use Rattle.ir_tokens.specs.declared.class.Class.TheVariants as class
+use Rattle.ir_tokens.specs.declared.class.ByteClass.{ByteClass}
+use Rattle.ir_tokens.specs.declared.class.ByteClass.TheVariants as class
 use Rattle.ir_tokens.specs.Bytes.{Text, is_digit, first_class}
 use Rattle.ir_tokens.specs.Tokens.{is_blank, lex_from}
 use Rattle.ir_forms.specs.Place.{Place}
@@ -15,7 +15,7 @@ Stands c bytes =
     × (c.rest ≡ (lex_from most (length c.text) first [] bytes).tokens) × (c.bad ≡ (lex_from most (length c.text) first [] bytes).bad)
 
 -- a byte of this class ends a name, a word and a number, and makes no label of them
-abbrev pub ends_token : Class → Bool
+abbrev pub ends_token : ByteClass → Bool
 ends_token class.Letter = false
 ends_token class.Digit = false
 ends_token class.Colon = false

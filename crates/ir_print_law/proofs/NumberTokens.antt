@@ -6,8 +6,8 @@ use Rattle.std.specs.Str.{bytes_eq}
 use Rattle.std.proofs.lemmas.List.{take_at, drop_at}
 use Rattle.std.proofs.Math.Seq.{take-append_seam}
 use Rattle.lemmas.specs.Bools.{and_parts, not_true}
-use Rattle.ir_tokens.specs.declared.class.Class.{Class}
-use Rattle.ir_tokens.specs.declared.class.Class.TheVariants as c
+use Rattle.ir_tokens.specs.declared.class.ByteClass.{ByteClass}
+use Rattle.ir_tokens.specs.declared.class.ByteClass.TheVariants as c
 use Rattle.ir_tokens.specs.declared.token.Kind.{Kind}
 use Rattle.ir_tokens.specs.declared.token.Kind.TheVariants as k
 use Rattle.ir_tokens.specs.declared.token.Token.{Token}
@@ -63,7 +63,7 @@ bind_leaves P g f x y i b o h =
     (ends_further i h.1 o first.0 second.0, second.1)
 
 -- a form that the next byte tells
-look_leaves : {A : Type 0} (P : A → Type 0) (f : Class → Form A) → ((x : Class) → Leaves (f x) P) → Leaves (look f) P
+look_leaves : {A : Type 0} (P : A → Type 0) (f : ByteClass → Form A) → ((x : ByteClass) → Leaves (f x) P) → Leaves (look f) P
 look_leaves P f x i = x (first_class i) i
 
 -- bytes end with all but the first of them
@@ -169,13 +169,13 @@ word_kind_is w = either_other (is_integer_type w) k.IntegerType _ refl (kind_in_
 -- ---- which class a byte has
 
 -- what a class tells of its byte
-abbrev Told : ℕ → Class → Type 0
+abbrev Told : ℕ → ByteClass → Type 0
 Told b c.Digit = is_digit b ≡ true
 Told b (c.Sign x) = is_local_number x ≡ false
 Told b _ = Unit {0}
 
 -- either of two classes
-either_told : (t : Bool) (b : ℕ) (x y : Class) → Told b x → Told b y → Told b (if t then x else y)
+either_told : (t : Bool) (b : ℕ) (x y : ByteClass) → Told b x → Told b y → Told b (if t then x else y)
 either_told true b x y h g = h
 either_told false b x y h g = g
 
@@ -190,7 +190,7 @@ sign_told b =
     (either_told (b == 62) b (c.Sign k.Greater) _ refl (either_told (b == 124) b (c.Sign k.Bar) c.Other refl tt)))))))))))
 
 -- the class of a byte that is neither a letter nor a digit
-abbrev other_class : ℕ → Class
+abbrev other_class : ℕ → ByteClass
 other_class b =
     if b == 34 then c.Quote
     else (if b == 37 then c.Percent
@@ -217,7 +217,7 @@ class_told b = either_told (is_letter b) b c.Letter _ tt (by (is_digit b) refl) 
 -- a byte of the class of digits is a digit
 first_digit : (i : Text) → first_class i ≡ c.Digit → begins is_digit i ≡ true
 first_digit [] e = absurd (let q = ap is_end e in cc) where
-  is_end : Class → Bool
+  is_end : ByteClass → Bool
   is_end c.End = true
   is_end _ = false
 first_digit (b ∷ bytes) e = subst (Told b) e (class_told b)
@@ -254,7 +254,7 @@ quotation_other x e =
     bind_leaves (λ y. is_local_number y ≡ false) (skip >> quoted) (λ _. pure x) (bind_leaves Any skip (λ _. quoted) skip_leaves (λ _. quoted_leaves)) (λ _. pure_leaves _ x e)
 
 -- a label of another kind, or no label
-label_other : (colon other : Kind) → is_local_number colon ≡ false → is_local_number other ≡ false → (x : Class) → IsOther (label_or colon other x)
+label_other : (colon other : Kind) → is_local_number colon ≡ false → is_local_number other ≡ false → (x : ByteClass) → IsOther (label_or colon other x)
 label_other colon other e f c.Colon = behind_skip (pure colon) (pure_leaves (λ y. is_local_number y ≡ false) colon e)
 label_other colon other e f _ = pure_leaves (λ y. is_local_number y ≡ false) other f
 
@@ -276,7 +276,7 @@ quote_other =
 global_other : IsOther global
 unfolding global
 global_other = behind_skip (look global_by) (look_leaves _ global_by by) where
-  by : (x : Class) → IsOther (global_by x)
+  by : (x : ByteClass) → IsOther (global_by x)
   by c.Quote = quotation_other k.GlobalName refl
   by c.Letter = name_other k.GlobalName refl
   by _ = λ i a o h. absurd h
@@ -285,7 +285,7 @@ global_other = behind_skip (look global_by) (look_leaves _ global_by by) where
 group_other : IsOther group
 unfolding group
 group_other = behind_skip (look group_by) (look_leaves _ group_by by) where
-  by : (x : Class) → IsOther (group_by x)
+  by : (x : ByteClass) → IsOther (group_by x)
   by c.Digit = digits_other k.AttributeGroup refl
   by _ = λ i a o h. absurd h
 
@@ -293,7 +293,7 @@ group_other = behind_skip (look group_by) (look_leaves _ group_by by) where
 metadata_other : IsOther metadata
 unfolding metadata
 metadata_other = behind_skip (look metadata_by) (look_leaves _ metadata_by by) where
-  by : (x : Class) → IsOther (metadata_by x)
+  by : (x : ByteClass) → IsOther (metadata_by x)
   by c.Letter = name_other k.MetadataName refl
   by c.Digit = digits_other k.MetadataNumber refl
   by _ = pure_leaves (λ y. is_local_number y ≡ false) k.Exclamation refl
@@ -323,7 +323,7 @@ label_digits w b own =
 -- digits with a byte after them
 label_reads : (i w m : Text) (x : Kind) (o : Text) → IsSpan is_digit i w m → AreDigits w → first_class m ≡ c.Colon → (skip >> pure k.LabelNumber).says m x o → Reads i x o
 label_reads i w [] x o span own e h = absurd (let q = ap is_end e in cc) where
-  is_end : Class → Bool
+  is_end : ByteClass → Bool
   is_end c.End = true
   is_end _ = false
 label_reads i w (b ∷ m) x o span own e h = (
@@ -336,7 +336,7 @@ label_reads i w (b ∷ m) x o span own e h = (
 number_reads : (i : Text) (x : Kind) (o : Text) → begins is_digit i ≡ true → number.says i x o → Reads i x o
 unfolding number
 number_reads i x o e h = by (first_class h.1) refl h.3 where
-  by : (y : Class) → first_class h.1 ≡ y → (label_or k.LabelNumber k.Number y).says h.1 x o → Reads i x o
+  by : (y : ByteClass) → first_class h.1 ≡ y → (label_or k.LabelNumber k.Number y).says h.1 x o → Reads i x o
   by c.Colon f s = label_reads i h.0 h.1 x o h.2 (span_digits i h.0 h.1 e h.2) f s
   by _ f s = (h.0, h.2.0 ∙ ap (λ (y : Text). h.0 ++ y) s.1, no_number x _ (subst (λ (y : Kind). is_local_number y ≡ false) s.0 refl))
 
@@ -354,7 +354,7 @@ local_reads b i x o h = by (first_class i) refl h where
   other : (f : Form Kind) → IsOther f → f.says i x o → Reads (b ∷ i) x o
   other f is s = let r = other_reads f is i x o s in (b ∷ r.0, ap (λ (y : Text). b ∷ y) r.1, no_number x _ (is i x o s).1)
 
-  by : (y : Class) → first_class i ≡ y → (local_by y).says i x o → Reads (b ∷ i) x o
+  by : (y : ByteClass) → first_class i ≡ y → (local_by y).says i x o → Reads (b ∷ i) x o
   by c.Quote e s = other (quotation k.LocalName) (quotation_other k.LocalName refl) s
   by c.Letter e s = other (name k.LocalName) (name_other k.LocalName refl) s
   by c.Digit e s = number_behind b i x o (first_digit i e) s
@@ -365,7 +365,7 @@ token_reads : (i : Text) (x : Kind) (o : Text) → token.says i x o → Reads i 
 unfolding token local
 token_reads [] x o h = absurd h
 token_reads (b ∷ i) x o h = by (class_of b) refl h where
-  by : (y : Class) → class_of b ≡ y → (token_by y).says (b ∷ i) x o → Reads (b ∷ i) x o
+  by : (y : ByteClass) → class_of b ≡ y → (token_by y).says (b ∷ i) x o → Reads (b ∷ i) x o
   by c.Letter e s = other_reads word word_other (b ∷ i) x o s
   by c.Digit e s = number_reads (b ∷ i) x o (subst (Told b) e (class_told b)) s
   by c.Quote e s = other_reads quote quote_other (b ∷ i) x o s

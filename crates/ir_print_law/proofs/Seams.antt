@@ -2,15 +2,15 @@
 use Rattle.std.proofs.Common.{◌≡◌, ℕ, Bool, true, false, [], ◌∷◌, refl, ap, sym, ◌∙◌}
 use Rattle.std.specs.Prelude.{◌==◌}
 use Rattle.std.proofs.lemmas.Bool.{eqb-true}
-use Rattle.ir_tokens.specs.declared.class.Class.{Class}
-use Rattle.ir_tokens.specs.declared.class.Class.TheVariants as c
+use Rattle.ir_tokens.specs.declared.class.ByteClass.{ByteClass}
+use Rattle.ir_tokens.specs.declared.class.ByteClass.TheVariants as c
 use Rattle.ir_tokens.specs.declared.token.Kind.{Kind}
 use Rattle.ir_tokens.specs.Bytes.{Text, is_letter, is_digit, class_of, first_class, is_name, is_name_class}
 use Rattle.ir_tokens.specs.Form.{begins}
 use Rattle.ir_tokens.specs.Tokens.{label_or}
 use Rattle.ir_print.specs.Standing.{ends_token, IsSeam}
 
-no_name_class : (x : Class) → ends_token x ≡ true → is_name_class x ≡ false
+no_name_class : (x : ByteClass) → ends_token x ≡ true → is_name_class x ≡ false
 no_name_class c.Letter e = absurd cc
 no_name_class c.Digit e = absurd cc
 no_name_class _ e = refl
@@ -30,7 +30,7 @@ pub no_digit : (rest : Text) → IsSeam rest → begins is_digit rest ≡ false
 no_digit [] e = refl
 no_digit (b ∷ bytes) e = digit_by b (is_letter b) (is_digit b) refl refl e
 
-no_label_by : (x : Class) → ends_token x ≡ true → (colon other : Kind) (i : Text) → (label_or colon other x).says i other i
+no_label_by : (x : ByteClass) → ends_token x ≡ true → (colon other : Kind) (i : Text) → (label_or colon other x).says i other i
 no_label_by c.Colon e colon other i = absurd cc
 no_label_by _ e colon other i = (refl, refl)
 

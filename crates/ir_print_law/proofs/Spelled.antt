@@ -3,8 +3,8 @@ use Rattle.std.proofs.Common.{◌≡◌, ℕ, ◌-◌, Bool, true, false, if◌t
 use Rattle.std.specs.List.{list_all, flat_map}
 use Rattle.std.proofs.Math.Seq.{take-append_seam}
 use Rattle.lemmas.specs.Bools.{and_parts}
-use Rattle.ir_tokens.specs.declared.class.Class.{Class}
-use Rattle.ir_tokens.specs.declared.class.Class.TheVariants as c
+use Rattle.ir_tokens.specs.declared.class.ByteClass.{ByteClass}
+use Rattle.ir_tokens.specs.declared.class.ByteClass.TheVariants as c
 use Rattle.ir_tokens.specs.declared.token.Kind.TheVariants as k
 use Rattle.ir_tokens.specs.Bytes.{Text, is_digit, class_of, first_class, is_name}
 use Rattle.ir_tokens.specs.Keywords.{word_kind}
@@ -25,7 +25,7 @@ unfolding token word
 word_read w rest plain seam =
     let parts = and_parts (begins_plain w) _ plain in
     let said : word.says (w ++ rest) (word_kind w) rest = (w, rest, (refl, passes w parts.1, no_name rest seam), no_label rest seam k.LabelName (word_kind w)) in
-    token.again (w ++ rest) (word_kind w) rest (subst (λ (x : Class). (token_by x).says (w ++ rest) (word_kind w) rest) (sym (first_letter w rest parts.0)) said)
+    token.again (w ++ rest) (word_kind w) rest (subst (λ (x : ByteClass). (token_by x).says (w ++ rest) (word_kind w) rest) (sym (first_letter w rest parts.0)) said)
 
 pub first_digit : (digits rest : Text) → AreDigits digits → first_class (digits ++ rest) ≡ c.Digit
 first_digit [] rest own = absurd (omega (arith, own.0))
@@ -35,7 +35,7 @@ pub number_read : (digits rest : Text) → AreDigits digits → IsSeam rest → 
 unfolding token number
 number_read digits rest own seam =
     let said : number.says (digits ++ rest) k.Number rest = (digits, rest, (refl, digits_pass digits own.1, no_digit rest seam), no_label rest seam k.LabelNumber k.Number) in
-    token.again (digits ++ rest) k.Number rest (subst (λ (x : Class). (token_by x).says (digits ++ rest) k.Number rest) (sym (first_digit digits rest own)) said)
+    token.again (digits ++ rest) k.Number rest (subst (λ (x : ByteClass). (token_by x).says (digits ++ rest) k.Number rest) (sym (first_digit digits rest own)) said)
 
 -- ---- names with their signs
 
@@ -67,7 +67,7 @@ unfolding token word quote class_of is_name
 label_by name rest own true e =
     let parts = and_parts (begins_plain name) _ e in
     let said : word.says (name ++ 58 ∷ rest) k.LabelName rest = (name, 58 ∷ rest, (refl, passes name parts.1, refl), (tt, rest, (refl, refl), (refl, refl))) in
-    token.again (name ++ 58 ∷ rest) k.LabelName rest (subst (λ (x : Class). (token_by x).says (name ++ 58 ∷ rest) k.LabelName rest) (sym (first_letter name (58 ∷ rest) parts.0)) said)
+    token.again (name ++ 58 ∷ rest) k.LabelName rest (subst (λ (x : ByteClass). (token_by x).says (name ++ 58 ∷ rest) k.LabelName rest) (sym (first_letter name (58 ∷ rest) parts.0)) said)
 label_by name rest own false e =
     let bytes : Text = 34 ∷ (flat_map (quoted_byte blank.Kept) name ++ 34 ∷ 58 ∷ rest) in
     let said : quote.says bytes k.LabelName rest = (tt, 58 ∷ rest, (tt, flat_map (quoted_byte blank.Kept) name ++ 34 ∷ 58 ∷ rest, (refl, refl), (name, quotes_read blank.Kept name (58 ∷ rest) own)), (tt, rest, (refl, refl), (refl, refl))) in
@@ -80,7 +80,7 @@ pub label_number_read : (digits rest : Text) → AreDigits digits → token.read
 unfolding token number class_of
 label_number_read digits rest own =
     let said : number.says (digits ++ 58 ∷ rest) k.LabelNumber rest = (digits, 58 ∷ rest, (refl, digits_pass digits own.1, refl), (tt, rest, (refl, refl), (refl, refl))) in
-    token.again (digits ++ 58 ∷ rest) k.LabelNumber rest (subst (λ (x : Class). (token_by x).says (digits ++ 58 ∷ rest) k.LabelNumber rest) (sym (first_digit digits (58 ∷ rest) own)) said)
+    token.again (digits ++ 58 ∷ rest) k.LabelNumber rest (subst (λ (x : ByteClass). (token_by x).says (digits ++ 58 ∷ rest) k.LabelNumber rest) (sym (first_digit digits (58 ∷ rest) own)) said)
 
 -- ---- what they spell
 

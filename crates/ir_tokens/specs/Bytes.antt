@@ -1,8 +1,8 @@
 -- Classes of bytes, and the bytes of quoted text.
 use Rattle.std.specs.Prelude.{ℕ, ◌+◌, ◌-◌, ◌*◌, Bool, true, false, ◌||◌, ◌&&◌, if◌then◌else◌, ◌==◌, nat_le, List, [], ◌∷◌, Option, Some, None}
 use Rattle.ir_tokens.specs.declared.token.Kind.TheVariants as k
-use Rattle.ir_tokens.specs.declared.class.Class.{Class}
-use Rattle.ir_tokens.specs.declared.class.Class.TheVariants as c
+use Rattle.ir_tokens.specs.declared.class.ByteClass.{ByteClass}
+use Rattle.ir_tokens.specs.declared.class.ByteClass.TheVariants as c
 
 -- a text is a list of bytes
 abbrev pub Text : Type 0
@@ -21,7 +21,7 @@ abbrev pub is_letter : ℕ → Bool
 is_letter byte = within 97 122 byte || within 65 90 byte || byte == 45 || byte == 36 || byte == 46 || byte == 95
 
 -- `=`, `,`, `(`, `)`, `[`, `]`, `{`, `}`, `*`, `<`, `>` and `|` are tokens of one byte
-abbrev pub sign_of : ℕ → Class
+abbrev pub sign_of : ℕ → ByteClass
 sign_of byte =
     if byte == 61 then c.Sign k.Equals
     else (if byte == 44 then c.Sign k.Comma
@@ -38,7 +38,7 @@ sign_of byte =
     else c.Other)))))))))))
 
 -- `"`, `%`, `@`, `#`, `!` and `:` begin or end longer tokens
-unfoldable pub class_of : ℕ → Class
+unfoldable pub class_of : ℕ → ByteClass
 class_of byte =
     if is_letter byte then c.Letter
     else (if is_digit byte then c.Digit
@@ -51,12 +51,12 @@ class_of byte =
     else sign_of byte)))))))
 
 -- the class of the first byte
-abbrev pub first_class : Text → Class
+abbrev pub first_class : Text → ByteClass
 first_class [] = c.End
 first_class (byte ∷ bytes) = class_of byte
 
 -- letters and digits
-abbrev pub is_name_class : Class → Bool
+abbrev pub is_name_class : ByteClass → Bool
 is_name_class c.Letter = true
 is_name_class c.Digit = true
 is_name_class _ = false

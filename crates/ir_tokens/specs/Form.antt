@@ -5,7 +5,7 @@ use Rattle.std.proofs.Common.{◌∙◌, ap, subst, arith, length-drop, length-a
 use Rattle.std.proofs.lemmas.List.{take_at, drop_at}
 use Rattle.std.proofs.lemmas.Bool.{eqb-true}
 use Rattle.std.proofs.Math.Numerals.{one-add}
-use Rattle.ir_tokens.specs.declared.class.Class.{Class}
+use Rattle.ir_tokens.specs.declared.class.ByteClass.{ByteClass}
 use Rattle.ir_tokens.specs.Bytes.{Text, first_class, next, after_backslash, pair_of, digit}
 
 -- what is read, and the bytes after it; nothing where the bytes begin otherwise
@@ -110,7 +110,7 @@ abbrev pub ◌>>◌ : {A B : Type 0} → Form A → Form B → Form B
 g >> h = g >>= (λ _. h)
 
 -- the form that the class of the next byte tells
-abbrev pub look : {A : Type 0} → (Class → Form A) → Form A
+abbrev pub look : {A : Type 0} → (ByteClass → Form A) → Form A
 look f = record {
   read = λ i. (f (first_class i)).read i;
   says = λ i. (f (first_class i)).says i;

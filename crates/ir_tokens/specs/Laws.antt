@@ -5,8 +5,8 @@ use Rattle.std.specs.declared.alloc.AllocError.{AllocError}
 use Rattle.std.proofs.lemmas.Bool.{eqb-true}
 use Rattle.std.proofs.lemmas.List.{append-nil, take_at}
 use Rattle.lemmas.specs.Bools.{or_neither}
-use Rattle.ir_tokens.specs.declared.class.Class.{Class}
-use Rattle.ir_tokens.specs.declared.class.Class.TheVariants as c
+use Rattle.ir_tokens.specs.declared.class.ByteClass.{ByteClass}
+use Rattle.ir_tokens.specs.declared.class.ByteClass.TheVariants as c
 use Rattle.ir_tokens.specs.declared.token.Kind.{Kind}
 use Rattle.ir_tokens.specs.declared.token.Kind.TheVariants as k
 use Rattle.ir_tokens.specs.declared.token.Token.{Token}
@@ -82,7 +82,7 @@ begins_by : (t : Bool) (b : ℕ) (bs : Text) (s : Kind) (rest : Text) → begins
 begins_by false b bs s rest e h = refl
 begins_by true b bs s rest e h =
     let q = gap_class b e in
-    let w : (token_by c.Other).says (b ∷ bs) s rest = subst (λ (x : Class). (token_by x).says (b ∷ bs) s rest) q h in
+    let w : (token_by c.Other).says (b ∷ bs) s rest = subst (λ (x : ByteClass). (token_by x).says (b ∷ bs) s rest) q h in
     absurd w
 
 token_begins : (at : Text) (s : Kind) (rest : Text) → token.says at s rest → begins_gap at ≡ false
@@ -115,11 +115,11 @@ number_takes b bs s o t h =
     let q = (look (label_or k.LabelNumber k.Number)).moves h.1 s o h.3 in
     omega arith
 
-abbrev is_digit_class : Class → Bool
+abbrev is_digit_class : ByteClass → Bool
 is_digit_class c.Digit = true
 is_digit_class _ = false
 
-none_by : (t : Bool) (x y : Class) → is_digit_class x ≡ false → is_digit_class y ≡ false → is_digit_class (cond t x y) ≡ false
+none_by : (t : Bool) (x y : ByteClass) → is_digit_class x ≡ false → is_digit_class y ≡ false → is_digit_class (cond t x y) ≡ false
 none_by true x y e f = e
 none_by false x y e f = f
 
@@ -135,7 +135,7 @@ digit_by false false b e f h = absurd (
     let q : is_digit_class (class_of b) ≡ false = rw (e, f) (none_by (b == 34) c.Quote _ refl (none_by (b == 37) c.Percent _ refl (none_by (b == 64) c.At _ refl (none_by (b == 35) c.Hash _ refl (none_by (b == 33) c.Exclamation _ refl (none_by (b == 58) c.Colon _ refl (sign_no_digit b))))))) in
     let r = sym q ∙ ap is_digit_class h in cc)
 
-takes_by : (x : Class) (b : ℕ) (bs : Text) (s : Kind) (o : Text) → class_of b ≡ x → (token_by x).says (b ∷ bs) s o → length o < length (b ∷ bs)
+takes_by : (x : ByteClass) (b : ℕ) (bs : Text) (s : Kind) (o : Text) → class_of b ≡ x → (token_by x).says (b ∷ bs) s o → length o < length (b ∷ bs)
 unfolding local global group metadata quote is_name
 takes_by c.Letter b bs s o e h = word_takes b bs s o (ap is_name_class e) h
 takes_by c.Digit b bs s o e h = number_takes b bs s o (digit_by (is_letter b) (is_digit b) b refl refl e) h

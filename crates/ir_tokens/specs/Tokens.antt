@@ -1,8 +1,8 @@
 -- The tokens of a text.
 use Rattle.std.specs.Prelude.{◌≡◌, ◌≢◌, ℕ, zero, suc, ◌+◌, ◌-◌, Bool, true, false, not, ◌||◌, if◌then◌else◌, ◌==◌, List, [], ◌∷◌, ◌++◌, length, take, Some, None, ◌⊎◌, MatchOption}
 use Rattle.std.specs.List.{list_any}
-use Rattle.ir_tokens.specs.declared.class.Class.{Class}
-use Rattle.ir_tokens.specs.declared.class.Class.TheVariants as c
+use Rattle.ir_tokens.specs.declared.class.ByteClass.{ByteClass}
+use Rattle.ir_tokens.specs.declared.class.ByteClass.TheVariants as c
 use Rattle.ir_tokens.specs.declared.token.Kind.{Kind}
 use Rattle.ir_tokens.specs.declared.token.Kind.TheVariants as k
 use Rattle.ir_tokens.specs.declared.token.Token.{Token}
@@ -30,7 +30,7 @@ abbrev pub sign : Kind → Form Kind
 sign x = skip >> pure x
 
 -- what follows `%`
-abbrev pub local_by : Class → Form Kind
+abbrev pub local_by : ByteClass → Form Kind
 local_by c.Quote = quotation k.LocalName
 local_by c.Letter = name k.LocalName
 local_by c.Digit = digits k.LocalNumber
@@ -41,7 +41,7 @@ unfoldable pub local : Form Kind
 local = skip >> look local_by
 
 -- what follows `@`
-abbrev pub global_by : Class → Form Kind
+abbrev pub global_by : ByteClass → Form Kind
 global_by c.Quote = quotation k.GlobalName
 global_by c.Letter = name k.GlobalName
 global_by _ = refuse
@@ -51,7 +51,7 @@ unfoldable pub global : Form Kind
 global = skip >> look global_by
 
 -- what follows `#`
-abbrev pub group_by : Class → Form Kind
+abbrev pub group_by : ByteClass → Form Kind
 group_by c.Digit = digits k.AttributeGroup
 group_by _ = refuse
 
@@ -60,7 +60,7 @@ unfoldable pub group : Form Kind
 group = skip >> look group_by
 
 -- what follows `!`, if anything
-abbrev pub metadata_by : Class → Form Kind
+abbrev pub metadata_by : ByteClass → Form Kind
 metadata_by c.Letter = name k.MetadataName
 metadata_by c.Digit = digits k.MetadataNumber
 metadata_by _ = pure k.Exclamation
@@ -70,7 +70,7 @@ unfoldable pub metadata : Form Kind
 metadata = skip >> look metadata_by
 
 -- with `:` directly after it a label, else this
-abbrev pub label_or : (colon other : Kind) → Class → Form Kind
+abbrev pub label_or : (colon other : Kind) → ByteClass → Form Kind
 label_or colon other c.Colon = skip >> pure colon
 label_or colon other _ = pure other
 
@@ -87,7 +87,7 @@ unfoldable pub quote : Form Kind
 quote = skip >> quoted >> look (label_or k.LabelName k.Quoted)
 
 -- which token a byte of a class begins
-abbrev pub token_by : Class → Form Kind
+abbrev pub token_by : ByteClass → Form Kind
 token_by c.Letter = word
 token_by c.Digit = number
 token_by c.Quote = quote

@@ -7,7 +7,7 @@ ghost use Rattle.ir_tokens.specs.Tokens.{IsLexed, lexed_of, ends_line, before};
 ghost use Rattle.ir_tokens.specs.declared.lexed.Lexed.{Lexed as ALexed};
 
 use crate::bytes::{digit_len, name_len, past_quoted};
-use crate::class::{Class, first_class};
+use crate::class::{ByteClass, first_class};
 use crate::keyword::word_kind;
 use crate::lexed::Lexed;
 use crate::token::{Kind, Token};
@@ -55,9 +55,9 @@ fn local(bytes: &[u8]) -> Spelled<'_>
 {
     let bytes = &bytes[1..];
     match first_class(bytes) {
-        Class::Quote => quotation(Kind::LocalName, bytes),
-        Class::Letter => name(Kind::LocalName, bytes),
-        Class::Digit => digits(Kind::LocalNumber, bytes),
+        ByteClass::Quote => quotation(Kind::LocalName, bytes),
+        ByteClass::Letter => name(Kind::LocalName, bytes),
+        ByteClass::Digit => digits(Kind::LocalNumber, bytes),
         _ => None,
     }
 }
@@ -69,8 +69,8 @@ fn global(bytes: &[u8]) -> Spelled<'_>
 {
     let bytes = &bytes[1..];
     match first_class(bytes) {
-        Class::Quote => quotation(Kind::GlobalName, bytes),
-        Class::Letter => name(Kind::GlobalName, bytes),
+        ByteClass::Quote => quotation(Kind::GlobalName, bytes),
+        ByteClass::Letter => name(Kind::GlobalName, bytes),
         _ => None,
     }
 }
@@ -82,7 +82,7 @@ fn group(bytes: &[u8]) -> Spelled<'_>
 {
     let bytes = &bytes[1..];
     match first_class(bytes) {
-        Class::Digit => digits(Kind::AttributeGroup, bytes),
+        ByteClass::Digit => digits(Kind::AttributeGroup, bytes),
         _ => None,
     }
 }
@@ -94,8 +94,8 @@ fn metadata(bytes: &[u8]) -> Spelled<'_>
 {
     let bytes = &bytes[1..];
     match first_class(bytes) {
-        Class::Letter => name(Kind::MetadataName, bytes),
-        Class::Digit => digits(Kind::MetadataNumber, bytes),
+        ByteClass::Letter => name(Kind::MetadataName, bytes),
+        ByteClass::Digit => digits(Kind::MetadataNumber, bytes),
         _ => Some((Kind::Exclamation, bytes)),
     }
 }
@@ -104,7 +104,7 @@ fn label_or(label: Kind, other: Kind, bytes: &[u8]) -> Spelled<'_>
     ensures { shown (λ x. (x.0, x.1.now)) result ≡ (form.look (spec.label_or label other)).read bytes.now }
 {
     match first_class(bytes) {
-        Class::Colon => Some((label, &bytes[1..])),
+        ByteClass::Colon => Some((label, &bytes[1..])),
         _ => Some((other, bytes)),
     }
 }
@@ -139,14 +139,14 @@ fn token(bytes: &[u8]) -> Spelled<'_>
     ensures { shown (λ x. (x.0, x.1.now)) result ≡ spec.token.read bytes.now }
 {
     match first_class(bytes) {
-        Class::Letter => word(bytes),
-        Class::Digit => number(bytes),
-        Class::Quote => quote(bytes),
-        Class::Percent => local(bytes),
-        Class::At => global(bytes),
-        Class::Hash => group(bytes),
-        Class::Exclamation => metadata(bytes),
-        Class::Sign(kind) => sign(kind, bytes),
+        ByteClass::Letter => word(bytes),
+        ByteClass::Digit => number(bytes),
+        ByteClass::Quote => quote(bytes),
+        ByteClass::Percent => local(bytes),
+        ByteClass::At => global(bytes),
+        ByteClass::Hash => group(bytes),
+        ByteClass::Exclamation => metadata(bytes),
+        ByteClass::Sign(kind) => sign(kind, bytes),
         _ => None,
     }
 }

@@ -12,8 +12,8 @@ use Rattle.pools.specs.declared.word_kind.WordKind.{WordKind}
 use Rattle.pools.specs.declared.word_kind.WordKind.TheVariants as kind
 use Rattle.layout.specs.declared.fault.LayoutFault.{LayoutFault}
 use Rattle.layout.specs.declared.fault.LayoutFault.TheVariants.{HoldsItself, TooManyWords, NoSuchLayout, Memory}
-use Rattle.layout.specs.declared.survey.Mark.{Mark}
-use Rattle.layout.specs.declared.survey.Mark.TheVariants.{New, Open, Endless, Large, Known}
+use Rattle.layout.specs.declared.survey.SizeMark.{SizeMark}
+use Rattle.layout.specs.declared.survey.SizeMark.TheVariants.{New, Open, Endless, Large, Known}
 use Rattle.layout.specs.declared.survey.Span.{Span}
 use Rattle.layout.specs.Words.{Scalars, word_of, AreWords}
 use Rattle.layout.specs.Layouts.{IsLayout, AreLayoutsOf, AreLayouts, IsFirst, HasNoEnd, HasTooManyWords, PointsNowhere, StructHoldsItself, IsLayoutFault, IsSize, AreSizes}
@@ -124,15 +124,15 @@ no_ring m count last all ended none s h = let lt = ring_inside m s h in none s (
 same_struct : (one other : StructType) → Some one ≡ Some other → one ≡ other
 same_struct one other e = cc
 
-is_endless_mark : (k : Mark) → is_endless k ≡ true → k ≡ Endless
+is_endless_mark : (k : SizeMark) → is_endless k ≡ true → k ≡ Endless
 is_endless_mark New e = absurd cc
 is_endless_mark Open e = absurd cc
 is_endless_mark Endless e = refl
 is_endless_mark Large e = absurd cc
 is_endless_mark (Known span) e = absurd cc
 
-module _ (m : Module) (marks : List Mark) (fields : List ℕ) (settled : IsSettled m marks fields) where
-  mark_is : (t : ℕ) (k : Mark) → mark_at marks t ≡ k → MarkFits m fields t k
+module _ (m : Module) (marks : List SizeMark) (fields : List ℕ) (settled : IsSettled m marks fields) where
+  mark_is : (t : ℕ) (k : SizeMark) → mark_at marks t ≡ k → MarkFits m fields t k
   mark_is t k e = subst (MarkFits m fields t) e (settled.survey.fits t)
 
   never_new : (t : ℕ) → mark_at marks t ≡ New → ⊥
@@ -144,13 +144,13 @@ module _ (m : Module) (marks : List Mark) (fields : List ℕ) (settled : IsSettl
     no_such i h = cc
 
   -- the fields of a type that is known
-  record KnownFields (t : ℕ) (fs : List ℕ) (k : Mark) : Type 0 where
+  record KnownFields (t : ℕ) (fs : List ℕ) (k : SizeMark) : Type 0 where
     not_endless : is_endless k ≡ false
     not_large : is_large k ≡ false
     same : fields_at fields (span_of k) ≡ fs
     few : length fs ≤ 64
 
-  with_fields : (t : ℕ) (fs : List ℕ) (k : Mark) → mark_at marks t ≡ k → Scalars m t fs → (is_large k ≡ false → KnownFields t fs k)
+  with_fields : (t : ℕ) (fs : List ℕ) (k : SizeMark) → mark_at marks t ≡ k → Scalars m t fs → (is_large k ≡ false → KnownFields t fs k)
   with_fields t fs New e s l = absurd (never_new t e)
   with_fields t fs Open e s l = absurd (never_open t e)
   with_fields t fs Endless e s l = absurd (mark_is t Endless e fs s)
@@ -162,35 +162,35 @@ module _ (m : Module) (marks : List Mark) (fields : List ℕ) (settled : IsSettl
       let few = k.0.few in
       record { not_endless = refl; not_large = refl; same = same; few = subst (λ n. n ≤ 64) (sym len ∙ ap length same) few }
 
-  is_large_type : (t : ℕ) (fs : List ℕ) (k : Mark) → mark_at marks t ≡ k → Scalars m t fs → 64 < length fs → is_large k ≡ true
+  is_large_type : (t : ℕ) (fs : List ℕ) (k : SizeMark) → mark_at marks t ≡ k → Scalars m t fs → 64 < length fs → is_large k ≡ true
   is_large_type t fs New e s l = absurd (never_new t e)
   is_large_type t fs Open e s l = absurd (never_open t e)
   is_large_type t fs Endless e s l = absurd (mark_is t Endless e fs s)
   is_large_type t fs Large e s l = refl
   is_large_type t fs (Known span) e s l = let few = (with_fields t fs (Known span) e s refl).few in absurd (omega (arith, few, l))
 
-  is_endless_type : (t : ℕ) (k : Mark) → mark_at marks t ≡ k → ((fs : List ℕ) → Scalars m t fs → ⊥) → is_endless k ≡ true
+  is_endless_type : (t : ℕ) (k : SizeMark) → mark_at marks t ≡ k → ((fs : List ℕ) → Scalars m t fs → ⊥) → is_endless k ≡ true
   is_endless_type t New e h = absurd (never_new t e)
   is_endless_type t Open e h = absurd (never_open t e)
   is_endless_type t Endless e h = refl
   is_endless_type t Large e h = let l : IsLarge m t = mark_is t Large e in absurd (h l.fields l.scalars)
   is_endless_type t (Known span) e h = absurd (h (fields_at fields span) (mark_is t (Known span) e).1)
 
-  endless_type : (t : ℕ) (k : Mark) → mark_at marks t ≡ k → is_endless k ≡ true → (fs : List ℕ) → Scalars m t fs → ⊥
+  endless_type : (t : ℕ) (k : SizeMark) → mark_at marks t ≡ k → is_endless k ≡ true → (fs : List ℕ) → Scalars m t fs → ⊥
   endless_type t New e h = absurd cc
   endless_type t Open e h = absurd cc
   endless_type t Endless e h = mark_is t Endless e
   endless_type t Large e h = absurd cc
   endless_type t (Known span) e h = absurd cc
 
-  large_type : (t : ℕ) (k : Mark) → mark_at marks t ≡ k → is_large k ≡ true → IsLarge m t
+  large_type : (t : ℕ) (k : SizeMark) → mark_at marks t ≡ k → is_large k ≡ true → IsLarge m t
   large_type t New e h = absurd cc
   large_type t Open e h = absurd cc
   large_type t Endless e h = absurd cc
   large_type t Large e h = mark_is t Large e
   large_type t (Known span) e h = absurd cc
 
-  known_type : (t : ℕ) (k : Mark) → mark_at marks t ≡ k → is_endless k ≡ false → is_large k ≡ false → Scalars m t (fields_at fields (span_of k)) × (length (fields_at fields (span_of k)) ≤ 64)
+  known_type : (t : ℕ) (k : SizeMark) → mark_at marks t ≡ k → is_endless k ≡ false → is_large k ≡ false → Scalars m t (fields_at fields (span_of k)) × (length (fields_at fields (span_of k)) ≤ 64)
   known_type t New e h l = absurd (never_new t e)
   known_type t Open e h l = absurd (never_open t e)
   known_type t Endless e h l = absurd cc
@@ -250,7 +250,7 @@ module _ (m : Module) (marks : List Mark) (fields : List ℕ) (settled : IsSettl
     nowhere : list_any (points_nowhere m marks fields) structs ≡ false
     same : layouts ≡ map (words_of m marks fields) structs
 
-  not_large_type : (t : ℕ) (fs : List ℕ) (k : Mark) → mark_at marks t ≡ k → Scalars m t fs → length fs ≤ 64 → is_large k ≡ false
+  not_large_type : (t : ℕ) (fs : List ℕ) (k : SizeMark) → mark_at marks t ≡ k → Scalars m t fs → length fs ≤ 64 → is_large k ≡ false
   not_large_type t fs New e s le = refl
   not_large_type t fs Open e s le = refl
   not_large_type t fs Endless e s le = refl
@@ -280,7 +280,7 @@ module _ (m : Module) (marks : List Mark) (fields : List ℕ) (settled : IsSettl
         same = ap (λ x. x ∷ ws) same ∙ ap (λ x. words_of m marks fields s ∷ x) r.same;
       }
 
-  span_at : (t : ℕ) (k : Mark) → mark_at marks t ≡ k → IsWithin fields (span_of k)
+  span_at : (t : ℕ) (k : SizeMark) → mark_at marks t ≡ k → IsWithin fields (span_of k)
   span_at t New e = record { inside = omega arith; few = omega arith }
   span_at t Open e = record { inside = omega arith; few = omega arith }
   span_at t Endless e = record { inside = omega arith; few = omega arith }
@@ -396,12 +396,12 @@ module _ (m : Module) (marks : List Mark) (fields : List ℕ) (settled : IsSettl
   pub no_other_fault : (fault : LayoutFault) → first_fault m marks fields ≡ None → IsLayoutFault m fault → ⊥
   no_other_fault fault e h = let f = (there_is fault h).found_is in cc
 
-sized_at : (marks : List Mark) (t : ℕ) (size : Option ℕ) → slice_get (map size_in marks) t ≡ Some size → size ≡ size_in (mark_at marks t)
+sized_at : (marks : List SizeMark) (t : ℕ) (size : Option ℕ) → slice_get (map size_in marks) t ≡ Some size → size ≡ size_in (mark_at marks t)
 sized_at [] t size e = absurd cc
 sized_at (x ∷ marks) zero size e = cc
 sized_at (x ∷ marks) (suc t) size e = sized_at marks t size e
 
-size_is : (m : Module) (marks : List Mark) (fields : List ℕ) (settled : IsSettled m marks fields) (t : ℕ) (k : Mark) → mark_at marks t ≡ k → IsSize m t (size_in k)
+size_is : (m : Module) (marks : List SizeMark) (fields : List ℕ) (settled : IsSettled m marks fields) (t : ℕ) (k : SizeMark) → mark_at marks t ≡ k → IsSize m t (size_in k)
 size_is m marks fields settled t New e = absurd (never_new m marks fields settled t e)
 size_is m marks fields settled t Open e = absurd (never_open m marks fields settled t e)
 size_is m marks fields settled t Endless e = record { has = λ n is. absurd cc; has_none = λ is fs s. absurd (mark_is m marks fields settled t Endless e fs s) }
@@ -418,7 +418,7 @@ size_is m marks fields settled t (Known span) e =
     }
 
 -- these are the sizes of all types
-pub are_sizes : (m : Module) (marks : List Mark) (fields : List ℕ) → IsSettled m marks fields → (sizes : List (Option ℕ)) → sizes ≡ map size_in marks → AreSizes m sizes
+pub are_sizes : (m : Module) (marks : List SizeMark) (fields : List ℕ) → IsSettled m marks fields → (sizes : List (Option ℕ)) → sizes ≡ map size_in marks → AreSizes m sizes
 are_sizes m marks fields settled sizes is = subst (AreSizes m) (sym is) (record {
   one_each = map-length size_in marks ∙ settled.survey.one_each;
   each = λ t size e. subst (IsSize m t) (sym (sized_at marks t size e)) (size_is m marks fields settled t (mark_at marks t) refl);

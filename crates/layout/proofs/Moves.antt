@@ -7,11 +7,11 @@ use Rattle.std.specs.Prelude.{slice_get, slice_set, replicate}
 use Rattle.ir_ast.specs.declared.module.Module.{Module}
 use Rattle.layout.specs.Words.{Scalars, Scalar, copies}
 use Rattle.layout.specs.Survey.{IsSettled, turns_left, mark_at, fields_at, IsWithin, MarkFits, IsSettling, IsSurvey, IsAdvance, TurnFits, is_new, marks_after, fields_after, stack_after, turn_at}
-use Rattle.layout.specs.declared.survey.Mark.{Mark}
-use Rattle.layout.specs.declared.survey.Mark.TheVariants.{New, Open, Endless, Large, Known}
+use Rattle.layout.specs.declared.survey.SizeMark.{SizeMark}
+use Rattle.layout.specs.declared.survey.SizeMark.TheVariants.{New, Open, Endless, Large, Known}
 use Rattle.layout.specs.declared.survey.Span.{Span}
-use Rattle.layout.specs.declared.survey.Turn.{Turn}
-use Rattle.layout.specs.declared.survey.Turn.TheVariants.{Wait, Done, Alone, Join, Repeat}
+use Rattle.layout.specs.declared.survey.SizeTurn.{SizeTurn}
+use Rattle.layout.specs.declared.survey.SizeTurn.TheVariants.{Wait, Done, Alone, Join, Repeat}
 use Rattle.layout.specs.Steps.{part_opened, top_known, fields_behind, is_ready, same_fields, within_more, get_inside, AfterSet, Other, Here, Outside, after_set, set_length, kept_at}
 use Rattle.layout.proofs.Turns.{length_at, copies_length, turn_right}
 
@@ -20,8 +20,8 @@ pub copies_end : (n : ℕ) (fs : List ℕ) → copies n fs ++ fs ≡ copies (suc
 copies_end zero fs = sym (append-nil fs)
 copies_end (suc n) fs = append_assoc fs (copies n fs) fs ∙ ap (λ l. fs ++ l) (copies_end n fs)
 
-module _ (m : Module) (marks : List Mark) (fields s : List ℕ) (top : ℕ) (survey : IsSurvey m marks fields (s ++ top ∷ [])) where
-  plain : (k : Mark) → is_new k ≡ false → (k ≡ Open → ⊥) → MarkFits m fields top k → IsAdvance m marks fields (s ++ top ∷ []) (slice_set marks top k) fields s
+module _ (m : Module) (marks : List SizeMark) (fields s : List ℕ) (top : ℕ) (survey : IsSurvey m marks fields (s ++ top ∷ [])) where
+  plain : (k : SizeMark) → is_new k ≡ false → (k ≡ Open → ⊥) → MarkFits m fields top k → IsAdvance m marks fields (s ++ top ∷ []) (slice_set marks top k) fields s
   plain k old closed h =
       let e : fields ++ [] ≡ fields = append-nil fields in
       subst (λ fs. IsAdvance m marks fields (s ++ top ∷ []) (slice_set marks top k) fs s) e (top_known m marks fields s top survey [] k old closed (subst (λ fs. MarkFits m fs top k) (sym e) h))
@@ -30,7 +30,7 @@ module _ (m : Module) (marks : List Mark) (fields s : List ℕ) (top : ℕ) (sur
       → IsAdvance m marks fields (s ++ top ∷ []) (slice_set marks top (Known (record { start = length fields; count = n }))) (fields ++ more) s
   behind more n len few scalars = top_known m marks fields s top survey more (Known (record { start = length fields; count = n })) refl (λ e. absurd cc) (fields_behind m fields more top n len few scalars)
 
-  by_turn : (turn : Turn) → TurnFits m marks fields top turn → IsAdvance m marks fields (s ++ top ∷ []) (marks_after turn marks fields top) (fields_after turn fields top) (stack_after turn s top)
+  by_turn : (turn : SizeTurn) → TurnFits m marks fields top turn → IsAdvance m marks fields (s ++ top ∷ []) (marks_after turn marks fields top) (fields_after turn fields top) (stack_after turn s top)
   by_turn (Wait part) h = part_opened m marks fields s top survey part h.0 h.1
   by_turn (Done New) h = absurd h
   by_turn (Done Open) h = absurd h
@@ -47,7 +47,7 @@ module _ (m : Module) (marks : List Mark) (fields s : List ℕ) (top : ℕ) (sur
       behind (copies times (fields_at fields span)) (times * span.count) (copies_length times (fields_at fields span) ∙ ap (λ n. times * n) len) h.1 h.2
 
 -- a turn makes progress
-pub advances : (m : Module) (marks : List Mark) (fields s : List ℕ) (top : ℕ) → IsSurvey m marks fields (s ++ top ∷ []) → (turn : Turn) → turn ≡ turn_at m marks (slice_get m.types top)
+pub advances : (m : Module) (marks : List SizeMark) (fields s : List ℕ) (top : ℕ) → IsSurvey m marks fields (s ++ top ∷ []) → (turn : SizeTurn) → turn ≡ turn_at m marks (slice_get m.types top)
     → IsAdvance m marks fields (s ++ top ∷ []) (marks_after turn marks fields top) (fields_after turn fields top) (stack_after turn s top)
 advances m marks fields s top survey turn is =
     by_turn m marks fields s top survey turn (subst (TurnFits m marks fields top) (sym is) (turn_right m marks fields top (is_ready m marks fields s top survey)))
@@ -69,19 +69,19 @@ pub grown_within : (old fields : List ℕ) (span : Span) (n : ℕ) → IsWithin 
 grown_within old fields span n within is = subst (λ l. IsWithin l span) (sym is) (within_more old (copies n (fields_at old span)) span within)
 
 -- a turn ends where it is said to
-pub arrives : (m : Module) (marks : List Mark) (fields s : List ℕ) (top : ℕ) → IsSurvey m marks fields (s ++ top ∷ []) → (turn : Turn) → turn ≡ turn_at m marks (slice_get m.types top)
-    → (later_marks : List Mark) (later_fields later_stack : List ℕ) → later_marks ≡ marks_after turn marks fields top → later_fields ≡ fields_after turn fields top → later_stack ≡ stack_after turn s top
+pub arrives : (m : Module) (marks : List SizeMark) (fields s : List ℕ) (top : ℕ) → IsSurvey m marks fields (s ++ top ∷ []) → (turn : SizeTurn) → turn ≡ turn_at m marks (slice_get m.types top)
+    → (later_marks : List SizeMark) (later_fields later_stack : List ℕ) → later_marks ≡ marks_after turn marks fields top → later_fields ≡ fields_after turn fields top → later_stack ≡ stack_after turn s top
     → IsAdvance m marks fields (s ++ top ∷ []) later_marks later_fields later_stack
 arrives m marks fields s top survey turn is ms fs ss e f g =
     subst (λ x. IsAdvance m marks fields (s ++ top ∷ []) x fs ss) (sym e)
     (subst (λ x. IsAdvance m marks fields (s ++ top ∷ []) (marks_after turn marks fields top) x ss) (sym f)
     (subst (λ x. IsAdvance m marks fields (s ++ top ∷ []) (marks_after turn marks fields top) (fields_after turn fields top) x) (sym g) (advances m marks fields s top survey turn is)))
 
-none_open : (marks : List Mark) (p i : ℕ) → slice_get {X = ℕ} [] i ≡ Some p → ⊥
+none_open : (marks : List SizeMark) (p i : ℕ) → slice_get {X = ℕ} [] i ≡ Some p → ⊥
 none_open marks p i e = cc
 
 -- the first type waits
-pub begins : (m : Module) (marks : List Mark) (fields : List ℕ) (first : ℕ) → IsSurvey m marks fields [] → mark_at marks first ≡ New → IsSurvey m (slice_set marks first Open) fields (first ∷ [])
+pub begins : (m : Module) (marks : List SizeMark) (fields : List ℕ) (first : ℕ) → IsSurvey m marks fields [] → mark_at marks first ≡ New → IsSurvey m (slice_set marks first Open) fields (first ∷ [])
 begins m marks fields first survey new = record {
   one_each = set_length marks first Open ∙ survey.one_each;
   fits = λ p. fits_at p (after_set marks first Open p);
@@ -99,7 +99,7 @@ begins m marks fields first survey new = record {
   open_at p waits (Outside at is was) = absurd (let e : Endless ≡ Open = sym is ∙ waits in cc)
 
 -- a turn preserves the loop's invariant
-pub goes_on : (m : Module) (marks : List Mark) (first : ℕ) (now_marks : List Mark) (now_fields now_stack s : List ℕ) (top : ℕ) (later_marks : List Mark) (later_fields later_stack : List ℕ)
+pub goes_on : (m : Module) (marks : List SizeMark) (first : ℕ) (now_marks : List SizeMark) (now_fields now_stack s : List ℕ) (top : ℕ) (later_marks : List SizeMark) (later_fields later_stack : List ℕ)
     → IsSettling m marks first now_marks now_fields now_stack → now_stack ≡ s ++ top ∷ [] → IsAdvance m now_marks now_fields (s ++ top ∷ []) later_marks later_fields later_stack
     → IsSettling m marks first later_marks later_fields later_stack
 goes_on m marks first nm nf ns s top lm lf ls inv is step = record {
@@ -109,11 +109,11 @@ goes_on m marks first nm nf ns s top lm lf ls inv is step = record {
 }
 
 -- and fewer turns are left
-pub fewer_left : (m : Module) (now_marks : List Mark) (now_fields now_stack s : List ℕ) (top : ℕ) (later_marks : List Mark) (later_fields later_stack : List ℕ)
+pub fewer_left : (m : Module) (now_marks : List SizeMark) (now_fields now_stack s : List ℕ) (top : ℕ) (later_marks : List SizeMark) (later_fields later_stack : List ℕ)
     → now_stack ≡ s ++ top ∷ [] → IsAdvance m now_marks now_fields (s ++ top ∷ []) later_marks later_fields later_stack → turns_left later_marks later_stack < turns_left now_marks now_stack
 fewer_left m nm nf ns s top lm lf ls is step = subst (λ x. turns_left lm ls < turns_left nm x) (sym is) step.fewer
 
-pub goes_from : (m : Module) (marks : List Mark) (fields : List ℕ) (first : ℕ) → IsSurvey m marks fields [] → mark_at marks first ≡ New → IsSettling m marks first (slice_set marks first Open) fields (first ∷ [])
+pub goes_from : (m : Module) (marks : List SizeMark) (fields : List ℕ) (first : ℕ) → IsSurvey m marks fields [] → mark_at marks first ≡ New → IsSettling m marks first (slice_set marks first Open) fields (first ∷ [])
 goes_from m marks fields first survey new = record {
   survey = begins m marks fields first survey new;
   kept = λ p e. kept_at marks first Open p refl e;
@@ -124,7 +124,7 @@ goes_from m marks fields first survey new = record {
   met_at (Here at is) = ap is_new is
   met_at (Outside at is was) = ap is_new is
 
-pub starts : (m : Module) (marks : List Mark) (fields : List ℕ) (first : ℕ) (later_marks : List Mark) (later_fields later_stack : List ℕ) → IsSurvey m marks fields [] → mark_at marks first ≡ New
+pub starts : (m : Module) (marks : List SizeMark) (fields : List ℕ) (first : ℕ) (later_marks : List SizeMark) (later_fields later_stack : List ℕ) → IsSurvey m marks fields [] → mark_at marks first ≡ New
     → later_marks ≡ slice_set marks first Open → later_fields ≡ fields → later_stack ≡ first ∷ [] → IsSettling m marks first later_marks later_fields later_stack
 starts m marks fields first lm lf ls survey new e f g =
     subst (λ x. IsSettling m marks first x lf ls) (sym e)
@@ -132,7 +132,7 @@ starts m marks fields first lm lf ls survey new e f g =
     (subst (λ x. IsSettling m marks first (slice_set marks first Open) fields x) (sym g) (goes_from m marks fields first survey new)))
 
 -- a type that was met is settled
-pub already : (m : Module) (marks : List Mark) (fields : List ℕ) (first : ℕ) → IsSurvey m marks fields [] → is_new (mark_at marks first) ≡ false → IsSettling m marks first marks fields []
+pub already : (m : Module) (marks : List SizeMark) (fields : List ℕ) (first : ℕ) → IsSurvey m marks fields [] → is_new (mark_at marks first) ≡ false → IsSettling m marks first marks fields []
 already m marks fields first survey met = record { survey = survey; kept = λ p e. e; met = met }
 
 -- ---- all types
@@ -147,7 +147,7 @@ new_length zero = refl
 new_length (suc n) = ap suc (new_length n)
 
 -- at first nothing is known
-pub nothing_known : (m : Module) (marks : List Mark) (fields : List ℕ) (count : ℕ) → count ≡ length m.types → marks ≡ replicate count New → fields ≡ [] → IsSurvey m marks fields []
+pub nothing_known : (m : Module) (marks : List SizeMark) (fields : List ℕ) (count : ℕ) → count ≡ length m.types → marks ≡ replicate count New → fields ≡ [] → IsSurvey m marks fields []
 nothing_known m marks fields count is e f = subst (λ x. IsSurvey m x fields []) (sym e) (subst (λ x. IsSurvey m (replicate count New) x []) (sym f) (record {
   one_each = new_length count ∙ is;
   fits = λ p. fits_at p (new_or_past count p);
@@ -165,7 +165,7 @@ nothing_known m marks fields count is e f = subst (λ x. IsSurvey m x fields [])
   open_at p waits (inr past) = let e : Endless ≡ Open = sym past.0 ∙ waits in cc
 
 -- once each type of the table was met, all are settled
-pub all_met : (m : Module) (marks : List Mark) (fields : List ℕ) → IsSurvey m marks fields [] → ((p : ℕ) → p < length m.types → is_new (mark_at marks p) ≡ false) → IsSettled m marks fields
+pub all_met : (m : Module) (marks : List SizeMark) (fields : List ℕ) → IsSurvey m marks fields [] → ((p : ℕ) → p < length m.types → is_new (mark_at marks p) ≡ false) → IsSettled m marks fields
 all_met m marks fields survey met = record { survey = survey; met = λ p. at p (lt_or_le p (length m.types)) } where
   lt_or_le : (a b : ℕ) → (a < b) ⊎ (b ≤ a)
   lt_or_le a b = grind arith

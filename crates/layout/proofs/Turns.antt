@@ -9,10 +9,10 @@ use Rattle.ir_ast.specs.declared.ir_type.IrType.TheVariants.{Void, Integer, Poin
 use Rattle.layout.specs.Words.{copies, Scalars, Elements, NoField, Fields, Body}
 use Rattle.layout.specs.Layouts.{IsPartOf, IsPart}
 use Rattle.layout.specs.Survey.{mark_at, fields_at, IsWithin, IsLarge, IsEndless, MarkFits, IsReady, TurnFits, name_turn, array_turn, join_turn, large_turn, known_turn, struct_turn, body_turn, turn_at, no_fields}
-use Rattle.layout.specs.declared.survey.Mark.{Mark}
-use Rattle.layout.specs.declared.survey.Mark.TheVariants.{New, Open, Endless, Large, Known}
+use Rattle.layout.specs.declared.survey.SizeMark.{SizeMark}
+use Rattle.layout.specs.declared.survey.SizeMark.TheVariants.{New, Open, Endless, Large, Known}
 use Rattle.layout.specs.declared.survey.Span.{Span}
-use Rattle.layout.specs.declared.survey.Turn.TheVariants.{Done, Join, Repeat}
+use Rattle.layout.specs.declared.survey.SizeTurn.TheVariants.{Done, Join, Repeat}
 use Rattle.layout.specs.Rings.{no_end_in_ring, expected}
 use Rattle.types.specs.Elements.{body_named}
 
@@ -40,8 +40,8 @@ many_copies : (n k : ℕ) → n ≢ 0 → 64 < k → 64 < n * k
 many_copies zero k ne lt = absurd (ne refl)
 many_copies (suc n) k ne lt = omega (arith, lt)
 
-module _ (m : Module) (marks : List Mark) (fields : List ℕ) (top : ℕ) (ready : IsReady m marks fields top) where
-  mark_is : (part : ℕ) (k : Mark) → mark_at marks part ≡ k → MarkFits m fields part k
+module _ (m : Module) (marks : List SizeMark) (fields : List ℕ) (top : ℕ) (ready : IsReady m marks fields top) where
+  mark_is : (part : ℕ) (k : SizeMark) → mark_at marks part ≡ k → MarkFits m fields part k
   mark_is part k e = subst (MarkFits m fields part) e (ready.fits part)
 
   has_part : (o : Option IrType) (part : ℕ) → slice_get m.types top ≡ o → IsPartOf m o part → IsPart m top part
@@ -54,7 +54,7 @@ module _ (m : Module) (marks : List Mark) (fields : List ℕ) (top : ℕ) (ready
   nothing s = (record { inside = omega arith; few = omega arith }, s)
 
   -- a name
-  named : (name body : ℕ) (k : Mark) → slice_get m.types top ≡ Some (Named name) → body_named m name ≡ Some body → mark_at marks body ≡ k → TurnFits m marks fields top (name_turn body k)
+  named : (name body : ℕ) (k : SizeMark) → slice_get m.types top ≡ Some (Named name) → body_named m name ≡ Some body → mark_at marks body ≡ k → TurnFits m marks fields top (name_turn body k)
   named name body New is b e = (has_part (Some (Named name)) body is b, e)
   named name body Open is b e = open_part body (has_part (Some (Named name)) body is b) e
   named name body Endless is b e = λ fs s. elim (expected m top fs (Some (Named name)) is s) [
@@ -67,7 +67,7 @@ module _ (m : Module) (marks : List Mark) (fields : List ℕ) (top : ℕ) (ready
   named name body (Known span) is b e = let k = mark_is body (Known span) e in (k.0, Body top name body (fields_at fields span) is b k.1)
 
   -- an array
-  arrayed : (length_is part : ℕ) (k : Mark) → slice_get m.types top ≡ Some (Array length_is part) → mark_at marks part ≡ k → TurnFits m marks fields top (array_turn length_is part k)
+  arrayed : (length_is part : ℕ) (k : SizeMark) → slice_get m.types top ≡ Some (Array length_is part) → mark_at marks part ≡ k → TurnFits m marks fields top (array_turn length_is part k)
   arrayed n part New is e = (has_part (Some (Array n part)) part is refl, e)
   arrayed n part Open is e = open_part part (has_part (Some (Array n part)) part is refl) e
   arrayed n part Endless is e = λ fs s. let x = expected m top fs (Some (Array n part)) is s in mark_is part Endless e x.0 x.1.0
@@ -124,14 +124,14 @@ module _ (m : Module) (marks : List Mark) (fields : List ℕ) (top : ℕ) (ready
     many = rw (length-append xs ys) (elim many [ inl h ↦ omega (arith, h) | inr h ↦ omega (arith, h) ]);
   }
 
-  large_first : (first rest : ℕ) (k : Mark) → slice_get m.types top ≡ Some (Struct first rest) → IsLarge m first → mark_at marks rest ≡ k → TurnFits m marks fields top (large_turn rest k)
+  large_first : (first rest : ℕ) (k : SizeMark) → slice_get m.types top ≡ Some (Struct first rest) → IsLarge m first → mark_at marks rest ≡ k → TurnFits m marks fields top (large_turn rest k)
   large_first first rest New is l e = (has_part (Some (Struct first rest)) rest is (inr refl), e)
   large_first first rest Open is l e = open_part rest (has_part (Some (Struct first rest)) rest is (inr refl)) e
   large_first first rest Endless is l e = endless_rest first rest is (mark_is rest Endless e)
   large_first first rest Large is l e = let r : IsLarge m rest = mark_is rest Large e in large_both first rest l.fields r.fields is l.scalars r.scalars (inl l.many)
   large_first first rest (Known span) is l e = large_both first rest l.fields (fields_at fields span) is l.scalars (mark_is rest (Known span) e).1 (inl l.many)
 
-  known_first : (first rest : ℕ) (one : Span) (k : Mark) → slice_get m.types top ≡ Some (Struct first rest) → mark_at marks first ≡ Known one → mark_at marks rest ≡ k
+  known_first : (first rest : ℕ) (one : Span) (k : SizeMark) → slice_get m.types top ≡ Some (Struct first rest) → mark_at marks first ≡ Known one → mark_at marks rest ≡ k
       → TurnFits m marks fields top (known_turn one rest k)
   known_first first rest one New is d e = (has_part (Some (Struct first rest)) rest is (inr refl), e)
   known_first first rest one Open is d e = open_part rest (has_part (Some (Struct first rest)) rest is (inr refl)) e
@@ -141,7 +141,7 @@ module _ (m : Module) (marks : List Mark) (fields : List ℕ) (top : ℕ) (ready
       large_both first rest (fields_at fields one) r.fields is (mark_is first (Known one) d).1 r.scalars (inr r.many)
   known_first first rest one (Known other) is d e = joined first rest one other is d e
 
-  struct_right : (first rest : ℕ) (k j : Mark) → slice_get m.types top ≡ Some (Struct first rest) → mark_at marks first ≡ k → mark_at marks rest ≡ j
+  struct_right : (first rest : ℕ) (k j : SizeMark) → slice_get m.types top ≡ Some (Struct first rest) → mark_at marks first ≡ k → mark_at marks rest ≡ j
       → TurnFits m marks fields top (struct_turn first rest k j)
   struct_right first rest New j is d e = (has_part (Some (Struct first rest)) first is (inl refl), d)
   struct_right first rest Open j is d e = open_part first (has_part (Some (Struct first rest)) first is (inl refl)) d
@@ -164,5 +164,5 @@ module _ (m : Module) (marks : List Mark) (fields : List ℕ) (top : ℕ) (ready
   right_at (Some (Named name)) is = named_right name (body_named m name) is refl
 
 -- the turn at a type is right
-pub turn_right : (m : Module) (marks : List Mark) (fields : List ℕ) (top : ℕ) → IsReady m marks fields top → TurnFits m marks fields top (turn_at m marks (slice_get m.types top))
+pub turn_right : (m : Module) (marks : List SizeMark) (fields : List ℕ) (top : ℕ) → IsReady m marks fields top → TurnFits m marks fields top (turn_at m marks (slice_get m.types top))
 turn_right m marks fields top ready = right_at m marks fields top ready (slice_get m.types top) refl

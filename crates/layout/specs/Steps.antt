@@ -8,8 +8,8 @@ use Rattle.ir_ast.specs.declared.module.Module.{Module}
 use Rattle.layout.specs.Words.{Scalars}
 use Rattle.layout.specs.Layouts.{IsPart, Holds, Itself, Deeper}
 use Rattle.layout.specs.Survey.{mark_at, fields_at, IsWithin, MarkFits, IsReady, IsSurvey, IsAdvance, is_new, new_count}
-use Rattle.layout.specs.declared.survey.Mark.{Mark}
-use Rattle.layout.specs.declared.survey.Mark.TheVariants.{New, Open, Endless, Large, Known}
+use Rattle.layout.specs.declared.survey.SizeMark.{SizeMark}
+use Rattle.layout.specs.declared.survey.SizeMark.TheVariants.{New, Open, Endless, Large, Known}
 use Rattle.layout.specs.declared.survey.Span.{Span}
 
 -- ---- lists
@@ -42,17 +42,17 @@ get_some (x ∷ xs) (suc i) lt = get_some xs i (omega arith)
 
 -- ---- marks
 
-pub data AfterSet (marks : List Mark) (t : ℕ) (k : Mark) (p : ℕ) : Type 0 where
+pub data AfterSet (marks : List SizeMark) (t : ℕ) (k : SizeMark) (p : ℕ) : Type 0 where
   Other : p ≢ t → mark_at (slice_set marks t k) p ≡ mark_at marks p → AfterSet marks t k p
   Here : p ≡ t → mark_at (slice_set marks t k) p ≡ k → AfterSet marks t k p
   Outside : p ≡ t → mark_at (slice_set marks t k) p ≡ Endless → mark_at marks p ≡ Endless → AfterSet marks t k p
 
-next_after : (x : Mark) (marks : List Mark) (t p : ℕ) (k : Mark) → AfterSet marks t k p → AfterSet (x ∷ marks) (suc t) k (suc p)
+next_after : (x : SizeMark) (marks : List SizeMark) (t p : ℕ) (k : SizeMark) → AfterSet marks t k p → AfterSet (x ∷ marks) (suc t) k (suc p)
 next_after x marks t p k (Other ne e) = Other (λ q. ne (omega (arith, q))) e
 next_after x marks t p k (Here at e) = Here (ap suc at) e
 next_after x marks t p k (Outside at e d) = Outside (ap suc at) e d
 
-pub after_set : (marks : List Mark) (t : ℕ) (k : Mark) (p : ℕ) → AfterSet marks t k p
+pub after_set : (marks : List SizeMark) (t : ℕ) (k : SizeMark) (p : ℕ) → AfterSet marks t k p
 after_set [] t k p = elim (same_or_not p t) [ inl e ↦ Outside e refl refl | inr ne ↦ Other ne refl ] where
   same_or_not : (a b : ℕ) → (a ≡ b) ⊎ (a ≢ b)
   same_or_not zero zero = inl refl
@@ -64,22 +64,22 @@ after_set (x ∷ marks) zero k (suc p) = Other (λ e. omega (arith, e)) refl
 after_set (x ∷ marks) (suc t) k zero = Other (λ e. omega (arith, e)) refl
 after_set (x ∷ marks) (suc t) k (suc p) = next_after x marks t p k (after_set marks t k p)
 
-pub set_length : (marks : List Mark) (t : ℕ) (k : Mark) → length (slice_set marks t k) ≡ length marks
+pub set_length : (marks : List SizeMark) (t : ℕ) (k : SizeMark) → length (slice_set marks t k) ≡ length marks
 set_length [] t k = refl
 set_length (x ∷ marks) zero k = refl
 set_length (x ∷ marks) (suc t) k = ap suc (set_length marks t k)
 
-fewer_new : (marks : List Mark) (t : ℕ) (k : Mark) → is_new k ≡ false → new_count (slice_set marks t k) ≤ new_count marks
+fewer_new : (marks : List SizeMark) (t : ℕ) (k : SizeMark) → is_new k ≡ false → new_count (slice_set marks t k) ≤ new_count marks
 fewer_new [] t k e = omega arith
 fewer_new (x ∷ marks) zero k e = rw e (omega arith)
 fewer_new (x ∷ marks) (suc t) k e = let h = fewer_new marks t k e in omega arith
 
-one_less_new : (marks : List Mark) (t : ℕ) → mark_at marks t ≡ New → suc (new_count (slice_set marks t Open)) ≡ new_count marks
+one_less_new : (marks : List SizeMark) (t : ℕ) → mark_at marks t ≡ New → suc (new_count (slice_set marks t Open)) ≡ new_count marks
 one_less_new [] t e = absurd cc
 one_less_new (x ∷ marks) zero e = rw e (omega arith)
 one_less_new (x ∷ marks) (suc t) e = let h = one_less_new marks t e in omega arith
 
-pub kept_at : (marks : List Mark) (t : ℕ) (k : Mark) (p : ℕ) → is_new k ≡ false → is_new (mark_at marks p) ≡ false → is_new (mark_at (slice_set marks t k) p) ≡ false
+pub kept_at : (marks : List SizeMark) (t : ℕ) (k : SizeMark) (p : ℕ) → is_new k ≡ false → is_new (mark_at marks p) ≡ false → is_new (mark_at (slice_set marks t k) p) ≡ false
 kept_at marks t k p e old = by (after_set marks t k p) where
   by : AfterSet marks t k p → is_new (mark_at (slice_set marks t k) p) ≡ false
   by (Other ne same) = ap is_new same ∙ old
@@ -98,7 +98,7 @@ same_fields fields more span w =
 pub within_more : (fields more : List ℕ) (span : Span) → IsWithin fields span → IsWithin (fields ++ more) span
 within_more fields more span w = let i = w.inside in record { inside = simp length-append (omega arith); few = w.few }
 
-pub fits_more : (m : Module) (fields more : List ℕ) (t : ℕ) (k : Mark) → MarkFits m fields t k → MarkFits m (fields ++ more) t k
+pub fits_more : (m : Module) (fields more : List ℕ) (t : ℕ) (k : SizeMark) → MarkFits m fields t k → MarkFits m (fields ++ more) t k
 fits_more m fields more t New h = h
 fits_more m fields more t Open h = h
 fits_more m fields more t Endless h = h
@@ -113,7 +113,7 @@ fields_behind m fields more t n len few s =
 
 -- ---- the turns
 
-module _ (m : Module) (marks : List Mark) (fields s : List ℕ) (top : ℕ) (survey : IsSurvey m marks fields (s ++ top ∷ [])) where
+module _ (m : Module) (marks : List SizeMark) (fields s : List ℕ) (top : ℕ) (survey : IsSurvey m marks fields (s ++ top ∷ [])) where
   holds_from : (n i p : ℕ) → i + n ≡ length s → slice_get (s ++ top ∷ []) i ≡ Some p → Holds m p top
   holds_from zero i p e at =
       elim (get_either s top i p at) [
@@ -170,7 +170,7 @@ module _ (m : Module) (marks : List Mark) (fields s : List ℕ) (top : ℕ) (sur
     chain_at i lower upper (inr low) (inr up) = absurd (omega (arith, low.0, up.0))
 
   -- the type on top is known
-  pub top_known : (more : List ℕ) (k : Mark) → is_new k ≡ false → (k ≡ Open → ⊥) → MarkFits m (fields ++ more) top k → IsAdvance m marks fields (s ++ top ∷ []) (slice_set marks top k) (fields ++ more) s
+  pub top_known : (more : List ℕ) (k : SizeMark) → is_new k ≡ false → (k ≡ Open → ⊥) → MarkFits m (fields ++ more) top k → IsAdvance m marks fields (s ++ top ∷ []) (slice_set marks top k) (fields ++ more) s
   top_known more k old closed h = record {
     survey = record {
       one_each = set_length marks top k ∙ survey.one_each;

@@ -4,7 +4,7 @@ ghost use Rattle.layout.specs.Ring.{Says, IsFirstIfAny, is_met, met_with, stack_
 ghost use Rattle.layout.specs.Survey.{IsSettled, struct_is_endless};
 ghost use Rattle.types.specs.References.{layout_of_struct};
 
-use crate::survey::{Mark, Survey};
+use crate::survey::{SizeMark, Survey};
 use ir_ast::{IrType, Module, TypeId};
 use items::Items;
 use pools::LayoutId;
@@ -128,7 +128,7 @@ fn holds_itself(
         return Ok(false);
     };
     match survey.mark(named.body) {
-        Mark::Endless => holds_struct(alloc, module, named.body, number),
+        SizeMark::Endless => holds_struct(alloc, module, named.body, number),
         _ => Ok(false),
     }
 }

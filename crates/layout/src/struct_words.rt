@@ -7,7 +7,7 @@ ghost use Rattle.pools.specs.declared.word_kind.WordKind.{WordKind as AWord};
 
 use crate::fault::LayoutFault;
 use crate::ring::first_ring;
-use crate::survey::{Mark, NO_FIELDS, Span, Survey};
+use crate::survey::{NO_FIELDS, SizeMark, Span, Survey};
 use crate::word::word_of;
 use ir_ast::{IrType, Module, StructType, TypeId};
 use items::Items;
@@ -25,7 +25,7 @@ fn struct_is_endless(survey: &Survey, named: &StructType) -> bool
     ensures { result ≡ struct_is_endless survey.now.marks named.now }
 {
     match survey.mark(named.body) {
-        Mark::Endless => true,
+        SizeMark::Endless => true,
         _ => false,
     }
 }
@@ -34,16 +34,16 @@ fn struct_is_large(survey: &Survey, named: &StructType) -> bool
     ensures { result ≡ struct_is_large survey.now.marks named.now }
 {
     match survey.mark(named.body) {
-        Mark::Large => true,
+        SizeMark::Large => true,
         _ => false,
     }
 }
 
-fn span_of(mark: Mark) -> Span
+fn span_of(mark: SizeMark) -> Span
     ensures { result ≡ span_of mark }
 {
     match mark {
-        Mark::Known(span) => span,
+        SizeMark::Known(span) => span,
         _ => NO_FIELDS,
     }
 }
@@ -193,11 +193,11 @@ pub(crate) fn layouts_of(
     Ok(all_words(alloc, survey, module, module.structs.as_slice())?)
 }
 
-fn size_in(mark: Mark) -> Option<u32>
+fn size_in(mark: SizeMark) -> Option<u32>
     ensures { result ≡ size_in mark }
 {
     match mark {
-        Mark::Known(span) => Some(span.count.min(64) as u32),
+        SizeMark::Known(span) => Some(span.count.min(64) as u32),
         _ => None,
     }
 }

@@ -1,6 +1,6 @@
 ghost use Rattle.std.specs.Prelude.{◌≡◌, [], ◌∷◌, ◌++◌, slice_get, slice_set, OnOk, IfOk};
 ghost use Rattle.layout.specs.Words.{copies};
-ghost use Rattle.layout.specs.declared.survey.Mark.TheVariants.{New};
+ghost use Rattle.layout.specs.declared.survey.SizeMark.TheVariants.{New};
 ghost use Rattle.layout.specs.Survey.{mark_at, fields_at, IsWithin, IsReady, IsSurvey, IsAdvance, IsSettling, IsSettled, TurnFits, SpansFit, marks_after, fields_after, stack_after, name_turn, array_turn, repeat_turn, struct_turn, large_turn, known_turn, join_turn, turn_at};
 
 use ir_ast::{IrType, Module, TypeId};
@@ -22,7 +22,7 @@ pub struct Span {
 
 /// What is known of a type.
 #[derive(Clone, Copy, Debug, PartialEq, Eq)]
-pub enum Mark {
+pub enum SizeMark {
     /// Nothing so far.
     New,
     /// It waits for a part of it.
@@ -37,10 +37,10 @@ pub enum Mark {
 
 /// What comes next at a type.
 #[derive(Clone, Copy, Debug, PartialEq, Eq)]
-pub enum Turn {
+pub enum SizeTurn {
     /// A part of it has to be known first.
     Wait(TypeId),
-    Done(Mark),
+    Done(SizeMark),
     /// It is a scalar.
     Alone,
     /// Its fields are those of two parts.
@@ -52,21 +52,21 @@ pub enum Turn {
 /// The scalar fields of the types of a table.
 #[derive(Drop)]
 pub struct Survey {
-    pub marks: Items<Mark>,
+    pub marks: Items<SizeMark>,
     pub fields: Vec<TypeId>,
 }
 
 impl Survey {
-    pub fn mark(&self, written: TypeId) -> Mark
+    pub fn mark(&self, written: TypeId) -> SizeMark
         ensures { result ≡ mark_at self.now.marks written }
     {
         match self.marks.get(written.number() as usize) {
             Some(mark) => *mark,
-            None => Mark::Endless,
+            None => SizeMark::Endless,
         }
     }
 
-    fn put(&mut self, written: TypeId, mark: Mark)
+    fn put(&mut self, written: TypeId, mark: SizeMark)
         ensures marks { self.new.marks ≡ slice_set self.old.marks written mark }
         ensures fields { self.new.fields.items ≡ self.old.fields.items }
     {
@@ -78,25 +78,25 @@ impl Survey {
 
     /// What comes next at a type.
     #[tactic(auto, using(crate::proofs::Turns::turn_right))]
-    fn turn(&self, module: &Module, written: TypeId) -> Turn
+    fn turn(&self, module: &Module, written: TypeId) -> SizeTurn
         requires ready { IsReady «module».now self.now.marks self.now.fields.items written }
         ensures right { TurnFits «module».now self.now.marks self.now.fields.items written result }
         ensures turn { result ≡ turn_at «module».now self.now.marks (slice_get «module».now.types written) }
     {
         let Some(kind) = module.types.get(written) else {
-            return Turn::Done(Mark::Endless);
+            return SizeTurn::Done(SizeMark::Endless);
         };
         match kind {
             IrType::Array { length, part } => array_turn(length, part, self.mark(part)),
-            IrType::EmptyStruct => Turn::Done(Mark::Known(NO_FIELDS)),
+            IrType::EmptyStruct => SizeTurn::Done(SizeMark::Known(NO_FIELDS)),
             IrType::Struct { first, rest } => {
                 struct_turn(first, rest, self.mark(first), self.mark(rest))
             }
             IrType::Named(name) => match body_named(module, name) {
                 Some(body) => name_turn(body, self.mark(body)),
-                None => Turn::Alone,
+                None => SizeTurn::Alone,
             },
-            _ => Turn::Alone,
+            _ => SizeTurn::Alone,
         }
     }
 
@@ -120,7 +120,7 @@ impl Survey {
         ensures { IfOk result (λ survey. IsSettled «module».now survey.marks survey.fields.items) }
     {
         let count = module.types.count();
-        let marks = vec![in alloc; Mark::New; count]?;
+        let marks = vec![in alloc; SizeMark::New; count]?;
         let mut survey = Survey {
             marks: Items::from_vec(marks),
             fields: Vec::new(alloc),
@@ -137,7 +137,7 @@ impl Survey {
         ensures { OnOk result (IsSettling «module».now self.old.marks written self.new.marks self.new.fields.items []) }
     {
         match self.mark(written) {
-            Mark::New => self.settle(alloc, module, written)?,
+            SizeMark::New => self.settle(alloc, module, written)?,
             _ => {}
         }
         Ok(())
@@ -151,7 +151,7 @@ impl Survey {
     {
         let mut stack = Vec::new(alloc);
         stack.push(written)?;
-        self.put(written, Mark::Open);
+        self.put(written, SizeMark::Open);
         while let Some(top) = stack.pop() {
             self.advance(module, &mut stack, top)?;
         }
@@ -159,7 +159,12 @@ impl Survey {
     }
 
     /// What a turn does at the type that was on top of the stack.
-    fn take(&mut self, stack: &mut Vec<TypeId>, top: TypeId, turn: Turn) -> Result<(), AllocError>
+    fn take(
+        &mut self,
+        stack: &mut Vec<TypeId>,
+        top: TypeId,
+        turn: SizeTurn,
+    ) -> Result<(), AllocError>
         requires spans { SpansFit self.old.fields.items turn }
         ensures marks { OnOk result (self.new.marks ≡ marks_after turn self.old.marks self.old.fields.items top) }
         ensures fields { OnOk result (self.new.fields.items ≡ fields_after turn self.old.fields.items top) }
@@ -167,26 +172,26 @@ impl Survey {
     {
         let start = self.fields.len();
         match turn {
-            Turn::Wait(part) => {
+            SizeTurn::Wait(part) => {
                 stack.push(top)?;
                 stack.push(part)?;
-                self.put(part, Mark::Open);
+                self.put(part, SizeMark::Open);
             }
-            Turn::Done(mark) => self.put(top, mark),
-            Turn::Alone => {
+            SizeTurn::Done(mark) => self.put(top, mark),
+            SizeTurn::Alone => {
                 self.fields.push(top)?;
-                self.put(top, Mark::Known(Span { start, count: 1 }));
+                self.put(top, SizeMark::Known(Span { start, count: 1 }));
             }
-            Turn::Join(one, other) => {
+            SizeTurn::Join(one, other) => {
                 copy(&mut self.fields, one)?;
                 copy(&mut self.fields, other)?;
                 let count = one.count + other.count;
-                self.put(top, Mark::Known(Span { start, count }));
+                self.put(top, SizeMark::Known(Span { start, count }));
             }
-            Turn::Repeat(times, span) => {
+            SizeTurn::Repeat(times, span) => {
                 repeat(&mut self.fields, times, span)?;
                 let count = times as usize * span.count;
-                self.put(top, Mark::Known(Span { start, count }));
+                self.put(top, SizeMark::Known(Span { start, count }));
             }
         }
         Ok(())
@@ -215,95 +220,95 @@ fn repeat(fields: &mut Vec<TypeId>, times: u64, span: Span) -> Result<(), AllocE
 }
 
 /// The turn at a name, by what is known of its body.
-fn name_turn(body: TypeId, mark: Mark) -> Turn
+fn name_turn(body: TypeId, mark: SizeMark) -> SizeTurn
     ensures { result ≡ name_turn body mark }
 {
     match mark {
-        Mark::New => Turn::Wait(body),
-        Mark::Open | Mark::Endless => Turn::Done(Mark::Endless),
-        Mark::Large => Turn::Done(Mark::Large),
-        Mark::Known(span) => Turn::Done(Mark::Known(span)),
+        SizeMark::New => SizeTurn::Wait(body),
+        SizeMark::Open | SizeMark::Endless => SizeTurn::Done(SizeMark::Endless),
+        SizeMark::Large => SizeTurn::Done(SizeMark::Large),
+        SizeMark::Known(span) => SizeTurn::Done(SizeMark::Known(span)),
     }
 }
 
 /// The turn at an array, by what is known of its elements' type.
-fn array_turn(length: u64, part: TypeId, mark: Mark) -> Turn
+fn array_turn(length: u64, part: TypeId, mark: SizeMark) -> SizeTurn
     ensures { result ≡ array_turn length part mark }
 {
     match mark {
-        Mark::New => Turn::Wait(part),
-        Mark::Open | Mark::Endless => Turn::Done(Mark::Endless),
-        Mark::Large => {
+        SizeMark::New => SizeTurn::Wait(part),
+        SizeMark::Open | SizeMark::Endless => SizeTurn::Done(SizeMark::Endless),
+        SizeMark::Large => {
             if length == 0 {
-                Turn::Done(Mark::Known(NO_FIELDS))
+                SizeTurn::Done(SizeMark::Known(NO_FIELDS))
             } else {
-                Turn::Done(Mark::Large)
+                SizeTurn::Done(SizeMark::Large)
             }
         }
-        Mark::Known(span) => repeat_turn(length, span),
+        SizeMark::Known(span) => repeat_turn(length, span),
     }
 }
 
-fn repeat_turn(length: u64, span: Span) -> Turn
+fn repeat_turn(length: u64, span: Span) -> SizeTurn
     ensures { result ≡ repeat_turn length span }
 {
     let count = u128::from(length) * span.count as u128;
     if count > u128::from(WORD_LIMIT) {
-        Turn::Done(Mark::Large)
+        SizeTurn::Done(SizeMark::Large)
     } else if count == 0 {
-        Turn::Done(Mark::Known(NO_FIELDS))
+        SizeTurn::Done(SizeMark::Known(NO_FIELDS))
     } else if length == 1 {
-        Turn::Done(Mark::Known(span))
+        SizeTurn::Done(SizeMark::Known(span))
     } else {
-        Turn::Repeat(length, span)
+        SizeTurn::Repeat(length, span)
     }
 }
 
 /// The turn at a struct, by what is known of its first field and of the others.
-fn struct_turn(first: TypeId, rest: TypeId, of_first: Mark, of_rest: Mark) -> Turn
+fn struct_turn(first: TypeId, rest: TypeId, of_first: SizeMark, of_rest: SizeMark) -> SizeTurn
     ensures { result ≡ struct_turn first rest of_first of_rest }
 {
     match of_first {
-        Mark::New => Turn::Wait(first),
-        Mark::Open | Mark::Endless => Turn::Done(Mark::Endless),
-        Mark::Large => large_turn(rest, of_rest),
-        Mark::Known(one) => known_turn(one, rest, of_rest),
+        SizeMark::New => SizeTurn::Wait(first),
+        SizeMark::Open | SizeMark::Endless => SizeTurn::Done(SizeMark::Endless),
+        SizeMark::Large => large_turn(rest, of_rest),
+        SizeMark::Known(one) => known_turn(one, rest, of_rest),
     }
 }
 
 /// The turn at a struct with a large first field, by what is known of the others.
-fn large_turn(rest: TypeId, of_rest: Mark) -> Turn
+fn large_turn(rest: TypeId, of_rest: SizeMark) -> SizeTurn
     ensures { result ≡ large_turn rest of_rest }
 {
     match of_rest {
-        Mark::New => Turn::Wait(rest),
-        Mark::Open | Mark::Endless => Turn::Done(Mark::Endless),
-        Mark::Large | Mark::Known(_) => Turn::Done(Mark::Large),
+        SizeMark::New => SizeTurn::Wait(rest),
+        SizeMark::Open | SizeMark::Endless => SizeTurn::Done(SizeMark::Endless),
+        SizeMark::Large | SizeMark::Known(_) => SizeTurn::Done(SizeMark::Large),
     }
 }
 
 /// The turn at a struct whose first field is known, by what is known of the others.
-fn known_turn(one: Span, rest: TypeId, of_rest: Mark) -> Turn
+fn known_turn(one: Span, rest: TypeId, of_rest: SizeMark) -> SizeTurn
     ensures { result ≡ known_turn one rest of_rest }
 {
     match of_rest {
-        Mark::New => Turn::Wait(rest),
-        Mark::Open | Mark::Endless => Turn::Done(Mark::Endless),
-        Mark::Large => Turn::Done(Mark::Large),
-        Mark::Known(other) => join_turn(one, other),
+        SizeMark::New => SizeTurn::Wait(rest),
+        SizeMark::Open | SizeMark::Endless => SizeTurn::Done(SizeMark::Endless),
+        SizeMark::Large => SizeTurn::Done(SizeMark::Large),
+        SizeMark::Known(other) => join_turn(one, other),
     }
 }
 
-fn join_turn(one: Span, other: Span) -> Turn
+fn join_turn(one: Span, other: Span) -> SizeTurn
     ensures { result ≡ join_turn one other }
 {
     if one.count as u128 + other.count as u128 > u128::from(WORD_LIMIT) {
-        Turn::Done(Mark::Large)
+        SizeTurn::Done(SizeMark::Large)
     } else if other.count == 0 {
-        Turn::Done(Mark::Known(one))
+        SizeTurn::Done(SizeMark::Known(one))
     } else if one.count == 0 {
-        Turn::Done(Mark::Known(other))
+        SizeTurn::Done(SizeMark::Known(other))
     } else {
-        Turn::Join(one, other)
+        SizeTurn::Join(one, other)
     }
 }

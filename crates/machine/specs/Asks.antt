@@ -33,8 +33,8 @@ use Rattle.types.specs.References.{pointee}
 use Rattle.types.specs.RuntimeCall.{runtime_called}
 use Rattle.types.specs.ValueTypes.{target_of}
 use Rattle.shadow_stack.specs.Slots.{SlotTable, operand_slot, held_type, slot_layout}
-use Rattle.machine.specs.declared.value.Place.{Place}
-use Rattle.machine.specs.declared.value.Place.TheVariants as place
+use Rattle.machine.specs.declared.value.Pointee.{Pointee}
+use Rattle.machine.specs.declared.value.Pointee.TheVariants as place
 use Rattle.machine.specs.declared.value.Value.{Value}
 use Rattle.machine.specs.declared.value.Value.TheVariants as value
 use Rattle.machine.specs.declared.action.Action.{Action}
@@ -67,7 +67,7 @@ is_loaded_as m (Some held) written = (held == written) || is_byte_pointer m writ
 -- ---- bitcasts
 
 -- an address may be cast to this type as its word may, or where it points to no word to each type of places of references
-abbrev pub may_cast_place : LaidOut → (to : ℕ) → Place → Bool
+abbrev pub may_cast_place : LaidOut → (to : ℕ) → Pointee → Bool
 may_cast_place p to place.OfNull = may_lead p.of_module to
 may_cast_place p to (place.Word layout at word) = may_cast_word p.of_module to (kind_of_word p.layouts layout word)
 may_cast_place p to (place.Global g) = may_cast_word p.of_module to (global_kind p.of_module g)
@@ -106,33 +106,33 @@ cast_action p f slots registers x = cast_of p f slots registers x (operand_slot 
 -- ---- loads and stores
 
 -- a read of the word to which an address points
-abbrev pub read_action : LaidOut → (loaded : ℕ) → Option Place → Action
+abbrev pub read_action : LaidOut → (loaded : ℕ) → Option Pointee → Action
 read_action p loaded None = Wrong
 read_action p loaded (Some place.OfNull) = Wrong
 read_action p loaded (Some (place.Word layout at word)) = only_if (is_read_as p.of_module loaded (kind_of_word p.layouts layout word)) (Read at word)
 read_action p loaded (Some (place.Global g)) = only_if (is_read_as p.of_module loaded (global_kind p.of_module g)) (Read globals_cell g)
 
 -- a load from a slot under its type, or from an address
-abbrev pub load_action : LaidOut → SlotTable → (loaded : ℕ) → Option ℕ → Option Place → Action
+abbrev pub load_action : LaidOut → SlotTable → (loaded : ℕ) → Option ℕ → Option Pointee → Action
 load_action p slots loaded (Some slot) address = only_if (is_loaded_as p.of_module (held_type slots slot) loaded) Local
 load_action p slots loaded None address = read_action p loaded address
 
 -- a store of a value under its type to the word to which an address points, without the barrier
-abbrev pub plain_action : LaidOut → (stored : ℕ) → Value → Option Place → Action
+abbrev pub plain_action : LaidOut → (stored : ℕ) → Value → Option Pointee → Action
 plain_action p stored v None = Wrong
 plain_action p stored v (Some place.OfNull) = Wrong
 plain_action p stored v (Some (place.Word layout at word)) = only_if (takes_value p.of_module stored (kind_of_word p.layouts layout word) v) (StorePlain at word v)
 plain_action p stored v (Some (place.Global g)) = only_if (takes_value p.of_module stored (global_kind p.of_module g) v) (StorePlain globals_cell g v)
 
 -- the same with the barrier
-abbrev pub barrier_action : LaidOut → (stored : ℕ) → Value → Option Place → Action
+abbrev pub barrier_action : LaidOut → (stored : ℕ) → Value → Option Pointee → Action
 barrier_action p stored v None = Wrong
 barrier_action p stored v (Some place.OfNull) = Wrong
 barrier_action p stored v (Some (place.Word layout at word)) = only_if (takes_value p.of_module stored (kind_of_word p.layouts layout word) v) (Write at word v)
 barrier_action p stored v (Some (place.Global g)) = only_if (takes_value p.of_module stored (global_kind p.of_module g) v) (Write globals_cell g v)
 
 -- a store to a slot of a value that fits what the slot holds, or to an address
-abbrev pub store_action : LaidOut → SlotTable → (stored : ℕ) → (usable : Bool) → Value → Option ℕ → Option Place → Action
+abbrev pub store_action : LaidOut → SlotTable → (stored : ℕ) → (usable : Bool) → Value → Option ℕ → Option Pointee → Action
 store_action p slots stored usable v (Some slot) address =
     only_if (usable && (is_held_as p.of_module (slot_layout slots slot) (held_type slots slot) stored && fits_layout_of (slot_layout slots slot) v)) Local
 store_action p slots stored usable v None address = if usable then plain_action p stored v address else Wrong

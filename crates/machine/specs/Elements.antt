@@ -12,8 +12,8 @@ use Rattle.layout.specs.declared.step.Step.{Step}
 use Rattle.layout.specs.declared.step.Step.TheVariants.{Field, Elements}
 use Rattle.types.specs.Globals.{held_by}
 use Rattle.machine.specs.declared.value.Reference.{Reference}
-use Rattle.machine.specs.declared.value.Place.{Place}
-use Rattle.machine.specs.declared.value.Place.TheVariants as place
+use Rattle.machine.specs.declared.value.Pointee.{Pointee}
+use Rattle.machine.specs.declared.value.Pointee.TheVariants as place
 use Rattle.machine.specs.declared.value.Value.{Value}
 use Rattle.machine.specs.declared.value.Value.TheVariants as value
 use Rattle.machine.specs.declared.answer.Answer.{Answer}
@@ -54,21 +54,21 @@ element_offset p registers source (first ∷ indices) =
     offset_after p registers (first_place source (index_value p.of_module registers first) (size_of p source)) indices
 
 -- a word of a cell, if its layout has it
-abbrev pub word_in : LaidOut → (layout : ℕ) → Reference → (word : ℕ) → Option Place
+abbrev pub word_in : LaidOut → (layout : ℕ) → Reference → (word : ℕ) → Option Pointee
 word_in p layout at word = if is_some (kind_of_word p.layouts layout word) then Some (place.Word layout at word) else None
 
 -- the place `offset` words after a word of a cell
-abbrev pub word_after : LaidOut → (layout : ℕ) → Reference → (word : ℕ) → (offset : Option ℕ) → Option Place
+abbrev pub word_after : LaidOut → (layout : ℕ) → Reference → (word : ℕ) → (offset : Option ℕ) → Option Pointee
 word_after p layout at word None = None
 word_after p layout at word (Some offset) = word_in p layout at (wrapped 64 (word + offset))
 
 -- a global has one word: its place is the only one to which it leads
-abbrev pub global_after : (g : ℕ) → (offset : Option ℕ) → Option Place
+abbrev pub global_after : (g : ℕ) → (offset : Option ℕ) → Option Pointee
 global_after g None = None
 global_after g (Some offset) = if offset == 0 then Some (place.Global g) else None
 
 -- the place `offset` words after a base; from null it is no word
-abbrev pub element_place : LaidOut → (offset : Option ℕ) → (base : Value) → Option Place
+abbrev pub element_place : LaidOut → (offset : Option ℕ) → (base : Value) → Option Pointee
 element_place p offset value.Null = Some place.OfNull
 element_place p offset (value.Cell layout at) = word_after p layout at 0 offset
 element_place p offset (value.Address place.OfNull) = Some place.OfNull
@@ -77,7 +77,7 @@ element_place p offset (value.Address (place.Global g)) = global_after g offset
 element_place p offset _ = None
 
 -- what a getelementptr gives
-abbrev pub address_of : Option Place → Value
+abbrev pub address_of : Option Pointee → Value
 address_of None = value.Unset
 address_of (Some at) = value.Address at
 

@@ -15,8 +15,8 @@ use Rattle.types.specs.Globals.{global_named, points_to_global}
 use Rattle.types.specs.References.{pointee, referenced_layout}
 use Rattle.types.specs.ValueTypes.{has_type}
 use Rattle.shadow_stack.specs.Slots.{SlotTable, slot_of, operand_slot}
-use Rattle.machine.specs.declared.value.Place.{Place}
-use Rattle.machine.specs.declared.value.Place.TheVariants as place
+use Rattle.machine.specs.declared.value.Pointee.{Pointee}
+use Rattle.machine.specs.declared.value.Pointee.TheVariants as place
 use Rattle.machine.specs.declared.value.Value.{Value}
 use Rattle.machine.specs.declared.value.Value.TheVariants as value
 
@@ -212,11 +212,11 @@ abbrev pub slot_at_place : Module → Function → SlotTable → (written : ℕ)
 slot_at_place m f slots written o = if is_local_of m f written o then operand_slot slots.names o else None
 
 -- the address that an operand of this type is
-abbrev pub address_in : Value → Option Place
+abbrev pub address_in : Value → Option Pointee
 address_in (value.Address at) = Some at
 address_in _ = None
 
 -- the same of an operand that is typed so
-abbrev pub address_at_place : Module → Function → SlotTable → List Value → (written : ℕ) → Operand → Option Place
+abbrev pub address_at_place : Module → Function → SlotTable → List Value → (written : ℕ) → Operand → Option Pointee
 address_at_place m f slots registers written o =
     if is_typed m f slots written o then address_in (value_of m registers written o) else None

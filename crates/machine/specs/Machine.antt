@@ -25,8 +25,8 @@ use Rattle.pools.specs.Layouts.{kind_of_word}
 use Rattle.layout.specs.Layouts.{LaidOut}
 use Rattle.types.specs.RuntimeCall.{runtime_called}
 use Rattle.shadow_stack.specs.Slots.{SlotTable, slots_of, operand_slot}
-use Rattle.machine.specs.declared.value.Place.{Place}
-use Rattle.machine.specs.declared.value.Place.TheVariants as place
+use Rattle.machine.specs.declared.value.Pointee.{Pointee}
+use Rattle.machine.specs.declared.value.Pointee.TheVariants as place
 use Rattle.machine.specs.declared.value.Value.{Value}
 use Rattle.machine.specs.declared.value.Value.TheVariants as value
 use Rattle.machine.specs.declared.action.Action.{Action}
@@ -133,14 +133,14 @@ cast_from name v None frame = set_register name v frame
 cast_from name v (Some slot) frame = frame
 
 -- what is read at an address, by the answer
-abbrev pub read_at : LaidOut → Option Place → Answer → Value
+abbrev pub read_at : LaidOut → Option Pointee → Answer → Value
 read_at p None given = value.Unset
 read_at p (Some place.OfNull) given = value.Unset
 read_at p (Some (place.Word layout at word)) given = read_value (kind_of_word p.layouts layout word) given
 read_at p (Some (place.Global g)) given = read_value (global_kind p.of_module g) given
 
 -- what a load gives: what the slot holds, or what is read at the address
-abbrev pub loaded_from : LaidOut → List Value → Option ℕ → Option Place → Answer → Value
+abbrev pub loaded_from : LaidOut → List Value → Option ℕ → Option Pointee → Answer → Value
 loaded_from p slots (Some slot) address given = slot_value slots slot
 loaded_from p slots None address given = read_at p address given
 
@@ -176,7 +176,7 @@ root_of_call m f slots [] = None
 root_of_call m f slots (argument ∷ arguments) = slot_at_place m f slots argument.written argument.operand
 
 -- the address that a call of gcread names
-abbrev pub place_of_call : Module → Function → SlotTable → List Value → List Argument → Option Place
+abbrev pub place_of_call : Module → Function → SlotTable → List Value → List Argument → Option Pointee
 place_of_call m f slots registers (object ∷ place ∷ arguments) = address_at_place m f slots registers place.written place.operand
 place_of_call m f slots registers _ = None
 

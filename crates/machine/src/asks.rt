@@ -7,13 +7,13 @@ use crate::calls::call_action;
 use crate::casts::cast_action;
 use crate::choices::choice_action;
 use crate::elements::element_action;
+use crate::frame_scene::FrameScene;
 use crate::memory::memory_action;
 use crate::numbers::number_action;
-use crate::scene::Scene;
 use ir_ast::Op;
 
 /// What an instruction of a body asks for.
-pub fn op_action(scene: &Scene<'_>, op: &Op) -> Action
+pub fn op_action(scene: &FrameScene<'_>, op: &Op) -> Action
     ensures { result ≡ op_action scene.now.program.now scene.now.function.now scene.now.slots.now scene.now.registers.now op.now }
 {
     match op {

@@ -8,11 +8,11 @@ ghost use Rattle.machine.specs.Machine.{alloc_value, layout_of_call, root_of_cal
 
 use crate::action::{Action, only_if};
 use crate::answer::Answer;
+use crate::frame_scene::FrameScene;
 use crate::kinds::{is_byte_pointer, is_integer_of, is_place_of_bytes, is_void};
 use crate::memory::{barrier_action, read_action};
 use crate::operands::{address_at_place, is_usable, operand_value, slot_at_place, value_of};
-use crate::scene::Scene;
-use crate::value::{Place, Value};
+use crate::value::{Pointee, Value};
 use ir_ast::{
     Argument, Call, Constant, Declare, FuncId, Function, Module, Op, Operand, Parameter, Runtime,
     SymbolId, SymbolSort, TypeId,
@@ -87,7 +87,7 @@ fn declare_of(of_module: &Module, callee: SymbolId) -> Option<&Declare>
     }
 }
 
-fn is_root_place(scene: &Scene<'_>, slot: Option<SlotId>) -> bool
+fn is_root_place(scene: &FrameScene<'_>, slot: Option<SlotId>) -> bool
     ensures { result ≡ is_root_place scene.now.slots.now slot }
 {
     match slot {
@@ -96,7 +96,7 @@ fn is_root_place(scene: &Scene<'_>, slot: Option<SlotId>) -> bool
     }
 }
 
-fn gcroot_action(scene: &Scene<'_>, returned: TypeId, arguments: &[Argument]) -> Action
+fn gcroot_action(scene: &FrameScene<'_>, returned: TypeId, arguments: &[Argument]) -> Action
     ensures { result ≡ gcroot_action scene.now.program.now.of_module scene.now.function.now scene.now.slots.now scene.now.registers.now returned arguments.now }
 {
     match arguments {
@@ -113,7 +113,7 @@ fn gcroot_action(scene: &Scene<'_>, returned: TypeId, arguments: &[Argument]) ->
     }
 }
 
-fn gcread_action(scene: &Scene<'_>, returned: TypeId, arguments: &[Argument]) -> Action
+fn gcread_action(scene: &FrameScene<'_>, returned: TypeId, arguments: &[Argument]) -> Action
     ensures { result ≡ gcread_action scene.now.program.now scene.now.function.now scene.now.slots.now scene.now.registers.now returned arguments.now }
 {
     match arguments {
@@ -133,7 +133,7 @@ fn gcread_action(scene: &Scene<'_>, returned: TypeId, arguments: &[Argument]) ->
     }
 }
 
-fn gcwrite_action(scene: &Scene<'_>, returned: TypeId, arguments: &[Argument]) -> Action
+fn gcwrite_action(scene: &FrameScene<'_>, returned: TypeId, arguments: &[Argument]) -> Action
     ensures { result ≡ gcwrite_action scene.now.program.now scene.now.function.now scene.now.slots.now scene.now.registers.now returned arguments.now }
 {
     match arguments {
@@ -290,7 +290,7 @@ fn function_named(of_module: &Module, callee: SymbolId) -> Option<&Function>
 
 /// Whether there is one argument for each parameter, of its type and usable.
 #[tactic(auto, using(crate::proofs::AsksArguments::other_count))]
-fn arguments_pass(scene: &Scene<'_>, parameters: &[Parameter], arguments: &[Argument]) -> bool
+fn arguments_pass(scene: &FrameScene<'_>, parameters: &[Parameter], arguments: &[Argument]) -> bool
     ensures { result ≡ arguments_pass scene.now.program.now.of_module scene.now.function.now scene.now.slots.now scene.now.registers.now parameters.now arguments.now }
 {
     if parameters.len() != arguments.len() {
@@ -307,7 +307,7 @@ fn arguments_pass(scene: &Scene<'_>, parameters: &[Parameter], arguments: &[Argu
 }
 
 fn defined_action(
-    scene: &Scene<'_>,
+    scene: &FrameScene<'_>,
     returned: TypeId,
     arguments: &[Argument],
     callee: Option<&Function>,
@@ -325,7 +325,7 @@ fn defined_action(
 }
 
 /// What a call asks for; no callee is known but the runtime's, declared and called with its types, and defined functions.
-pub fn call_action(scene: &Scene<'_>, call: &Call) -> Action
+pub fn call_action(scene: &FrameScene<'_>, call: &Call) -> Action
     ensures { result ≡ action_of_call scene.now.program.now scene.now.function.now scene.now.slots.now scene.now.registers.now call.now }
 {
     let Call {
@@ -398,7 +398,7 @@ pub fn layout_of_call(of_module: &Module, arguments: &[Argument]) -> Option<Layo
 }
 
 /// The slot that a call of gcroot names.
-pub fn root_of_call(scene: &Scene<'_>, arguments: &[Argument]) -> Option<SlotId>
+pub fn root_of_call(scene: &FrameScene<'_>, arguments: &[Argument]) -> Option<SlotId>
     ensures { result ≡ root_of_call scene.now.program.now.of_module scene.now.function.now scene.now.slots.now arguments.now }
 {
     match arguments {
@@ -408,7 +408,7 @@ pub fn root_of_call(scene: &Scene<'_>, arguments: &[Argument]) -> Option<SlotId>
 }
 
 /// The address that a call of gcread names.
-pub fn place_of_call(scene: &Scene<'_>, arguments: &[Argument]) -> Option<Place>
+pub fn place_of_call(scene: &FrameScene<'_>, arguments: &[Argument]) -> Option<Pointee>
     ensures { result ≡ place_of_call scene.now.program.now.of_module scene.now.function.now scene.now.slots.now scene.now.registers.now arguments.now }
 {
     match arguments {

@@ -7,24 +7,24 @@ ghost use Rattle.machine.specs.Asks.{may_cast_place, may_cast_value, may_cast, i
 
 use crate::action::{Action, only_if};
 use crate::elements::{global_kind, kind_of_word};
+use crate::frame_scene::FrameScene;
 use crate::kinds::{is_set, may_cast_word, may_lead, may_refer, refers_to};
 use crate::operands::{is_local_of, is_typed, operand_slot, value_of};
-use crate::scene::Scene;
-use crate::value::{Place, Value};
+use crate::value::{Pointee, Value};
 use ir_ast::{Cast, Module, TypeId};
 use layout::Program;
 use pools::LayoutId;
 use types::pointee;
 
-fn may_cast_place(program: &Program, to: TypeId, place: &Place) -> bool
+fn may_cast_place(program: &Program, to: TypeId, place: &Pointee) -> bool
     ensures { result ≡ may_cast_place program.now to place.now }
 {
     match place {
-        Place::OfNull => may_lead(program.module(), to),
-        Place::Word { layout, word, .. } => {
+        Pointee::OfNull => may_lead(program.module(), to),
+        Pointee::Word { layout, word, .. } => {
             may_cast_word(program.module(), to, kind_of_word(program, *layout, *word))
         }
-        Place::Global(global) => {
+        Pointee::Global(global) => {
             may_cast_word(program.module(), to, global_kind(program.module(), *global))
         }
     }
@@ -72,7 +72,7 @@ fn may_cast_slot(of_module: &Module, layout: Option<LayoutId>, from: TypeId, to:
 }
 
 /// What a bitcast asks for.
-pub fn cast_action(scene: &Scene<'_>, cast: &Cast) -> Action
+pub fn cast_action(scene: &FrameScene<'_>, cast: &Cast) -> Action
     ensures { result ≡ cast_action scene.now.program.now scene.now.function.now scene.now.slots.now scene.now.registers.now cast.now }
 {
     let Cast { from, operand, to } = *cast;

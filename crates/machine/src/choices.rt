@@ -4,13 +4,13 @@ ghost use Rattle.machine.specs.Asks.{may_select, choice_action};
 ghost use Rattle.machine.specs.Machine.{selected, choice_value};
 
 use crate::action::{Action, only_if};
+use crate::frame_scene::FrameScene;
 use crate::kinds::{are_of_one_layout, number_in};
 use crate::operands::{are_numbers, are_references, is_condition, value_of};
-use crate::scene::Scene;
 use crate::value::Value;
 use ir_ast::{Choice, Operand, TypeId};
 
-fn may_select(scene: &Scene<'_>, written: TypeId, chosen: &Operand, other: &Operand) -> bool
+fn may_select(scene: &FrameScene<'_>, written: TypeId, chosen: &Operand, other: &Operand) -> bool
     ensures { result ≡ may_select scene.now.program.now.of_module scene.now.function.now scene.now.slots.now scene.now.registers.now written chosen.now other.now }
 {
     are_numbers(scene, written, chosen, other)
@@ -22,7 +22,7 @@ fn may_select(scene: &Scene<'_>, written: TypeId, chosen: &Operand, other: &Oper
 }
 
 /// What a select asks for.
-pub fn choice_action(scene: &Scene<'_>, choice: &Choice) -> Action
+pub fn choice_action(scene: &FrameScene<'_>, choice: &Choice) -> Action
     ensures { result ≡ choice_action scene.now.program.now.of_module scene.now.function.now scene.now.slots.now scene.now.registers.now choice.now }
 {
     only_if(
@@ -43,7 +43,7 @@ fn selected(condition: Value, chosen: Value, other: Value) -> Value
 }
 
 /// What a select gives.
-pub fn choice_value(scene: &Scene<'_>, choice: &Choice) -> Value
+pub fn choice_value(scene: &FrameScene<'_>, choice: &Choice) -> Value
     ensures { result ≡ choice_value scene.now.program.now.of_module scene.now.registers.now choice.now }
 {
     selected(

@@ -8,11 +8,11 @@ ghost use Rattle.machine.specs.Machine.{element_address};
 
 use crate::action::{Action, only_if};
 use crate::answer::Answer;
+use crate::frame_scene::FrameScene;
 use crate::integers::{read_signed, wrapped_wide};
 use crate::kinds::{bits_at, fits_layout, is_integer_of, is_number, number_in, refers_to};
 use crate::operands::{is_typed, is_usable_number, operand_value, value_of};
-use crate::scene::Scene;
-use crate::value::{Place, Reference, Value};
+use crate::value::{Pointee, Reference, Value};
 use ir_ast::{Argument, Element, GlobalId, Module, TypeId};
 use layout::{Program, Step, word_of};
 use pools::{LayoutId, WordKind};
@@ -119,11 +119,11 @@ fn element_offset(
 }
 
 #[tactic(auto, using(crate::proofs::Few::small_word))]
-fn word_in(program: &Program, layout: LayoutId, at: Reference, word: u64) -> Option<Place>
+fn word_in(program: &Program, layout: LayoutId, at: Reference, word: u64) -> Option<Pointee>
     ensures { result ≡ word_in program.now layout at word }
 {
     if word < program.layouts().words(layout).len() as u64 {
-        Some(Place::Word {
+        Some(Pointee::Word {
             layout,
             at,
             word: word as u32,
@@ -139,33 +139,33 @@ fn word_after(
     at: Reference,
     word: u32,
     offset: Option<u64>,
-) -> Option<Place>
+) -> Option<Pointee>
     ensures { result ≡ word_after program.now layout at word offset }
 {
     word_in(program, layout, at, behind(u64::from(word), offset?))
 }
 
 /// A global has one word: its place is the only one to which it leads.
-fn global_after(global: GlobalId, offset: Option<u64>) -> Option<Place>
+fn global_after(global: GlobalId, offset: Option<u64>) -> Option<Pointee>
     ensures { result ≡ global_after global offset }
 {
     if offset? == 0 {
-        Some(Place::Global(global))
+        Some(Pointee::Global(global))
     } else {
         None
     }
 }
 
-fn element_place(program: &Program, offset: Option<u64>, base: &Value) -> Option<Place>
+fn element_place(program: &Program, offset: Option<u64>, base: &Value) -> Option<Pointee>
     ensures { result ≡ element_place program.now offset base.now }
 {
     match base {
-        Value::Null | Value::Address(Place::OfNull) => Some(Place::OfNull),
+        Value::Null | Value::Address(Pointee::OfNull) => Some(Pointee::OfNull),
         Value::Cell(layout, at) => word_after(program, *layout, *at, 0, offset),
-        Value::Address(Place::Word { layout, at, word }) => {
+        Value::Address(Pointee::Word { layout, at, word }) => {
             word_after(program, *layout, *at, *word, offset)
         }
-        Value::Address(Place::Global(global)) => global_after(*global, offset),
+        Value::Address(Pointee::Global(global)) => global_after(*global, offset),
         Value::Unset | Value::Number(_) => None,
     }
 }
@@ -177,7 +177,7 @@ fn element_place_of(
     source: TypeId,
     base: &Value,
     indices: &[Argument],
-) -> Option<Place>
+) -> Option<Pointee>
     ensures { result ≡ element_place program.now (element_offset program.now registers.now source indices.now) base.now }
 {
     element_place(
@@ -236,14 +236,14 @@ pub fn read_value(kind: Option<WordKind>, answer: Answer) -> Value
     }
 }
 
-fn are_indices(scene: &Scene<'_>, indices: &[Argument]) -> bool
+fn are_indices(scene: &FrameScene<'_>, indices: &[Argument]) -> bool
     ensures { result ≡ are_indices scene.now.program.now.of_module scene.now.function.now scene.now.slots.now scene.now.registers.now indices.now }
 {
     indices.iter().all(|index| is_usable_number(scene, index.written, &index.operand))
 }
 
 /// What a getelementptr asks for.
-pub fn element_action(scene: &Scene<'_>, element: &Element) -> Action
+pub fn element_action(scene: &FrameScene<'_>, element: &Element) -> Action
     ensures { result ≡ element_action scene.now.program.now scene.now.function.now scene.now.slots.now scene.now.registers.now element.now }
 {
     let indices = element.indices.as_slice();
@@ -264,7 +264,7 @@ pub fn element_action(scene: &Scene<'_>, element: &Element) -> Action
 }
 
 /// The address of a place.
-pub fn address_of(place: Option<Place>) -> Value
+pub fn address_of(place: Option<Pointee>) -> Value
     ensures { result ≡ address_of place }
 {
     match place {
@@ -274,7 +274,7 @@ pub fn address_of(place: Option<Place>) -> Value
 }
 
 /// The address that a getelementptr gives.
-pub fn element_address(scene: &Scene<'_>, element: &Element) -> Value
+pub fn element_address(scene: &FrameScene<'_>, element: &Element) -> Value
     ensures { result ≡ element_address scene.now.program.now scene.now.registers.now element.now }
 {
     address_of(element_place_of(

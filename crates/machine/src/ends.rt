@@ -5,16 +5,16 @@ ghost use Rattle.machine.specs.Asks.{way_of, target_at, way_action, end_action};
 ghost use Rattle.machine.specs.Machine.{result_of};
 
 use crate::action::{Action, only_if};
+use crate::frame_scene::FrameScene;
 use crate::jumps::{cases_fit, phis_fit, phis_of, switch_way};
 use crate::kinds::{is_void, number_in};
 use crate::operands::{is_condition, is_usable, is_usable_number, operand_value, value_of};
-use crate::scene::Scene;
 use crate::value::Value;
 use ir_ast::{BlockId, End, Module, ValueId};
 use types::target_of;
 
 /// The label to which a block goes on, if it ends with a br or a switch.
-fn way_of(scene: &Scene<'_>, end: &End) -> Option<ValueId>
+fn way_of(scene: &FrameScene<'_>, end: &End) -> Option<ValueId>
     ensures { result ≡ way_of scene.now.program.now.of_module scene.now.registers.now end.now }
 {
     match end {
@@ -49,14 +49,14 @@ fn way_of(scene: &Scene<'_>, end: &End) -> Option<ValueId>
 }
 
 /// The block to which a br or a switch leads.
-pub fn target_of_way(scene: &Scene<'_>, end: &End) -> Option<BlockId>
+pub fn target_of_way(scene: &FrameScene<'_>, end: &End) -> Option<BlockId>
     ensures { result ≡ target_at scene.now.function.now (way_of scene.now.program.now.of_module scene.now.registers.now end.now) }
 {
     target_of(scene.function, way_of(scene, end)?)
 }
 
 /// What a br or a switch of this block asks for.
-fn way_action(scene: &Scene<'_>, from: usize, end: &End) -> Action
+fn way_action(scene: &FrameScene<'_>, from: usize, end: &End) -> Action
     ensures { result ≡ way_action scene.now.program.now.of_module scene.now.function.now scene.now.slots.now from scene.now.registers.now end.now }
 {
     match target_of_way(scene, end) {
@@ -69,7 +69,7 @@ fn way_action(scene: &Scene<'_>, from: usize, end: &End) -> Action
 }
 
 /// What a br or a switch of this block asks for, if its operands have a meaning.
-fn way_action_if(scene: &Scene<'_>, from: usize, end: &End, has_meaning: bool) -> Action
+fn way_action_if(scene: &FrameScene<'_>, from: usize, end: &End, has_meaning: bool) -> Action
     ensures { result ≡ (if has_meaning then way_action scene.now.program.now.of_module scene.now.function.now scene.now.slots.now from scene.now.registers.now end.now else Wrong) }
 {
     if has_meaning {
@@ -80,7 +80,7 @@ fn way_action_if(scene: &Scene<'_>, from: usize, end: &End, has_meaning: bool) -
 }
 
 /// What the end of the block with this number asks for.
-pub fn end_action(scene: &Scene<'_>, from: usize, end: &End) -> Action
+pub fn end_action(scene: &FrameScene<'_>, from: usize, end: &End) -> Action
     ensures { result ≡ end_action scene.now.program.now.of_module scene.now.function.now scene.now.slots.now from scene.now.registers.now end.now }
 {
     match end {

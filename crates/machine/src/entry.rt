@@ -6,7 +6,7 @@ ghost use Rattle.machine.specs.Machine.{initial, with_arguments, entry_frame};
 
 use crate::elements::address_of;
 use crate::frame::{Frame, initial, put};
-use crate::value::{Place, Value};
+use crate::value::{Pointee, Value};
 use ir_ast::{FuncId, Function, Module, TypeId, ValueId};
 use items::Items;
 use shadow_stack::Slots;
@@ -31,7 +31,7 @@ pub fn all_unset(alloc: Global, count: usize) -> Result<Items<Value>, AllocError
     ensures { IfOk result (λ values. values ≡ replicate count Value.Unset) }
 {
     // The address of nothing is unset. It names the type of places, which the prover has to see where it makes values.
-    let nowhere: Option<Place> = None;
+    let nowhere: Option<Pointee> = None;
     let values = vec![in alloc; address_of(nowhere); count]?;
     Ok(Items::from_vec(values))
 }

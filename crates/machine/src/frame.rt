@@ -8,12 +8,12 @@ use crate::answer::Answer;
 use crate::calls::{alloc_value, layout_of_call, place_of_call, root_of_call};
 use crate::choices::choice_value;
 use crate::elements::element_address;
+use crate::frame_scene::FrameScene;
 use crate::jumps::{phi_value, phis_of};
 use crate::kinds::is_integer;
 use crate::memory::{loaded_from, read_at};
 use crate::numbers::number_value;
 use crate::operands::{address_at_place, operand_slot, slot_at_place, value_of};
-use crate::scene::Scene;
 use crate::value::Value;
 use ir_ast::{
     BlockId, Call, Cast, FuncId, Function, MemoryOp, Module, Op, Phi, Runtime, TypeId, ValueId,
@@ -42,13 +42,13 @@ impl Frame {
         program: &'a Program,
         function: &'a Function,
         slots: &'a Slots,
-    ) -> Scene<'a>
+    ) -> FrameScene<'a>
         ensures program { result.program.now ≡ program.now }
         ensures function { result.function.now ≡ function.now }
         ensures slots { result.slots.now ≡ slots.now }
         ensures registers { result.registers.now ≡ self.now.registers }
     {
-        Scene {
+        FrameScene {
             program,
             function,
             slots,

@@ -2,9 +2,9 @@
 ghost use Rattle.std.specs.Prelude.{◌≡◌, slice_get};
 ghost use Rattle.machine.specs.Jumps.{is_block, phis_of, entry_for, entry_fits, phi_fits, phis_fit, entry_value, phi_value, switch_way, cases_fit};
 
+use crate::frame_scene::FrameScene;
 use crate::kinds::{is_scalar, number_in};
 use crate::operands::{constant_fits, constant_value, is_no_global, is_typed, operand_value};
-use crate::scene::Scene;
 use crate::value::Value;
 use ir_ast::{BlockId, Case, Function, Incoming, Module, Operand, Phi, TypeId, ValueId};
 use types::target_of;
@@ -40,7 +40,7 @@ fn entry_for(function: &Function, from: usize, incoming: &[Incoming]) -> Option<
     None
 }
 
-fn entry_fits(scene: &Scene<'_>, written: TypeId, entry: Option<Operand>) -> bool
+fn entry_fits(scene: &FrameScene<'_>, written: TypeId, entry: Option<Operand>) -> bool
     ensures { result ≡ entry_fits scene.now.program.now.of_module scene.now.function.now scene.now.slots.now written entry }
 {
     match entry {
@@ -49,7 +49,7 @@ fn entry_fits(scene: &Scene<'_>, written: TypeId, entry: Option<Operand>) -> boo
     }
 }
 
-fn phi_fits(scene: &Scene<'_>, from: usize, phi: &Phi) -> bool
+fn phi_fits(scene: &FrameScene<'_>, from: usize, phi: &Phi) -> bool
     ensures { result ≡ phi_fits scene.now.program.now.of_module scene.now.function.now scene.now.slots.now from phi.now }
 {
     is_scalar(scene.of_module(), phi.written)
@@ -61,7 +61,7 @@ fn phi_fits(scene: &Scene<'_>, from: usize, phi: &Phi) -> bool
 }
 
 /// Whether each of these phis may take its entry for this block.
-pub fn phis_fit(scene: &Scene<'_>, from: usize, phis: &[Phi]) -> bool
+pub fn phis_fit(scene: &FrameScene<'_>, from: usize, phis: &[Phi]) -> bool
     ensures { result ≡ phis_fit scene.now.program.now.of_module scene.now.function.now scene.now.slots.now from phis.now }
 {
     phis.iter().all(|phi| phi_fits(scene, from, phi))

@@ -10,10 +10,10 @@ use crate::answer::Answer;
 use crate::elements::{
     global_kind, globals_cell, is_read_as, kind_of_word, read_value, takes_value,
 };
+use crate::frame_scene::FrameScene;
 use crate::kinds::{fits_layout_of, is_byte_pointer};
 use crate::operands::{address_at_place, is_usable, slot_at_place, value_of};
-use crate::scene::Scene;
-use crate::value::{Place, Value};
+use crate::value::{Pointee, Value};
 use ir_ast::{MemoryOp, Module, Operand, TypeId};
 use layout::Program;
 use pools::LayoutId;
@@ -51,11 +51,11 @@ fn is_loaded_as(of_module: &Module, held: Option<TypeId>, written: TypeId) -> bo
 }
 
 /// What a read of the word to which an address points asks for.
-pub fn read_action(program: &Program, loaded: TypeId, address: Option<Place>) -> Action
+pub fn read_action(program: &Program, loaded: TypeId, address: Option<Pointee>) -> Action
     ensures { result ≡ read_action program.now loaded address }
 {
     match &address {
-        Some(Place::Word { layout, at, word }) => only_if(
+        Some(Pointee::Word { layout, at, word }) => only_if(
             is_read_as(
                 program.module(),
                 loaded,
@@ -66,7 +66,7 @@ pub fn read_action(program: &Program, loaded: TypeId, address: Option<Place>) ->
                 word: *word,
             },
         ),
-        Some(Place::Global(global)) => only_if(
+        Some(Pointee::Global(global)) => only_if(
             is_read_as(
                 program.module(),
                 loaded,
@@ -82,7 +82,12 @@ pub fn read_action(program: &Program, loaded: TypeId, address: Option<Place>) ->
 }
 
 /// What a load asks for: nothing of a slot, the word of an address.
-fn load_action(scene: &Scene<'_>, loaded: TypeId, place_type: TypeId, place: &Operand) -> Action
+fn load_action(
+    scene: &FrameScene<'_>,
+    loaded: TypeId,
+    place_type: TypeId,
+    place: &Operand,
+) -> Action
     ensures { let m = scene.now.program.now.of_module in let f = scene.now.function.now in let slots = scene.now.slots.now in result ≡ load_action scene.now.program.now slots loaded (slot_at_place m f slots place_type place.now) (address_at_place m f slots scene.now.registers.now place_type place.now) }
 {
     match slot_at_place(scene, place_type, place) {
@@ -98,11 +103,11 @@ fn load_action(scene: &Scene<'_>, loaded: TypeId, place_type: TypeId, place: &Op
     }
 }
 
-fn plain_action(program: &Program, stored: TypeId, value: Value, address: Option<Place>) -> Action
+fn plain_action(program: &Program, stored: TypeId, value: Value, address: Option<Pointee>) -> Action
     ensures { result ≡ plain_action program.now stored value address }
 {
     match &address {
-        Some(Place::Word { layout, at, word }) => only_if(
+        Some(Pointee::Word { layout, at, word }) => only_if(
             takes_value(
                 program.module(),
                 stored,
@@ -115,7 +120,7 @@ fn plain_action(program: &Program, stored: TypeId, value: Value, address: Option
                 value,
             },
         ),
-        Some(Place::Global(global)) => only_if(
+        Some(Pointee::Global(global)) => only_if(
             takes_value(
                 program.module(),
                 stored,
@@ -137,12 +142,12 @@ pub fn barrier_action(
     program: &Program,
     stored: TypeId,
     value: Value,
-    address: Option<Place>,
+    address: Option<Pointee>,
 ) -> Action
     ensures { result ≡ barrier_action program.now stored value address }
 {
     match &address {
-        Some(Place::Word { layout, at, word }) => only_if(
+        Some(Pointee::Word { layout, at, word }) => only_if(
             takes_value(
                 program.module(),
                 stored,
@@ -155,7 +160,7 @@ pub fn barrier_action(
                 value,
             },
         ),
-        Some(Place::Global(global)) => only_if(
+        Some(Pointee::Global(global)) => only_if(
             takes_value(
                 program.module(),
                 stored,
@@ -174,7 +179,7 @@ pub fn barrier_action(
 
 /// What a store asks for: nothing of a slot, a plain store of the word of an address.
 fn store_action(
-    scene: &Scene<'_>,
+    scene: &FrameScene<'_>,
     stored: TypeId,
     operand: &Operand,
     place_type: TypeId,
@@ -211,7 +216,7 @@ fn store_action(
 }
 
 /// What an operation on memory asks for.
-pub fn memory_action(scene: &Scene<'_>, op: &MemoryOp) -> Action
+pub fn memory_action(scene: &FrameScene<'_>, op: &MemoryOp) -> Action
     ensures { result ≡ memory_action scene.now.program.now scene.now.function.now scene.now.slots.now scene.now.registers.now op.now }
 {
     match op {
@@ -241,14 +246,14 @@ pub fn slot_value(slots: &[Value], slot: SlotId) -> Value
 }
 
 /// What is read at an address.
-pub fn read_at(program: &Program, address: Option<Place>, answer: Answer) -> Value
+pub fn read_at(program: &Program, address: Option<Pointee>, answer: Answer) -> Value
     ensures { result ≡ read_at program.now address answer }
 {
     match &address {
-        Some(Place::Word { layout, word, .. }) => {
+        Some(Pointee::Word { layout, word, .. }) => {
             read_value(kind_of_word(program, *layout, *word), answer)
         }
-        Some(Place::Global(global)) => {
+        Some(Pointee::Global(global)) => {
             read_value(global_kind(program.module(), *global), answer)
         }
         _ => Value::Unset,
@@ -260,7 +265,7 @@ pub fn loaded_from(
     program: &Program,
     slots: &[Value],
     slot: Option<SlotId>,
-    address: Option<Place>,
+    address: Option<Pointee>,
     answer: Answer,
 ) -> Value
     ensures { result ≡ loaded_from program.now slots.now slot address answer }

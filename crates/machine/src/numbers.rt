@@ -7,17 +7,17 @@ ghost use Rattle.machine.specs.Machine.{are_equal, compared, number_value};
 ghost use Rattle.machine.specs.declared.value.Value.TheVariants as value;
 
 use crate::action::{Action, only_if};
+use crate::frame_scene::FrameScene;
 use crate::integers::{
     compares, compares_equal, computed, is_equality, may_resize, resized, truth,
 };
 use crate::kinds::{bits_at, is_integer, number_in};
 use crate::operands::{are_numbers, are_references, is_usable_number, value_of};
-use crate::scene::Scene;
 use crate::value::Value;
 use ir_ast::{Arithmetic, Comparison, NumberOp, Operand, Resize, TypeId};
 
 fn may_compare(
-    scene: &Scene<'_>,
+    scene: &FrameScene<'_>,
     kind: Comparison,
     written: TypeId,
     first: &Operand,
@@ -30,7 +30,7 @@ fn may_compare(
 }
 
 fn may_resize_to(
-    scene: &Scene<'_>,
+    scene: &FrameScene<'_>,
     kind: Resize,
     from: TypeId,
     operand: &Operand,
@@ -44,7 +44,7 @@ fn may_resize_to(
             && may_resize(kind, bits_at(of_module, from), bits_at(of_module, to)))
 }
 
-fn gives_number(scene: &Scene<'_>, op: &NumberOp) -> bool
+fn gives_number(scene: &FrameScene<'_>, op: &NumberOp) -> bool
     ensures { result ≡ gives_number scene.now.program.now.of_module scene.now.function.now scene.now.slots.now scene.now.registers.now op.now }
 {
     match op {
@@ -70,7 +70,7 @@ fn gives_number(scene: &Scene<'_>, op: &NumberOp) -> bool
 }
 
 /// What an operation on integers asks for.
-pub fn number_action(scene: &Scene<'_>, op: &NumberOp) -> Action
+pub fn number_action(scene: &FrameScene<'_>, op: &NumberOp) -> Action
     ensures { result ≡ number_action scene.now.program.now.of_module scene.now.function.now scene.now.slots.now scene.now.registers.now op.now }
 {
     only_if(gives_number(scene, op), Action::Local)
@@ -78,7 +78,7 @@ pub fn number_action(scene: &Scene<'_>, op: &NumberOp) -> Action
 
 /// What an integer instruction of two operands gives.
 fn arithmetic_value(
-    scene: &Scene<'_>,
+    scene: &FrameScene<'_>,
     kind: Arithmetic,
     written: TypeId,
     first: &Operand,
@@ -96,7 +96,7 @@ fn arithmetic_value(
 
 /// What a change of an integer's width gives.
 fn resized_value(
-    scene: &Scene<'_>,
+    scene: &FrameScene<'_>,
     kind: Resize,
     from: TypeId,
     operand: &Operand,
@@ -135,7 +135,7 @@ fn compared(kind: Comparison, bits: u32, first: Value, second: Value) -> Value
 }
 
 /// What an operation on integers gives.
-pub fn number_value(scene: &Scene<'_>, op: &NumberOp) -> Value
+pub fn number_value(scene: &FrameScene<'_>, op: &NumberOp) -> Value
     ensures { result ≡ number_value scene.now.program.now.of_module scene.now.registers.now op.now }
 {
     match op {

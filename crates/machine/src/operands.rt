@@ -4,13 +4,13 @@ ghost use Rattle.machine.specs.Kinds.{register_at, constant_fits, constant_value
 ghost use Rattle.machine.specs.Asks.{are_numbers, are_references, is_condition};
 ghost use Rattle.shadow_stack.specs.Slots.{operand_slot};
 
+use crate::frame_scene::FrameScene;
 use crate::integers::wrapped;
 use crate::kinds::{
     address_in, bits_at, is_integer, is_integer_of, is_number, is_plain, is_reference,
     may_cast_word, may_refer,
 };
-use crate::scene::Scene;
-use crate::value::{Place, Value};
+use crate::value::{Pointee, Value};
 use ir_ast::{Constant, GlobalId, Module, Operand, SymbolId, TypeId, ValueId};
 use layout::global_word;
 use shadow_stack::{SlotId, Slots};
@@ -52,7 +52,7 @@ fn global_address(global: Option<GlobalId>) -> Value
     ensures { result ≡ global_address global }
 {
     match global {
-        Some(global) => Value::Address(Place::Global(global)),
+        Some(global) => Value::Address(Pointee::Global(global)),
         None => Value::Unset,
     }
 }
@@ -76,7 +76,7 @@ pub fn operand_value(
 }
 
 /// The value that an operand of this type has.
-pub fn value_of(scene: &Scene<'_>, written: TypeId, operand: &Operand) -> Value
+pub fn value_of(scene: &FrameScene<'_>, written: TypeId, operand: &Operand) -> Value
     ensures { result ≡ value_of scene.now.program.now.of_module scene.now.registers.now written operand.now }
 {
     operand_value(scene.of_module(), scene.registers, written, operand)
@@ -90,7 +90,7 @@ fn may_cast_global(of_module: &Module, from: TypeId, global: SymbolId, to: TypeI
 }
 
 /// Whether an operand is a constant that fits the written type, a local name of that type that names no slot, a global to which the type points, or a global that may be cast to the type.
-pub fn is_typed(scene: &Scene<'_>, written: TypeId, operand: &Operand) -> bool
+pub fn is_typed(scene: &FrameScene<'_>, written: TypeId, operand: &Operand) -> bool
     ensures { result ≡ is_typed scene.now.program.now.of_module scene.now.function.now scene.now.slots.now written operand.now }
 {
     match operand {
@@ -116,14 +116,14 @@ pub fn is_no_global(operand: &Operand) -> bool
 }
 
 /// Whether an operand is a number or a reference of the written type, and set.
-pub fn is_usable(scene: &Scene<'_>, written: TypeId, operand: &Operand) -> bool
+pub fn is_usable(scene: &FrameScene<'_>, written: TypeId, operand: &Operand) -> bool
     ensures { result ≡ is_usable scene.now.program.now.of_module scene.now.function.now scene.now.slots.now scene.now.registers.now written operand.now }
 {
     is_typed(scene, written, operand) && is_plain(&value_of(scene, written, operand))
 }
 
 /// Whether an operand is an integer of the written type, and set.
-pub fn is_usable_number(scene: &Scene<'_>, written: TypeId, operand: &Operand) -> bool
+pub fn is_usable_number(scene: &FrameScene<'_>, written: TypeId, operand: &Operand) -> bool
     ensures { result ≡ is_usable_number scene.now.program.now.of_module scene.now.function.now scene.now.slots.now scene.now.registers.now written operand.now }
 {
     is_integer(scene.of_module(), written)
@@ -131,7 +131,7 @@ pub fn is_usable_number(scene: &Scene<'_>, written: TypeId, operand: &Operand) -
 }
 
 /// Whether an operand is a local name of this type.
-pub fn is_local_of(scene: &Scene<'_>, written: TypeId, operand: &Operand) -> bool
+pub fn is_local_of(scene: &FrameScene<'_>, written: TypeId, operand: &Operand) -> bool
     ensures { result ≡ is_local_of scene.now.program.now.of_module scene.now.function.now written operand.now }
 {
     match operand {
@@ -151,7 +151,7 @@ pub fn operand_slot(slots: &Slots, operand: &Operand) -> Option<SlotId>
 }
 
 /// The slot that an operand names under this type.
-pub fn slot_at_place(scene: &Scene<'_>, written: TypeId, operand: &Operand) -> Option<SlotId>
+pub fn slot_at_place(scene: &FrameScene<'_>, written: TypeId, operand: &Operand) -> Option<SlotId>
     ensures { result ≡ slot_at_place scene.now.program.now.of_module scene.now.function.now scene.now.slots.now written operand.now }
 {
     match operand {
@@ -167,7 +167,11 @@ pub fn slot_at_place(scene: &Scene<'_>, written: TypeId, operand: &Operand) -> O
 }
 
 /// The address that an operand of this type is.
-pub fn address_at_place(scene: &Scene<'_>, written: TypeId, operand: &Operand) -> Option<Place>
+pub fn address_at_place(
+    scene: &FrameScene<'_>,
+    written: TypeId,
+    operand: &Operand,
+) -> Option<Pointee>
     ensures { result ≡ address_at_place scene.now.program.now.of_module scene.now.function.now scene.now.slots.now scene.now.registers.now written operand.now }
 {
     if is_typed(scene, written, operand) {
@@ -178,14 +182,24 @@ pub fn address_at_place(scene: &Scene<'_>, written: TypeId, operand: &Operand) -
 }
 
 /// Whether two operands of a type are integers.
-pub fn are_numbers(scene: &Scene<'_>, written: TypeId, first: &Operand, second: &Operand) -> bool
+pub fn are_numbers(
+    scene: &FrameScene<'_>,
+    written: TypeId,
+    first: &Operand,
+    second: &Operand,
+) -> bool
     ensures { result ≡ are_numbers scene.now.program.now.of_module scene.now.function.now scene.now.slots.now scene.now.registers.now written first.now second.now }
 {
     is_usable_number(scene, written, first) && is_usable_number(scene, written, second)
 }
 
 /// Whether two operands of a type are references.
-pub fn are_references(scene: &Scene<'_>, written: TypeId, first: &Operand, second: &Operand) -> bool
+pub fn are_references(
+    scene: &FrameScene<'_>,
+    written: TypeId,
+    first: &Operand,
+    second: &Operand,
+) -> bool
     ensures { result ≡ are_references scene.now.program.now.of_module scene.now.function.now scene.now.slots.now scene.now.registers.now written first.now second.now }
 {
     may_refer(scene.of_module(), written)
@@ -195,7 +209,7 @@ pub fn are_references(scene: &Scene<'_>, written: TypeId, first: &Operand, secon
 }
 
 /// Whether a condition is an integer of one bit.
-pub fn is_condition(scene: &Scene<'_>, written: TypeId, operand: &Operand) -> bool
+pub fn is_condition(scene: &FrameScene<'_>, written: TypeId, operand: &Operand) -> bool
     ensures { result ≡ is_condition scene.now.program.now.of_module scene.now.function.now scene.now.slots.now scene.now.registers.now written operand.now }
 {
     is_integer_of(scene.of_module(), 1, written) && is_usable_number(scene, written, operand)

@@ -10,7 +10,7 @@ pub struct Reference {
 
 /// Where an address points.
 #[derive(Clone, Copy, Debug, PartialEq, Eq)]
-pub enum Place {
+pub enum Pointee {
     /// The address was taken from null: it points to no word.
     OfNull,
     /// A word of a cell of this layout.
@@ -32,5 +32,5 @@ pub enum Value {
     Null,
     /// A reference to a cell of this layout.
     Cell(LayoutId, Reference),
-    Address(Place),
+    Address(Pointee),
 }

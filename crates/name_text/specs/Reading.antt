@@ -6,8 +6,8 @@ use Rattle.std.proofs.lemmas.Bool.Decides.{nat_tests}
 use Rattle.std.proofs.lemmas.List.{append-nil}
 use Rattle.std.proofs.Math.Seq.{take-append_seam, take-length}
 use Rattle.lemmas.specs.Bools.{and_parts, not_true}
-use Rattle.ir_tokens.specs.declared.class.Class.{Class}
-use Rattle.ir_tokens.specs.declared.class.Class.TheVariants as c
+use Rattle.ir_tokens.specs.declared.class.ByteClass.{ByteClass}
+use Rattle.ir_tokens.specs.declared.class.ByteClass.TheVariants as c
 use Rattle.ir_tokens.specs.declared.token.Kind.{Kind}
 use Rattle.ir_tokens.specs.declared.token.Kind.TheVariants as k
 use Rattle.ir_tokens.specs.declared.token.Token.{Token}
@@ -141,13 +141,13 @@ module _ (blank : Blank) (name : Text) (own : AreBytes name) where
   in_quotes rest = ap (λ (x : Text). 34 ∷ x) (append_assoc (flat_map (quoted_byte blank) name) (34 ∷ []) rest)
 
   -- what follows a sign
-  behind_sign : (rest : Text) → begins is_name rest ≡ false → (f : Class → Form Kind) (x : Kind) → ((i : Text) → (f c.Letter).read i ≡ (tokens.name x).read i)
+  behind_sign : (rest : Text) → begins is_name rest ≡ false → (f : ByteClass → Form Kind) (x : Kind) → ((i : Text) → (f c.Letter).read i ≡ (tokens.name x).read i)
       → ((i : Text) → (f c.Quote).read i ≡ (quotation x).read i) → (t : Bool) → is_plain name ≡ t → (f (first_class (written t ++ rest))).read (written t ++ rest) ≡ Some (x, rest)
   unfolding class_of
   behind_sign rest ends f x letter quote true e =
       let parts = and_parts (begins_plain name) _ e in
       let read = (tokens.name x).again (name ++ rest) x rest (name, rest, (refl, passes name parts.1, ends), (refl, refl)) in
-      ap (λ (class : Class). (f class).read (name ++ rest)) (first_letter name rest parts.0) ∙ letter (name ++ rest) ∙ read
+      ap (λ (class : ByteClass). (f class).read (name ++ rest)) (first_letter name rest parts.0) ∙ letter (name ++ rest) ∙ read
   behind_sign rest ends f x letter quote false e =
       let bytes : Text = 34 ∷ (flat_map (quoted_byte blank) name ++ 34 ∷ rest) in
       let read = (quotation x).again bytes x rest (tt, rest, (tt, flat_map (quoted_byte blank) name ++ 34 ∷ rest, (refl, refl), (name, quotes_read blank name rest own)), (refl, refl)) in
@@ -205,7 +205,7 @@ number_token b digits rest e ends =
     let number = b ∷ digits in
     let first = (and_parts (is_digit b) (list_all is_digit digits) e).0 in
     let read = (tokens.digits k.LocalNumber).again (number ++ rest) k.LocalNumber rest (number, rest, (refl, digits_pass number e, ends), (refl, refl)) in
-    ap (λ (class : Class). (local_by class).read (number ++ rest)) (digit_class b first) ∙ read
+    ap (λ (class : ByteClass). (local_by class).read (number ++ rest)) (digit_class b first) ∙ read
 
 digit_no_quote : (b : ℕ) → is_digit b ≡ true → (b == 34) ≡ false
 digit_no_quote b digit = grind (arith, nat_tests)

@@ -32,8 +32,8 @@ use Rattle.shadow_stack.specs.Slots.{SlotTable, slots_of, operand_slot}
 use Rattle.machine.specs.declared.action.Action.{Action}
 use Rattle.machine.specs.declared.action.Action.TheVariants.{Local, Read, StorePlain, Write, Safepoint, End, Wrong}
 use Rattle.machine.specs.declared.frame.Frame.{Frame}
-use Rattle.machine.specs.declared.value.Place.{Place}
-use Rattle.machine.specs.declared.value.Place.TheVariants as place
+use Rattle.machine.specs.declared.value.Pointee.{Pointee}
+use Rattle.machine.specs.declared.value.Pointee.TheVariants as place
 use Rattle.machine.specs.declared.value.Value.{Value}
 use Rattle.machine.specs.declared.value.Value.TheVariants as value
 use Rattle.machine.specs.Asks.{only_if, cast_of, cast_action, read_action, load_action, plain_action, barrier_action, store_action, gcroot_action, gcread_action, gcwrite_action, are_gcwrite_types, layout_named, alloc_of, alloc_action, safepoint_action, defined_action, call_action, declare_of, function_numbered, number_called, enter_action, target_at, way_of, is_condition, end_action, gives_number, number_action, memory_action, op_action}
@@ -106,7 +106,7 @@ module _ (s : Setup) where
     -- ---- words
 
     -- a word that is read is there
-    read_asks : (loaded : ℕ) (address : Option Place) → PlaceFits s address → AsksByKind s (asked_as (read_action p loaded address))
+    read_asks : (loaded : ℕ) (address : Option Pointee) → PlaceFits s address → AsksByKind s (asked_as (read_action p loaded address))
     read_asks loaded None at = tt
     read_asks loaded (Some place.OfNull) at = tt
     read_asks loaded (Some (place.Word layout at word)) of =
@@ -118,7 +118,7 @@ module _ (s : Setup) where
         (omega arith, subst (λ k. k ≢ None) (sym (kind_global s p heap g there)) there))
 
     -- a word that is stored without the barrier is there, and may hold the value
-    plain_asks : (written : ℕ) (v : Value) (address : Option Place) → FitsHeap s v → PlaceFits s address → AsksByKind s (asked_as (plain_action p written v address))
+    plain_asks : (written : ℕ) (v : Value) (address : Option Pointee) → FitsHeap s v → PlaceFits s address → AsksByKind s (asked_as (plain_action p written v address))
     plain_asks written v None h of = tt
     plain_asks written v (Some place.OfNull) h of = tt
     plain_asks written v (Some (place.Word layout at word)) h of =
@@ -129,7 +129,7 @@ module _ (s : Setup) where
         (λ e. (omega arith, subst (λ k. MayHold s k (stored v)) (sym (kind_global s p heap g (takes_there p.of_module written (global_kind p.of_module g) v e))) (may_hold p.of_module written (global_kind p.of_module g) v e h)))
 
     -- one that is stored with the barrier holds references too
-    barrier_asks : (written : ℕ) (v : Value) (address : Option Place) → is_byte_pointer p.of_module written ≡ true → FitsHeap s v → PlaceFits s address
+    barrier_asks : (written : ℕ) (v : Value) (address : Option Pointee) → is_byte_pointer p.of_module written ≡ true → FitsHeap s v → PlaceFits s address
         → AsksByKind s (asked_as (barrier_action p written v address))
     barrier_asks written v None bytes h of = tt
     barrier_asks written v (Some place.OfNull) bytes h of = tt
@@ -236,12 +236,12 @@ module _ (s : Setup) where
       number_asks x = local_asks (gives_number p.of_module f slots registers x)
 
       -- a load reads a slot, or a word that is there
-      load_asks : (loaded : ℕ) (slot : Option ℕ) (address : Option Place) → PlaceFits s address → AsksByKind s (asked_as (load_action p slots loaded slot address))
+      load_asks : (loaded : ℕ) (slot : Option ℕ) (address : Option Pointee) → PlaceFits s address → AsksByKind s (asked_as (load_action p slots loaded slot address))
       load_asks loaded (Some slot) address of = local_asks _
       load_asks loaded None address of = read_asks loaded address of
 
       -- a store puts a value into a slot, or into a word that may hold it
-      store_asks : (written : ℕ) (usable : Bool) (v : Value) (slot : Option ℕ) (address : Option Place) → FitsHeap s v → PlaceFits s address
+      store_asks : (written : ℕ) (usable : Bool) (v : Value) (slot : Option ℕ) (address : Option Pointee) → FitsHeap s v → PlaceFits s address
           → AsksByKind s (asked_as (store_action p slots written usable v slot address))
       store_asks written usable v (Some slot) address h of = local_asks _
       store_asks written true v None address h of = plain_asks written v address h of

@@ -12,8 +12,8 @@ use Rattle.machine.specs.declared.action.Action.{Action}
 use Rattle.machine.specs.declared.action.Action.TheVariants.{Local, Read, StorePlain, Write, Alloc, Safepoint, End, Wrong}
 use Rattle.machine.specs.declared.answer.Answer.{Answer}
 use Rattle.machine.specs.declared.answer.Answer.TheVariants as answer
-use Rattle.machine.specs.declared.value.Place.{Place}
-use Rattle.machine.specs.declared.value.Place.TheVariants as place
+use Rattle.machine.specs.declared.value.Pointee.{Pointee}
+use Rattle.machine.specs.declared.value.Pointee.TheVariants as place
 use Rattle.machine.specs.Asks.{only_if, read_action}
 use Rattle.machine.specs.Elements.{global_kind, is_read_as, read_value}
 use Rattle.machine.specs.Machine.{alloc_value, read_at}
@@ -88,7 +88,7 @@ module _ (s : Setup) where
   nothing_claimed layout (answer.Cell at) h = absurd h
 
   -- nor is anything read at an address
-  pub nothing_at : (p : LaidOut) (address : Option Place) (given : Answer) → GivesNothing given → FitsHeap s (read_at p address given)
+  pub nothing_at : (p : LaidOut) (address : Option Pointee) (given : Answer) → GivesNothing given → FitsHeap s (read_at p address given)
   nothing_at p None given h = tt
   nothing_at p (Some place.OfNull) given h = tt
   nothing_at p (Some (place.Word layout at word)) given h = nothing_read (kind_of_word p.layouts layout word) given h
@@ -138,7 +138,7 @@ module _ (s : Setup) where
   only_gives false asked given h = inr h
 
   -- what is read at an address fits
-  pub read_fits : (p : LaidOut) → IsHeapWith s p → (loaded : ℕ) (address : Option Place) (given : Answer) → PlaceFits s address → FitsAsked s (read_action p loaded address) given → FitsHeap s (read_at p address given)
+  pub read_fits : (p : LaidOut) → IsHeapWith s p → (loaded : ℕ) (address : Option Pointee) (given : Answer) → PlaceFits s address → FitsAsked s (read_action p loaded address) given → FitsHeap s (read_at p address given)
   read_fits p heap loaded None given at h = tt
   read_fits p heap loaded (Some place.OfNull) given at h = tt
   read_fits p heap loaded (Some (place.Word layout at word)) given of h =

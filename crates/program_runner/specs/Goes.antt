@@ -24,7 +24,7 @@ use Rattle.types.specs.RuntimeCall.{runtime_called}
 use Rattle.shadow_stack.specs.Slots.{SlotTable, slots_of, operand_slot}
 use Rattle.machine.specs.declared.answer.Answer.{Answer}
 use Rattle.machine.specs.declared.frame.Frame.{Frame}
-use Rattle.machine.specs.declared.value.Place.{Place}
+use Rattle.machine.specs.declared.value.Pointee.{Pointee}
 use Rattle.machine.specs.declared.value.Value.{Value}
 use Rattle.machine.specs.declared.value.Value.TheVariants as value
 use Rattle.machine.specs.Asks.{read_action, load_action, gcread_action, alloc_of, alloc_action, layout_named, call_action, declare_of, function_numbered, number_called, target_at, way_of, memory_action, op_action}
@@ -101,7 +101,7 @@ module _ (s : Setup) where
     -- ---- instructions
 
     -- what a load gives
-    load_fits : (slots : SlotTable) (held : List Value) → ((slot : ℕ) → FitsHeap s (slot_value held slot)) → (loaded : ℕ) (slot : Option ℕ) (address : Option Place) (given : Answer) → PlaceFits s address
+    load_fits : (slots : SlotTable) (held : List Value) → ((slot : ℕ) → FitsHeap s (slot_value held slot)) → (loaded : ℕ) (slot : Option ℕ) (address : Option Pointee) (given : Answer) → PlaceFits s address
         → FitsAsked s (load_action p slots loaded slot address) given → FitsHeap s (loaded_from p held slot address given)
     load_fits slots held all loaded (Some slot) address given of h = all slot
     load_fits slots held all loaded None address given of h = read_fits s p heap loaded address given of h

@@ -6,7 +6,7 @@ use Rattle.layout.specs.Layouts.{LaidOut}
 use Rattle.machine.specs.declared.frame.Frame.{Frame}
 use Rattle.machine.specs.declared.value.Value.{Value}
 use Rattle.machine.specs.declared.value.Value.TheVariants as value
-use Rattle.machine.specs.declared.value.Place.TheVariants as place
+use Rattle.machine.specs.declared.value.Pointee.TheVariants as place
 use Rattle.machine.specs.Elements.{global_kind}
 use Rattle.machine.specs.Kinds.{register_at}
 use Rattle.machine.specs.Machine.{slot_value}

@@ -18,8 +18,8 @@ use Rattle.pools.specs.Heap.{Setup, IsOfLayout}
 use Rattle.pools.specs.Layouts.{kind_of_word}
 use Rattle.layout.specs.Layouts.{LaidOut}
 use Rattle.types.specs.Globals.{global_named}
-use Rattle.machine.specs.declared.value.Place.{Place}
-use Rattle.machine.specs.declared.value.Place.TheVariants as place
+use Rattle.machine.specs.declared.value.Pointee.{Pointee}
+use Rattle.machine.specs.declared.value.Pointee.TheVariants as place
 use Rattle.machine.specs.declared.value.Reference.{Reference}
 use Rattle.machine.specs.declared.value.Value.{Value}
 use Rattle.machine.specs.declared.value.Value.TheVariants as value
@@ -120,7 +120,7 @@ module _ (s : Setup) where
   -- ---- addresses
 
   -- an address, if there is one, fits
-  abbrev pub PlaceFits : Option Place → Type 0
+  abbrev pub PlaceFits : Option Pointee → Type 0
   PlaceFits None = Unit {0}
   PlaceFits (Some at) = FitsHeap s (value.Address at)
 

@@ -25,7 +25,7 @@ use Rattle.recheck.specs.Session.{State, IsAnswered}
 use Rattle.recheck.specs.Told.{rechecked_by}
 use Rattle.recheck.specs.declared.edit_fault.EditFault.{EditFault}
 use Rattle.recheck.specs.declared.edit_fault.EditFault.TheVariants.{Memory}
-use Rattle.recheck.specs.declared.kept.Kept.{Kept}
+use Rattle.recheck.specs.declared.kept.KeptWork.{KeptWork}
 use Rattle.recheck.proofs.Lists.{length_set}
 use Rattle.recheck.proofs.Puts.{put_so}
 use Rattle.recheck.proofs.Results.{same_ok, same_err, ok_or_err, err_or_ok}
@@ -179,10 +179,10 @@ ready_in_place p q func f (Some tables) S T (Ok count) h placed kept = subst (λ
 ready_in_place p q func f (Some tables) S T (Err x) h placed kept = subst (λ (x : LaidOut). AreReady x.of_module (Some tables)) (sym kept.0) h
 
 -- or there are none
-pub ready_anew : (p q : LaidOut) (S : Type 0) (before after : Kept) (r : Result ℕ EditFault) → AreReady p.of_module before.tables → OnOk r (after.tables ≡ None) → OnErr r ((q ≡ p) × S × (after ≡ before)) → AreReady q.of_module after.tables
+pub ready_anew : (p q : LaidOut) (S : Type 0) (before after : KeptWork) (r : Result ℕ EditFault) → AreReady p.of_module before.tables → OnOk r (after.tables ≡ None) → OnErr r ((q ≡ p) × S × (after ≡ before)) → AreReady q.of_module after.tables
 ready_anew p q S before after (Ok count) h none kept = subst (AreReady q.of_module) (sym none) tt
 ready_anew p q S before after (Err x) h none kept =
-    subst (λ (k : Kept). AreReady q.of_module k.tables) (sym kept.2) (subst (λ (x : LaidOut). AreReady x.of_module before.tables) (sym kept.0) h)
+    subst (λ (k : KeptWork). AreReady q.of_module k.tables) (sym kept.2) (subst (λ (x : LaidOut). AreReady x.of_module before.tables) (sym kept.0) h)
 
 -- ---- one function
 
@@ -218,7 +218,7 @@ answered_as_before p q certs others before after kept same =
     subst (λ (x : LaidOut). IsAnswered x others after) (sym same.0) (subst (λ (x : List Section). IsAnswered p x after) (sym same.1) (subst (λ (x : List (Option Refusal)). IsAnswered p certs x) (sym same.2) kept))
 
 -- what a session keeps, where a section is put in its place or refused
-pub section_kept : (p : LaidOut) (certs others : List Section) (func : ℕ) (text : Text) (before after : Kept) (r : Result ℕ EditFault) → IsKept p certs before → after.tables ≡ before.tables → IfOk r (λ count. IsTextPut p certs func text p others count)
+pub section_kept : (p : LaidOut) (certs others : List Section) (func : ℕ) (text : Text) (before after : KeptWork) (r : Result ℕ EditFault) → IsKept p certs before → after.tables ≡ before.tables → IfOk r (λ count. IsTextPut p certs func text p others count)
     → OnOk r (AreAnswers p others after.answers) → OnErr r ((others ≡ certs) × (after.answers ≡ before.answers)) → IsKept p others after
 section_kept p certs others func text before after (Ok count) kept tables put are same = record {
   answered = section_answered p certs others func text before.answers after.answers count kept.answered put are;
@@ -230,7 +230,7 @@ section_kept p certs others func text before after (Err x) kept tables put are s
 }
 
 -- and where code is
-pub code_kept : (p q : LaidOut) (certs others : List Section) (func : ℕ) (code text : Text) (before after : Kept) (r : Result ℕ EditFault) → IsKept p certs before → IfOk r (λ count. IsBothPut p certs func code text q others count)
+pub code_kept : (p q : LaidOut) (certs others : List Section) (func : ℕ) (code text : Text) (before after : KeptWork) (r : Result ℕ EditFault) → IsKept p certs before → IfOk r (λ count. IsBothPut p certs func code text q others count)
     → OnOk r (AreAnswers q others after.answers) → AreReady q.of_module after.tables → OnErr r ((q ≡ p) × (others ≡ certs) × (after.answers ≡ before.answers)) → IsKept q others after
 code_kept p q certs others func code text before after (Ok count) kept put are ready same = record { answered = code_answered p q certs others func code text before.answers after.answers count kept.answered put are; ready = ready }
 code_kept p q certs others func code text before after (Err x) kept put are ready same = record { answered = answered_as_before p q certs others before.answers after.answers kept.answered same; ready = ready }
@@ -239,7 +239,7 @@ module _ (p : LaidOut) (certs : List Section) (func : ℕ) (e : Edit) where
   -- ---- of a section
 
   module _ (name text : Text) (is : e ≡ edit.Cert name text) where
-    pub section_edited : (before : Kept) → IsKept p certs before → (others : List Section) (r : Result ℕ EditFault) → IfOk r (λ count. IsTextPut p certs func text p others count)
+    pub section_edited : (before : KeptWork) → IsKept p certs before → (others : List Section) (r : Result ℕ EditFault) → IfOk r (λ count. IsTextPut p certs func text p others count)
         → (n : ℕ) → IfOk r (λ count. IsEditedAt (state p certs n) func e (state p others count))
     section_edited before kept others (Ok count) h n =
         subst (λ (x : Edit). IsEditedAt (state p certs n) func x (state p others count)) (sym is)

@@ -11,7 +11,7 @@ use Rattle.layout.specs.Functions.{with_functions, laid_with}
 use Rattle.layout.specs.Layouts.{LaidOut, AreLayouts, AreSizes}
 use Rattle.recheck.specs.Session.{State, IsAnswered}
 use Rattle.recheck.specs.Told.{rechecked_by}
-use Rattle.recheck.specs.declared.kept.Kept.{Kept}
+use Rattle.recheck.specs.declared.kept.KeptWork.{KeptWork}
 
 -- a session of these parts
 abbrev pub state : LaidOut → (certs : List Section) → (rechecked : ℕ) → State
@@ -54,6 +54,6 @@ AreReady m None = Unit {0}
 AreReady m (Some tables) = tables ≡ tables_of m
 
 -- what a session keeps beside its program and its certificates goes with them
-pub record IsKept (program : LaidOut) (certs : List Section) (kept : Kept) : Type 0 where
+pub record IsKept (program : LaidOut) (certs : List Section) (kept : KeptWork) : Type 0 where
   pub answered : IsAnswered program certs kept.answers
   pub ready : AreReady program.of_module kept.tables

@@ -12,7 +12,7 @@ ghost use Rattle.recheck.specs.declared.edit_fault.EditFault.{EditFault as AFaul
 ghost use Rattle.recheck.specs.declared.edit_fault.EditFault.TheVariants.{Memory};
 
 use crate::edit_fault::EditFault;
-use crate::kept::Kept;
+use crate::kept::KeptWork;
 use crate::put::{answer_all, function_at, put_in_place, read_text};
 use crate::tables::same_tables;
 use certs::Certs;
@@ -112,7 +112,7 @@ fn put_anew(
     func: FuncId,
     code: &[u8],
     text: &[u8],
-    kept: &mut Kept,
+    kept: &mut KeptWork,
 ) -> Result<u64, EditFault>
     requires function { func < length program.old.of_module.functions }
     requires section { func < length certs.old }
@@ -170,7 +170,7 @@ pub fn put_code(
     func: FuncId,
     code: &[u8],
     text: &[u8],
-    kept: &mut Kept,
+    kept: &mut KeptWork,
 ) -> Result<u64, EditFault>
     requires function { func < length program.old.of_module.functions }
     requires section { func < length certs.old }

@@ -10,7 +10,7 @@ ghost use Rattle.recheck.specs.declared.edit_fault.EditFault.TheVariants.{Memory
 
 use crate::code::put_code;
 use crate::edit_fault::EditFault;
-use crate::kept::Kept;
+use crate::kept::KeptWork;
 use crate::named::function_named;
 use crate::put::{function_at, put_section_of};
 use certificate::print_section;
@@ -71,7 +71,7 @@ fn put_at(
     alloc: Global,
     program: &mut Program,
     certs: &mut Certs,
-    kept: &mut Kept,
+    kept: &mut KeptWork,
     func: FuncId,
     edit: &Edit,
 ) -> Result<u64, EditFault>
@@ -125,7 +125,7 @@ pub fn put_edit(
     alloc: Global,
     program: &mut Program,
     certs: &mut Certs,
-    kept: &mut Kept,
+    kept: &mut KeptWork,
     edit: &Edit,
 ) -> Result<u64, EditFault>
     requires { IsKept program.old certs.old kept.old }

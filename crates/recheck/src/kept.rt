@@ -4,7 +4,7 @@ use items::Items;
 
 /// What a session keeps beside its program and its certificates.
 #[derive(Drop)]
-pub struct Kept {
+pub struct KeptWork {
     /// The answer to each function.
     pub answers: Items<Option<Refusal>>,
     /// Tables of the module, ready for the reader of the next code. There are none before the first code, nor after code that is

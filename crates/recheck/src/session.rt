@@ -12,7 +12,7 @@ ghost use Rattle.recheck.specs.declared.edit_fault.EditFault.TheVariants as faul
 
 use crate::edit_fault::EditFault;
 use crate::edits::put_edit;
-use crate::kept::Kept;
+use crate::kept::KeptWork;
 use answers::{answers_to, first_refusal};
 use block_rules::Refusal;
 use certs::Certs;
@@ -28,7 +28,7 @@ use std::marker::Model;
 pub struct Session {
     program: Program,
     certs: Certs,
-    kept: Kept,
+    kept: KeptWork,
     rechecked: u64,
 }
 
@@ -69,7 +69,7 @@ impl Session {
             Ok(answers) => Ok(Session {
                 program,
                 certs,
-                kept: Kept {
+                kept: KeptWork {
                     answers,
                     tables: None,
                 },

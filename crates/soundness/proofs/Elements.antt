@@ -45,8 +45,8 @@ use Rattle.block_rules.specs.Operands as o
 use Rattle.block_rules.specs.Places.{cell_words}
 use Rattle.block_rules.specs.Rules.{element_conditions, after_op}
 use Rattle.block_rules.specs.TypeKinds.{kind_of, is_integer, is_pointer}
-use Rattle.machine.specs.declared.value.Place.{Place}
-use Rattle.machine.specs.declared.value.Place.TheVariants as place
+use Rattle.machine.specs.declared.value.Pointee.{Pointee}
+use Rattle.machine.specs.declared.value.Pointee.TheVariants as place
 use Rattle.machine.specs.declared.value.Reference.{Reference as Ref}
 use Rattle.machine.specs.declared.value.Value.{Value}
 use Rattle.machine.specs.declared.value.Value.TheVariants as value
@@ -499,7 +499,7 @@ module _ (heap : Setup) (p : LaidOut) (certs : List Section) (reaches : Bool) (f
 
   -- the place to which a getelementptr leads from a base, and what its address means
   record Placed (to : WordSet) (offset : Option ℕ) (base reference : Value) : Type 0 where
-    at : Place
+    at : Pointee
     is : element_place p offset base ≡ Some at
     means : IsAddressOf p to.members reference (value.Address at)
 
@@ -564,7 +564,7 @@ module _ (heap : Setup) (p : LaidOut) (certs : List Section) (reaches : Bool) (f
   module _ (result : Option ℕ) (source base_type : ℕ) (base : Operand) (indices : List Argument) (fit : AllFit p f table facts indices) where
     -- a base that leads to a place
     placed_goes : k.is_typed p.of_module f table base_type base ≡ true → is_some (t.element_type p.of_module source indices) ≡ true
-        → (at : Place) → element_place p (element_offset p frame.registers source indices) (value_of p.of_module frame.registers base_type base) ≡ Some at
+        → (at : Pointee) → element_place p (element_offset p frame.registers source indices) (value_of p.of_module frame.registers base_type base) ≡ Some at
         → ((v : ℕ) → Holds heap p table guarded log cells (r.after_element p v source base indices facts) (slice_set frame.registers v (value.Address at)) frame.slots)
         → OpGoes heap p certs reaches f table guarded log facts frame result (op.Element (getelementptr source base_type base indices))
     placed_goes typed has_type at is holds = goes_local heap p table frame.slots reaches guarded log _ _ _ (rw (typed, usable_indices indices fit, has_type, is) refl) (kept result) where
@@ -617,7 +617,7 @@ module _ (heap : Setup) (p : LaidOut) (certs : List Section) (reaches : Bool) (f
 
       -- with what is known after it, by what is known of the base
       goes : (known : Known) → known_at facts.values u ≡ known → is_some (t.element_type p.of_module source indices) ≡ true
-          → (at : Place) → element_place p (element_offset p frame.registers source indices) (register_at frame.registers u) ≡ Some at
+          → (at : Pointee) → element_place p (element_offset p frame.registers source indices) (register_at frame.registers u) ≡ Some at
           → ((v : ℕ) → Holds heap p table guarded log cells (r.define_words v u known (r.element_words p facts source indices (r.start_of known)) facts) (slice_set frame.registers v (value.Address at)) frame.slots)
           → OpGoes heap p certs reaches f table guarded log facts frame result (op.Element (getelementptr source base_type (operand.Local u) indices))
       goes known is has at there holds =

@@ -19,7 +19,7 @@ use Rattle.block_rules.specs.declared.wanted_word.WantedWord.{WantedWord}
 use Rattle.block_rules.specs.declared.wanted_word.WantedWord.TheVariants as want
 use Rattle.block_rules.specs.Places.{holds_wanted, each_word}
 use Rattle.machine.specs.declared.action.Action.TheVariants.{Read, StorePlain}
-use Rattle.machine.specs.declared.value.Place.TheVariants as place
+use Rattle.machine.specs.declared.value.Pointee.TheVariants as place
 use Rattle.machine.specs.declared.value.Reference.{Reference}
 use Rattle.machine.specs.declared.value.Value.{Value}
 use Rattle.machine.specs.declared.value.Value.TheVariants as value

@@ -26,8 +26,8 @@ use Rattle.block_rules.specs.Places as r
 use Rattle.machine.specs.declared.action.Action.TheVariants.{Read, Write, StorePlain}
 use Rattle.machine.specs.declared.answer.Answer.{Answer}
 use Rattle.machine.specs.declared.frame.Frame.{Frame}
-use Rattle.machine.specs.declared.value.Place.{Place}
-use Rattle.machine.specs.declared.value.Place.TheVariants as place
+use Rattle.machine.specs.declared.value.Pointee.{Pointee}
+use Rattle.machine.specs.declared.value.Pointee.TheVariants as place
 use Rattle.machine.specs.declared.value.Reference.{Reference as Ref}
 use Rattle.machine.specs.declared.value.Value.{Value}
 use Rattle.machine.specs.declared.value.Value.TheVariants as value
@@ -61,7 +61,7 @@ wanted_some wanted q e none = let k = wanted_there wanted q e in let z = sym k.1
 module _ (heap : Setup) (p : LaidOut) (log : Log) where
   -- a value is the address of a word that holds this, of a cell that the thread may touch
   pub record Touches (v : Value) (kind : Option WordKind) : Type 0 where
-    pub at : Place
+    pub at : Pointee
     pub is : v ≡ value.Address at
     pub cell : Ref
     pub word : ℕ
@@ -169,7 +169,7 @@ module _ (heap : Setup) (p : LaidOut) (certs : List Section) (reaches : Bool) (f
   place_known (operand.CastGlobal from symbol to) there none varies = refl
 
   -- an operand whose value is an address is its place
-  pub place_at : (written : ℕ) (x : Operand) → IsPlace p f table facts written x → (at : Place) → value_of p.of_module frame.registers written x ≡ value.Address at → k.address_at_place p.of_module f table frame.registers written x ≡ Some at
+  pub place_at : (written : ℕ) (x : Operand) → IsPlace p f table facts written x → (at : Pointee) → value_of p.of_module frame.registers written x ≡ value.Address at → k.address_at_place p.of_module f table frame.registers written x ≡ Some at
   place_at written x s at is = rw (typed_so p f table written x s.typed s.casts s.no_slot) (ap k.address_in is)
 
   -- the base of an address is an available reference, not stale and not null

@@ -16,7 +16,7 @@ ghost use Rattle.trace_sweep.specs.Below.{AreBelow};
 ghost use Rattle.colours.specs.Colours.{cycle_of, grey};
 
 use crate::motion::Motion;
-use crate::position::{Pass, Position};
+use crate::position::{CyclePosition, Pass};
 use crate::shades::Shades;
 use crate::words::Words;
 use colours::{Ask, Place, Turn, cycle_of, mark_value};
@@ -36,7 +36,7 @@ pub struct Collector<'a> {
     threads: usize,
     cells: u32,
     posted: u64,
-    position: Position,
+    position: CyclePosition,
     /// The grey cells that are looked at out of turn.
     shades: Shades,
 }
@@ -75,7 +75,7 @@ impl<'a> Collector<'a> {
             threads,
             cells: pools.cells(),
             posted: 0,
-            position: Position::Posting,
+            position: CyclePosition::Posting,
             shades: Shades::new(),
         }
     }
@@ -137,8 +137,8 @@ impl<'a> Collector<'a> {
     {
         let cycle = cycle_of(self.posted);
         match self.position {
-            Position::Posting => self.posted / 3,
-            Position::Clearing(cell, _) if cell + 1 == self.cells => cycle,
+            CyclePosition::Posting => self.posted / 3,
+            CyclePosition::Clearing(cell, _) if cell + 1 == self.cells => cycle,
             _ => cycle.saturating_sub(1),
         }
     }
@@ -165,7 +165,7 @@ impl<'a> Collector<'a> {
     fn is_at_limit(&self) -> bool
         ensures { result ≡ is_at_limit self.now.posted self.now.at }
     {
-        matches!(self.position, Position::Posting) && cycle_of(self.posted + 1) >= CYCLE_LIMIT
+        matches!(self.position, CyclePosition::Posting) && cycle_of(self.posted + 1) >= CYCLE_LIMIT
     }
 
     /// The next step in turn, where its word holds this number.
@@ -173,24 +173,24 @@ impl<'a> Collector<'a> {
         ensures { result ≡ turn_of self.now found }
     {
         match self.position {
-            Position::Posting => Turn::PostStage(self.posted + 1),
-            Position::Waiting(thread) => Turn::ReadStage(thread, found),
-            Position::MarkingGlobals => Turn::MarkFound(0, found),
-            Position::Passing(pass) => Turn::ReadColour(self.next_cell(pass), found),
-            Position::Scanning(cell, word, _) => match self.reference_from(cell, word) {
+            CyclePosition::Posting => Turn::PostStage(self.posted + 1),
+            CyclePosition::Waiting(thread) => Turn::ReadStage(thread, found),
+            CyclePosition::MarkingGlobals => Turn::MarkFound(0, found),
+            CyclePosition::Passing(pass) => Turn::ReadColour(self.next_cell(pass), found),
+            CyclePosition::Scanning(cell, word, _) => match self.reference_from(cell, word) {
                 Some(word) => Turn::ScanWord(cell, word, found),
                 None => Turn::Blacken(cell),
             },
-            Position::Marking(value, _, _, _) => Turn::MarkFound(value, found),
-            Position::Sweeping(cell) => Turn::ReadColour(cell, found),
-            Position::Clearing(cell, word) if (word as usize) < self.words(cell).len() =>
+            CyclePosition::Marking(value, _, _, _) => Turn::MarkFound(value, found),
+            CyclePosition::Sweeping(cell) => Turn::ReadColour(cell, found),
+            CyclePosition::Clearing(cell, word) if (word as usize) < self.words(cell).len() =>
                 Turn::ClearWord(cell, word),
-            Position::Clearing(cell, _) => Turn::Free(cell),
+            CyclePosition::Clearing(cell, _) => Turn::Free(cell),
         }
     }
 
     /// Where the collector is after that step.
-    fn behind(&self, found: u64) -> Position
+    fn behind(&self, found: u64) -> CyclePosition
         requires asked { IsSome (ask_of self.now) }
         requires fits { FitsNext self.now found }
         ensures place { collection_of result ≡ in_order (behind self.now.heap self.now.posted self.now.listed self.now.at found) }
@@ -199,26 +199,29 @@ impl<'a> Collector<'a> {
     {
         let _threads = self.threads;
         match self.position {
-            Position::Posting => self.wait_from(self.posted + 1, 0),
-            Position::Waiting(thread) if has_answered(self.posted, found) => self.wait_from(
+            CyclePosition::Posting => self.wait_from(self.posted + 1, 0),
+            CyclePosition::Waiting(thread) if has_answered(self.posted, found) => self.wait_from(
                 self.posted,
                 thread + 1,
             ),
-            Position::Waiting(thread) => Position::Waiting(thread),
-            Position::MarkingGlobals => Position::Posting,
-            Position::Passing(pass) => self.behind_look(pass, found),
-            Position::Scanning(cell, word, pass) => match self.reference_from(cell, word) {
-                Some(word) if found == 0 => Position::Scanning(cell, word + 1, pass),
-                Some(word) => Position::Marking(found as u32, cell, word + 1, pass),
+            CyclePosition::Waiting(thread) => CyclePosition::Waiting(thread),
+            CyclePosition::MarkingGlobals => CyclePosition::Posting,
+            CyclePosition::Passing(pass) => self.behind_look(pass, found),
+            CyclePosition::Scanning(cell, word, pass) => match self.reference_from(cell, word) {
+                Some(word) if found == 0 => CyclePosition::Scanning(cell, word + 1, pass),
+                Some(word) => CyclePosition::Marking(found as u32, cell, word + 1, pass),
                 None => self.pass_from(pass),
             },
-            Position::Marking(_, cell, word, pass) => Position::Scanning(cell, word, pass),
-            Position::Sweeping(cell) if 0 < found && found < mark_value(cycle_of(self.posted)) =>
-                Position::Clearing(cell, 0),
-            Position::Sweeping(cell) => self.sweep_from(cell + 1),
-            Position::Clearing(cell, word) if (word as usize) < self.words(cell).len() =>
-                Position::Clearing(cell, word + 1),
-            Position::Clearing(cell, _) => self.sweep_from(cell + 1),
+            CyclePosition::Marking(_, cell, word, pass) => CyclePosition::Scanning(
+                cell, word, pass,
+            ),
+            CyclePosition::Sweeping(cell)
+                if 0 < found && found < mark_value(cycle_of(self.posted)) =>
+                CyclePosition::Clearing(cell, 0),
+            CyclePosition::Sweeping(cell) => self.sweep_from(cell + 1),
+            CyclePosition::Clearing(cell, word) if (word as usize) < self.words(cell).len() =>
+                CyclePosition::Clearing(cell, word + 1),
+            CyclePosition::Clearing(cell, _) => self.sweep_from(cell + 1),
         }
     }
 
@@ -235,7 +238,7 @@ impl<'a> Collector<'a> {
     }
 
     /// After a look of a pass: a grey cell is scanned.
-    fn behind_look(&self, pass: Pass, colour: u64) -> Position
+    fn behind_look(&self, pass: Pass, colour: u64) -> CyclePosition
         requires { pass.next < cells self.now.heap }
         ensures place { collection_of result
             ≡ in_order (looked self.now.heap self.now.posted (pass_after_look (pass_of pass) pass.next self.now.listed) (next_cell pass.next self.now.listed) colour) }
@@ -246,7 +249,7 @@ impl<'a> Collector<'a> {
         let cell = self.next_cell(pass);
         let next = self.next_after_look(pass);
         if colour == grey {
-            return Position::Scanning(
+            return CyclePosition::Scanning(
                 cell,
                 0,
                 Pass {
@@ -273,48 +276,48 @@ impl<'a> Collector<'a> {
     }
 
     /// The next thread of a wait, or what comes after the last one's answer.
-    fn wait_from(&self, stage: u64, thread: usize) -> Position
+    fn wait_from(&self, stage: u64, thread: usize) -> CyclePosition
         requires { thread ≤ self.now.heap.threads }
         ensures place { collection_of result ≡ in_order (wait_from self.now.heap stage thread) }
         ensures placed { IsPlacedAt self.now.heap result }
         ensures hand { hand_of result ≡ 0 }
     {
         if thread < self.threads {
-            return Position::Waiting(thread);
+            return CyclePosition::Waiting(thread);
         }
         match stage % 3 {
-            1 => Position::Posting,
-            2 => Position::MarkingGlobals,
-            _ => Position::Passing(FIRST_PASS),
+            1 => CyclePosition::Posting,
+            2 => CyclePosition::MarkingGlobals,
+            _ => CyclePosition::Passing(FIRST_PASS),
         }
     }
 
     /// The next cell of a pass, the next pass where a grey cell was met, or the sweep.
-    fn pass_from(&self, pass: Pass) -> Position
+    fn pass_from(&self, pass: Pass) -> CyclePosition
         requires { pass.next ≤ cells self.now.heap }
         ensures place { collection_of result ≡ in_order (pass_from self.now.heap (pass_of pass)) }
         ensures placed { IsPlacedAt self.now.heap result }
         ensures hand { hand_of result ≡ 0 }
     {
         if pass.next < self.cells {
-            return Position::Passing(pass);
+            return CyclePosition::Passing(pass);
         }
         if pass.met_grey {
-            return Position::Passing(FIRST_PASS);
+            return CyclePosition::Passing(FIRST_PASS);
         }
         self.sweep_from(1)
     }
 
     /// The next cell of the sweep, or the next stage.
-    fn sweep_from(&self, cell: u32) -> Position
+    fn sweep_from(&self, cell: u32) -> CyclePosition
         ensures place { collection_of result ≡ in_order (sweep_from self.now.heap cell) }
         ensures placed { IsPlacedAt self.now.heap result }
         ensures hand { hand_of result ≡ 0 }
     {
         if cell < self.cells {
-            return Position::Sweeping(cell);
+            return CyclePosition::Sweeping(cell);
         }
-        Position::Posting
+        CyclePosition::Posting
     }
 
     /// The place of the cell's next reference word from this one on; None where there is none.
@@ -340,14 +343,20 @@ impl<'a> Collector<'a> {
 }
 
 /// The list after a step whose word held this number: a cell that was looked at is taken off, one that was made grey is put on.
-fn keep_shades(shades: &mut Shades, at: Position, grey_value: u64, found: u64, after: Position)
+fn keep_shades(
+    shades: &mut Shades,
+    at: CyclePosition,
+    grey_value: u64,
+    found: u64,
+    after: CyclePosition,
+)
     ensures list { (stage : ℕ) → grey_value ≡ grey (cycle_of stage)
         → shades.new ≡ kept_list (collection_of after) (list_after stage shades.old (collection_of at) found) }
     ensures cells { (count : ℕ) → hand_of at < count → AreBelow count shades.old → AreBelow count shades.new }
 {
     match at {
-        Position::Passing(pass) if pass.next > 0 => shades.take_off(),
-        Position::Marking(value, _, _, _) if found < grey_value => shades.add(value),
+        CyclePosition::Passing(pass) if pass.next > 0 => shades.take_off(),
+        CyclePosition::Marking(value, _, _, _) if found < grey_value => shades.add(value),
         _ => {}
     }
     if !is_in_trace(after) {
@@ -356,12 +365,14 @@ fn keep_shades(shades: &mut Shades, at: Position, grey_value: u64, found: u64, a
 }
 
 /// Whether the collector traces there.
-fn is_in_trace(position: Position) -> bool
+fn is_in_trace(position: CyclePosition) -> bool
     ensures { (listed : List ℕ) → kept_list (collection_of position) listed ≡ (if result then listed else []) }
 {
     matches!(
         position,
-        Position::Passing(_) | Position::Scanning(_, _, _) | Position::Marking(_, _, _, _)
+        CyclePosition::Passing(_)
+            | CyclePosition::Scanning(_, _, _)
+            | CyclePosition::Marking(_, _, _, _)
     )
 }
 

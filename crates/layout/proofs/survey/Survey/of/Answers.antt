@@ -1,7 +1,7 @@
 use Rattle.std.proofs.Common.{◌≡◌, false, below_more, subst, arith, rules}
 use Rattle.std.specs.Prelude.{replicate}
 use Rattle.layout.specs.Survey.{is_new, mark_at}
-use Rattle.layout.specs.declared.survey.Mark.TheVariants.{New}
+use Rattle.layout.specs.declared.survey.SizeMark.TheVariants.{New}
 use Rattle.layout.proofs.Moves.{nothing_known, all_met}
 use Rattle.layout.proofs.survey.Survey.of.Goals as goal
 

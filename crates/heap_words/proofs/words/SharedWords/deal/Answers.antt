@@ -6,7 +6,7 @@ use Rattle.heap_rule.specs.Rule.{Ruled, dealing}
 use Rattle.heap_rule.specs.Seats.{splits}
 use Rattle.heap_words.specs.Tokens.{Shared}
 use Rattle.heap_words.proofs.Closing.{size_some}
-use Rattle.heap_words.proofs.words.Words.deal.Goals as goal
+use Rattle.heap_words.proofs.words.SharedWords.deal.Goals as goal
 
 pub split_seat-seat-requires : goal.split_seat-seat-requires
 split_seat-seat-requires c = let key = c.self.inside.table.shared.key in let seat = c.args.seat.now in let k = c.args.thread in

@@ -4,7 +4,7 @@ use Rattle.heap_rule.specs.Rule.{index}
 use Rattle.heap_rule.specs.Seats.{opens}
 use Rattle.heap_rule.specs.Places.{within}
 use Rattle.heap_words.proofs.Beginning.{opens_at, size_found}
-use Rattle.heap_words.proofs.words.Words.open.Goals as goal
+use Rattle.heap_words.proofs.words.SharedWords.open.Goals as goal
 
 pub of_words-requires : goal.of_words-requires
 of_words-requires c = let s = c.args.plan in let o = c.in_ok-opening.ensures in

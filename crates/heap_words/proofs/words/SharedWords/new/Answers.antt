@@ -4,7 +4,7 @@ use Rattle.heap_rule.specs.Rule.{dealing}
 use Rattle.heap_words.specs.Tokens.{Shared, IsFresh, AreFresh}
 use Rattle.heap_words.specs.WordsView.{shared_in}
 use Rattle.heap_words.proofs.Dealing.{fresh_more}
-use Rattle.heap_words.proofs.words.Words.new.Goals as goal
+use Rattle.heap_words.proofs.words.SharedWords.new.Goals as goal
 
 pub loop-thread-preserved : goal.loop-thread-preserved
 loop-thread-preserved c = let inv = c.loop-thread.invariant in let d = c.deal-token.ensures in let w = shared_in c.words.inside in

@@ -1,6 +1,6 @@
 use Rattle.colours.specs.declared.ask.Ask.TheVariants.{Store}
 use Rattle.heap_words.proofs.Stepping.{may_step}
-use Rattle.heap_words.proofs.words.Words.store.Goals as goal
+use Rattle.heap_words.proofs.words.SharedWords.store.Goals as goal
 
 pub store-requires : goal.store-requires
 store-requires g c = may_step _ _ _ _ _ _ g.J.Told.event (Store c.args.place c.args.value) _ _ _ c.self.view_is c.token.view_is c.token.invariant.one c.self.invariant.words c.requires.token c.requires.place c.requires.may c.index-at.ensures.place c.index-at.ensures.within

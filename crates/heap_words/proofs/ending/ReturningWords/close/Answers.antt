@@ -4,7 +4,7 @@ use Rattle.pools.specs.Heap.{Setup}
 use Rattle.heap_words.specs.Tokens.{Shared}
 use Rattle.heap_words.specs.Endings.{Gathered, Closing, Ends}
 use Rattle.heap_words.proofs.Closing.{ending}
-use Rattle.heap_words.proofs.ending.Ending.close.Goals as goal
+use Rattle.heap_words.proofs.ending.ReturningWords.close.Goals as goal
 
 pub returns-clause-run : goal.returns-clause-run
 returns-clause-run c = let f = c.close_with-closed.ensures.values.2 in let key = c.words.inside.table.shared.key in

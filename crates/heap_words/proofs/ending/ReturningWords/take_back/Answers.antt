@@ -3,7 +3,7 @@ use Rattle.heap_rule.specs.Seats.{joins}
 use Rattle.heap_words.specs.Tokens.{Holding, Shared}
 use Rattle.heap_words.specs.Endings.{Gathered}
 use Rattle.heap_words.proofs.Closing.{size_some}
-use Rattle.heap_words.proofs.ending.Ending.take_back.Goals as goal
+use Rattle.heap_words.proofs.ending.ReturningWords.take_back.Goals as goal
 
 pub join_seat-requires : goal.join_seat-requires
 join_seat-requires c = let words_table = ap (λ (x : Shared). x.table) c.words.view_is in let some = size_some c.words.inside.table.shared.key in let count = c.words.invariant.words in (

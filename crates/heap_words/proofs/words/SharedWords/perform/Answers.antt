@@ -1,7 +1,7 @@
 use Rattle.std.proofs.Common.{subst}
 use Rattle.colours.specs.declared.ask.Ask.{Ask}
 use Rattle.heap_rule.specs.Rule.{MayStep}
-use Rattle.heap_words.proofs.words.Words.perform.Goals as goal
+use Rattle.heap_words.proofs.words.SharedWords.perform.Goals as goal
 
 pub load-requires-clause-may : goal.load-requires-clause-may
 load-requires-clause-may g c = subst (λ (a : Ask). MayStep c.args.self.now.setup c.args.token.now.share g.J.Told.event a) c.in-Load.is c.requires.may
