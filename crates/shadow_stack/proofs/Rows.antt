@@ -1,5 +1,5 @@
 -- The row that tells of each slot whether it is a root.
-use Rattle.std.proofs.Common.{◌≡◌, ◌<◌, ℕ, Bool, true, false, ◌||◌, nat_eq, List, [], ◌∷◌, ◌++◌, length, slice_set, slice_index_or, refl, ap, sym, ◌∙◌, inl, inr}
+use Rattle.std.proofs.Common.{◌≡◌, ◌<◌, ℕ, zero, suc, Bool, true, false, ◌||◌, nat_eq, List, [], ◌∷◌, ◌++◌, length, replicate, slice_set, slice_index_or, refl, ap, sym, ◌∙◌, inl, inr}
 use Rattle.std.specs.Prelude.{slice_get, unwrap_or}
 use Rattle.std.proofs.lemmas.List.Folds.{list_any-append}
 use Rattle.std.proofs.lemmas.Option.{unwrap_or-slice_get}
@@ -34,3 +34,9 @@ rooted_push rooted roots slot h same t =
     at_set rooted slot t h ∙ ap (λ b. b || nat_eq t slot) (same t)
     ∙ ap (λ b. is_among roots t || b) (or_false (nat_eq t slot))
     ∙ sym (list_any-append (nat_eq t) roots (slot ∷ []))
+
+-- of marks that are all false, no slot's is true
+pub none_rooted : (count slot : ℕ) → unwrap_or (slice_get (replicate count false) slot) false ≡ false
+none_rooted zero slot = refl
+none_rooted (suc count) zero = refl
+none_rooted (suc count) (suc slot) = none_rooted count slot
