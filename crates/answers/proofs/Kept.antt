@@ -19,7 +19,8 @@ use Rattle.answers.specs.Edited.{is_number, instruction_calls, block_calls, call
 use Rattle.answers.specs.declared.callers.Callers.{Callers}
 use Rattle.answers.specs.declared.callers.Callers.TheVariants.{SeeChange, SeeNone}
 use Rattle.std.proofs.lemmas.List.{length-append}
-use Rattle.answers.proofs.Lists.{one_more, none_pass, none_passes_at, all_so, at_end, before_end}
+use Rattle.lemmas.specs.Lists.{get_end}
+use Rattle.answers.proofs.Lists.{one_more, none_pass, none_passes_at, all_so, before_end}
 use Rattle.answers.proofs.Put.{length_put, IsPutAt, put_at}
 
 -- what an operation calls does not depend on functions
@@ -98,7 +99,7 @@ stands_below m called (suc count) func less e = by (func == count) refl (is_call
   where
     by : (same : Bool) → (func == count) ≡ same → (calls_it : Bool) → is_caller m called count ≡ calls_it → (func < count → Holds (callers_below m called count) func)
         → Holds (if calls_it then callers_below m called count ++ count ∷ [] else callers_below m called count) func
-    by true same true is earlier = (length (callers_below m called count), at_end (callers_below m called count) count ∙ ap Some (sym (eqb-true func count same)))
+    by true same true is earlier = (length (callers_below m called count), get_end (callers_below m called count) count ∙ ap Some (sym (eqb-true func count same)))
     by true same false is earlier = absurd (let neither : true ≡ false = sym e ∙ ap (is_caller m called) (eqb-true func count same) ∙ is in cc)
     by false differs true is earlier =
         let other : func ≢ count = λ h. let t = eq-eqb func count h in absurd cc in

@@ -1,6 +1,5 @@
--- Lists that grow by one element at the end, lists in which one is replaced, and elements of which none passes a test.
-use Rattle.std.proofs.Common.{◌≡◌, ◌≢◌, ◌<◌, ℕ, zero, suc, Bool, false, List, [], ◌∷◌, ◌++◌, length, slice_get, Some, refl, ap, subst, arith}
-use Rattle.std.specs.Prelude.{slice_set}
+-- Lists that grow by one element at the end, and elements of which none passes a test.
+use Rattle.std.proofs.Common.{◌≡◌, ℕ, zero, suc, Bool, false, List, [], ◌∷◌, ◌++◌, length, slice_get, Some, subst}
 use Rattle.std.specs.List.{list_any, AllByRecursion}
 use Rattle.lemmas.specs.Bools.{or_neither}
 
@@ -28,39 +27,7 @@ pub all_so : {A : Type 0} (P Q : A → Type 0) (xs : List A) → ((x : A) → P 
 all_so P Q [] so h = tt
 all_so P Q (x ∷ xs) so h = (so x h.0, all_so P Q xs so h.1)
 
--- ---- a list in which one element is replaced
-
--- the element that was put stands there
-pub get_set : {A : Type 0} (xs : List A) (n : ℕ) (x y : A) → slice_get (slice_set xs n x) n ≡ Some y → x ≡ y
-get_set [] n x y e = absurd cc
-get_set (z ∷ xs) zero x y e = cc
-get_set (z ∷ xs) (suc n) x y e = get_set xs n x y e
-
--- the other elements are the same
-pub get_other : {A : Type 0} (xs : List A) (n : ℕ) (y : A) (other : ℕ) → other ≢ n → slice_get (slice_set xs n y) other ≡ slice_get xs other
-get_other [] n y other differs = refl
-get_other (z ∷ xs) zero y zero differs = absurd (differs refl)
-get_other (z ∷ xs) zero y (suc other) differs = refl
-get_other (z ∷ xs) (suc n) y zero differs = refl
-get_other (z ∷ xs) (suc n) y (suc other) differs = get_other xs n y other (λ e. differs (ap suc e))
-
--- there are as many
-pub length_set : {A : Type 0} (xs : List A) (n : ℕ) (y : A) → length (slice_set xs n y) ≡ length xs
-length_set [] n y = refl
-length_set (z ∷ xs) zero y = refl
-length_set (z ∷ xs) (suc n) y = ap suc (length_set xs n y)
-
--- within a list there is an element
-pub stands : {A : Type 0} (xs : List A) (n : ℕ) → n < length xs → (x : A) × (slice_get xs n ≡ Some x)
-stands [] n less = absurd (omega (arith, less))
-stands (x ∷ xs) zero less = (x, refl)
-stands (x ∷ xs) (suc n) less = stands xs n (omega (arith, less))
-
--- the element at the end of a list, and those before it
-pub at_end : {A : Type 0} (xs : List A) (x : A) → slice_get (xs ++ x ∷ []) (length xs) ≡ Some x
-at_end [] x = refl
-at_end (z ∷ xs) x = at_end xs x
-
+-- where a list grows at its end, the elements before are the same
 pub before_end : {A : Type 0} (xs : List A) (x : A) (n : ℕ) (y : A) → slice_get xs n ≡ Some y → slice_get (xs ++ x ∷ []) n ≡ Some y
 before_end [] x n y e = absurd cc
 before_end (z ∷ xs) x zero y e = e

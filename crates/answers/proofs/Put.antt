@@ -7,7 +7,10 @@ use Rattle.layout.specs.Layouts.{LaidOut}
 use Rattle.block_rules.specs.declared.block_fault.Refusal.{Refusal}
 use Rattle.answers.specs.Answers.{IsAnswer}
 use Rattle.answers.specs.Edited.{AreAnswersToFirst, put_answer, put_first}
-use Rattle.answers.proofs.Lists.{one_more, stands, get_set, get_other, length_set}
+use Rattle.std.proofs.lemmas.List.{length-set}
+use Rattle.lemmas.specs.Lists.{get_some}
+use Rattle.answers.specs.OneReplaced.{get_set, get_other}
+use Rattle.answers.proofs.Lists.{one_more}
 
 -- there are as many
 pub length_put : (funcs : List ℕ) (anew answers : List (Option Refusal)) (count : ℕ) → length (put_first funcs anew answers count) ≡ length answers
@@ -17,7 +20,7 @@ length_put funcs anew answers (suc count) = by (slice_get funcs count) (slice_ge
     by : (func : Option ℕ) (answer : Option (Option Refusal)) → length (put_first funcs anew answers count) ≡ length answers → length (put_answer func answer (put_first funcs anew answers count)) ≡ length answers
     by None answer same = same
     by (Some func) None same = same
-    by (Some func) (Some answer) same = length_set (put_first funcs anew answers count) func answer ∙ same
+    by (Some func) (Some answer) same = length-set (put_first funcs anew answers count) func answer ∙ same
 
 -- an answer is one that was put in its place, or the one that was there, and then none was put there
 abbrev pub IsPutAt : (funcs : List ℕ) (anew answers : List (Option Refusal)) (count func : ℕ) → Option Refusal → Type 0
@@ -48,7 +51,7 @@ put_at funcs anew answers (suc count) func answer few at = by (slice_get funcs c
     by : (f : Option ℕ) → slice_get funcs count ≡ f → (x : Option (Option Refusal)) → slice_get anew count ≡ x → slice_get (put_answer f x (put_first funcs anew answers count)) func ≡ Some answer
         → (slice_get (put_first funcs anew answers count) func ≡ Some answer → IsPutAt funcs anew answers count func answer) → IsPutAt funcs anew answers (suc count) func answer
     by None none x is was earlier = as_before funcs anew answers count func answer (earlier was) (λ h. absurd cc)
-    by (Some f) some None none was earlier = let there = stands anew count (omega (arith, few)) in absurd (let t = there.1 in cc)
+    by (Some f) some None none was earlier = let there = get_some anew count (omega (arith, few)) in absurd (let t = there.1 in cc)
     by (Some f) some (Some x) is was earlier = here (func == f) refl
       where
         here : (b : Bool) → (func == f) ≡ b → IsPutAt funcs anew answers (suc count) func answer

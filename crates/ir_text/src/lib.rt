@@ -16,4 +16,4 @@ pub use anew::{Replacement, Tables, read_function};
 pub use ir_print::print;
 pub use read_fault::ReadFault;
 pub use reader::read;
-pub use replaced::{copy_tables, replace};
+pub use replaced::{copy_first, copy_tables, name_of, replace};

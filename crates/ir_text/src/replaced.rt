@@ -33,7 +33,7 @@ pub fn copy_tables(alloc: Global, of_module: &Module) -> Result<Tables, AllocErr
 }
 
 /// The name of the function with this number, empty where there is none.
-fn name_of(of_module: &Module, func: FuncId) -> &[u8]
+pub fn name_of(of_module: &Module, func: FuncId) -> &[u8]
     ensures { result.now ≡ spec.name_of of_module.now func }
 {
     match of_module.functions.get(func.number() as usize) {
@@ -43,7 +43,7 @@ fn name_of(of_module: &Module, func: FuncId) -> &[u8]
 }
 
 /// The function that was read.
-fn copy_first(alloc: Global, functions: &[Function]) -> Result<Option<Function>, AllocError>
+pub fn copy_first(alloc: Global, functions: &[Function]) -> Result<Option<Function>, AllocError>
     ensures { IfOk result (λ function. function ≡ slice_get functions.now 0) }
 {
     match functions.first() {

@@ -26,7 +26,7 @@ use Rattle.recheck.specs.Told.{rechecked_by}
 use Rattle.recheck.specs.declared.edit_fault.EditFault.{EditFault}
 use Rattle.recheck.specs.declared.edit_fault.EditFault.TheVariants.{Memory}
 use Rattle.recheck.specs.declared.kept.KeptWork.{KeptWork}
-use Rattle.recheck.proofs.Lists.{length_set}
+use Rattle.std.proofs.lemmas.List.{length-set}
 use Rattle.recheck.proofs.Puts.{put_so}
 use Rattle.recheck.proofs.Results.{same_ok, same_err, ok_or_err, err_or_ok}
 use Rattle.recheck.proofs.Sizes.{sizes_with, layouts_with}
@@ -37,7 +37,7 @@ use Rattle.recheck.proofs.Within.{code_differs}
 -- the module with what was read has as many functions
 length_put : (func : ℕ) (f : Option Function) (fs : List Function) → length (put_function func f fs) ≡ length fs
 length_put func None fs = refl
-length_put func (Some f) fs = length_set fs func f
+length_put func (Some f) fs = length-set fs func f
 
 replaced_length : (m : Module) (func : ℕ) (code : Text) (n : Module) → IsReplaced m func code n → length n.functions ≡ length m.functions
 replaced_length m func code n is = ap (λ (x : Module). length x.functions) (sym is.2) ∙ length_put func (slice_get is.0.functions 0) m.functions
@@ -198,7 +198,7 @@ section_answered : (p : LaidOut) (certs others : List Section) (func : ℕ) (tex
 section_answered p certs others func text before after count kept h are = record {
   laid_out = kept.laid_out;
   sized = kept.sized;
-  one_each = ap length h.2.certs_are ∙ length_set certs func h.0 ∙ kept.one_each;
+  one_each = ap length h.2.certs_are ∙ length-set certs func h.0 ∙ kept.one_each;
   are_answers = are;
 }
 
@@ -208,7 +208,7 @@ code_answered : (p q : LaidOut) (certs others : List Section) (func : ℕ) (code
 code_answered p q certs others func code text before after count kept h are = record {
   laid_out = h.laid_out;
   sized = h.sized;
-  one_each = ap length h.of_text.2.certs_are ∙ length_set certs func h.of_text.0 ∙ kept.one_each ∙ sym (replaced_length p.of_module func code q.of_module h.of_code);
+  one_each = ap length h.of_text.2.certs_are ∙ length-set certs func h.of_text.0 ∙ kept.one_each ∙ sym (replaced_length p.of_module func code q.of_module h.of_code);
   are_answers = are;
 }
 

@@ -10,20 +10,6 @@ set_back [] n x y at = refl
 set_back (z ∷ xs) zero x y at = let same : x ≡ z = cc in ap (λ a. a ∷ xs) same
 set_back (z ∷ xs) (suc n) x y at = ap (λ l. z ∷ l) (set_back xs n x y at)
 
--- the other elements are the same
-pub get_other : {A : Type 0} (xs : List A) (n : ℕ) (y : A) (other : ℕ) → other ≢ n → slice_get (slice_set xs n y) other ≡ slice_get xs other
-get_other [] n y other differs = refl
-get_other (z ∷ xs) zero y zero differs = absurd (differs refl)
-get_other (z ∷ xs) zero y (suc other) differs = refl
-get_other (z ∷ xs) (suc n) y zero differs = refl
-get_other (z ∷ xs) (suc n) y (suc other) differs = get_other xs n y other (λ e. differs (ap suc e))
-
--- there are as many
-pub length_set : {A : Type 0} (xs : List A) (n : ℕ) (y : A) → length (slice_set xs n y) ≡ length xs
-length_set [] n y = refl
-length_set (z ∷ xs) zero y = refl
-length_set (z ∷ xs) (suc n) y = ap suc (length_set xs n y)
-
 -- lists of one length with the same elements are one
 pub same_each : {A : Type 0} (xs ys : List A) → length ys ≡ length xs → ((n : ℕ) → n < length xs → slice_get ys n ≡ slice_get xs n) → ys ≡ xs
 same_each [] [] count each = refl

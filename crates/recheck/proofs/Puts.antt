@@ -14,15 +14,17 @@ use Rattle.answers.specs.declared.callers.Callers.{Callers}
 use Rattle.answers.specs.declared.callers.Callers.TheVariants.{SeeChange, SeeNone}
 use Rattle.recheck.specs.Put.{IsWithCode, IsWithSection, IsPutWith, IsTextPut}
 use Rattle.recheck.specs.Told.{rechecked_by}
-use Rattle.recheck.proofs.Lists.{set_back, get_other, length_set}
+use Rattle.std.proofs.lemmas.List.{length-set}
+use Rattle.answers.specs.OneReplaced.{get_other}
+use Rattle.recheck.proofs.Lists.{set_back}
 
 -- there are as many functions where one is another
 pub as_many_functions : (p q : LaidOut) (func : ℕ) (f : Function) → q ≡ laid_with p (slice_set p.of_module.functions func f) → length q.of_module.functions ≡ length p.of_module.functions
-as_many_functions p q func f e = ap (λ (r : LaidOut). length r.of_module.functions) e ∙ length_set p.of_module.functions func f
+as_many_functions p q func f e = ap (λ (r : LaidOut). length r.of_module.functions) e ∙ length-set p.of_module.functions func f
 
 -- and as many sections
 pub as_many_sections : (certs others : List Section) (func : ℕ) (section : Section) → others ≡ slice_set certs func section → length others ≡ length certs
-as_many_sections certs others func section e = ap length e ∙ length_set certs func section
+as_many_sections certs others func section e = ap length e ∙ length-set certs func section
 
 -- what callers see, of the function as it is in the other program
 unseen_in : (p : LaidOut) (certs : List Section) (q : LaidOut) (others : List Section) (func : ℕ) (callers : Callers) (old : Function) (past : Section)

@@ -3,6 +3,7 @@ use Rattle.std.proofs.Common.{◌≡◌, ◌+◌, ◌&&◌, ◌==◌, ℕ, zero,
 use Rattle.std.specs.Prelude.{if◌then◌else◌, nat_eq}
 use Rattle.std.specs.Option.{option_eq}
 use Rattle.std.proofs.lemmas.List.{length-append}
+use Rattle.lemmas.specs.Bools.{and_true}
 use Rattle.ir_ast.specs.declared.function.Function.{Function}
 use Rattle.ir_ast.specs.declared.function.Parameter.{Parameter}
 use Rattle.ir_ast.specs.declared.module.Module.{Module}
@@ -32,17 +33,13 @@ one_mark : (m : Mark) → same_mark m m ≡ true
 one_mark mark.May = refl
 one_mark mark.None = refl
 
-both : (a b : Bool) → a ≡ true → b ≡ true → (a && b) ≡ true
-both true b of_a of_b = of_b
-both false b of_a of_b = of_a
-
 one_promise : (p : Promise) → same_promise p p ≡ true
-one_promise p = both (option_eq nat_eq p.layout p.layout && same_truth p.nonnull p.nonnull) (option_eq nat_eq p.below p.below) (both (option_eq nat_eq p.layout p.layout) (same_truth p.nonnull p.nonnull) (one_option p.layout) (one_truth p.nonnull)) (one_option p.below)
+one_promise p = and_true (option_eq nat_eq p.layout p.layout && same_truth p.nonnull p.nonnull) (option_eq nat_eq p.below p.below) (and_true (option_eq nat_eq p.layout p.layout) (same_truth p.nonnull p.nonnull) (one_option p.layout) (one_truth p.nonnull)) (one_option p.below)
 
 all_one : (m : Module) (parameters : List Parameter) (promises : List (Option Promise)) → all_said m parameters promises promises ≡ true
 all_one m [] promises = refl
 all_one m (p ∷ parameters) [] = refl
-all_one m (p ∷ parameters) (x ∷ promises) = both (says_same m p.written x x) (all_said m parameters promises promises) (one_promise (told m p.written x)) (all_one m parameters promises)
+all_one m (p ∷ parameters) (x ∷ promises) = and_true (says_same m p.written x x) (all_said m parameters promises promises) (one_promise (told m p.written x)) (all_one m parameters promises)
 
 -- two functions of the same types, whose sections say the same word by word, tell their callers the same
 pub tells_by_words : (m : Module) (old new : Function) (past next : Section) → same_types old new ≡ true → next.mark ≡ past.mark → next.parameters ≡ past.parameters → next.result ≡ past.result → tells_same m old new past next ≡ true
@@ -51,8 +48,8 @@ tells_by_words m old new past next types marks parameters result =
     let of_parameters : all_said m new.parameters past.parameters next.parameters ≡ true =
     subst (λ (x : List (Option Promise)). all_said m new.parameters past.parameters x ≡ true) (sym parameters) (all_one m new.parameters past.parameters) in
     let of_result : says_same m new.returned past.result next.result ≡ true = subst (λ (x : Option Promise). says_same m new.returned past.result x ≡ true) (sym result) (one_promise (told m new.returned past.result)) in
-    both (same_types old new && same_mark past.mark next.mark && all_said m new.parameters past.parameters next.parameters) (says_same m new.returned past.result next.result)
-    (both (same_types old new && same_mark past.mark next.mark) (all_said m new.parameters past.parameters next.parameters) (both (same_types old new) (same_mark past.mark next.mark) types of_mark) of_parameters) of_result
+    and_true (same_types old new && same_mark past.mark next.mark && all_said m new.parameters past.parameters next.parameters) (says_same m new.returned past.result next.result)
+    (and_true (same_types old new && same_mark past.mark next.mark) (all_said m new.parameters past.parameters next.parameters) (and_true (same_types old new) (same_mark past.mark next.mark) types of_mark) of_parameters) of_result
 
 -- so it is where they are looked up among others
 pub told_by_words : (m : Module) (f : Option Function) (s : Option Section) (old new : Function) (past next : Section) → f ≡ Some new → s ≡ Some next → tells_same m old new past next ≡ true

@@ -1,8 +1,8 @@
 -- The first refusal among the answers is that of the module.
-use Rattle.std.proofs.Common.{◌≡◌, ◌<◌, ℕ, zero, suc, List, [], ◌∷◌, length, slice_get, Option, Some, None, MatchOption, refl, ap, sym, subst, ◌∙◌, arith}
+use Rattle.std.proofs.Common.{◌≡◌, ◌<◌, ℕ, zero, suc, List, [], ◌∷◌, length, slice_get, Option, Some, None, MatchOption, refl, ap, sym, subst, arith}
 use Rattle.certs.specs.declared.section.Section.{Section}
 use Rattle.ir_ast.specs.declared.module.Module.{Module}
-use Rattle.layout.specs.Layouts.{LaidOut, AreLayouts, AreSizes}
+use Rattle.layout.specs.Layouts.{LaidOut}
 use Rattle.block_rules.specs.Functions.{blocks_in, IsFunctionCertified, IsFirstInFunction}
 use Rattle.block_rules.specs.declared.block_fault.Refusal.{Refusal}
 use Rattle.answers.specs.Answers.{AreAnswers, first_refusal}
@@ -75,13 +75,3 @@ answered_verdict program certs answers (Some refusal) kept e =
       sized = kept.sized;
       first = refused_at program certs answers kept.are_answers refusal first.0 first.1;
     }
-
--- what a session keeps when it begins
-pub begun : (program : LaidOut) (m : Module) (certs : List Section) (answers : List (Option Refusal)) → (program.of_module ≡ m) × AreLayouts m program.layouts × AreSizes m program.sizes
-    → length certs ≡ length m.functions → AreAnswers program certs answers → IsAnswered program certs answers
-begun program m certs answers found count are = record {
-  laid_out = subst (λ (x : Module). AreLayouts x program.layouts) (sym found.0) found.1;
-  sized = subst (λ (x : Module). AreSizes x program.sizes) (sym found.0) found.2;
-  one_each = count ∙ ap (λ (x : Module). length x.functions) (sym found.0);
-  are_answers = are;
-}

@@ -1,9 +1,9 @@
 //! The code of one function, read anew and put in the place of another with its section.
-ghost use Rattle.std.specs.Prelude.{◌≡◌, ◌≢◌, ◌<◌, None, length, slice_get, IfOk, IfErr, IfSome, OnOk, OnErr};
+ghost use Rattle.std.specs.Prelude.{◌≡◌, ◌≢◌, ◌<◌, None, length, IfOk, IfErr, IfSome, OnOk, OnErr};
 ghost use Rattle.answers.specs.Answers.{AreAnswers};
 ghost use Rattle.certs.specs.declared.section.Section.{Section as ASection};
 ghost use Rattle.ir_ast.specs.declared.module.Module.{Module as AModule};
-ghost use Rattle.ir_text.specs.Replaced.{IsReplaced, IsReplaceFault, name_of, tables_of};
+ghost use Rattle.ir_text.specs.Replaced.{IsReplaced, IsReplaceFault, tables_of};
 ghost use Rattle.ir_text.specs.declared.read_fault.ReadFault.{ReadFault as AReadFault};
 ghost use Rattle.layout.specs.declared.fault.LayoutFault.TheVariants as layout_fault;
 ghost use Rattle.recheck.specs.Edits.{AreRead, HasCodeFault, IsTaken, IsRefusedBy, code_fault};
@@ -16,32 +16,11 @@ use crate::kept::KeptWork;
 use crate::put::{answer_all, function_at, put_in_place, read_text};
 use crate::tables::same_tables;
 use certs::Certs;
-use copies::copy_function;
 use ir_ast::{FuncId, Function, Module};
 use ir_print_law::grown_law;
-use ir_text::{Tables, copy_tables, read_function, replace};
+use ir_text::{Tables, copy_first, copy_tables, name_of, read_function, replace};
 use layout::{LayoutFault, Program, layouts_stay_law};
 use std::alloc::{AllocError, Global};
-
-/// The name of the function with this number, empty where there is none.
-fn name_of(of_module: &Module, func: FuncId) -> &[u8]
-    ensures { result.now ≡ name_of of_module.now func }
-{
-    match of_module.functions.get(func.number() as usize) {
-        None => &[],
-        Some(function) => of_module.symbols.name_at(function.symbol.number() as usize),
-    }
-}
-
-/// The function that was read.
-fn copy_first(alloc: Global, functions: &[Function]) -> Result<Option<Function>, AllocError>
-    ensures { IfOk result (λ function. function ≡ slice_get functions.now 0) }
-{
-    match functions.first() {
-        None => Ok(None),
-        Some(function) => Ok(Some(copy_function(alloc, function)?)),
-    }
-}
 
 /// Tables of a module for the reader of code: those that are ready, or else copies.
 fn take_tables(
