@@ -14,8 +14,13 @@ mod Stale
 mod Shows
 mod Slots
 mod SlotLists
+mod Keepers
+mod SlotCovers
 mod KeptRows
-mod Ties
+mod Owned
+mod Groups
+mod Settled
+mod Links
 mod Defines
 mod Learns
 mod Loads

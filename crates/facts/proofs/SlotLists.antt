@@ -1,7 +1,6 @@
 -- Slots of which few are filled, and of which few hold a class.
 use Rattle.std.proofs.Common.{◌≡◌, ◌<◌, ◌⊎◌, inl, inr, ℕ, List, [], ◌∷◌, ◌++◌, zero, suc, length, map, refl, sym, ap, ◌∙◌, subst, true, false, Bool, Option, Some, None, slice_set}
 use Rattle.std.specs.Prelude.{◌||◌, if◌then◌else◌, replicate}
-use Rattle.std.specs.List.{list_any}
 use Rattle.std.proofs.lemmas.Bool.{cases_lt}
 use Rattle.std.proofs.lemmas.List.{ext_get_or, get_or_past, get_or-set_same, get_or-set_other, length-set, length-map, length-replicate, get_or-replicate}
 use Rattle.lemmas.specs.Bools.{or_false}
@@ -10,8 +9,8 @@ use Rattle.facts.specs.declared.known.Class.{Class}
 use Rattle.facts.specs.declared.known.SlotFact.{SlotFact}
 use Rattle.facts.specs.Facts.{open_slot, slot_at, holds_class, slot_nonnull, held_nonnull, holds, let_go, end_hold}
 use Rattle.facts.specs.Sheets.{IsOne}
-use Rattle.facts.specs.SlotRows.{is_open, OnlyFilled, OnlyHolding, NamesAll, with_filled, with_holding, each_slot, copied_slot, holds_at, let_go_last, each_let_go, let_go_others}
-use Rattle.facts.proofs.Sets.{set_is, found}
+use Rattle.facts.specs.SlotRows.{is_open, OnlyFilled, OnlyHolding, NamesAll, with_filled, with_holding, each_slot, copied_slot, let_go_last, let_go_others}
+use Rattle.facts.proofs.Sets.{set_is}
 use Rattle.facts.proofs.Sheets.{same_or_not, one_more, one_last}
 
 -- ---- a change of the slots that are listed
@@ -94,8 +93,11 @@ module _ (c : ℕ) (nonnull : Bool) where
   let_go_free : (slot : SlotFact) → slot.holds ≡ None → let_go c nonnull slot ≡ slot
   let_go_free slot e = ap (λ (h : Option ℕ). if holds_class c h then record slot { nonnull = slot.nonnull || nonnull; holds = None } else slot) e
 
-  pub let_go_all : (holding : List ℕ) (slots : List SlotFact) → OnlyHolding holding slots → each_slot (λ s. let_go c nonnull) holding slots ≡ map (let_go c nonnull) slots
-  let_go_all holding slots only = changed_all (let_go c nonnull) refl let_go_twice holding slots (λ s. elim (only s) [ inl one ↦ inl one | inr e ↦ inr (let_go_free (slot_at slots s) e) ])
+  let_go_not : (slot : SlotFact) → holds c slot ≡ false → let_go c nonnull slot ≡ slot
+  let_go_not slot e = ap (λ (b : Bool). if b then record slot { nonnull = slot.nonnull || nonnull; holds = None } else slot) e
+
+  pub let_go_listed : (listed : List ℕ) (slots : List SlotFact) → ((s : ℕ) → IsOne s listed ⊎ (holds c (slot_at slots s) ≡ false)) → each_slot (λ s. let_go c nonnull) listed slots ≡ map (let_go c nonnull) slots
+  let_go_listed listed slots seen = changed_all (let_go c nonnull) refl let_go_twice listed slots (λ s. elim (seen s) [ inl one ↦ inl one | inr e ↦ inr (let_go_not (slot_at slots s) e) ])
 
   pub let_go_filled : (filled : List ℕ) (slots : List SlotFact) → OnlyFilled filled slots → OnlyFilled filled (map (let_go c nonnull) slots)
   let_go_filled = changed_filled (let_go c nonnull) refl
@@ -121,7 +123,7 @@ module _ (classes : List Class) where
 
 -- ---- open slots
 
-open_at : (count s : ℕ) → slot_at (replicate count open_slot) s ≡ open_slot
+pub open_at : (count s : ℕ) → slot_at (replicate count open_slot) s ≡ open_slot
 open_at zero s = refl
 open_at (suc count) zero = refl
 open_at (suc count) (suc s) = open_at count s
@@ -142,7 +144,7 @@ more_filled s before filled slots only u = elim (only u) [ inl one ↦ inl (pick
   pick false one = one
 
 module _ (s : ℕ) (slot : SlotFact) (slots : List SlotFact) where
-  as_before : (u : ℕ) → (s ≡ u → ⊥) → slot_at (slice_set slots s slot) u ≡ slot_at slots u
+  pub as_before : (u : ℕ) → (s ≡ u → ⊥) → slot_at (slice_set slots s slot) u ≡ slot_at slots u
   as_before u ne = get_or-set_other slots s u slot open_slot (λ x. ne (sym x))
 
   pub set_filled : (filled : List ℕ) → OnlyFilled filled slots → OnlyFilled (with_filled s (slot_at slots s) filled) (slice_set slots s slot)
@@ -190,16 +192,6 @@ module _ (s : ℕ) (slot : SlotFact) (slots : List SlotFact) where
 
 -- ---- all slots but one let a class go
 
-module _ (last : Option ℕ) (nonnull : Bool) (holding : List ℕ) (slots : List SlotFact) (only : OnlyHolding holding slots) where
-  all_let_go : each_let_go last nonnull holding slots ≡ let_go_last last nonnull slots
-  all_let_go = pick last where
-    pick : (last : Option ℕ) → each_let_go last nonnull holding slots ≡ let_go_last last nonnull slots
-    pick None = refl
-    pick (Some c) = let_go_all c nonnull holding slots only
-
-  pub others_let_go : (s : ℕ) → slice_set (each_let_go last nonnull holding slots) s (slot_at slots s) ≡ let_go_others s last nonnull slots
-  others_let_go s = ap (λ (l : List SlotFact). slice_set l s (slot_at slots s)) all_let_go
-
 module _ (s : ℕ) (last : Option ℕ) (nonnull : Bool) (slots : List SlotFact) where
   pub others_filled : (filled : List ℕ) → OnlyFilled filled slots → OnlyFilled filled (let_go_others s last nonnull slots)
   others_filled filled only u = pick (same_or_not s u) where
@@ -222,34 +214,6 @@ module _ (s : ℕ) (last : Option ℕ) (nonnull : Bool) (slots : List SlotFact) 
     pick (inl same) = subst (λ x. IsOne x holding ⊎ ((slot_at (let_go_others s last nonnull slots) x).holds ≡ None)) same
         (elim (only s) [ inl one ↦ inl one | inr e ↦ inr (set_is (λ (x : SlotFact). x.holds) (let_go_last last nonnull slots) s (slot_at slots s) open_slot None e refl) ])
     pick (inr ne) = elim (gone last u) [ inl one ↦ inl one | inr e ↦ inr (ap (λ (x : SlotFact). x.holds) (as_before s (slot_at slots s) (let_go_last last nonnull slots) u ne) ∙ e) ]
-
--- ---- whether some slot holds a class
-
-module _ (c : ℕ) (slots : List SlotFact) where
-  any_there : (listed : List ℕ) → list_any (holds_at c slots) listed ≡ true → list_any (holds c) slots ≡ true
-  any_there [] e = absurd cc
-  any_there (s ∷ listed) e = pick (any_there listed) (holds_at c slots s) refl e where
-    pick : (list_any (holds_at c slots) listed ≡ true → list_any (holds c) slots ≡ true) → (b : Bool) → holds_at c slots s ≡ b → (b || list_any (holds_at c slots) listed) ≡ true → list_any (holds c) slots ≡ true
-    pick more true is e = found (holds c) slots s open_slot refl is
-    pick more false is e = more e
-
-  none_there : (listed : List ℕ) → list_any (holds_at c slots) listed ≡ false → (u : ℕ) → IsOne u listed → holds_at c slots u ≡ false
-  none_there [] e u one = absurd one
-  none_there (w ∷ listed) e u one = pick (λ i. none_there listed i u) (holds_at c slots w) refl e one where
-    pick : (list_any (holds_at c slots) listed ≡ false → IsOne u listed → holds_at c slots u ≡ false) → (b : Bool) → holds_at c slots w ≡ b → (b || list_any (holds_at c slots) listed) ≡ false → IsOne u (w ∷ listed) → holds_at c slots u ≡ false
-    pick more true is e one = absurd cc
-    pick more false is e (inl same) = subst (λ x. holds_at c slots x ≡ false) same is
-    pick more false is e (inr one) = more e one
-
-none_found : (c : ℕ) (slots : List SlotFact) → ((u : ℕ) → holds c (slot_at slots u) ≡ false) → list_any (holds c) slots ≡ false
-none_found c [] h = refl
-none_found c (slot ∷ slots) h = rw (h zero) (none_found c slots (λ u. h (suc u)))
-
-pub any_holding : (c : ℕ) (holding : List ℕ) (slots : List SlotFact) → OnlyHolding holding slots → list_any (holds_at c slots) holding ≡ list_any (holds c) slots
-any_holding c holding slots only = pick (list_any (holds_at c slots) holding) refl where
-  pick : (b : Bool) → list_any (holds_at c slots) holding ≡ b → list_any (holds_at c slots) holding ≡ list_any (holds c) slots
-  pick true e = e ∙ sym (any_there c slots holding e)
-  pick false e = e ∙ sym (none_found c slots (λ u. elim (only u) [ inl one ↦ none_there c slots holding e u one | inr free ↦ ap (holds_class c) free ]))
 
 -- ---- lists that name all that others list
 

@@ -56,10 +56,10 @@ module _ (uses : List Use) (x : Use) where
   abbrev more : List Use
   more = uses ++ x ∷ []
 
-  user_kept : (at : Option ℕ) (u : ℕ) → IsOne u (chain (length uses) uses at) → IsOne u (chain (length more) more at)
+  pub user_kept : (at : Option ℕ) (u : ℕ) → IsOne u (chain (length uses) uses at) → IsOne u (chain (length more) more at)
   user_kept at u one = subst (λ n. IsOne u (chain n more at)) (sym (length_more uses x)) (chain_longer (length uses) more at u (chain_more (length uses) uses x at u one))
 
-  newest : (u : ℕ) → (x.user ≡ u) ⊎ IsOne u (chain (length uses) uses x.before) → IsOne u (chain (length more) more (Some (length uses)))
+  pub newest : (u : ℕ) → (x.user ≡ u) ⊎ IsOne u (chain (length uses) uses x.before) → IsOne u (chain (length more) more (Some (length uses)))
   newest u one = subst (λ n. IsOne u (chain n more (Some (length uses)))) (sym (length_more uses x)) (subst (λ (found : Option Use). IsOne u (users_of found (chain (length uses) more))) (sym (last_use uses x)) (elim one [ inl same ↦ inl same | inr rest ↦ inr (chain_more (length uses) uses x x.before u rest) ]))
 
   pub users_kept : (rows : List Row) → OnlyUsers uses rows → OnlyUsers more rows

@@ -10,5 +10,6 @@ pub mod SlotRows
 pub mod Numbered
 pub mod Values
 pub mod Uses
+pub mod Chains
 pub mod Statements
 pub mod Shown

@@ -1,7 +1,10 @@
 -- The slots of a function, of which few are filled, and of which few hold a class.
-use Rattle.std.specs.Prelude.{◌≡◌, ◌<◌, ◌⊎◌, ℕ, Bool, true, false, not, ◌&&◌, if◌then◌else◌, List, [], ◌∷◌, ◌++◌, map, slice_set, Option, Some, None}
+use Rattle.std.specs.Prelude.{◌≡◌, ◌<◌, ◌⊎◌, ℕ, Bool, true, false, not, ◌&&◌, ◌||◌, if◌then◌else◌, nat_lt, List, [], ◌∷◌, ◌++◌, map, length, slice_set, Option, Some, None}
+use Rattle.facts.specs.declared.chains.Chains.{Chains}
 use Rattle.facts.specs.declared.known.SlotFact.{SlotFact}
+use Rattle.facts.specs.Chains.{listed}
 use Rattle.facts.specs.Facts.{open_slot, slot_at, holds, let_go}
+use Rattle.facts.specs.Lines.{covers_slot}
 use Rattle.facts.specs.Sheets.{IsOne}
 
 -- a slot holds no class
@@ -20,6 +23,14 @@ OnlyFilled filled slots = (s : ℕ) → IsOne s filled ⊎ (slot_at slots s ≡ 
 -- each slot that is not listed holds no class
 abbrev pub OnlyHolding : (holding : List ℕ) → List SlotFact → Type 0
 OnlyHolding holding slots = (s : ℕ) → IsOne s holding ⊎ ((slot_at slots s).holds ≡ None)
+
+-- each slot that holds a class is listed as one of its keepers
+abbrev pub OnlyKeepers : (keepers : Chains) → List SlotFact → Type 0
+OnlyKeepers keepers slots = (s c : ℕ) → holds c (slot_at slots s) ≡ true → IsOne s (listed keepers c)
+
+-- the slots that are not open, those that hold a class, and those that hold each class are noted
+abbrev pub AreNoted : (filled holding : List ℕ) → (keepers : Chains) → List SlotFact → Type 0
+AreNoted filled holding keepers slots = OnlyFilled filled slots × OnlyHolding holding slots × OnlyKeepers keepers slots
 
 -- each number below `count` that is listed is among the names
 abbrev pub NamesAll : (count : ℕ) → (listed names : List ℕ) → Type 0
@@ -47,10 +58,6 @@ each_slot change (s ∷ listed) slots = each_slot change listed (slice_set slots
 abbrev pub copied_slot : List SlotFact → ℕ → SlotFact → SlotFact
 copied_slot others s slot = slot_at others s
 
--- this slot holds this class
-abbrev pub holds_at : (c : ℕ) → List SlotFact → ℕ → Bool
-holds_at c slots s = holds c (slot_at slots s)
-
 -- a slot that holds a class which has no value any more, if there is such a class
 abbrev pub let_go_slot : (last : Option ℕ) → (nonnull : Bool) → SlotFact → SlotFact
 let_go_slot None nonnull slot = slot
@@ -61,11 +68,15 @@ abbrev pub let_go_last : (last : Option ℕ) → (nonnull : Bool) → List SlotF
 let_go_last None nonnull slots = slots
 let_go_last (Some c) nonnull slots = map (let_go c nonnull) slots
 
--- the slots that are listed, once such a class is let go
-abbrev pub each_let_go : (last : Option ℕ) → (nonnull : Bool) → (listed : List ℕ) → List SlotFact → List SlotFact
-each_let_go None nonnull listed slots = slots
-each_let_go (Some c) nonnull listed slots = each_slot (λ s. let_go c nonnull) listed slots
+-- the slots, once the keepers of such a class let it go
+abbrev pub each_let_go : (last : Option ℕ) → (nonnull : Bool) → (keepers : Chains) → List SlotFact → List SlotFact
+each_let_go None nonnull keepers slots = slots
+each_let_go (Some c) nonnull keepers slots = each_slot (λ s. let_go c nonnull) (listed keepers c) slots
 
 -- the slots but one, once such a class is let go
 abbrev pub let_go_others : (s : ℕ) → (last : Option ℕ) → (nonnull : Bool) → List SlotFact → List SlotFact
 let_go_others s last nonnull slots = slice_set (let_go_last last nonnull slots) s (slot_at slots s)
+
+-- a slot that holds the class here holds the other there, if there is such a slot there
+abbrev pub covers_at : (c d : ℕ) → (here there : List SlotFact) → (s : ℕ) → Bool
+covers_at c d here there s = not (nat_lt s (length there)) || covers_slot c d (slot_at here s, slot_at there s)

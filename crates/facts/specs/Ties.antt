@@ -1,19 +1,93 @@
--- Values that are listed as the same, one after the other: which classes have more than the value for which they stand.
-use Rattle.std.specs.Prelude.{◌≡◌, ℕ, ◌==◌, Bool, true, ◌||◌, List}
-use Rattle.std.specs.List.{list_any}
+-- Values that are listed as the same, one after the other, in groups that have one class each.
+use Rattle.std.specs.Prelude.{◌≡◌, ◌<◌, ◌⊎◌, ℕ, ◌==◌, ◌||◌, Bool, true, false, List, map, length, nat_eq, slice_index_or, Option, Some, None}
+use Rattle.indexmap.specs.IndexMap.{get}
+use Rattle.facts.specs.declared.known.Class.{Class}
 use Rattle.facts.specs.declared.known.Known.{Known}
 use Rattle.facts.specs.declared.known.Known.TheVariants.{Cell}
-use Rattle.facts.specs.Facts.{known_at}
+use Rattle.facts.specs.declared.ties.Group.{Group}
+use Rattle.facts.specs.declared.ties.Ties.{Ties}
+use Rattle.facts.specs.Chains.{listed}
+use Rattle.facts.specs.Facts.{FactSet, known_at, set_known}
+use Rattle.facts.specs.Lines.{moved}
+use Rattle.facts.specs.Sheets.{IsOne}
 
--- a class is one of these
-abbrev pub is_in : List ℕ → (c : ℕ) → Bool
-is_in classes c = list_any (λ other. c == other) classes
+-- ---- references that are listed
 
--- u, of which this is known, is of the class that it has for itself, or of one that others joined
-abbrev pub is_own : (joined : List ℕ) → (u : ℕ) → Known → Bool
-is_own joined u (Cell c layout stale) = (c == u) || is_in joined c
-is_own joined u _ = true
+-- u, of which this is known, is of the class that it has for itself
+abbrev pub is_own : (u : ℕ) → Known → Bool
+is_own u (Cell c layout stale) = c == u
+is_own u _ = true
 
--- each class that no other joined has no other value
-abbrev pub AreOwn : (joined : List ℕ) → List Known → Type 0
-AreOwn joined values = (u : ℕ) → is_own joined u (known_at values u) ≡ true
+-- each reference is of the class that it has for itself
+abbrev pub AreOwn : List Known → Type 0
+AreOwn values = (u : ℕ) → is_own u (known_at values u) ≡ true
+
+-- ---- groups
+
+-- no group
+abbrev pub no_group : Group
+no_group = record { class = 0; size = 0 }
+
+-- the group at a place
+abbrev pub group_at : List Group → (place : ℕ) → Group
+group_at groups place = slice_index_or groups place no_group
+
+-- its class
+abbrev pub class_in : List Group → (place : ℕ) → ℕ
+class_in groups place = (group_at groups place).class
+
+-- the place of the group of a value, if it was tied
+abbrev pub group_of : Ties → (v : ℕ) → Option ℕ
+group_of ties v = get nat_eq ties.places v
+
+-- the class of a value in the group at a place; one that was not tied has its own
+abbrev pub class_of_place : List Group → (v : ℕ) → (place : Option ℕ) → ℕ
+class_of_place groups v None = v
+class_of_place groups v (Some place) = class_in groups place
+
+-- what the class that a value had for itself is now
+abbrev pub class_now : Ties → (v : ℕ) → ℕ
+class_now ties v = class_of_place ties.groups.items v (group_of ties v)
+
+-- what is known now of a value of which this was known
+abbrev pub known_now : Ties → Known → Known
+known_now ties (Cell c layout stale) = Cell (class_now ties c) layout stale
+known_now ties known = known
+
+-- the facts where values are tied
+abbrev pub facts_now : Ties → FactSet → FactSet
+facts_now ties f = record f { values = map (known_now ties) f.values }
+
+-- what is known of a class that two became
+abbrev pub class_of_both : (one other : Class) → Class
+class_of_both one other = record { nonnull = one.nonnull || other.nonnull; fresh = one.fresh || other.fresh }
+
+-- a value is of the class that it has now
+abbrev pub settle_value : Ties → (v : ℕ) → FactSet → FactSet
+settle_value ties v f = set_known v (known_now ties (known_at f.values v)) f
+
+-- the place of a group once one group is another
+abbrev pub in_group : (from to : ℕ) → (place : Option ℕ) → Option ℕ
+in_group from to None = None
+in_group from to (Some place) = Some (moved from to place)
+
+-- this is the place
+abbrev pub is_place : ℕ → (place : Option ℕ) → Bool
+is_place at None = false
+is_place at (Some place) = place == at
+
+-- each value is listed in its group
+abbrev pub AreListed : (places : ℕ → Option ℕ) → (members : ℕ → List ℕ) → Type 0
+AreListed places members = (v place : ℕ) → places v ≡ Some place → IsOne v (members place)
+
+-- each group has the class that one of its values had
+abbrev pub AreClasses : (places : ℕ → Option ℕ) → List Group → Type 0
+AreClasses places groups = (v place : ℕ) → places v ≡ Some place → (place < length groups) × (places (class_in groups place) ≡ Some place)
+
+-- each value that has a group was tied
+abbrev pub AreTied : (places : ℕ → Option ℕ) → (tied : List ℕ) → Type 0
+AreTied places tied = (v : ℕ) → IsOne v tied ⊎ (places v ≡ None)
+
+-- groups of values that were tied
+abbrev pub AreTies : Ties → Type 0
+AreTies ties = AreListed (group_of ties) (listed ties.members) × AreClasses (group_of ties) ties.groups.items × AreTied (group_of ties) ties.tied.items

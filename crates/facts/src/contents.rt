@@ -1,9 +1,9 @@
 //! The rows on which facts stand.
-ghost use Rattle.std.specs.Prelude.{◌≡◌, List, Some, length, slice_set, IfOk, OnOk, OnErr};
+ghost use Rattle.std.specs.Prelude.{◌≡◌, List, length, IfOk, OnOk, OnErr};
 ghost use Rattle.facts.specs.declared.known.Class.{Class};
 ghost use Rattle.facts.specs.declared.known.Known.TheVariants.{Cell};
 ghost use Rattle.facts.specs.Facts.{known_at, slot_at, nothing_known, values_without, forget, define, define_test, add_class, set_slot, end_slot, load_slot, make_stale, slots_of_class, slots_without, held_nonnull};
-ghost use Rattle.facts.specs.Contents.{set_of, new_of};
+ghost use Rattle.facts.specs.Contents.{set_of};
 ghost use Rattle.facts.specs.SlotRows.{let_go_last};
 
 use crate::class_id::ClassId;
@@ -70,8 +70,9 @@ impl Contents {
     {
         let filled = other.slots.filled(alloc)?;
         let holding = other.slots.holding(alloc)?;
+        let keepers = other.slots.keepers(alloc)?;
         self.values.set_from(alloc, &other.values)?;
-        self.slots.set_from(filled, holding, &other.slots);
+        self.slots.set_from(filled, holding, keepers, &other.slots);
         Ok(())
     }
 
@@ -93,8 +94,9 @@ impl Contents {
     {
         let filled = kept.slots.filled(alloc)?;
         let holding = kept.slots.holding(alloc)?;
+        let keepers = kept.slots.keepers(alloc)?;
         self.values.open(alloc, &kept.values)?;
-        self.slots.set_from(filled, holding, &kept.slots);
+        self.slots.set_from(filled, holding, keepers, &kept.slots);
         Ok(())
     }
 
@@ -114,7 +116,7 @@ impl Contents {
         ensures values { self.new.values ≡ self.old.values }
         ensures slots { self.new.slots ≡ slots_of_class c self.old.values.values self.old.values.classes self.old.slots }
     {
-        if !self.slots.any_holds(c) {
+        if !self.slots.may_hold(c) {
             return;
         }
         if !self.values.any_of(c) {
@@ -185,43 +187,11 @@ impl Contents {
                 self.slots.let_go(&last, nonnull);
             }
             None => {
-                self.load_new(v, s, layout, filled)?;
+                self.slots.load_new(&mut self.values, v, s, layout, filled)?;
                 self.slots.let_go_others(s, &last, nonnull);
             }
         }
         Ok(())
-    }
-
-    /// A value is the reference that a slot holds: it is of a new class, which is not null where this holds.
-    fn load_new(
-        &mut self,
-        v: ValueId,
-        s: SlotId,
-        layout: LayoutId,
-        nonnull: bool,
-    ) -> Result<(), AllocError>
-        ensures ok { OnOk result ((self.new.values ≡ new_of v layout nonnull self.old.values) × (self.new.slots ≡ slice_set self.old.slots s (record (slot_at self.old.slots s) { nonnull = nonnull; holds = Some (length self.old.values.classes) }))) }
-        ensures err { OnErr result (set_of self.new ≡ set_of self.old) }
-    {
-        let before = self.slot(s);
-        let next = self.values.next_class();
-        let class = Class {
-            nonnull,
-            fresh: false,
-        };
-        self.slots.set(
-            s,
-            SlotFact {
-                nonnull,
-                holds: Some(next),
-                ..before
-            },
-        )?;
-        let result = self.values.define_new(v, layout, false, class);
-        if result.is_err() {
-            self.slots.change(s, before);
-        }
-        result
     }
 
     /// The class that slots hold and that has no value but `v`, if there is one.
@@ -238,7 +208,7 @@ impl Contents {
     fn last_held(&self, v: ValueId, c: ClassId) -> Option<ClassId>
         ensures { (classes : List Class) → slots_of_class c (values_without v self.now.values.values) classes self.now.slots ≡ let_go_last result (held_nonnull classes result) self.now.slots }
     {
-        if !self.slots.any_holds(c) {
+        if !self.slots.may_hold(c) {
             return None;
         }
         if self.values.any_other(v, c) {

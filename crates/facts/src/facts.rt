@@ -1,16 +1,16 @@
 ghost use Rattle.std.specs.Prelude.{◌≡◌, true, ◌==◌, ◌&&◌, length, map, slice_set, IfOk, OnOk, OnErr};
 ghost use Rattle.facts.specs.declared.known.Known.TheVariants.{Cell};
 ghost use Rattle.facts.specs.Facts.{FactSet, AreFacts, known_at, slot_at, class_at, test_at, is_of, nothing_known, forget, define, define_new, define_test, set_known, add_class, set_class, drop_fresh, drop_fresh_of, drop_fresh_all, learn_nonnull, set_slot, clear_slot, end_slot, root_slot, hold, store_slot, load_held, load_slot, make_stale, slot_nonnull};
-ghost use Rattle.facts.specs.Lines.{join, move, covers};
+ghost use Rattle.facts.specs.Lines.{join, covers};
 ghost use Rattle.facts.specs.Parts.{AreAsMany};
-ghost use Rattle.facts.specs.Ties.{AreOwn};
+ghost use Rattle.facts.specs.Ties.{AreOwn, AreTies, class_now, class_of_both, facts_now, settle_value};
 
 use crate::class_id::ClassId;
-use crate::class_set::ClassSet;
 use crate::contents::Contents;
 use crate::kept::KeptFacts;
 use crate::known::{Class, Entry, Known, SlotFact, Test};
 use crate::rows;
+use crate::ties::Ties;
 use ir_ast::ValueId;
 use pools::LayoutId;
 use shadow_stack::SlotId;
@@ -331,28 +331,6 @@ impl Facts {
         Rc::make_mut(&mut self.contents)?.set_slot(s, slot)
     }
 
-    /// The references of the class of `v` are of another: `v` alone, if no others joined it.
-    fn move_class(
-        &mut self,
-        joined: &ClassSet,
-        v: ValueId,
-        from: ClassId,
-        to: ClassId,
-    ) -> Result<(), AllocError>
-        requires own { AreOwn joined.now self.old.values }
-        requires of { is_of from (known_at self.old.values v) ≡ true }
-        ensures ok { OnOk result (self.new ≡ record self.old { values = map (move from to) self.old.values }) }
-        ensures size { AreAsMany self.old self.new }
-    {
-        if !joined.has(from) {
-            let known = rows::move_known(from, to, self.known(v));
-            return self.set_known(v, known);
-        }
-        Rc::make_mut(&mut self.contents)?
-            .values
-            .move_class(from, to)
-    }
-
     fn hold(&mut self, s: SlotId, c: ClassId) -> Result<(), AllocError>
         ensures ok { OnOk result (self.new ≡ hold s c self.old) }
         ensures err { OnErr result (self.new ≡ self.old) }
@@ -376,31 +354,50 @@ impl Facts {
         rows::slot_nonnull(&self.contents.values, slot)
     }
 
-    /// Two classes are one: that of `v` and another.
+    /// Two values are equal references: their classes are one.
     pub(crate) fn join(
         &mut self,
-        joined: &mut ClassSet,
+        ties: &mut Ties,
         v: ValueId,
+        w: ValueId,
         from: ClassId,
         to: ClassId,
     ) -> Result<(), AllocError>
-        requires own { AreOwn joined.old self.old.values }
-        requires of { is_of from (known_at self.old.values v) ≡ true }
-        ensures tied { OnOk result (self.new ≡ join from to self.old) }
-        ensures own { OnOk result (AreOwn joined.new self.new.values) }
+        requires ties { AreTies ties.old }
+        requires from { (from == v) ≡ true }
+        requires to { (to == w) ≡ true }
+        ensures tied { OnOk result (facts_now ties.new self.new ≡ join (class_now ties.old from) (class_now ties.old to) (facts_now ties.old self.old)) }
+        ensures ties { OnOk result (AreTies ties.new) }
+        ensures values { OnOk result (self.new.values ≡ self.old.values) }
         ensures size { AreAsMany self.old self.new }
     {
+        let from = ties.class(from);
+        let to = ties.class(to);
         let one = self.class(from);
         let other = self.class(to);
-        self.move_class(joined, v, from, to)?;
-        joined.add(to)?;
-        self.set_class(
-            to,
-            Class {
-                nonnull: one.nonnull || other.nonnull,
-                fresh: one.fresh || other.fresh,
-            },
-        )
+        ties.tie(v, w)?;
+        self.set_class(to, class_of_both(one, other))
+    }
+
+    /// Each value that was tied is of the class that it has now.
+    pub(crate) fn settle(&mut self, ties: &Ties) -> Result<(), AllocError>
+        requires own { AreOwn self.old.values }
+        requires ties { AreTies ties.now }
+        ensures ok { OnOk result (self.new ≡ facts_now ties.now self.old) }
+        ensures size { AreAsMany self.old self.new }
+    {
+        for v in ties.tied() {
+            self.settle_value(ties, *v)?;
+        }
+        Ok(())
+    }
+
+    fn settle_value(&mut self, ties: &Ties, v: ValueId) -> Result<(), AllocError>
+        ensures ok { OnOk result (self.new ≡ settle_value ties.now v self.old) }
+        ensures size { AreAsMany self.old self.new }
+    {
+        let known = ties.known(self.known(v));
+        self.set_known(v, known)
     }
 
     /// Whether all that is of a class here is listed there as of another.
@@ -408,7 +405,15 @@ impl Facts {
         ensures { result ≡ covers self.now there.now c d }
     {
         let (here, there) = (&self.contents, &there.contents);
-        here.values.covers(&there.values, c, d)
-            && rows::covers_slots(here.slots.as_slice(), there.slots.as_slice(), c, d)
+        here.values.covers(&there.values, c, d) && here.slots.covers(&there.slots, c, d)
     }
+}
+
+/// What is known of a class that two became.
+fn class_of_both(one: Class, other: Class) -> Class
+    ensures { result ≡ class_of_both one other }
+{
+    let nonnull = one.nonnull || other.nonnull;
+    let fresh = one.fresh || other.fresh;
+    Class { nonnull, fresh }
 }

@@ -1,8 +1,8 @@
 //! What is known at a place of a function, how it changes, and what it shows of a certificate's lines.
 #![tactic(auto)]
 
+mod chains;
 mod class_id;
-mod class_set;
 mod contents;
 mod edges;
 mod facts;
@@ -19,6 +19,7 @@ mod shown;
 mod slot_rows;
 mod slot_sweeps;
 mod sweeps;
+mod ties;
 mod uses;
 mod values;
 

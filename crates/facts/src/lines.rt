@@ -1,14 +1,14 @@
 //! What the lines of a block give where it begins.
-ghost use Rattle.std.specs.Prelude.{◌≡◌, true, [], length, map, OnOk, OnErr};
-ghost use Rattle.facts.specs.Facts.{known_at, is_of, nothing_known, set_known};
-ghost use Rattle.facts.specs.Lines.{is_stale, is_fresh, list_value, list_slot, list_line, list_lines, move, join, join_known, join_values, tie_value, tie_fact, tie_line, tie_lines, hold_known, hold_value, hold_line, hold_lines, facts_of_lines, promised_below, promised_nonnull, promised_layout, receive_reference, receive};
+ghost use Rattle.std.specs.Prelude.{◌≡◌, ◌==◌, true, length, OnOk, OnErr};
+ghost use Rattle.facts.specs.Facts.{nothing_known, set_known};
+ghost use Rattle.facts.specs.Lines.{is_stale, is_fresh, list_value, list_slot, list_line, list_lines, join_known, join_values, tie_value, tie_fact, tie_line, tie_lines, hold_known, hold_value, hold_line, hold_lines, facts_of_lines, promised_below, promised_nonnull, promised_layout, receive_reference, receive};
 ghost use Rattle.facts.specs.Parts.{AreAsMany};
-ghost use Rattle.facts.specs.Ties.{AreOwn};
+ghost use Rattle.facts.specs.Ties.{is_own, AreOwn, AreTies, class_now, known_now, facts_now};
 
 use crate::class_id::ClassId;
-use crate::class_set::ClassSet;
 use crate::facts::Facts;
 use crate::known::{Class, Given, Known, SlotFact};
+use crate::ties::Ties;
 use certs::{Age, Fact, Line, Promise};
 use ir_ast::ValueId;
 use pools::LayoutId;
@@ -146,98 +146,110 @@ impl Facts {
     }
 
     fn tie_lines(&mut self, alloc: Global, lines: &[Line]) -> Result<(), AllocError>
-        requires { AreOwn [] self.old.values }
+        requires { AreOwn self.old.values }
         ensures ok { OnOk result (self.new ≡ tie_lines lines.now self.old) }
         ensures size { AreAsMany self.old self.new }
     {
-        let mut joined = ClassSet::new(alloc);
+        let mut ties = Ties::new(alloc);
         for line in lines {
-            self.tie_line(&mut joined, *line)?;
+            self.tie_line(&mut ties, *line)?;
         }
-        Ok(())
+        self.settle(&ties)
     }
 
-    fn tie_line(&mut self, joined: &mut ClassSet, line: Line) -> Result<(), AllocError>
-        requires { AreOwn joined.old self.old.values }
-        ensures tied { OnOk result (self.new ≡ tie_line line self.old) }
-        ensures own { OnOk result (AreOwn joined.new self.new.values) }
+    fn tie_line(&mut self, ties: &mut Ties, line: Line) -> Result<(), AllocError>
+        requires own { AreOwn self.old.values }
+        requires ties { AreTies ties.old }
+        ensures tied { OnOk result (facts_now ties.new self.new ≡ tie_line line (facts_now ties.old self.old)) }
+        ensures ties { OnOk result (AreTies ties.new) }
+        ensures values { OnOk result (self.new.values ≡ self.old.values) }
         ensures size { AreAsMany self.old self.new }
     {
         match line {
-            Line::Value { value, fact } => self.tie_fact(joined, value, fact),
+            Line::Value { value, fact } => self.tie_fact(ties, value, fact),
             Line::Slot { .. } => Ok(()),
         }
     }
 
-    fn tie_fact(&mut self, joined: &mut ClassSet, v: ValueId, fact: Fact) -> Result<(), AllocError>
-        requires { AreOwn joined.old self.old.values }
-        ensures tied { OnOk result (self.new ≡ tie_fact v fact self.old) }
-        ensures own { OnOk result (AreOwn joined.new self.new.values) }
+    fn tie_fact(&mut self, ties: &mut Ties, v: ValueId, fact: Fact) -> Result<(), AllocError>
+        requires own { AreOwn self.old.values }
+        requires ties { AreTies ties.old }
+        ensures tied { OnOk result (facts_now ties.new self.new ≡ tie_fact v fact (facts_now ties.old self.old)) }
+        ensures ties { OnOk result (AreTies ties.new) }
+        ensures values { OnOk result (self.new.values ≡ self.old.values) }
         ensures size { AreAsMany self.old self.new }
     {
         match fact {
-            Fact::Reference { same, .. } => self.tie_value(joined, v, same),
+            Fact::Reference { same, .. } => self.tie_value(ties, v, same),
             _ => Ok(()),
         }
     }
 
     fn tie_value(
         &mut self,
-        joined: &mut ClassSet,
+        ties: &mut Ties,
         v: ValueId,
         same: Option<ValueId>,
     ) -> Result<(), AllocError>
-        requires { AreOwn joined.old self.old.values }
-        ensures tied { OnOk result (self.new ≡ tie_value v same self.old) }
-        ensures own { OnOk result (AreOwn joined.new self.new.values) }
+        requires own { AreOwn self.old.values }
+        requires ties { AreTies ties.old }
+        ensures tied { OnOk result (facts_now ties.new self.new ≡ tie_value v same (facts_now ties.old self.old)) }
+        ensures ties { OnOk result (AreTies ties.new) }
+        ensures values { OnOk result (self.new.values ≡ self.old.values) }
         ensures size { AreAsMany self.old self.new }
     {
         match same {
             Some(w) => {
                 let known = self.known(v);
                 let other = self.known(w);
-                self.join_values(joined, v, known, other)
+                self.join_values(ties, v, w, known, other)
             }
             None => Ok(()),
         }
     }
 
-    /// What is known of `v`, and of another.
+    /// Two values, and what is known of them.
     fn join_values(
         &mut self,
-        joined: &mut ClassSet,
+        ties: &mut Ties,
         v: ValueId,
+        w: ValueId,
         known: Known,
         other: Known,
     ) -> Result<(), AllocError>
-        requires own { AreOwn joined.old self.old.values }
-        requires known { known ≡ known_at self.old.values v }
-        ensures tied { OnOk result (self.new ≡ join_values known other self.old) }
-        ensures own { OnOk result (AreOwn joined.new self.new.values) }
+        requires ties { AreTies ties.old }
+        requires known { is_own v known ≡ true }
+        requires other { is_own w other ≡ true }
+        ensures tied { OnOk result (facts_now ties.new self.new ≡ join_values (known_now ties.old known) (known_now ties.old other) (facts_now ties.old self.old)) }
+        ensures ties { OnOk result (AreTies ties.new) }
+        ensures values { OnOk result (self.new.values ≡ self.old.values) }
         ensures size { AreAsMany self.old self.new }
     {
         match known {
-            Known::Cell { class, .. } => self.join_known(joined, v, class, other),
+            Known::Cell { class, .. } => self.join_known(ties, v, w, class, other),
             _ => Ok(()),
         }
     }
 
-    /// The class of `v`, and what is known of another.
+    /// Two values, the class of one, and what is known of the other.
     fn join_known(
         &mut self,
-        joined: &mut ClassSet,
+        ties: &mut Ties,
         v: ValueId,
+        w: ValueId,
         from: ClassId,
         other: Known,
     ) -> Result<(), AllocError>
-        requires own { AreOwn joined.old self.old.values }
-        requires of { is_of from (known_at self.old.values v) ≡ true }
-        ensures tied { OnOk result (self.new ≡ join_known from other self.old) }
-        ensures own { OnOk result (AreOwn joined.new self.new.values) }
+        requires ties { AreTies ties.old }
+        requires from { (from == v) ≡ true }
+        requires other { is_own w other ≡ true }
+        ensures tied { OnOk result (facts_now ties.new self.new ≡ join_known (class_now ties.old from) (known_now ties.old other) (facts_now ties.old self.old)) }
+        ensures ties { OnOk result (AreTies ties.new) }
+        ensures values { OnOk result (self.new.values ≡ self.old.values) }
         ensures size { AreAsMany self.old self.new }
     {
         match other {
-            Known::Cell { class, .. } => self.join(joined, v, from, class),
+            Known::Cell { class, .. } => self.join(ties, v, w, from, class),
             _ => Ok(()),
         }
     }

@@ -1,7 +1,6 @@
 //! What changes in whole rows of facts.
 ghost use Rattle.std.specs.Prelude.{◌≡◌, replicate, IfOk};
-ghost use Rattle.std.specs.List.{list_any, list_all, zip};
-ghost use Rattle.facts.specs.Facts.{open_slot, class_at, is_of, holds, let_go, is_on, off_base, off_test, slot_nonnull, held_nonnull, stale_of, end_hold, holds_class};
+ghost use Rattle.facts.specs.Facts.{open_slot, class_at, is_of, let_go, is_on, off_base, off_test, slot_nonnull, held_nonnull, stale_of, end_hold, holds_class};
 ghost use Rattle.facts.specs.SlotRows.{let_go_slot};
 ghost use Rattle.facts.specs.Lines.{moved, move, covers_value, covers_slot};
 
@@ -41,20 +40,6 @@ pub fn is_of(c: ClassId, known: Known) -> bool
         Known::Cell { class, .. } => class == c,
         _ => false,
     }
-}
-
-/// Whether some slot holds this class.
-pub fn any_holds(slots: &[SlotFact], c: ClassId) -> bool
-    ensures { result ≡ list_any (holds c) slots.now }
-{
-    slots.iter().any(|slot| holds(c, *slot))
-}
-
-/// Whether a slot holds this class.
-pub fn holds(c: ClassId, slot: SlotFact) -> bool
-    ensures { result ≡ holds c slot }
-{
-    holds_class(c, slot.holds)
 }
 
 /// A slot does not hold the class.
@@ -195,16 +180,8 @@ pub fn covers_value(c: ClassId, d: ClassId, here: Known, there: Known) -> bool
     }
 }
 
-/// Whether all slots that hold a class here hold another there.
-pub fn covers_slots(here: &[SlotFact], there: &[SlotFact], c: ClassId, d: ClassId) -> bool
-    ensures { result ≡ list_all (covers_slot c d) (zip here.now there.now) }
-{
-    here.iter()
-        .zip(there.iter())
-        .all(|(here, there)| covers_slot(c, d, *here, *there))
-}
-
-fn covers_slot(c: ClassId, d: ClassId, here: SlotFact, there: SlotFact) -> bool
+/// Whether a slot that holds a class here holds another there.
+pub fn covers_slot(c: ClassId, d: ClassId, here: SlotFact, there: SlotFact) -> bool
     ensures { result ≡ covers_slot c d (here, there) }
 {
     holds_class(d, there.holds) || !holds_class(c, here.holds)

@@ -1,13 +1,18 @@
 //! The slots of a function, of which few are filled, and of which few hold a class.
-ghost use Rattle.std.specs.Prelude.{◌≡◌, map, length, replicate, slice_set, IfOk, OnOk, OnErr};
-ghost use Rattle.std.specs.List.{list_any};
+ghost use Rattle.std.specs.Prelude.{◌≡◌, false, map, length, replicate, slice_set, Some, IfOk, OnOk, OnErr};
+ghost use Rattle.std.specs.List.{list_any, list_all, zip};
 ghost use Rattle.facts.specs.Facts.{open_slot, slot_at, holds, let_go, end_hold};
-ghost use Rattle.facts.specs.SlotRows.{OnlyFilled, OnlyHolding, empty_slot, let_go_last, let_go_others};
+ghost use Rattle.facts.specs.Contents.{new_of};
+ghost use Rattle.facts.specs.Lines.{covers_slot};
+ghost use Rattle.facts.specs.SlotRows.{OnlyFilled, OnlyHolding, OnlyKeepers, empty_slot, let_go_last, let_go_others};
 
+use crate::chains::Chains;
 use crate::class_id::ClassId;
-use crate::known::SlotFact;
+use crate::known::{Class, SlotFact};
 use crate::values::Values;
 use crate::{rows, slot_sweeps};
+use ir_ast::ValueId;
+use pools::LayoutId;
 use shadow_stack::SlotId;
 use std::alloc::{AllocError, Global};
 use std::marker::Model;
@@ -20,18 +25,20 @@ pub(crate) struct SlotRows {
     filled: Vec<usize>,
     /// The slots that may hold a class.
     holding: Vec<usize>,
+    /// The slots that came to hold each class.
+    keepers: Chains,
 }
 
 impl Model for SlotRows {
     ghost use Rattle.std.specs.Prelude.{List};
     ghost use Rattle.facts.specs.declared.known.SlotFact.{SlotFact};
-    ghost use Rattle.facts.specs.SlotRows.{OnlyFilled, OnlyHolding};
+    ghost use Rattle.facts.specs.SlotRows.{AreNoted};
 
     ghost Value = { List SlotFact };
 
     ghost view = { λ rows. rows.slots.items };
 
-    ghost invariant = { λ rows. OnlyFilled rows.filled.items rows.slots.items × OnlyHolding rows.holding.items rows.slots.items };
+    ghost invariant = { λ rows. AreNoted rows.filled.items rows.holding.items rows.keepers rows.slots.items };
 }
 
 impl Clone for SlotRows {
@@ -41,10 +48,12 @@ impl Clone for SlotRows {
         let slots = Vec::from_slice(*self.slots.allocator(), &self.slots)?;
         let filled = Vec::from_slice(*self.filled.allocator(), &self.filled)?;
         let holding = Vec::from_slice(*self.holding.allocator(), &self.holding)?;
+        let keepers = slot_sweeps::keepers_of(*self.slots.allocator(), &self.slots, &self.holding)?;
         Ok(SlotRows {
             slots,
             filled,
             holding,
+            keepers,
         })
     }
 }
@@ -59,6 +68,7 @@ impl SlotRows {
             slots,
             filled: Vec::new(alloc),
             holding: Vec::new(alloc),
+            keepers: Chains::new(alloc),
         })
     }
 
@@ -67,13 +77,6 @@ impl SlotRows {
         ensures { result ≡ length self.now }
     {
         self.slots.len()
-    }
-
-    /// What is known of each slot.
-    pub fn as_slice(&self) -> &[SlotFact]
-        ensures { result.now ≡ self.now }
-    {
-        self.slots.as_slice()
     }
 
     /// What is known of a slot.
@@ -89,25 +92,16 @@ impl SlotRows {
         ensures err { OnErr result (self.new ≡ self.old) }
     {
         let at = s.number();
-        if at < self.slots.len() {
-            let before = slot_sweeps::slot_at(&self.slots, at);
-            slot_sweeps::note_filled(&mut self.filled, at, &before)?;
-            slot_sweeps::note_holding(&mut self.holding, at, &slot)?;
-            self.slots[at] = slot;
-        }
+        slot_sweeps::note(
+            &mut self.filled,
+            &mut self.holding,
+            &mut self.keepers,
+            &self.slots,
+            at,
+            &slot,
+        )?;
+        slot_sweeps::write(&mut self.slots, at, slot);
         Ok(())
-    }
-
-    /// This is known of a slot, which is filled and holds a class if it is to be.
-    pub fn change(&mut self, s: SlotId, slot: SlotFact)
-        requires filled { slot_at self.old s ≡ open_slot → slot ≡ open_slot }
-        requires holding { (slot_at self.old s).holds ≡ None → slot.holds ≡ None }
-        ensures { self.new ≡ slice_set self.old s slot }
-    {
-        let at = s.number();
-        if at < self.slots.len() {
-            self.slots[at] = slot;
-        }
     }
 
     /// Of what a slot holds nothing is known.
@@ -132,6 +126,7 @@ impl SlotRows {
         slot_sweeps::copy(&mut self.slots, &self.filled, &[]);
         self.filled.clear();
         self.holding.clear();
+        self.keepers = Chains::new(*self.slots.allocator());
     }
 
     /// The slots of which something may be known, each once if that is shorter.
@@ -148,35 +143,47 @@ impl SlotRows {
         slot_sweeps::shorter(alloc, &self.holding, self.slots.len())
     }
 
-    /// The slots are as they are elsewhere, where these may be filled and may hold a class.
-    pub fn set_from(&mut self, filled: Vec<usize>, holding: Vec<usize>, other: &SlotRows)
+    /// The slots that hold each class.
+    pub fn keepers(&self, alloc: Global) -> Result<Chains, AllocError>
+        ensures { IfOk result (λ keepers. OnlyKeepers keepers self.now) }
+    {
+        let holding = self.holding(alloc)?;
+        slot_sweeps::keepers_of(alloc, &self.slots, &holding)
+    }
+
+    /// The slots are as they are elsewhere, where these may be filled and may hold a class, and these hold each class.
+    pub fn set_from(
+        &mut self,
+        filled: Vec<usize>,
+        holding: Vec<usize>,
+        keepers: Chains,
+        other: &SlotRows,
+    )
         requires long { length self.old ≡ length other.now }
         requires filled { OnlyFilled filled.items other.now }
         requires holding { OnlyHolding holding.items other.now }
+        requires keepers { OnlyKeepers keepers other.now }
         ensures { self.new ≡ other.now }
     {
         slot_sweeps::copy(&mut self.slots, &self.filled, &[]);
         slot_sweeps::copy(&mut self.slots, &filled, &other.slots);
         self.filled = filled;
         self.holding = holding;
+        self.keepers = keepers;
     }
 
-    /// Whether some slot holds this class.
-    pub fn any_holds(&self, c: ClassId) -> bool
-        ensures { result ≡ list_any (holds c) self.now }
+    /// Whether a slot came to hold this class: if none did, none holds it.
+    pub fn may_hold(&self, c: ClassId) -> bool
+        ensures { result ≡ false → list_any (holds c) self.now ≡ false }
     {
-        if self.holding.len() < self.slots.len() {
-            slot_sweeps::any_holds(&self.slots, &self.holding, c)
-        } else {
-            rows::any_holds(&self.slots, c)
-        }
+        self.keepers.newest(c.number()).is_some()
     }
 
     /// No slot holds the class.
     pub fn let_go_each(&mut self, c: ClassId, nonnull: bool)
         ensures { self.new ≡ map (let_go c nonnull) self.old }
     {
-        slot_sweeps::let_go_each(&mut self.slots, &self.holding, c, nonnull);
+        slot_sweeps::let_go_each(&mut self.slots, &self.keepers, c, nonnull);
     }
 
     /// No slot but `s` holds a class that has no value any more, if there is such a class.
@@ -185,7 +192,7 @@ impl SlotRows {
     {
         let at = s.number();
         let kept = slot_sweeps::slot_at(&self.slots, at);
-        slot_sweeps::let_go_last(&mut self.slots, &self.holding, last, nonnull);
+        slot_sweeps::let_go_last(&mut self.slots, &self.keepers, last, nonnull);
         slot_sweeps::write(&mut self.slots, at, kept);
     }
 
@@ -204,5 +211,46 @@ impl SlotRows {
     {
         slot_sweeps::end_holds(&mut self.slots, &self.holding, values);
         self.holding.clear();
+        self.keepers = Chains::new(*self.slots.allocator());
+    }
+
+    /// A value is the reference that a slot holds: it is of a new class, which is not null where this holds.
+    pub fn load_new(
+        &mut self,
+        values: &mut Values,
+        v: ValueId,
+        s: SlotId,
+        layout: LayoutId,
+        nonnull: bool,
+    ) -> Result<(), AllocError>
+        ensures ok { OnOk result ((values.new ≡ new_of v layout nonnull values.old) × (self.new ≡ slice_set self.old s (record (slot_at self.old s) { nonnull = nonnull; holds = Some (length values.old.classes) }))) }
+        ensures err { OnErr result ((values.new ≡ values.old) × (self.new ≡ self.old)) }
+    {
+        let at = s.number();
+        let before = slot_sweeps::slot_at(&self.slots, at);
+        let slot = SlotFact {
+            nonnull,
+            holds: Some(values.next_class()),
+            ..before
+        };
+        slot_sweeps::note(
+            &mut self.filled,
+            &mut self.holding,
+            &mut self.keepers,
+            &self.slots,
+            at,
+            &slot,
+        )?;
+        let fresh = false;
+        values.define_new(v, layout, false, Class { nonnull, fresh })?;
+        slot_sweeps::write(&mut self.slots, at, slot);
+        Ok(())
+    }
+
+    /// Whether all slots that hold a class here hold another there.
+    pub fn covers(&self, there: &SlotRows, c: ClassId, d: ClassId) -> bool
+        ensures { result ≡ list_all (covers_slot c d) (zip self.now there.now) }
+    {
+        slot_sweeps::covers(&self.slots, &self.keepers, &there.slots, c, d)
     }
 }

@@ -1,13 +1,16 @@
 //! What changes in the slots that are listed, and what is asked of them.
-ghost use Rattle.std.specs.Prelude.{◌≡◌, ◌<◌, ℕ, slice_set, IfOk, OnOk, OnErr};
-ghost use Rattle.std.specs.List.{list_any};
-ghost use Rattle.facts.specs.Facts.{slot_at, let_go, end_hold};
+ghost use Rattle.std.specs.Prelude.{◌≡◌, ◌<◌, ℕ, true, slice_set, IfOk, OnOk, OnErr};
+ghost use Rattle.std.specs.List.{list_all};
+ghost use Rattle.facts.specs.Chains.{listed};
+ghost use Rattle.facts.specs.Facts.{slot_at, holds, let_go, end_hold};
 ghost use Rattle.facts.specs.Sheets.{IsOne};
-ghost use Rattle.facts.specs.SlotRows.{is_open, each_slot, copied_slot, with_filled, with_holding, holds_at, each_let_go, NamesAll};
+ghost use Rattle.facts.specs.SlotRows.{is_open, each_slot, copied_slot, with_filled, with_holding, each_let_go, covers_at, NamesAll, OnlyHolding, OnlyKeepers, AreNoted};
 
+use crate::chains::Chains;
 use crate::class_id::ClassId;
 use crate::known::SlotFact;
 use crate::rows;
+use crate::uses::use_at;
 use crate::values::Values;
 use std::alloc::{AllocError, Global};
 
@@ -29,7 +32,7 @@ fn is_open(slot: &SlotFact) -> bool
 }
 
 /// A slot is noted as filled, unless it was, where this was known of it.
-pub fn note_filled(filled: &mut Vec<usize>, at: usize, before: &SlotFact) -> Result<(), AllocError>
+fn note_filled(filled: &mut Vec<usize>, at: usize, before: &SlotFact) -> Result<(), AllocError>
     ensures ok { OnOk result (filled.new.items ≡ with_filled at before.now filled.old.items) }
     ensures err { OnErr result (filled.new.items ≡ filled.old.items) }
 {
@@ -40,7 +43,7 @@ pub fn note_filled(filled: &mut Vec<usize>, at: usize, before: &SlotFact) -> Res
 }
 
 /// A slot of which this is known from now on is noted, if it holds a class.
-pub fn note_holding(holding: &mut Vec<usize>, at: usize, after: &SlotFact) -> Result<(), AllocError>
+fn note_holding(holding: &mut Vec<usize>, at: usize, after: &SlotFact) -> Result<(), AllocError>
     ensures ok { OnOk result (holding.new.items ≡ with_holding at after.now.holds holding.old.items) }
     ensures err { OnErr result (holding.new.items ≡ holding.old.items) }
 {
@@ -48,6 +51,51 @@ pub fn note_holding(holding: &mut Vec<usize>, at: usize, after: &SlotFact) -> Re
         holding.push(at)?;
     }
     Ok(())
+}
+
+/// A slot of which this is known from now on is a keeper of the class that it holds.
+fn note_keeper(keepers: &mut Chains, at: usize, after: &SlotFact) -> Result<(), AllocError>
+    ensures kept { (c s : ℕ) → IsOne s (listed keepers.old c) → IsOne s (listed keepers.new c) }
+    ensures noted { OnOk result ((c : ℕ) → holds c after.now ≡ true → IsOne at (listed keepers.new c)) }
+{
+    match after.holds {
+        Some(c) => keepers.add(c.number(), at),
+        None => Ok(()),
+    }
+}
+
+/// A slot of which this is known from now on is noted.
+pub fn note(
+    filled: &mut Vec<usize>,
+    holding: &mut Vec<usize>,
+    keepers: &mut Chains,
+    slots: &[SlotFact],
+    at: usize,
+    after: &SlotFact,
+) -> Result<(), AllocError>
+    ensures kept { AreNoted filled.old.items holding.old.items keepers.old slots.now → AreNoted filled.new.items holding.new.items keepers.new slots.now }
+    ensures noted { OnOk result (AreNoted filled.old.items holding.old.items keepers.old slots.now → AreNoted filled.new.items holding.new.items keepers.new (slice_set slots.now at after.now)) }
+{
+    let before = slot_at(slots, at);
+    note_filled(filled, at, &before)?;
+    note_holding(holding, at, after)?;
+    note_keeper(keepers, at, after)
+}
+
+/// The keepers of each class, where these slots may hold one.
+pub fn keepers_of(
+    alloc: Global,
+    slots: &[SlotFact],
+    holding: &[usize],
+) -> Result<Chains, AllocError>
+    ensures { IfOk result (λ keepers. OnlyHolding holding.now slots.now → OnlyKeepers keepers slots.now) }
+{
+    let mut keepers = Chains::new(alloc);
+    for s in holding {
+        let slot = slot_at(slots, *s);
+        note_keeper(&mut keepers, *s, &slot)?;
+    }
+    Ok(keepers)
 }
 
 /// The numbers that are listed, or all below `count` where those are fewer.
@@ -83,29 +131,32 @@ pub fn copy(slots: &mut Vec<SlotFact>, listed: &[usize], others: &[SlotFact])
     }
 }
 
-/// The slots that are listed do not hold the class.
-pub fn let_go_each(slots: &mut Vec<SlotFact>, listed: &[usize], c: ClassId, nonnull: bool)
-    ensures { slots.new.items ≡ each_slot (λ s. let_go c nonnull) listed.now slots.old.items }
+/// The keepers of a class do not hold it.
+pub fn let_go_each(slots: &mut Vec<SlotFact>, keepers: &Chains, c: ClassId, nonnull: bool)
+    ensures { slots.new.items ≡ each_slot (λ s. let_go c nonnull) (listed keepers.now c) slots.old.items }
 {
-    for s in listed {
-        let at = *s;
-        if at < slots.len() {
-            slots[at] = rows::let_go(c, nonnull, slot_at(slots, at));
-        }
+    let mut at = keepers.newest(c.number());
+    for step in 0..keepers.links.len() {
+        let Some(found) = use_at(&keepers.links, at) else {
+            return;
+        };
+        let slot = slot_at(slots, found.user);
+        write(slots, found.user, rows::let_go(c, nonnull, slot));
+        at = found.before;
     }
 }
 
-/// The slots that are listed do not hold a class that has no value any more, if there is such a class.
+/// The keepers of a class that has no value any more do not hold it, if there is such a class.
 pub fn let_go_last(
     slots: &mut Vec<SlotFact>,
-    listed: &[usize],
+    keepers: &Chains,
     last: &Option<ClassId>,
     nonnull: bool,
 )
-    ensures { slots.new.items ≡ each_let_go last.now nonnull listed.now slots.old.items }
+    ensures { slots.new.items ≡ each_let_go last.now nonnull keepers.now slots.old.items }
 {
     if let Some(c) = last {
-        let_go_each(slots, listed, *c, nonnull);
+        let_go_each(slots, keepers, *c, nonnull);
     }
 }
 
@@ -130,15 +181,31 @@ pub fn end_holds(slots: &mut Vec<SlotFact>, listed: &[usize], values: &Values)
     }
 }
 
-/// Whether some slot that is listed holds this class.
-pub fn any_holds(slots: &[SlotFact], listed: &[usize], c: ClassId) -> bool
-    ensures { result ≡ list_any (holds_at c slots.now) listed.now }
+/// Whether the slots that hold a class here, of which these are the keepers, hold another there.
+pub fn covers(
+    here: &[SlotFact],
+    keepers: &Chains,
+    there: &[SlotFact],
+    c: ClassId,
+    d: ClassId,
+) -> bool
+    ensures { result ≡ list_all (covers_at c d here.now there.now) (listed keepers.now c) }
 {
-    listed.iter().any(|s| holds_at(c, slots, *s))
+    let mut at = keepers.newest(c.number());
+    for step in 0..keepers.links.len() {
+        let Some(found) = use_at(&keepers.links, at) else {
+            return true;
+        };
+        if !covers_at(c, d, here, there, found.user) {
+            return false;
+        }
+        at = found.before;
+    }
+    true
 }
 
-fn holds_at(c: ClassId, slots: &[SlotFact], at: usize) -> bool
-    ensures { result ≡ holds_at c slots.now at }
+fn covers_at(c: ClassId, d: ClassId, here: &[SlotFact], there: &[SlotFact], at: usize) -> bool
+    ensures { result ≡ covers_at c d here.now there.now at }
 {
-    rows::holds(c, slot_at(slots, at))
+    at >= there.len() || rows::covers_slot(c, d, slot_at(here, at), slot_at(there, at))
 }

@@ -18,4 +18,4 @@ returns-in_ok-load_new-in-None-clause-ok c =
     load_of_new (set_of old) c.args.v c.args.s c.args.layout c.last_of-last.result c.held_nonnull-nonnull.result c.let_go_slot-filled.result
     (c.last_of-last.ensures old.values.classes ∙ ap (λ b. let_go_last c.last_of-last.result b old.slots) (sym c.held_nonnull-nonnull.ensures))
     (c.let_go_slot-filled.ensures ∙ ap (let_go_slot c.last_of-last.result c.held_nonnull-nonnull.result) c.slot-before.ensures)
-    c.load_new.new.self.values c.let_go_others.new.self c.in-None.is c.load_new.new.self.slots c.in_ok-load_new-in-None.ensures.ok.0 c.in_ok-load_new-in-None.ensures.ok.1 c.let_go_others.ensures
+    c.load_new.new.values c.let_go_others.new.self c.in-None.is c.load_new.new.self c.in_ok-load_new-in-None.ensures.ok.0 c.in_ok-load_new-in-None.ensures.ok.1 c.let_go_others.ensures

@@ -1,12 +1,27 @@
-use Rattle.std.proofs.Common.{◌∙◌, ap, sym, subst, List}
+use Rattle.std.proofs.Common.{◌≡◌, ◌∙◌, ap, sym, ℕ}
 use Rattle.std.proofs.lemmas.Result.{on_ok_weaker}
-use Rattle.facts.specs.declared.known.Known.{Known}
-use Rattle.facts.specs.Facts.{FactSet}
-use Rattle.facts.specs.Ties.{AreOwn}
-use Rattle.facts.proofs.Ties.{own_moved}
+use Rattle.lemmas.specs.Numbers.{test_true}
+use Rattle.facts.specs.declared.known.Class.{Class}
+use Rattle.facts.specs.declared.ties.Ties.{Ties}
+use Rattle.facts.specs.Facts.{FactSet, class_at, set_class}
+use Rattle.facts.specs.Lines.{moved}
+use Rattle.facts.specs.Ties.{class_now}
+use Rattle.facts.proofs.Settled.{joined_facts}
 use Rattle.facts.proofs.facts.Facts.join.Goals as goal
 
-pub returns-clause-own : goal.returns-clause-own
-returns-clause-own c = on_ok_weaker c.set_class.result
-    (λ e. subst (λ (values : List Known). AreOwn c.add.new.self values) (sym (ap (λ (f : FactSet). f.values) e ∙ ap (λ (f : FactSet). f.values) c.in_ok-move_class.ensures.ok))
-    (own_moved c.args.joined.now c.add.new.self c.args.from c.args.to c.args.self.now.values c.in_ok-add.ensures c.requires.own)) c.set_class.ensures.ok
+module _ (c : goal.After-set_class) where
+  abbrev ties : Ties
+  ties = c.args.ties.now
+
+  abbrev f : FactSet
+  f = c.args.self.now
+
+  moves : (q : ℕ) → class_now c.tie.new.self q ≡ moved (class_now ties c.args.from) (class_now ties c.args.to) (class_now ties q)
+  moves q = c.in_ok-tie.ensures.moved q ∙ ap (λ (n : ℕ). moved (class_now ties n) (class_now ties c.args.w) (class_now ties q)) (sym (test_true c.args.from c.args.v c.requires.from))
+      ∙ ap (λ (n : ℕ). moved (class_now ties c.args.from) (class_now ties n) (class_now ties q)) (sym (test_true c.args.to c.args.w c.requires.to))
+
+pub returns-clause-tied : goal.returns-clause-tied
+returns-clause-tied c = on_ok_weaker c.set_class.result
+    (λ e. joined_facts (ties c) c.tie.new.self (class_now (ties c) c.args.from) (class_now (ties c) c.args.to) (moves c) (f c) c.set_class.new.self c.class-one.result c.class-other.result
+    (c.class-one.ensures ∙ ap (class_at (f c).classes) c.class-from.ensures) (c.class-other.ensures ∙ ap (class_at (f c).classes) c.class-to.ensures)
+    (e ∙ ap (λ (n : ℕ). set_class n c.class_of_both.result (f c)) c.class-to.ensures ∙ ap (λ (x : Class). set_class (class_now (ties c) c.args.to) x (f c)) c.class_of_both.ensures)) c.set_class.ensures.ok

@@ -1,11 +1,12 @@
 use Rattle.std.proofs.Common.{◌≡◌, ◌∙◌, ap, sym, subst, map, List, ℕ, []}
 use Rattle.facts.specs.declared.known.SlotFact.{SlotFact}
 use Rattle.facts.specs.Facts.{end_hold}
-use Rattle.facts.specs.SlotRows.{OnlyFilled, OnlyHolding, each_slot}
+use Rattle.facts.specs.SlotRows.{OnlyFilled, OnlyHolding, OnlyKeepers, each_slot}
+use Rattle.facts.proofs.Keepers.{end_keepers}
 use Rattle.facts.proofs.SlotLists.{end_all, end_filled, end_none}
 use Rattle.facts.proofs.slot_rows.SlotRows.end_holds.Goals as goal
 
-module _ (c : goal.After-clear) where
+module _ (c : goal.After-drop-self-inside-5) where
   abbrev before : List SlotFact
   before = c.self.inside.slots.items
 
@@ -16,6 +17,7 @@ pub invariant_of-self : goal.invariant_of-self
 invariant_of-self c = (
   subst (OnlyFilled c.self.inside.filled.items) (sym (is c)) (end_filled c.args.values.now.classes c.self.inside.filled.items (before c) c.self.invariant.0),
   subst (λ (us : List ℕ). OnlyHolding us c.end_holds.new.slots.items) (sym c.clear.ensures.items) (subst (OnlyHolding []) (sym (is c)) (end_none c.args.values.now.classes (before c))),
+  subst (OnlyKeepers c.new.result) (sym (is c)) (end_keepers c.args.values.now.classes c.new.result (before c)),
 )
 
 pub returns : goal.returns

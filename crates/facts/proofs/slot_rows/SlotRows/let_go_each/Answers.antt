@@ -1,8 +1,9 @@
-use Rattle.std.proofs.Common.{◌≡◌, ◌∙◌, ap, sym, subst, map, List, ℕ}
+use Rattle.std.proofs.Common.{◌≡◌, ◌∙◌, ap, sym, subst, map, List}
 use Rattle.facts.specs.declared.known.SlotFact.{SlotFact}
 use Rattle.facts.specs.Facts.{let_go}
-use Rattle.facts.specs.SlotRows.{OnlyFilled, OnlyHolding, each_slot}
-use Rattle.facts.proofs.SlotLists.{let_go_all, let_go_filled, let_go_holding}
+use Rattle.facts.specs.SlotRows.{AreNoted}
+use Rattle.facts.proofs.Keepers.{keepers_let_go, let_go_keepers}
+use Rattle.facts.proofs.SlotLists.{let_go_filled, let_go_holding}
 use Rattle.facts.proofs.slot_rows.SlotRows.let_go_each.Goals as goal
 
 module _ (c : goal.After-let_go_each) where
@@ -10,12 +11,13 @@ module _ (c : goal.After-let_go_each) where
   before = c.self.inside.slots.items
 
   is : c.let_go_each.new.slots.items ≡ map (let_go c.args.c c.args.nonnull) before
-  is = c.let_go_each.ensures ∙ ap (λ (us : List ℕ). each_slot (λ s. let_go c.args.c c.args.nonnull) us before) c.deref.ensures.value ∙ let_go_all c.args.c c.args.nonnull c.self.inside.holding.items before c.self.invariant.1
+  is = c.let_go_each.ensures ∙ keepers_let_go c.args.c c.args.nonnull c.self.inside.keepers before c.self.invariant.2
 
 pub invariant_of-self : goal.invariant_of-self
-invariant_of-self c = (
-  subst (OnlyFilled c.self.inside.filled.items) (sym (is c)) (let_go_filled c.args.c c.args.nonnull c.self.inside.filled.items (before c) c.self.invariant.0),
-  subst (OnlyHolding c.self.inside.holding.items) (sym (is c)) (let_go_holding c.args.c c.args.nonnull c.self.inside.holding.items (before c) c.self.invariant.1),
+invariant_of-self c = subst (AreNoted c.self.inside.filled.items c.self.inside.holding.items c.self.inside.keepers) (sym (is c)) (
+  let_go_filled c.args.c c.args.nonnull c.self.inside.filled.items (before c) c.self.invariant.0,
+  let_go_holding c.args.c c.args.nonnull c.self.inside.holding.items (before c) c.self.invariant.1,
+  let_go_keepers c.args.c c.args.nonnull c.self.inside.keepers (before c) c.self.invariant.2,
 )
 
 pub returns : goal.returns

@@ -1,20 +1,12 @@
-use Rattle.std.proofs.Common.{◌≡◌, ◌∙◌, ap, sym, subst, List, ℕ, slice_set}
-use Rattle.facts.specs.declared.known.SlotFact.{SlotFact}
-use Rattle.facts.specs.Facts.{slot_at}
-use Rattle.facts.specs.SlotRows.{OnlyFilled, OnlyHolding, with_filled}
-use Rattle.facts.proofs.SlotLists.{set_filled, set_holding, more_filled}
+use Rattle.std.proofs.Common.{sym, subst}
+use Rattle.facts.specs.SlotRows.{AreNoted}
+use Rattle.facts.proofs.Keepers.{noted_written}
 use Rattle.facts.proofs.slot_rows.SlotRows.set.Goals as goal
 
-pub invariant_of-self-in_err-note_holding : goal.invariant_of-self-in_err-note_holding
-invariant_of-self-in_err-note_holding c = (
-  subst (λ (us : List ℕ). OnlyFilled us c.self.inside.slots.items) (sym c.in_ok-note_filled.ensures.ok) (more_filled c.number-at.result c.slot_at-before.result c.self.inside.filled.items c.self.inside.slots.items c.self.invariant.0),
-  subst (λ (us : List ℕ). OnlyHolding us c.self.inside.slots.items) (sym c.in_err-note_holding.ensures.err) c.self.invariant.1,
-)
+pub invariant_of-self : goal.invariant_of-self
+invariant_of-self c = subst (AreNoted c.note.new.filled.items c.note.new.holding.items c.note.new.keepers) c.deref.ensures.value
+    (c.note.ensures.kept (subst (AreNoted c.self.inside.filled.items c.self.inside.holding.items c.self.inside.keepers) (sym c.deref.ensures.value) c.self.invariant))
 
-pub invariant_of-self-then-at-len : goal.invariant_of-self-then-at-len
-invariant_of-self-then-at-len c = (
-  subst (λ (us : List ℕ). OnlyFilled us (slice_set c.self.inside.slots.items c.number-at.result c.args.slot)) (sym filled) (set_filled c.number-at.result c.args.slot c.self.inside.slots.items c.self.inside.filled.items c.self.invariant.0),
-  subst (λ (us : List ℕ). OnlyHolding us (slice_set c.self.inside.slots.items c.number-at.result c.args.slot)) (sym c.in_ok-note_holding.ensures.ok) (set_holding c.number-at.result c.args.slot c.self.inside.slots.items c.self.inside.holding.items c.self.invariant.1),
-) where
-  filled : c.note_filled.new.filled.items ≡ with_filled c.number-at.result (slot_at c.self.inside.slots.items c.number-at.result) c.self.inside.filled.items
-  filled = c.in_ok-note_filled.ensures.ok ∙ ap (λ (slot : SlotFact). with_filled c.number-at.result slot c.self.inside.filled.items) (c.slot_at-before.ensures ∙ ap (λ (slots : List SlotFact). slot_at slots c.number-at.result) c.deref.ensures.value)
+pub invariant_of-self-2 : goal.invariant_of-self-2
+invariant_of-self-2 c = noted_written c.note.new.filled.items c.note.new.holding.items c.note.new.keepers c.deref.result.now c.self.inside.slots.items c.write.new.slots.items c.number-at.result c.args.slot c.deref.ensures.value c.write.ensures
+    (c.in_ok-note.ensures.noted (subst (AreNoted c.self.inside.filled.items c.self.inside.holding.items c.self.inside.keepers) (sym c.deref.ensures.value) c.self.invariant))

@@ -1,12 +1,11 @@
 use Rattle.std.proofs.Common.{◌≡◌, ◌∙◌, ap, length, replicate, sym, List, ℕ, [], subst}
 use Rattle.facts.specs.declared.known.SlotFact.{SlotFact}
 use Rattle.facts.specs.Facts.{open_slot}
-use Rattle.facts.specs.SlotRows.{OnlyFilled, OnlyHolding, each_slot, copied_slot}
+use Rattle.facts.specs.SlotRows.{OnlyFilled, OnlyHolding, OnlyKeepers, each_slot, copied_slot}
 use Rattle.facts.proofs.SlotLists.{wiped_all, copied_all}
 use Rattle.facts.proofs.slot_rows.SlotRows.set_from.Goals as goal
-use Rattle.facts.proofs.slot_rows.SlotRows.set_from.Goals.{After-drop-self-inside-2}
 
-module _ (c : After-drop-self-inside-2) where
+module _ (c : goal.After-drop-self-inside-7) where
   abbrev others : List SlotFact
   others = c.other.inside.slots.items
 
@@ -25,6 +24,7 @@ pub invariant_of-self : goal.invariant_of-self
 invariant_of-self c = (
   subst (OnlyFilled c.args.filled.items) (sym (same_slots c)) (only c),
   subst (OnlyHolding c.args.holding.items) (sym (same_slots c ∙ c.other.view_is)) c.requires.holding,
+  subst (OnlyKeepers c.args.keepers) (sym (same_slots c ∙ c.other.view_is)) c.requires.keepers,
 )
 
 pub returns : goal.returns

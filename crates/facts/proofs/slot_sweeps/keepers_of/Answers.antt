@@ -1,0 +1,13 @@
+use Rattle.std.proofs.Common.{◌∙◌, ap, subst, List, ℕ}
+use Rattle.std.proofs.lemmas.List.{drop_all}
+use Rattle.facts.specs.Facts.{holds}
+use Rattle.facts.proofs.Keepers.{AreKeepers, keepers_more, all_keepers}
+use Rattle.facts.proofs.slot_sweeps.keepers_of.Goals as goal
+
+pub loop-s-preserved : goal.loop-s-preserved
+loop-s-preserved c =
+    keepers_more c.args.holding.now c.loop-s.s-index c.loop-s-test.true c.loop-s.keepers c.note_keeper.new.keepers c.args.slots.now c.note_keeper.ensures.kept (λ q h. c.in_ok-note_keeper.ensures.noted q (ap (holds q) c.slot_at-slot.ensures ∙ h)) c.loop-s.invariant
+
+pub returns : goal.returns
+returns c = λ only. all_keepers c.args.holding.now c.loop-s.keepers c.args.slots.now
+    (subst (λ (l : List ℕ). AreKeepers l c.args.holding.now c.loop-s.keepers c.args.slots.now) (drop_all c.loop-s.s-index c.args.holding.now c.loop-s-test.false) c.loop-s.invariant) only
