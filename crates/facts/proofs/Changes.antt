@@ -13,9 +13,8 @@ use Rattle.facts.specs.declared.known.Known.{Known}
 use Rattle.facts.specs.declared.known.Known.TheVariants.{Nothing, Number, Cell, Null, Address, GlobalAddress}
 use Rattle.facts.specs.declared.known.Test.{Test}
 use Rattle.facts.specs.declared.row.Row.{Row}
-use Rattle.facts.specs.declared.sweeps.Change.TheVariants.{Off, Move}
+use Rattle.facts.specs.declared.sweeps.Change.TheVariants.{Off}
 use Rattle.facts.specs.Facts.{lost_class, is_on, off_base, off_test, values_without, tests_without, stale_of, stale_class}
-use Rattle.facts.specs.Lines.{move}
 use Rattle.facts.specs.Sheets.{blank, row_at, known_of, class_of, test_of, tests, names, IsOne, EachRow, off_row, changed, known_nonnull, settled_class, stale_row}
 use Rattle.facts.specs.Values.{facts_of_rows, no_values, ended_row}
 use Rattle.facts.proofs.Sets.{or_true}
@@ -34,23 +33,6 @@ map_blank q (suc count) = ap (λ l. q blank ∷ l) (map_blank q count)
 pub blank_facts : (count : ℕ) (rows : List Row) (added : List Class) → rows ≡ replicate count blank → added ≡ [] → facts_of_rows rows added ≡ no_values count
 blank_facts count rows added e none = ap (λ l. facts_of_rows l added) e ∙ ap (λ l. facts_of_rows (replicate count blank) l) none
     ∙ same_facts _ _ _ _ _ _ (map_blank known_of count) (append-nil (map class_of (replicate count blank)) ∙ map_blank class_of count) (map_blank test_of count)
-
--- ---- a class is another now
-
-module _ (from to : ℕ) (rows next : List Row) (each : EachRow (changed (Move from to)) rows next) where
-  pub moved_facts : (added : List Class) → facts_of_rows next added ≡ record (facts_of_rows rows added) { values = map (move from to) (map known_of rows) }
-  moved_facts added = same_facts _ _ _ _ _ _ (each_mapped known_of (changed (Move from to)) rows next each (move from to) (λ u row. refl)) (ap (λ l. l ++ added) (each_same class_of (changed (Move from to)) rows next each (λ u row. refl))) (each_same test_of (changed (Move from to)) rows next each (λ u row. refl))
-
-  on_moved : (v : ℕ) (known : Known) → is_on v (move from to known) ≡ is_on v known
-  on_moved v (Cell c layout stale) = refl
-  on_moved v Nothing = refl
-  on_moved v (Number bits below) = refl
-  on_moved v Null = refl
-  on_moved v (Address base words) = refl
-  on_moved v (GlobalAddress g) = refl
-
-  pub moved_only : (uses : List Use) → OnlyUsers uses rows → OnlyUsers uses next
-  moved_only uses = users_each uses (changed (Move from to)) rows next each (λ u v row. ap (λ b. b || tests v row.test) (on_moved v row.known)) (λ u row. refl)
 
 -- ---- a safepoint
 

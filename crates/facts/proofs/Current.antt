@@ -8,7 +8,7 @@ use Rattle.facts.specs.declared.known.Known.{Known}
 use Rattle.facts.specs.declared.known.Known.TheVariants.{Nothing, Number, Cell, Null, Address, GlobalAddress}
 use Rattle.facts.specs.declared.row.Row.{Row}
 use Rattle.facts.specs.Facts.{class_at, off_base, stale_of}
-use Rattle.facts.specs.Sheets.{blank, row_at, IsOne, OnlyMarked, OnlyCurrent, EachRow, each, is_settled_as, is_settled, known_nonnull, settled_class, off_row, keep_row, settle_row, stale_row, row_is_of, with_row_of}
+use Rattle.facts.specs.Sheets.{blank, row_at, IsOne, OnlyMarked, OnlyCurrent, EachRow, each, is_settled_as, is_settled, known_nonnull, settled_class, off_row, keep_row, settle_row, stale_row}
 use Rattle.facts.proofs.Listed.{row_after}
 use Rattle.facts.proofs.Sheets.{length_each, each_row, one_more, one_last, blank_at}
 
@@ -112,25 +112,6 @@ each_listed change twice listed rows seen = (length_each change listed rows, eac
 -- blank rows stay blank at a safepoint
 pub blank_current : (current : List ℕ) (count : ℕ) (rows : List Row) → rows ≡ replicate count blank → OnlyCurrent current rows
 blank_current current count rows e v = inr (ap (is_settled v) (ap (λ l. row_at l v) e ∙ blank_at count v))
-
--- ---- rows of a class
-
-module _ (c : ℕ) (rows : List Row) (marked : List ℕ) (i : ℕ) (lt : i < length marked) (current next : List ℕ) (is : next ≡ with_row_of c rows (get_or marked i 0) current) where
-  abbrev u : ℕ
-  u = get_or marked i 0
-
-  pub kept_of : (v : ℕ) → IsOne v current → IsOne v next
-  kept_of v one = subst (IsOne v) (sym is) (pick (row_is_of c rows u)) where
-    pick : (b : Bool) → IsOne v (if b then current ++ u ∷ [] else current)
-    pick true = one_more v u current one
-    pick false = one
-
-  pub noted_of : (v : ℕ) → row_is_of c rows v ≡ true → IsOne v current ⊎ IsOne v (drop i marked) → IsOne v next ⊎ IsOne v (drop (i + 1) marked)
-  noted_of v of (inl one) = inl (kept_of v one)
-  noted_of v of (inr one) = elim (subst (IsOne v) (drop-cons marked i 0 lt) one) [
-    | inl same ↦ inl (subst (IsOne v) (sym (is ∙ ap (λ b. if b then current ++ u ∷ [] else current) (subst (λ x. row_is_of c rows x ≡ true) (sym same) of))) (subst (λ x. IsOne x (current ++ u ∷ [])) same (one_last u current)))
-    | inr rest ↦ inr (subst (λ n. IsOne v (drop n marked)) (sym (add-one i)) rest)
-  ]
 
 -- ---- a safepoint
 

@@ -6,7 +6,7 @@ use Rattle.facts.specs.declared.known.Known.{Known}
 use Rattle.facts.specs.declared.known.Known.TheVariants.{Nothing, Number, Cell, Null, Address, GlobalAddress}
 use Rattle.facts.specs.declared.row.Row.{Row}
 use Rattle.facts.specs.Guests.{is_home, members, OnlyGuests}
-use Rattle.facts.specs.Houses.{housed_as, leaves, with_owner, with_other}
+use Rattle.facts.specs.Houses.{housed_as, leaves}
 use Rattle.facts.specs.Sheets.{row_at, IsOne}
 use Rattle.facts.proofs.Homes.{housed_guests, was_guest}
 use Rattle.facts.proofs.Sheets.{one_more, one_last}
@@ -30,22 +30,3 @@ stays_home at row guests homes rows only e = pick (is_home (length rows) homes a
   pick a x true y = inr y
   pick true x false y = absurd (let here : (true && not false) ≡ false = sym (ap (λ b. b && not (is_home (length rows) homes at row)) x ∙ ap (λ b. true && not b) y) ∙ e in cc)
   pick false x false y = inl (was_guest at guests homes rows only x)
-
--- ---- the members of a class are guests
-
-pub owner_kept : (home : Option Home) (guests : List ℕ) (v : ℕ) → IsOne v guests → IsOne v (with_owner home guests)
-owner_kept None guests v one = one
-owner_kept (Some home) guests v one = one_more v home.owner guests one
-
-other_kept : (home : Option Home) (guests : List ℕ) (v : ℕ) → IsOne v guests → IsOne v (with_other home guests)
-other_kept None guests v one = one
-other_kept (Some home) guests v one = one_more v home.second guests one
-
-pub both_kept : (home : Option Home) (guests : List ℕ) (v : ℕ) → IsOne v guests → IsOne v (with_other home (with_owner home guests))
-both_kept home guests v one = other_kept home (with_owner home guests) v (owner_kept home guests v one)
-
-pub both_noted : (home : Option Home) (guests : List ℕ) (v : ℕ) → IsOne v (members home guests) → IsOne v (with_other home (with_owner home guests))
-both_noted None guests v one = one
-both_noted (Some home) guests v (inl e) = one_more v home.second (guests ++ home.owner ∷ []) (subst (λ x. IsOne x (guests ++ home.owner ∷ [])) e (one_last home.owner guests))
-both_noted (Some home) guests v (inr (inl e)) = subst (λ x. IsOne x ((guests ++ home.owner ∷ []) ++ home.second ∷ [])) e (one_last home.second (guests ++ home.owner ∷ []))
-both_noted (Some home) guests v (inr (inr one)) = one_more v home.second (guests ++ home.owner ∷ []) (one_more v home.owner guests one)

@@ -9,7 +9,7 @@ use Rattle.facts.specs.declared.known.Known.TheVariants.{Nothing, Number, Cell, 
 use Rattle.facts.specs.declared.row.Row.{Row}
 use Rattle.facts.specs.Facts.{is_of}
 use Rattle.facts.specs.Lines.{move}
-use Rattle.facts.specs.Sheets.{blank, row_at, IsOne, OnlyMarked, EachRow, move_row, row_is_of}
+use Rattle.facts.specs.Sheets.{blank, row_at, IsOne, OnlyMarked, EachRow, row_is_of}
 use Rattle.facts.proofs.Sets.{set_is}
 use Rattle.facts.proofs.Sheets.{same_or_not, one_more, one_last}
 
@@ -81,20 +81,3 @@ more_unless p v before after listed next rows e only u = elim (only u) [ inl one
   pick : (b : Bool) → IsOne u listed → IsOne u (if b then listed ++ v ∷ [] else listed)
   pick true one = one_more u v listed one
   pick false one = one
-
--- ---- a class is another now
-
-unmoved : (from to : ℕ) (known : Known) → is_of from known ≡ false → move from to known ≡ known
-unmoved from to (Cell c layout stale) e = ap (λ b. Cell (if b then to else c) layout stale) e
-unmoved from to Nothing e = refl
-unmoved from to (Number bits below) e = refl
-unmoved from to Null e = refl
-unmoved from to (Address base words) e = refl
-unmoved from to (GlobalAddress g) e = refl
-
-pub moved_unless : (p : ℕ → Row → Bool) (from to : ℕ) (rows next : List Row) → EachRow (λ u. move_row from to) rows next → (marked listed noted : List ℕ) → OnlyMarked marked rows → Unless p listed rows
-    → ((v : ℕ) → IsOne v listed → IsOne v noted) → ((v : ℕ) → IsOne v marked → row_is_of from rows v ≡ true → IsOne v noted) → Unless p noted next
-moved_unless p from to rows next each marked listed noted filled only kept listed_of v = elim (only v) [ inl one ↦ inl (kept v one) | inr e ↦ pick e (yes_or_no (is_of from (row_at rows v).known)) ] where
-  pick : p v (row_at rows v) ≡ true → (is_of from (row_at rows v).known ≡ true) ⊎ (is_of from (row_at rows v).known ≡ false) → IsOne v noted ⊎ (p v (row_at next v) ≡ true)
-  pick e (inl of) = elim (filled v) [ inl one ↦ inl (listed_of v one of) | inr empty ↦ absurd (let none = ap (λ (row : Row). is_of from row.known) empty in cc) ]
-  pick e (inr off) = inr (subst (λ (row : Row). p v row ≡ true) (sym (row_after (λ u. move_row from to) (λ u. refl) rows next each v ∙ ap (λ (k : Known). record (row_at rows v) { known = k }) (unmoved from to (row_at rows v).known off))) e)

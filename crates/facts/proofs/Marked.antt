@@ -12,10 +12,10 @@ use Rattle.facts.specs.declared.known.Known.TheVariants.{Nothing, Number, Cell, 
 use Rattle.facts.specs.declared.known.Test.{Test}
 use Rattle.facts.specs.declared.row.Row.{Row}
 use Rattle.facts.specs.declared.sweeps.Change.{Change}
-use Rattle.facts.specs.declared.sweeps.Change.TheVariants.{Off, Move, Settle}
+use Rattle.facts.specs.declared.sweeps.Change.TheVariants.{Off, Settle}
 use Rattle.facts.specs.Facts.{is_of, is_on, off_base, off_test}
-use Rattle.facts.specs.Lines.{moved, move, covers_value}
-use Rattle.facts.specs.Sheets.{blank, row_at, known_of, class_of, IsOne, OnlyMarked, each, EachRow, off_row, move_row, keep_row, settle_row, changed, row_is_of, covers_row}
+use Rattle.facts.specs.Lines.{covers_value}
+use Rattle.facts.specs.Sheets.{blank, row_at, known_of, class_of, IsOne, OnlyMarked, each, EachRow, off_row, keep_row, settle_row, changed, row_is_of, covers_row}
 use Rattle.facts.proofs.Homes.{OnlyMembers}
 use Rattle.facts.proofs.Sets.{found, or_true}
 use Rattle.facts.proofs.Sheets.{length_each, each_row}
@@ -55,27 +55,6 @@ off_test_twice v (Some test) = pick (test.tested == v) refl where
 off_twice : (v : ℕ) (row : Row) → off_row v (off_row v row) ≡ off_row v row
 off_twice v row = rw (off_base_twice v row.known, off_test_twice v row.test) refl
 
-moved_twice : (from to c : ℕ) → moved from to (moved from to c) ≡ moved from to c
-moved_twice from to c = pick (c == from) refl where
-  last : (b : Bool) → (to == from) ≡ b → moved from to to ≡ to
-  last true e = rw e refl
-  last false e = rw e refl
-
-  pick : (b : Bool) → (c == from) ≡ b → moved from to (moved from to c) ≡ moved from to c
-  pick true e = rw e (last (to == from) refl)
-  pick false e = rw (e, e) refl
-
-move_twice : (from to : ℕ) (known : Known) → move from to (move from to known) ≡ move from to known
-move_twice from to (Cell c layout stale) = ap (λ d. Cell d layout stale) (moved_twice from to c)
-move_twice from to Nothing = refl
-move_twice from to (Number bits below) = refl
-move_twice from to Null = refl
-move_twice from to (Address base words) = refl
-move_twice from to (GlobalAddress g) = refl
-
-moved_row_twice : (from to : ℕ) (row : Row) → move_row from to (move_row from to row) ≡ move_row from to row
-moved_row_twice from to row = ap (λ known. record row { known = known }) (move_twice from to row.known)
-
 pub settle_twice : (u : ℕ) (row : Row) → settle_row u (settle_row u row) ≡ settle_row u row
 settle_twice u row = pick row.known refl where
   pick : (known : Known) → row.known ≡ known → settle_row u (settle_row u (record row { known = known })) ≡ settle_row u (record row { known = known })
@@ -88,12 +67,10 @@ settle_twice u row = pick row.known refl where
 
 pub changed_twice : (change : Change) (u : ℕ) (row : Row) → changed change u (changed change u row) ≡ changed change u row
 changed_twice (Off v) u row = off_twice v row
-changed_twice (Move from to) u row = moved_row_twice from to row
 changed_twice Settle u row = settle_twice u row
 
 pub changed_blank : (change : Change) (u : ℕ) → changed change u blank ≡ blank
 changed_blank (Off v) u = refl
-changed_blank (Move from to) u = refl
 changed_blank Settle u = refl
 
 -- one change after another

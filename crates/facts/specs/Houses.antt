@@ -1,5 +1,5 @@
 -- A row that comes to be of a class.
-use Rattle.std.specs.Prelude.{ℕ, Bool, not, ◌&&◌, List, [], ◌∷◌, ◌++◌, Option, Some, None}
+use Rattle.std.specs.Prelude.{ℕ, Bool, not, ◌&&◌, List}
 use Rattle.facts.specs.declared.guests.Home.{Home}
 use Rattle.facts.specs.declared.known.Known.{Known}
 use Rattle.facts.specs.declared.known.Known.TheVariants.{Cell}
@@ -14,13 +14,3 @@ housed_as rows at _ homes = homes
 -- a row comes to be of a class that was made for other values, and was of none
 abbrev pub leaves : (count : ℕ) → (homes : List Home) → (at : ℕ) → (before after : Row) → Bool
 leaves count homes at before after = is_home count homes at before && not (is_home count homes at after)
-
--- the guests, and the first of the values for which a class was made
-abbrev pub with_owner : Option Home → (guests : List ℕ) → List ℕ
-with_owner None guests = guests
-with_owner (Some home) guests = guests ++ home.owner ∷ []
-
--- and the second one
-abbrev pub with_other : Option Home → (guests : List ℕ) → List ℕ
-with_other None guests = guests
-with_other (Some home) guests = guests ++ home.second ∷ []

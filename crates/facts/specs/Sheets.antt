@@ -6,9 +6,9 @@ use Rattle.facts.specs.declared.known.Known.TheVariants.{Nothing, Cell}
 use Rattle.facts.specs.declared.known.Test.{Test}
 use Rattle.facts.specs.declared.row.Row.{Row}
 use Rattle.facts.specs.declared.sweeps.Change.{Change}
-use Rattle.facts.specs.declared.sweeps.Change.TheVariants.{Off, Move, Settle}
+use Rattle.facts.specs.declared.sweeps.Change.TheVariants.{Off, Settle}
 use Rattle.facts.specs.Facts.{lost_class, class_at, is_of, is_on, off_base, off_test, stale_of}
-use Rattle.facts.specs.Lines.{move, covers_value}
+use Rattle.facts.specs.Lines.{covers_value}
 
 -- ---- rows
 
@@ -106,10 +106,6 @@ copied others u row = row_at others u
 abbrev pub off_row : (v : ℕ) → Row → Row
 off_row v row = record row { known = off_base v row.known; test = off_test v row.test }
 
--- a reference of one class is of another now
-abbrev pub move_row : (from to : ℕ) → Row → Row
-move_row from to row = record row { known = move from to row.known }
-
 -- a value that is known to be this is no null reference
 abbrev pub known_nonnull : List Class → Known → Bool
 known_nonnull classes (Cell c layout stale) = (class_at classes c).nonnull
@@ -131,7 +127,6 @@ settle_row u row = record row { known = stale_of (u, row.known); class = settled
 -- each of these changes
 abbrev pub changed : Change → ℕ → Row → Row
 changed (Off v) u row = off_row v row
-changed (Move from to) u row = move_row from to row
 changed Settle u row = settle_row u row
 
 -- what a safepoint does to a row
@@ -147,10 +142,6 @@ row_is_of c rows u = is_of c (row_at rows u).known
 -- a row but v is of a class
 abbrev pub other_is_of : (v c : ℕ) → List Row → ℕ → Bool
 other_is_of v c rows u = not (u == v) && row_is_of c rows u
-
--- these rows, and a row if it is of a class
-abbrev pub with_row_of : (c : ℕ) → List Row → (u : ℕ) → List ℕ → List ℕ
-with_row_of c rows u us = if row_is_of c rows u then us ++ u ∷ [] else us
 
 -- a row of the class here is listed there as of the other, if as a reference
 abbrev pub covers_row : (c d : ℕ) → (here there : List Row) → ℕ → Bool

@@ -2,7 +2,7 @@
 ghost use Rattle.std.specs.Prelude.{◌≡◌, ◌⊎◌, true, length, OnOk, OnErr};
 ghost use Rattle.std.specs.List.{list_any, list_all};
 ghost use Rattle.facts.specs.Guests.{home_of, is_owner, is_home, with_second, housed, members, OnlyGuests};
-ghost use Rattle.facts.specs.Houses.{housed_as, leaves, with_owner, with_other};
+ghost use Rattle.facts.specs.Houses.{housed_as, leaves};
 ghost use Rattle.facts.specs.Sheets.{row_is_of, other_is_of, covers_row, IsOne};
 
 use crate::class_id::ClassId;
@@ -108,28 +108,6 @@ pub fn note_guest(
     let before = sweeps::row_at(rows, at);
     if leaves(rows.len(), homes, at, &before, after) {
         guests.push(at)?;
-    }
-    Ok(())
-}
-
-/// The first of the values for which a class was made is a guest.
-pub fn note_owner(guests: &mut Vec<usize>, home: Option<Home>) -> Result<(), AllocError>
-    ensures ok { OnOk result (guests.new.items ≡ with_owner home guests.old.items) }
-    ensures err { OnErr result (guests.new.items ≡ guests.old.items) }
-{
-    if let Some(home) = home {
-        guests.push(home.owner)?;
-    }
-    Ok(())
-}
-
-/// The second of the values for which a class was made is a guest.
-pub fn note_second(guests: &mut Vec<usize>, home: Option<Home>) -> Result<(), AllocError>
-    ensures ok { OnOk result (guests.new.items ≡ with_other home guests.old.items) }
-    ensures err { OnErr result (guests.new.items ≡ guests.old.items) }
-{
-    if let Some(home) = home {
-        guests.push(home.second)?;
     }
     Ok(())
 }

@@ -2,7 +2,7 @@
 ghost use Rattle.std.specs.Prelude.{◌≡◌, replicate, IfOk};
 ghost use Rattle.facts.specs.Facts.{open_slot, class_at, is_of, let_go, is_on, off_base, off_test, slot_nonnull, held_nonnull, stale_of, end_hold, holds_class};
 ghost use Rattle.facts.specs.SlotRows.{let_go_slot};
-ghost use Rattle.facts.specs.Lines.{moved, move, covers_value, covers_slot};
+ghost use Rattle.facts.specs.Lines.{covers_value, covers_slot};
 
 use crate::class_id::ClassId;
 use crate::known::{Class, Known, SlotFact, Test};
@@ -134,30 +134,6 @@ pub fn stale_of(v: usize, known: Known) -> Known
         },
         _ => known,
     }
-}
-
-/// A reference of one class is of another.
-pub fn move_known(from: ClassId, to: ClassId, known: Known) -> Known
-    ensures { result ≡ move from to known }
-{
-    match known {
-        Known::Cell {
-            class,
-            layout,
-            stale,
-        } => Known::Cell {
-            class: moved(from, to, class),
-            layout,
-            stale,
-        },
-        _ => known,
-    }
-}
-
-fn moved(from: ClassId, to: ClassId, c: ClassId) -> ClassId
-    ensures { result ≡ moved from to c }
-{
-    if c == from { to } else { c }
 }
 
 /// Whether this is the class that a slot holds.

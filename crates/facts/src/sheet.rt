@@ -3,7 +3,7 @@ ghost use Rattle.std.specs.List.{list_any, list_all, zip};
 ghost use Rattle.facts.specs.Facts.{is_of, class_at};
 ghost use Rattle.facts.specs.Lines.{covers_value};
 ghost use Rattle.facts.specs.declared.known.Known.TheVariants.{Nothing};
-ghost use Rattle.facts.specs.declared.sweeps.Change.TheVariants.{Off, Move};
+ghost use Rattle.facts.specs.declared.sweeps.Change.TheVariants.{Off};
 ghost use Rattle.facts.specs.Sheets.{row_at, blank, EachRow, changed, off_row, known_of, class_of, stale_row, is_settled};
 ghost use Rattle.facts.specs.Uses.{OnlyUsers};
 
@@ -228,19 +228,6 @@ impl Sheet {
             owner,
             second: owner,
         })?;
-        Ok(())
-    }
-
-    /// The references of one class are of another.
-    pub fn move_class(&mut self, from: ClassId, to: ClassId) -> Result<(), AllocError>
-        ensures ok { OnOk result (EachRow (changed (Move from to)) self.old self.new) }
-        ensures err { OnErr result (self.new ≡ self.old) }
-    {
-        sweeps::note_class(&mut self.current, &self.rows, &self.marked, from)?;
-        let home = guests::home_of(self.rows.len(), &self.homes, from);
-        guests::note_owner(&mut self.guests, home)?;
-        guests::note_second(&mut self.guests, home)?;
-        sweeps::sweep(&mut self.rows, &self.marked, &Change::Move(from, to));
         Ok(())
     }
 

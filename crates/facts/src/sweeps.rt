@@ -4,7 +4,7 @@ ghost use Rattle.std.specs.List.{list_any, list_all};
 ghost use Rattle.facts.specs.Facts.{class_at};
 ghost use Rattle.facts.specs.Uses.{chain, OnlyUsers};
 ghost use Rattle.facts.specs.declared.sweeps.Change.TheVariants.{Off};
-ghost use Rattle.facts.specs.Sheets.{blank, each, copied, changed, row_at, with_mark, class_of, known_nonnull, keep_row, settled_class, row_is_of, other_is_of, covers_row, IsOne, is_settled, is_settled_as, is_unsettled, with_current, with_row_of, EachRow, OnlyMarked};
+ghost use Rattle.facts.specs.Sheets.{blank, each, copied, changed, row_at, with_mark, class_of, known_nonnull, keep_row, settled_class, row_is_of, other_is_of, covers_row, IsOne, is_settled, is_settled_as, is_unsettled, with_current, EachRow, OnlyMarked};
 
 use crate::class_id::ClassId;
 use crate::known::{Class, Known};
@@ -19,8 +19,6 @@ use std::alloc::{AllocError, Global};
 pub enum Change {
     /// The row does not name this value.
     Off(ValueId),
-    /// A reference of the first class is of the second.
-    Move(ClassId, ClassId),
     /// A reference is stale, and of the class that its value has for itself.
     Settle,
 }
@@ -101,32 +99,6 @@ fn is_settled(at: usize, row: &Row) -> bool
     }
 }
 
-/// The rows of a class are noted as current.
-pub fn note_class(
-    current: &mut Vec<usize>,
-    rows: &[Row],
-    marked: &[usize],
-    c: ClassId,
-) -> Result<(), AllocError>
-    ensures kept { (v : ℕ) → IsOne v current.old.items → IsOne v current.new.items }
-    ensures noted { OnOk result ((v : ℕ) → IsOne v marked.now → row_is_of c rows.now v ≡ true → IsOne v current.new.items) }
-{
-    for u in marked {
-        note_of(current, rows, *u, c)?;
-    }
-    Ok(())
-}
-
-fn note_of(current: &mut Vec<usize>, rows: &[Row], at: usize, c: ClassId) -> Result<(), AllocError>
-    ensures ok { OnOk result (current.new.items ≡ with_row_of c rows.now at current.old.items) }
-    ensures err { OnErr result (current.new.items ≡ current.old.items) }
-{
-    if row_is_of(c, rows, at) {
-        current.push(at)?;
-    }
-    Ok(())
-}
-
 /// The rows are those of another sheet, which are blank where it is shorter.
 pub fn copy(rows: &mut Vec<Row>, marked: &[usize], others: &[Row])
     ensures { rows.new.items ≡ each (copied others.now) marked.now rows.old.items }
@@ -202,10 +174,6 @@ fn changed(change: &Change, at: usize, row: &Row) -> Row
         Change::Off(v) => Row {
             known: rows::off_base(*v, row.known),
             test: rows::off_test(*v, row.test),
-            ..*row
-        },
-        Change::Move(from, to) => Row {
-            known: rows::move_known(*from, *to, row.known),
             ..*row
         },
         Change::Settle => Row {

@@ -4,7 +4,7 @@ ghost use Rattle.facts.specs.declared.known.Class.{Class};
 ghost use Rattle.facts.specs.declared.known.Known.TheVariants.{Number, Cell};
 ghost use Rattle.facts.specs.declared.uses.Use.{Use};
 ghost use Rattle.facts.specs.Facts.{known_at, class_at, test_at, is_of, is_on, values_without, tests_without, stale_of, stale_class};
-ghost use Rattle.facts.specs.Lines.{move, covers_value};
+ghost use Rattle.facts.specs.Lines.{covers_value};
 ghost use Rattle.facts.specs.Sheets.{row_at, tests};
 ghost use Rattle.facts.specs.Uses.{IsUser, OnlyUsers, SayTheSame, SameUses};
 ghost use Rattle.facts.specs.Values.{facts_of_rows, no_values, defined, learned, is_reference, learned_row};
@@ -313,15 +313,6 @@ impl Values {
         } else {
             set_added(&mut self.added, at - own, class);
         }
-    }
-
-    /// The references of one class are of another.
-    pub fn move_class(&mut self, from: ClassId, to: ClassId) -> Result<(), AllocError>
-        ensures ok { OnOk result (self.new ≡ record self.old { values = map (move from to) self.old.values }) }
-        ensures err { OnErr result (self.new ≡ self.old) }
-    {
-        self.sheet.move_class(from, to)?;
-        Ok(())
     }
 
     /// Each reference is stale, and of the class that its value has for itself.

@@ -11,8 +11,7 @@ returns-clause-ties c =
     let places : ℕ → Option ℕ = get nat_eq c.args.self.now.places in
     let next : ℕ → Option ℕ = get nat_eq c.move_members.new.places in
     let groups : List Group = c.args.self.now.groups.items in
-    let group : Group = record { class = c.args.class; size = c.saturating_add.result } in
-    (
+    let group : Group = record { class = c.args.class; size = c.saturating_add.result } in (
       c.in_ok-move_members.ensures.listed,
       merged_classes places next c.args.from c.args.to c.in_ok-move_members.ensures.moved groups (slice_set groups c.args.to group) c.requires.ties.1 c.args.class (class_set groups c.args.to group c.requires.within) (length-set groups c.args.to group) c.requires.within c.requires.of,
       merged_tied places next c.args.from c.args.to c.in_ok-move_members.ensures.moved c.args.self.now.tied.items c.requires.ties.2,
