@@ -1,3 +1,4 @@
 pub mod Lists
 pub mod Put
 pub mod Kept
+pub mod Rows

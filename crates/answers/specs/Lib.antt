@@ -1,3 +1,4 @@
 pub mod Answers
 pub mod Edited
 pub mod OneReplaced
+pub mod KeptRows

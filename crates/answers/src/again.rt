@@ -5,9 +5,13 @@ ghost use Rattle.layout.specs.Layouts.{LaidOut};
 ghost use Rattle.answers.specs.Answers.{AreAnswers};
 ghost use Rattle.answers.specs.Edited as spec;
 ghost use Rattle.answers.specs.Edited.{IsEdited, AreWithin, AreAnswersTo};
+ghost use Rattle.answers.specs.KeptRows.{AreKept, AreOthersKept};
 
 use crate::answers::answer_to;
 use crate::callers::{Callers, touched_by};
+use crate::kept::KeptFunctions;
+use crate::kept_rows::KeptRows;
+use block_check::rows;
 use block_rules::Refusal;
 use certs::Certs;
 use ir_ast::FuncId;
@@ -16,21 +20,50 @@ use layout::Program;
 use locality::locality_law;
 use std::alloc::{AllocError, Global};
 
+/// Finds what the blocks of these functions begin with, and keeps it, as far as there is memory for it. It is not kept of the
+/// function that was replaced, which may be replaced again.
+fn find_rows(
+    alloc: Global,
+    program: &Program,
+    certs: &Certs,
+    replaced: FuncId,
+    funcs: &[FuncId],
+    kept: &mut KeptRows,
+)
+    requires within { AreWithin (length program.now.of_module.functions) funcs.now }
+    requires kept { AreOthersKept program.now certs.now replaced kept.old }
+    ensures { AreOthersKept program.now certs.now replaced kept.new }
+{
+    for place in 0..funcs.len() {
+        let func = funcs[place];
+        if func == replaced || kept.get(func).is_some() {
+            continue;
+        }
+        match rows(alloc, program, certs, func) {
+            Ok(rows) => kept.keep(func, rows),
+            Err(_) => return,
+        }
+    }
+}
+
 /// Puts the answers to these functions, in their order, into an empty list.
 #[tactic(auto, using(crate::proofs::Put::answers_to_more))]
 fn add_answers(
     alloc: Global,
     program: &Program,
     certs: &Certs,
+    kept: &KeptRows,
     funcs: &[FuncId],
     answers: &mut Items<Option<Refusal>>,
 ) -> Result<(), AllocError>
     requires within { AreWithin (length program.now.of_module.functions) funcs.now }
+    requires kept { AreKept program.now certs.now kept.now }
     requires empty { answers.old ≡ [] }
     ensures { OnOk result (AreAnswersTo program.now certs.now funcs.now answers.new) }
 {
     for place in 0..funcs.len() {
-        let answer = [answer_to(alloc, program, certs, funcs[place])?];
+        let func = funcs[place];
+        let answer = [answer_to(alloc, program, certs, kept.get(func), func)?];
         answers.push(answer[0])?;
     }
     Ok(())
@@ -41,13 +74,15 @@ fn answers_of(
     alloc: Global,
     program: &Program,
     certs: &Certs,
+    kept: &KeptRows,
     funcs: &[FuncId],
 ) -> Result<Items<Option<Refusal>>, AllocError>
-    requires { AreWithin (length program.now.of_module.functions) funcs.now }
+    requires within { AreWithin (length program.now.of_module.functions) funcs.now }
+    requires kept { AreKept program.now certs.now kept.now }
     ensures { IfOk result (AreAnswersTo program.now certs.now funcs.now) }
 {
     let mut answers = Items::new(alloc);
-    add_answers(alloc, program, certs, funcs, &mut answers)?;
+    add_answers(alloc, program, certs, kept, funcs, &mut answers)?;
     Ok(answers)
 }
 
@@ -63,24 +98,29 @@ fn put_answers(funcs: &[FuncId], anew: &[Option<Refusal>], answers: &mut Items<O
 }
 
 /// Makes the answers those after one function or its certificate was replaced: the function is checked again, and so are its
-/// callers where they see a change. Returns how many functions were checked. Where memory is refused, the answers are as before.
+/// callers where they see a change. What the blocks of the callers begin with is kept for the next time. Returns how many functions
+/// were checked. Where memory is refused, the answers are as before.
 pub fn answers_again(
     alloc: Global,
     program: &Program,
     certs: &Certs,
     replaced: FuncId,
     callers: Callers,
-    answers: &mut Items<Option<Refusal>>,
+    kept: &mut KeptFunctions,
 ) -> Result<usize, AllocError>
     requires within { replaced < length program.now.of_module.functions }
-    requires one_each { length answers.old ≡ length program.now.of_module.functions }
-    ensures again { (p : LaidOut) (old : List ASection) → AreAnswers p old answers.old → IsEdited p old program.now certs.now replaced callers → OnOk result (AreAnswers program.now certs.now answers.new) }
+    requires one_each { length kept.old.answers ≡ length program.now.of_module.functions }
+    requires rows { AreOthersKept program.now certs.now replaced kept.old.rows }
+    ensures again { (p : LaidOut) (old : List ASection) → AreAnswers p old kept.old.answers → IsEdited p old program.now certs.now replaced callers → OnOk result (AreAnswers program.now certs.now kept.new.answers) }
     ensures checked { IfOk result (λ count. count ≡ length (spec.touched program.now.of_module replaced callers)) }
-    ensures kept { OnErr result (answers.new ≡ answers.old) }
+    ensures kept { OnErr result (kept.new.answers ≡ kept.old.answers) }
+    ensures rows { AreOthersKept program.now certs.now replaced kept.new.rows }
 {
     locality_law();
     let touched = touched_by(alloc, program.module(), replaced, callers)?;
-    let anew = answers_of(alloc, program, certs, touched.as_slice())?;
-    put_answers(touched.as_slice(), anew.as_slice(), answers);
+    let funcs = touched.as_slice();
+    find_rows(alloc, program, certs, replaced, funcs, &mut kept.rows);
+    let anew = answers_of(alloc, program, certs, &kept.rows, funcs)?;
+    put_answers(funcs, anew.as_slice(), &mut kept.answers);
     Ok(touched.len())
 }

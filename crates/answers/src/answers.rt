@@ -1,9 +1,11 @@
 //! The answers to functions.
-ghost use Rattle.std.specs.Prelude.{◌≡◌, ◌<◌, ◌≤◌, [], length, IfOk, OnOk};
+ghost use Rattle.std.specs.Prelude.{◌≡◌, ◌<◌, ◌≤◌, [], length, IfOk, IfSome, OnOk};
+ghost use Rattle.std.specs.Option.{option_copied};
 ghost use Rattle.answers.specs.Answers as spec;
 ghost use Rattle.answers.specs.Answers.{AreAnswers, AreAnswersSoFar, IsAnswer};
+ghost use Rattle.block_check.specs.Rows.{AreRowsOf};
 
-use block_check::check_function;
+use block_check::{Rows, check_function, check_function_rows};
 use block_rules::{BlockFault, Refusal};
 use certs::Certs;
 use ir_ast::FuncId;
@@ -11,17 +13,23 @@ use items::Items;
 use layout::Program;
 use std::alloc::{AllocError, Global};
 
-/// The first refusal in a function, if it is not certified.
+/// The first refusal in a function, if it is not certified. What its blocks begin with may have been found before.
 pub fn answer_to(
     alloc: Global,
     program: &Program,
     certs: &Certs,
+    rows: Option<&Rows>,
     func: FuncId,
 ) -> Result<Option<Refusal>, AllocError>
-    requires { func < length program.now.of_module.functions }
+    requires func { func < length program.now.of_module.functions }
+    requires rows { IfSome (option_copied rows) (AreRowsOf program.now certs.now func) }
     ensures { IfOk result (IsAnswer program.now certs.now func) }
 {
-    match check_function(alloc, program, certs, func) {
+    let checked = match rows {
+        Some(rows) => check_function_rows(alloc, program, certs, rows, func),
+        None => check_function(alloc, program, certs, func),
+    };
+    match checked {
         Ok(()) => Ok(None),
         Err(BlockFault::Refused(refusal)) => Ok(Some(refusal)),
         Err(BlockFault::Memory) => Err(AllocError),
@@ -42,7 +50,7 @@ fn put_answers(
     ensures { OnOk result ((length answers.new ≡ count) × AreAnswersSoFar program.now certs.now answers.new) }
 {
     for number in 0..count {
-        let answer = [answer_to(alloc, program, certs, FuncId::new(number))?];
+        let answer = [answer_to(alloc, program, certs, None, FuncId::new(number))?];
         answers.push(answer[0])?;
     }
     Ok(())

@@ -63,7 +63,24 @@ pub fn check_function(
     ensures certified { IsFunctionCertified program.now certs.now func → IsOkUnless result Memory }
     ensures refused { (refusal : Refusal) → IsFirstInFunction program.now certs.now func (blocks_in program.now func) refusal → (result ≡ Err (Refused refusal)) ⊎ (result ≡ Err Memory) }
 {
-    answer_function(alloc, program, certs, func)
+    answer_function(alloc, program, certs, &[], func)
+}
+
+/// The same, where it was found before what the blocks of the function begin with.
+pub fn check_function_rows(
+    alloc: Global,
+    program: &Program,
+    certs: &Certs,
+    rows: &Rows,
+    func: FuncId,
+) -> Result<(), BlockFault>
+    requires func { func < length program.now.of_module.functions }
+    requires rows { AreRowsOf program.now certs.now func rows.now }
+    ensures answer { MatchResult result (λ _. IsFunctionCertified program.now certs.now func) (IsFunctionFault program.now certs.now func (blocks_in program.now func)) }
+    ensures certified { IsFunctionCertified program.now certs.now func → IsOkUnless result Memory }
+    ensures refused { (refusal : Refusal) → IsFirstInFunction program.now certs.now func (blocks_in program.now func) refusal → (result ≡ Err (Refused refusal)) ⊎ (result ≡ Err Memory) }
+{
+    answer_function(alloc, program, certs, rows.blocks(), func)
 }
 
 fn answer_block(
@@ -110,9 +127,11 @@ fn answer_function(
     alloc: Global,
     program: &Program,
     certs: &Certs,
+    rows: &[KeptFacts],
     func: FuncId,
 ) -> Result<(), BlockFault>
-    requires { func < length program.now.of_module.functions }
+    requires func { func < length program.now.of_module.functions }
+    requires rows { AreGivenOf program.now certs.now func rows.now }
     ensures { MatchResult result (λ _. IsFunctionCertified program.now certs.now func) (IsFunctionFault program.now certs.now func (blocks_in program.now func)) }
 {
     let function = function_of(program.module(), func);
@@ -127,7 +146,7 @@ fn answer_function(
         function,
         slots: &tables.slots,
     };
-    let answer = answer_blocks(alloc, &tables.subject(scene, func, &[]), count);
+    let answer = answer_blocks(alloc, &tables.subject(scene, func, rows), count);
     drop(tables);
     answer
 }

@@ -17,6 +17,6 @@ mod subject;
 mod ways;
 
 pub use block_rules::{BlockFault, Breach, Detail, Refusal, Rule};
-pub use check::{check_block, check_function, check_rows};
+pub use check::{check_block, check_function, check_function_rows, check_rows};
 pub use given_rows::rows;
 pub use kept_rows::Rows;

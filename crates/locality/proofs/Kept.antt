@@ -1,18 +1,19 @@
--- The answer to a function stays what it is where its scope is the same.
+-- The answer to a function stays what it is where its scope is the same, and so does what its blocks begin with.
 use Rattle.std.specs.Prelude.{◌≡◌, ◌<◌, ℕ, List, length, slice_get, Option, Some, None, refl}
 use Rattle.std.specs.Option.{option_map_or}
-use Rattle.std.proofs.Common.{ap, sym, subst}
+use Rattle.std.proofs.Common.{ap, sym, subst, ◌∙◌}
 use Rattle.ir_ast.specs.declared.function.Function.{Function}
 use Rattle.certs.specs.declared.section.Section.{Section}
 use Rattle.layout.specs.Layouts.{LaidOut}
 use Rattle.block_rules.specs.declared.block_fault.Breach.{Breach}
-use Rattle.block_rules.specs.Ways.{Scene}
+use Rattle.block_rules.specs.Ways.{Scene, given_at}
 use Rattle.block_rules.specs.Certified.{scene_of, IsCertified, BreaksAt, IsCertifiedIn, BreaksIn, BlockCertified}
 use Rattle.block_rules.specs.Functions.{blocks_in}
 use Rattle.locality.specs.Local.{laid_with, scene_with, CallsSame, SameScope}
-use Rattle.locality.specs.Laws.{StayCertified, StayRefused}
+use Rattle.locality.specs.Laws.{StayCertified, StayRefused, StayGiven}
 use Rattle.locality.proofs.Slots.{slots_of_same}
 use Rattle.locality.proofs.Scenes.{block_stays, breach_stays}
+use Rattle.locality.proofs.Ways.{given_at_same}
 
 module _ (p : LaidOut) (certs : List Section) (fs : List Function) (others : List Section) where
   scene_same : (f : Function) (section : Option Section) → scene_with (scene_of p certs f section) fs others ≡ scene_of (laid_with p fs) others f section
@@ -65,3 +66,8 @@ refused p certs fs others func refusal scope h = record {
   };
   before = λ block less. block_same p certs fs others func scope block (h.before block less);
 }
+
+pub given : StayGiven
+given p certs fs others f section block =
+    let s : Scene = scene_of p certs f section in
+    ap (λ (x : Scene). given_at x block) (sym (scene_same p certs fs others f section)) ∙ (λ along. given_at_same s fs others along block)

@@ -1,11 +1,13 @@
 //! What is asked of one function depends on its own text, on its certificate, and on what it sees of the functions that it calls.
 #![tactic(auto)]
 
-ghost use Rattle.locality.specs.Laws.{StayCertified, StayRefused};
+ghost use Rattle.locality.specs.Laws.{StayCertified, StayRefused, StayGiven};
 
 /// Among other functions and other certificates the answer to a function stays what it is, where its own text and certificate
 /// are the same, and the functions that it calls look the same to it. The module's tables and layouts have to be the same.
+/// What its blocks begin with depends on no other function and no other certificate at all.
 pub fn locality_law()
     ensures certified { StayCertified }
     ensures refused { StayRefused }
+    ensures given { StayGiven }
 {}

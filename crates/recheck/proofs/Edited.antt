@@ -16,6 +16,7 @@ use Rattle.layout.specs.Grown.{LayoutsStay}
 use Rattle.layout.specs.Layouts.{LaidOut, AreLayouts, AreSizes}
 use Rattle.block_rules.specs.declared.block_fault.Refusal.{Refusal}
 use Rattle.answers.specs.Answers.{AreAnswers}
+use Rattle.answers.specs.KeptRows.{AreKept}
 use Rattle.edit_text.specs.declared.edit.Edit.{Edit}
 use Rattle.edit_text.specs.declared.edit.Edit.TheVariants as edit
 use Rattle.recheck.specs.Edits.{AreRead, IsReadAt, IsRead, IsEditedAt, IsEdited, HasSectionFault, HasCodeFault, IsFaultAt, IsEditFault, IsTaken, IsRefusedBy, code_fault, name_in, no_function, text_with}
@@ -219,21 +220,23 @@ answered_as_before p q certs others before after kept same =
 
 -- what a session keeps, where a section is put in its place or refused
 pub section_kept : (p : LaidOut) (certs others : List Section) (func : ℕ) (text : Text) (before after : KeptWork) (r : Result ℕ EditFault) → IsKept p certs before → after.tables ≡ before.tables → IfOk r (λ count. IsTextPut p certs func text p others count)
-    → OnOk r (AreAnswers p others after.answers) → OnErr r ((others ≡ certs) × (after.answers ≡ before.answers)) → IsKept p others after
-section_kept p certs others func text before after (Ok count) kept tables put are same = record {
-  answered = section_answered p certs others func text before.answers after.answers count kept.answered put are;
+    → OnOk r (AreAnswers p others after.functions.answers) → OnErr r ((others ≡ certs) × (after.functions.answers ≡ before.functions.answers)) → AreKept p others after.functions.rows → IsKept p others after
+section_kept p certs others func text before after (Ok count) kept tables put are same rows = record {
+  rows = rows;
+  answered = section_answered p certs others func text before.functions.answers after.functions.answers count kept.answered put are;
   ready = subst (AreReady p.of_module) (sym tables) kept.ready;
 }
-section_kept p certs others func text before after (Err x) kept tables put are same = record {
-  answered = answered_as_before p p certs others before.answers after.answers kept.answered (refl, same.0, same.1);
+section_kept p certs others func text before after (Err x) kept tables put are same rows = record {
+  rows = rows;
+  answered = answered_as_before p p certs others before.functions.answers after.functions.answers kept.answered (refl, same.0, same.1);
   ready = subst (AreReady p.of_module) (sym tables) kept.ready;
 }
 
 -- and where code is
 pub code_kept : (p q : LaidOut) (certs others : List Section) (func : ℕ) (code text : Text) (before after : KeptWork) (r : Result ℕ EditFault) → IsKept p certs before → IfOk r (λ count. IsBothPut p certs func code text q others count)
-    → OnOk r (AreAnswers q others after.answers) → AreReady q.of_module after.tables → OnErr r ((q ≡ p) × (others ≡ certs) × (after.answers ≡ before.answers)) → IsKept q others after
-code_kept p q certs others func code text before after (Ok count) kept put are ready same = record { answered = code_answered p q certs others func code text before.answers after.answers count kept.answered put are; ready = ready }
-code_kept p q certs others func code text before after (Err x) kept put are ready same = record { answered = answered_as_before p q certs others before.answers after.answers kept.answered same; ready = ready }
+    → OnOk r (AreAnswers q others after.functions.answers) → AreReady q.of_module after.tables → OnErr r ((q ≡ p) × (others ≡ certs) × (after.functions.answers ≡ before.functions.answers)) → AreKept q others after.functions.rows → IsKept q others after
+code_kept p q certs others func code text before after (Ok count) kept put are ready same rows = record { rows = rows; answered = code_answered p q certs others func code text before.functions.answers after.functions.answers count kept.answered put are; ready = ready }
+code_kept p q certs others func code text before after (Err x) kept put are ready same rows = record { rows = rows; answered = answered_as_before p q certs others before.functions.answers after.functions.answers kept.answered same; ready = ready }
 
 module _ (p : LaidOut) (certs : List Section) (func : ℕ) (e : Edit) where
   -- ---- of a section

@@ -6,6 +6,7 @@ pub mod Looks
 pub mod Tells
 pub mod Faults
 pub mod Puts
+pub mod Rows
 pub mod Within
 pub mod Sizes
 pub mod Grown

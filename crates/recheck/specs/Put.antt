@@ -9,6 +9,7 @@ use Rattle.certs.specs.declared.section.Section.{Section}
 use Rattle.certificate.specs.Anew.{IsSection}
 use Rattle.layout.specs.Functions.{with_functions, laid_with}
 use Rattle.layout.specs.Layouts.{LaidOut, AreLayouts, AreSizes}
+use Rattle.answers.specs.KeptRows.{AreKept}
 use Rattle.recheck.specs.Session.{State, IsAnswered}
 use Rattle.recheck.specs.Told.{rechecked_by}
 use Rattle.recheck.specs.declared.kept.KeptWork.{KeptWork}
@@ -55,5 +56,6 @@ AreReady m (Some tables) = tables ≡ tables_of m
 
 -- what a session keeps beside its program and its certificates goes with them
 pub record IsKept (program : LaidOut) (certs : List Section) (kept : KeptWork) : Type 0 where
-  pub answered : IsAnswered program certs kept.answers
+  pub answered : IsAnswered program certs kept.functions.answers
+  pub rows : AreKept program certs kept.functions.rows
   pub ready : AreReady program.of_module kept.tables

@@ -1,6 +1,7 @@
 //! The code of one function, read anew and put in the place of another with its section.
 ghost use Rattle.std.specs.Prelude.{◌≡◌, ◌≢◌, ◌<◌, None, length, IfOk, IfErr, IfSome, OnOk, OnErr};
 ghost use Rattle.answers.specs.Answers.{AreAnswers};
+ghost use Rattle.answers.specs.KeptRows.{AreKept};
 ghost use Rattle.certs.specs.declared.section.Section.{Section as ASection};
 ghost use Rattle.ir_ast.specs.declared.module.Module.{Module as AModule};
 ghost use Rattle.ir_text.specs.Replaced.{IsReplaced, IsReplaceFault, tables_of};
@@ -96,7 +97,8 @@ fn put_anew(
     requires function { func < length program.old.of_module.functions }
     requires section { func < length certs.old }
     ensures put { IfOk result (λ count. IsBothPut program.old certs.old func code.now text.now program.new certs.new count) }
-    ensures answers { OnOk result (AreAnswers program.new certs.new kept.new.answers) }
+    ensures answers { OnOk result (AreAnswers program.new certs.new kept.new.functions.answers) }
+    ensures rows { OnOk result (AreKept program.new certs.new kept.new.functions.rows) }
     ensures ready { OnOk result (kept.new.tables ≡ None) }
     ensures kept { OnErr result ((program.new ≡ program.old) × (certs.new ≡ certs.old) × (kept.new ≡ kept.old)) }
     ensures fault { IfErr result (λ e. e ≢ Memory → HasCodeFault program.old.of_module func code.now text.now e) }
@@ -127,9 +129,10 @@ fn put_anew(
     };
     let past = certs.replace(func, section);
     let old = function_at(program.module(), func);
-    match answer_all(alloc, &anew, certs, func, old, &past, &mut kept.answers) {
+    match answer_all(alloc, &anew, certs, func, old, &past, &mut kept.functions.answers) {
         Ok(count) => {
             *program = anew;
+            kept.functions.rows.forget_all();
             kept.tables = None;
             Ok(count)
         }
@@ -155,9 +158,10 @@ pub fn put_code(
     requires section { func < length certs.old }
     requires kept { IsKept program.old certs.old kept.old }
     ensures put { IfOk result (λ count. IsBothPut program.old certs.old func code.now text.now program.new certs.new count) }
-    ensures answers { OnOk result (AreAnswers program.new certs.new kept.new.answers) }
+    ensures answers { OnOk result (AreAnswers program.new certs.new kept.new.functions.answers) }
+    ensures rows { AreKept program.new certs.new kept.new.functions.rows }
     ensures ready { AreReady program.new.of_module kept.new.tables }
-    ensures kept { OnErr result ((program.new ≡ program.old) × (certs.new ≡ certs.old) × (kept.new.answers ≡ kept.old.answers)) }
+    ensures kept { OnErr result ((program.new ≡ program.old) × (certs.new ≡ certs.old) × (kept.new.functions.answers ≡ kept.old.functions.answers)) }
     ensures fault { IfErr result (λ e. e ≢ Memory → HasCodeFault program.old.of_module func code.now text.now e) }
     ensures only { (n : AModule) (section : ASection) → AreRead program.old.of_module func code.now text.now n section → IsTaken result }
     ensures only_fault { (e : AFault) → HasCodeFault program.old.of_module func code.now text.now e → IsRefusedBy result e }
@@ -171,7 +175,7 @@ pub fn put_code(
             func,
             function,
             text,
-            &mut kept.answers,
+            &mut kept.functions,
         ),
         Ok(None) => put_anew(alloc, program, certs, func, code, text, kept),
         Err(fault) => Err(fault),

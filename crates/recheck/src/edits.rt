@@ -91,7 +91,7 @@ fn put_at(
             certs,
             func,
             section.as_slice(),
-            &mut kept.answers,
+            &mut kept.functions,
         ),
         Edit::Code { code, .. } => {
             let text = match kept_text(alloc, program, certs, func) {

@@ -1,6 +1,7 @@
 //! One function with its section, put in the place of another.
 ghost use Rattle.std.specs.Prelude.{◌≡◌, ◌≢◌, ◌<◌, List, Some, length, slice_get, slice_set, IfOk, IfErr, OnOk, OnErr};
 ghost use Rattle.answers.specs.Answers.{AreAnswers};
+ghost use Rattle.answers.specs.KeptRows.{AreKept, AreOthersKept};
 ghost use Rattle.certificate.specs.Anew.{IsSection};
 ghost use Rattle.certs.specs.declared.section.Section.{Section as ASection};
 ghost use Rattle.layout.specs.Functions.{laid_with};
@@ -13,7 +14,7 @@ ghost use Rattle.recheck.specs.declared.edit_fault.EditFault.TheVariants.{Memory
 
 use crate::edit_fault::EditFault;
 use crate::told::{count_checked, seen};
-use answers::{answers_again, answers_to, touched_by};
+use answers::{KeptFunctions, answers_again, answers_to, rows_law, touched_by};
 use block_rules::Refusal;
 use certificate::read_section;
 use certs::{Certs, Section};
@@ -39,16 +40,18 @@ fn answer_anew(
     func: FuncId,
     old: &Function,
     past: &Section,
-    answers: &mut Items<Option<Refusal>>,
+    kept: &mut KeptFunctions,
 ) -> Result<u64, AllocError>
     requires within { func < length program.now.of_module.functions }
-    requires one_each { length answers.old ≡ length program.now.of_module.functions }
-    ensures answers { (p : LaidOut) (past_certs : List ASection) → AreAnswers p past_certs answers.old → IsWithCode p program.now func old.now → IsWithSection past_certs certs.now func past.now → OnOk result (AreAnswers program.now certs.now answers.new) }
+    requires one_each { length kept.old.answers ≡ length program.now.of_module.functions }
+    requires rows { AreOthersKept program.now certs.now func kept.old.rows }
+    ensures answers { (p : LaidOut) (past_certs : List ASection) → AreAnswers p past_certs kept.old.answers → IsWithCode p program.now func old.now → IsWithSection past_certs certs.now func past.now → OnOk result (AreAnswers program.now certs.now kept.new.answers) }
     ensures count { IfOk result (λ count. count ≡ rechecked_by program.now.of_module certs.now func (Some old.now) (Some past.now)) }
-    ensures kept { OnErr result (answers.new ≡ answers.old) }
+    ensures kept { OnErr result (kept.new.answers ≡ kept.old.answers) }
+    ensures rows { AreOthersKept program.now certs.now func kept.new.rows }
 {
     let callers = seen(program.module(), certs, func, old, past);
-    let checked = answers_again(alloc, program, certs, func, callers, answers)?;
+    let checked = answers_again(alloc, program, certs, func, callers, kept)?;
     Ok(count_checked(program.module(), certs, func, old, past, checked))
 }
 
@@ -100,24 +103,27 @@ pub fn put_section(
     func: FuncId,
     old: &Function,
     text: &[u8],
-    answers: &mut Items<Option<Refusal>>,
+    kept: &mut KeptFunctions,
 ) -> Result<u64, EditFault>
     requires function { func < length program.now.of_module.functions }
     requires section { func < length certs.old }
-    requires answers { length answers.old ≡ length program.now.of_module.functions }
+    requires answers { length kept.old.answers ≡ length program.now.of_module.functions }
+    requires rows { AreOthersKept program.now certs.old func kept.old.rows }
     ensures put { (p : LaidOut) → IsWithCode p program.now func old.now → IfOk result (λ count. IsTextPut p certs.old func text.now program.now certs.new count) }
-    ensures answers { (p : LaidOut) → AreAnswers p certs.old answers.old → IsWithCode p program.now func old.now → OnOk result (AreAnswers program.now certs.new answers.new) }
-    ensures kept { OnErr result ((certs.new ≡ certs.old) × (answers.new ≡ answers.old)) }
+    ensures answers { (p : LaidOut) → AreAnswers p certs.old kept.old.answers → IsWithCode p program.now func old.now → OnOk result (AreAnswers program.now certs.new kept.new.answers) }
+    ensures kept { OnErr result ((certs.new ≡ certs.old) × (kept.new.answers ≡ kept.old.answers)) }
+    ensures rows { AreOthersKept program.now certs.new func kept.new.rows }
     ensures fault { IfErr result (λ e. e ≢ Memory → HasSectionFault program.now.of_module func text.now e) }
     ensures only { (section : ASection) → IsSection text.now program.now.of_module func section → IsTaken result }
     ensures only_fault { (e : AFault) → HasSectionFault program.now.of_module func text.now e → IsRefusedBy result e }
 {
+    rows_law();
     let section = match read_text(alloc, program.module(), func, text) {
         Ok(section) => section,
         Err(fault) => return Err(fault),
     };
     let past = certs.replace(func, section);
-    match answer_anew(alloc, program, certs, func, old, &past, answers) {
+    match answer_anew(alloc, program, certs, func, old, &past, kept) {
         Ok(count) => Ok(count),
         Err(_) => {
             certs.replace(func, past);
@@ -134,21 +140,25 @@ pub fn put_in_place(
     func: FuncId,
     function: Function,
     text: &[u8],
-    answers: &mut Items<Option<Refusal>>,
+    kept: &mut KeptFunctions,
 ) -> Result<u64, EditFault>
     requires function { func < length program.old.of_module.functions }
     requires section { func < length certs.old }
-    requires answers { AreAnswers program.old certs.old answers.old }
+    requires answers { AreAnswers program.old certs.old kept.old.answers }
+    requires rows { AreKept program.old certs.old kept.old.rows }
     ensures program { OnOk result (program.new ≡ laid_with program.old (slice_set program.old.of_module.functions func function)) }
     ensures put { IfOk result (λ count. IsTextPut program.old certs.old func text.now program.new certs.new count) }
-    ensures answers { OnOk result (AreAnswers program.new certs.new answers.new) }
-    ensures kept { OnErr result ((program.new ≡ program.old) × (certs.new ≡ certs.old) × (answers.new ≡ answers.old)) }
+    ensures answers { OnOk result (AreAnswers program.new certs.new kept.new.answers) }
+    ensures kept { OnErr result ((program.new ≡ program.old) × (certs.new ≡ certs.old) × (kept.new.answers ≡ kept.old.answers)) }
+    ensures rows { AreKept program.new certs.new kept.new.rows }
     ensures fault { IfErr result (λ e. e ≢ Memory → HasSectionFault (with_function program.old.of_module func function) func text.now e) }
     ensures only { (section : ASection) → IsSection text.now (with_function program.old.of_module func function) func section → IsTaken result }
     ensures only_fault { (e : AFault) → HasSectionFault (with_function program.old.of_module func function) func text.now e → IsRefusedBy result e }
 {
+    rows_law();
+    kept.rows.forget(func);
     let old = program.replace_function(func, function);
-    match put_section(alloc, program, certs, func, &old, text, answers) {
+    match put_section(alloc, program, certs, func, &old, text, kept) {
         Ok(count) => Ok(count),
         Err(fault) => {
             program.replace_function(func, old);
@@ -164,18 +174,21 @@ pub fn put_section_of(
     certs: &mut Certs,
     func: FuncId,
     text: &[u8],
-    answers: &mut Items<Option<Refusal>>,
+    kept: &mut KeptFunctions,
 ) -> Result<u64, EditFault>
     requires function { func < length program.now.of_module.functions }
     requires section { func < length certs.old }
-    requires answers { AreAnswers program.now certs.old answers.old }
+    requires answers { AreAnswers program.now certs.old kept.old.answers }
+    requires rows { AreKept program.now certs.old kept.old.rows }
     ensures put { IfOk result (λ count. IsTextPut program.now certs.old func text.now program.now certs.new count) }
-    ensures answers { OnOk result (AreAnswers program.now certs.new answers.new) }
-    ensures kept { OnErr result ((certs.new ≡ certs.old) × (answers.new ≡ answers.old)) }
+    ensures answers { OnOk result (AreAnswers program.now certs.new kept.new.answers) }
+    ensures kept { OnErr result ((certs.new ≡ certs.old) × (kept.new.answers ≡ kept.old.answers)) }
+    ensures rows { AreKept program.now certs.new kept.new.rows }
     ensures fault { IfErr result (λ e. e ≢ Memory → HasSectionFault program.now.of_module func text.now e) }
     ensures only { (section : ASection) → IsSection text.now program.now.of_module func section → IsTaken result }
     ensures only_fault { (e : AFault) → HasSectionFault program.now.of_module func text.now e → IsRefusedBy result e }
 {
+    kept.rows.forget(func);
     let old = function_at(program.module(), func);
-    put_section(alloc, program, certs, func, old, text, answers)
+    put_section(alloc, program, certs, func, old, text, kept)
 }

@@ -13,7 +13,7 @@ ghost use Rattle.recheck.specs.declared.edit_fault.EditFault.TheVariants as faul
 use crate::edit_fault::EditFault;
 use crate::edits::put_edit;
 use crate::kept::KeptWork;
-use answers::{answers_to, first_refusal};
+use answers::{KeptFunctions, KeptRows, answers_to, first_refusal};
 use block_rules::Refusal;
 use certs::Certs;
 use edit_text::Edit;
@@ -66,15 +66,18 @@ impl Session {
             }
         };
         match answers_to(alloc, &program, &certs) {
-            Ok(answers) => Ok(Session {
-                program,
-                certs,
-                kept: KeptWork {
-                    answers,
-                    tables: None,
-                },
-                rechecked: 0,
-            }),
+            Ok(answers) => {
+                let rows = KeptRows::new(alloc, answers.len());
+                Ok(Session {
+                    program,
+                    certs,
+                    kept: KeptWork {
+                        functions: KeptFunctions { answers, rows },
+                        tables: None,
+                    },
+                    rechecked: 0,
+                })
+            }
             Err(_) => Err(NotAccepted {
                 verdict: Verdict::Memory,
                 of_module: program.into_module(),
@@ -115,7 +118,7 @@ impl Session {
     pub fn verdict(&self) -> Option<Refusal>
         ensures { MatchOption result (IsAccepted self.now.program.of_module self.now.certs) (IsFirstRefusal self.now.program.of_module self.now.certs) }
     {
-        first_refusal(self.kept.answers.as_slice())
+        first_refusal(self.kept.functions.answers.as_slice())
     }
 
     /// How many functions the last edit made be checked: the one that it replaced, and its callers where they are told something

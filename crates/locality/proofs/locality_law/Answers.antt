@@ -1,4 +1,4 @@
-use Rattle.locality.proofs.Kept.{certified, refused}
+use Rattle.locality.proofs.Kept.{certified, refused, given}
 use Rattle.locality.proofs.locality_law.Goals as goal
 
 pub returns-clause-certified : goal.returns-clause-certified
@@ -6,3 +6,6 @@ returns-clause-certified c = certified
 
 pub returns-clause-refused : goal.returns-clause-refused
 returns-clause-refused c = refused
+
+pub returns-clause-given : goal.returns-clause-given
+returns-clause-given c = given

@@ -72,5 +72,5 @@ pub returns-in-Err-answer_all-clause-kept : goal.returns-in-Err-answer_all-claus
 returns-in-Err-answer_all-clause-kept c = (
   refl,
   certs_back c.args.certs.now c.replace-past.new.self c.replace-in-Err-answer_all.new.self c.args.func c.replace-past.result c.in-Ok-read_text.section c.replace-past.ensures.new c.replace-past.ensures.given_back c.replace-in-Err-answer_all.ensures.new,
-  ap (λ (xs : List (Option Refusal)). record c.args.kept.now { answers = xs }) c.in-Err-answer_all.ensures.kept,
+  ap (λ (xs : List (Option Refusal)). record c.args.kept.now { functions = record c.args.kept.now.functions { answers = xs } }) c.in-Err-answer_all.ensures.kept,
 )

@@ -43,7 +43,7 @@ returns-in-Err-clause-only_fault c = within_refused c.args.program.now.of_module
 pub returns-in-Ok-Some-clause-ready : goal.returns-in-Ok-Some-clause-ready
 returns-in-Ok-Some-clause-ready c =
     let ready = subst (λ (m : Module). AreReady m c.read_within.new.ready) c.module.ensures.of_module c.read_within.ensures.ready in
-    ready_in_place c.args.program.now c.put_in_place.new.program c.args.func c.in-Ok-Some.function c.read_within.new.ready (c.put_in_place.new.certs ≡ c.args.certs.now) (c.put_in_place.new.answers ≡ c.args.kept.now.answers) c.put_in_place.result ready c.put_in_place.ensures.program c.put_in_place.ensures.kept
+    ready_in_place c.args.program.now c.put_in_place.new.program c.args.func c.in-Ok-Some.function c.read_within.new.ready (c.put_in_place.new.certs ≡ c.args.certs.now) (c.put_in_place.new.kept.answers ≡ c.args.kept.now.functions.answers) c.put_in_place.result ready c.put_in_place.ensures.program c.put_in_place.ensures.kept
 
 pub returns-in-Ok-None-clause-ready : goal.returns-in-Ok-None-clause-ready
 returns-in-Ok-None-clause-ready c =

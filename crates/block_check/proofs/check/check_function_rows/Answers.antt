@@ -1,0 +1,18 @@
+use Rattle.std.proofs.Common.{List, subst, sym}
+use Rattle.facts.specs.Facts.{FactSet}
+use Rattle.block_rules.specs.Functions.{blocks_in}
+use Rattle.block_check.specs.Exact.{function_certified_only, function_refused_only}
+use Rattle.block_check.specs.Rows.{AreGivenOf}
+use Rattle.block_check.proofs.GivenLists.{given_of_rows}
+use Rattle.block_check.proofs.check.check_function_rows.Goals as goal
+
+pub answer_function-requires-clause-rows : goal.answer_function-requires-clause-rows
+answer_function-requires-clause-rows c =
+    let given : AreGivenOf c.args.program.now c.args.certs.now c.args.func c.args.rows.now = given_of_rows c.args.program.now c.args.certs.now c.args.func c.args.rows.now c.requires.rows in
+    subst (λ (l : List FactSet). AreGivenOf c.args.program.now c.args.certs.now c.args.func l) (sym c.blocks.ensures) given
+
+pub returns-clause-certified : goal.returns-clause-certified
+returns-clause-certified c = function_certified_only c.args.program.now c.args.certs.now c.args.func (blocks_in c.args.program.now c.args.func) c.answer_function.result c.answer_function.ensures
+
+pub returns-clause-refused : goal.returns-clause-refused
+returns-clause-refused c = function_refused_only c.args.program.now c.args.certs.now c.args.func (blocks_in c.args.program.now c.args.func) c.answer_function.result c.answer_function.ensures
