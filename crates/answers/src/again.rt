@@ -20,9 +20,33 @@ use layout::Program;
 use locality::locality_law;
 use std::alloc::{AllocError, Global};
 
-/// Finds what the blocks of these functions begin with, and keeps it, as far as there is memory for it. It is not kept of the
-/// function that was replaced, which may be replaced again.
+/// Finds what the blocks of a function begin with, and keeps it, if there is memory for it. It is not kept of the function that was
+/// replaced, which may be replaced again.
 fn find_rows(
+    alloc: Global,
+    program: &Program,
+    certs: &Certs,
+    replaced: FuncId,
+    func: FuncId,
+    kept: &mut KeptRows,
+)
+    requires within { func < length program.now.of_module.functions }
+    requires kept { AreOthersKept program.now certs.now replaced kept.old }
+    ensures { AreOthersKept program.now certs.now replaced kept.new }
+{
+    if func == replaced {
+        return;
+    }
+    if kept.get(func).is_some() {
+        return;
+    }
+    if let Ok(found) = rows(alloc, program, certs, func) {
+        kept.keep(func, found);
+    }
+}
+
+/// Finds what the blocks of these functions begin with, as far as there is memory for it.
+fn find_all_rows(
     alloc: Global,
     program: &Program,
     certs: &Certs,
@@ -35,14 +59,7 @@ fn find_rows(
     ensures { AreOthersKept program.now certs.now replaced kept.new }
 {
     for place in 0..funcs.len() {
-        let func = funcs[place];
-        if func == replaced || kept.get(func).is_some() {
-            continue;
-        }
-        match rows(alloc, program, certs, func) {
-            Ok(rows) => kept.keep(func, rows),
-            Err(_) => return,
-        }
+        find_rows(alloc, program, certs, replaced, funcs[place], kept);
     }
 }
 
@@ -119,7 +136,7 @@ pub fn answers_again(
     locality_law();
     let touched = touched_by(alloc, program.module(), replaced, callers)?;
     let funcs = touched.as_slice();
-    find_rows(alloc, program, certs, replaced, funcs, &mut kept.rows);
+    find_all_rows(alloc, program, certs, replaced, funcs, &mut kept.rows);
     let anew = answers_of(alloc, program, certs, &kept.rows, funcs)?;
     put_answers(funcs, anew.as_slice(), &mut kept.answers);
     Ok(touched.len())
