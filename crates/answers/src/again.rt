@@ -40,8 +40,9 @@ fn find_rows(
     if kept.get(func).is_some() {
         return;
     }
-    if let Ok(found) = rows(alloc, program, certs, func) {
-        kept.keep(func, found);
+    match rows(alloc, program, certs, func) {
+        Ok(found) => kept.keep(func, found),
+        Err(_) => {}
     }
 }
 

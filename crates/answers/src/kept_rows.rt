@@ -75,6 +75,8 @@ impl KeptRows {
         let place = func.number() as usize;
         if place < self.places.len() {
             self.places.set(place, rows);
+        } else {
+            drop(rows);
         }
     }
 }
