@@ -1,7 +1,7 @@
 -- What is kept of functions is what their blocks begin with, and stays so where another one is replaced.
 use Rattle.std.proofs.Common.{◌≡◌, ◌≢◌, ◌==◌, ◌++◌, ℕ, zero, suc, Bool, true, false, List, [], ◌∷◌, map, length, slice_get, Option, Some, None, refl, ap, sym, subst, ◌∙◌, eqb-true, eq-eqb}
 use Rattle.std.specs.List.{range_with_len}
-use Rattle.std.specs.Prelude.{slice_set, unwrap_or}
+use Rattle.std.specs.Prelude.{slice_set, unwrap_or, IfSome}
 use Rattle.ir_ast.specs.declared.function.Function.{Function}
 use Rattle.certs.specs.declared.section.Section.{Section}
 use Rattle.layout.specs.Layouts.{LaidOut}
@@ -98,3 +98,10 @@ empty_more places after is h = λ func. ap (λ (l : Places). rows_at l func) is 
     added [] (suc n) e = refl
     added (x ∷ l) zero e = e
     added (x ∷ l) (suc n) e = added l n e
+
+-- ---- what is taken
+
+-- what is taken of a function, if anything is kept of it, is what its blocks begin with
+pub if_kept : (program : LaidOut) (certs : List Section) (func : ℕ) (places : Places) (found : Option (List FactSet)) → found ≡ rows_at places func → AreKept program certs places → IfSome found (AreRowsOf program certs func)
+if_kept program certs func places None e h = tt
+if_kept program certs func places (Some rows) e h = h func rows (sym e)

@@ -1,6 +1,6 @@
 -- What is kept of the other functions stays right where one function or its section is replaced.
-use Rattle.std.proofs.Common.{◌≡◌, ◌≢◌, ℕ, List, slice_get, Option, Some, None, refl, ap, sym, ◌∙◌}
-use Rattle.std.specs.Prelude.{slice_set}
+use Rattle.std.proofs.Common.{◌≡◌, ℕ, List, slice_get, Option, Some, None, Result, Ok, Err, refl, ap, sym, subst, ◌∙◌}
+use Rattle.std.specs.Prelude.{slice_set, OnOk, OnErr}
 use Rattle.ir_ast.specs.declared.function.Function.{Function}
 use Rattle.certs.specs.declared.section.Section.{Section}
 use Rattle.layout.specs.Functions.{laid_with}
@@ -9,6 +9,8 @@ use Rattle.facts.specs.Facts.{FactSet}
 use Rattle.answers.specs.KeptRows.{rows_at, AreEmpty, AreKept, AreOthersKept, OthersStay}
 use Rattle.answers.specs.OneReplaced.{get_other}
 use Rattle.answers.specs.declared.callers.Callers.TheVariants.{SeeChange}
+use Rattle.recheck.specs.declared.edit_fault.EditFault.{EditFault}
+use Rattle.recheck.specs.declared.kept.KeptWork.{KeptWork}
 
 -- where a section is another
 pub others_with_section : OthersStay → (p : LaidOut) (certs others : List Section) (func : ℕ) (section : Section) (places : List (Option (List FactSet))) → others ≡ slice_set certs func section
@@ -35,3 +37,11 @@ others_with_code stay p q certs func f places e =
 -- where nothing is kept
 pub none_kept : (p : LaidOut) (certs : List Section) (places : List (Option (List FactSet))) → AreEmpty places → AreKept p certs places
 none_kept p certs places empty func rows at = let both : None ≡ Some rows = sym (empty func) ∙ at in absurd cc
+
+-- what is kept is right, where it is so after code that is taken, and all is as before after code that is refused
+pub rows_anew : (p q : LaidOut) (certs others : List Section) (before after : KeptWork) (r : Result ℕ EditFault) → AreKept p certs before.functions.rows → OnOk r (AreKept q others after.functions.rows)
+    → OnErr r ((q ≡ p) × (others ≡ certs) × (after ≡ before)) → AreKept q others after.functions.rows
+rows_anew p q certs others before after (Ok count) h taken same = taken
+rows_anew p q certs others before after (Err x) h taken same =
+    subst (λ (r : LaidOut). AreKept r others after.functions.rows) (sym same.0)
+    (subst (λ (l : List Section). AreKept p l after.functions.rows) (sym same.1) (subst (λ (k : KeptWork). AreKept p certs k.functions.rows) (sym same.2) h))

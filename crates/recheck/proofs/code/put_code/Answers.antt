@@ -2,6 +2,7 @@ use Rattle.std.proofs.Common.{◌≡◌, inl, rules, subst, sym}
 use Rattle.ir_ast.specs.declared.module.Module.{Module}
 use Rattle.recheck.specs.Put.{with_function, AreReady}
 use Rattle.recheck.proofs.Edited.{to_code, the_place, only_section, with_code, place_put, place_fault, within_fault, within_refused, ready_in_place, ready_anew}
+use Rattle.recheck.proofs.Rows.{rows_anew}
 use Rattle.recheck.proofs.code.put_code.Goals as goal
 
 -- ---- in the tables that are there
@@ -55,3 +56,9 @@ returns-in-Err-clause-ready c = subst (λ (m : Module). AreReady m c.read_within
 
 pub read_within-requires : goal.read_within-requires
 read_within-requires c = subst (λ (m : Module). AreReady m c.args.kept.now.tables) (sym c.module.ensures.of_module) c.requires.kept.ready
+
+-- ---- what is kept of the blocks
+
+pub returns-in-Ok-None-clause-rows : goal.returns-in-Ok-None-clause-rows
+returns-in-Ok-None-clause-rows c =
+    rows_anew c.args.program.now c.put_anew.new.program c.args.certs.now c.put_anew.new.certs (record c.args.kept.now { tables = c.read_within.new.ready }) c.put_anew.new.kept c.put_anew.result c.requires.kept.rows c.put_anew.ensures.rows c.put_anew.ensures.kept

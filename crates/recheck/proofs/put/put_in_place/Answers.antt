@@ -4,6 +4,7 @@ use Rattle.certificate.specs.Anew.{IsSection}
 use Rattle.layout.specs.Layouts.{LaidOut}
 use Rattle.recheck.specs.Edits.{HasSectionFault}
 use Rattle.recheck.proofs.Puts.{with_other, program_back, as_many_functions}
+use Rattle.recheck.proofs.Rows.{others_with_code}
 use Rattle.recheck.proofs.put.put_in_place.Goals as goal
 
 pub put_section-requires-clause-function : goal.put_section-requires-clause-function
@@ -47,3 +48,17 @@ returns-in-Err-clause-only c = λ section is. c.in-Err.ensures.only section (sub
 
 pub returns-in-Err-clause-only_fault : goal.returns-in-Err-clause-only_fault
 returns-in-Err-clause-only_fault c = λ e h. c.in-Err.ensures.only_fault e (subst (λ (q : LaidOut). HasSectionFault q.of_module c.args.func c.args.text.now e) (sym c.replace_function-old.ensures.new) h)
+
+-- ---- what is kept of the others
+
+pub put_section-requires-clause-rows : goal.put_section-requires-clause-rows
+put_section-requires-clause-rows c =
+    others_with_code c.rows_law.ensures.others c.args.program.now c.replace_function-old.new.self c.args.certs.now c.args.func c.args.function c.forget.new.self c.replace_function-old.ensures.new (c.forget.ensures c.args.program.now c.args.certs.now c.requires.rows)
+
+pub returns-in-Ok-clause-rows : goal.returns-in-Ok-clause-rows
+returns-in-Ok-clause-rows c = c.put_section.ensures.rows.1
+
+pub returns-in-Err-clause-rows : goal.returns-in-Err-clause-rows
+returns-in-Err-clause-rows c =
+    let back = others_with_code c.rows_law.ensures.others c.replace_function-old.new.self c.replace_function.new.self c.put_section.new.certs c.args.func c.replace_function-old.result c.put_section.new.kept.rows c.replace_function.ensures.new c.put_section.ensures.rows in
+    back.1

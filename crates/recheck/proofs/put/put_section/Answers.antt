@@ -5,6 +5,7 @@ use Rattle.certificate.specs.Anew.{IsSection}
 use Rattle.recheck.specs.Edits.{HasSectionFault}
 use Rattle.recheck.proofs.Faults.{of_section, to_section}
 use Rattle.recheck.proofs.Puts.{with_section, put_so, certs_back, as_many_sections}
+use Rattle.recheck.proofs.Rows.{others_with_section}
 use Rattle.recheck.proofs.put.put_section.Goals as goal
 
 pub replace-requires : goal.replace-requires
@@ -40,3 +41,12 @@ returns-in-Err-answer_anew-clause-kept c = (
   certs_back c.args.certs.now c.replace-past.new.self c.replace.new.self c.args.func c.replace-past.result c.in-Ok.section c.replace-past.ensures.new c.replace-past.ensures.given_back c.replace.ensures.new,
   c.in-Err-answer_anew.ensures.kept,
 )
+
+-- ---- what is kept of the others
+
+pub answer_anew-requires-clause-rows : goal.answer_anew-requires-clause-rows
+answer_anew-requires-clause-rows c = others_with_section c.rows_law.ensures.others c.args.program.now c.args.certs.now c.replace-past.new.self c.args.func c.in-Ok.section c.args.kept.now.rows c.replace-past.ensures.new c.requires.rows
+
+pub returns-in-Err-answer_anew-clause-rows : goal.returns-in-Err-answer_anew-clause-rows
+returns-in-Err-answer_anew-clause-rows c =
+    others_with_section c.rows_law.ensures.others c.args.program.now c.replace-past.new.self c.replace.new.self c.args.func c.replace-past.result c.answer_anew.new.kept.rows c.replace.ensures.new c.answer_anew.ensures.rows
