@@ -62,11 +62,13 @@ at_other : (places : Places) (func : ℕ) (put : Option (List FactSet)) (other :
 at_other places func put other differs = ap (λ (x : Option (Option (List FactSet))). unwrap_or x None) (get_other places func put other differs)
 
 -- what a function's blocks begin with is put in its place
-pub kept_more : (program : LaidOut) (certs : List Section) (replaced func : ℕ) (rows : List FactSet) (places after : Places) → after ≡ slice_set places func (Some rows) → func ≢ replaced → AreRowsOf program certs func rows
+pub kept_more : (program : LaidOut) (certs : List Section) (replaced func : ℕ) (rows : List FactSet) (places after : Places) → after ≡ slice_set places func (Some rows) → (func == replaced) ≡ false → AreRowsOf program certs func rows
     → AreOthersKept program certs replaced places → AreOthersKept program certs replaced after
-kept_more program certs replaced func rows places after is differs here h =
-    subst (AreOthersKept program certs replaced) (sym is) (at_other places func (Some rows) replaced (λ e. differs (sym e)) ∙ h.0, λ other found at. by other found at (other == func) refl)
+kept_more program certs replaced func rows places after is apart here h =
+    subst (AreOthersKept program certs replaced) (sym is) (at_other places func (Some rows) replaced differs ∙ h.0, λ other found at. by other found at (other == func) refl)
   where
+    differs : replaced ≢ func
+    differs s = let t = eq-eqb func replaced (sym s) in absurd cc
     by : (other : ℕ) (found : List FactSet) → rows_at (slice_set places func (Some rows)) other ≡ Some found → (b : Bool) → (other == func) ≡ b → AreRowsOf program certs other found
     by other found at true e =
         let same : other ≡ func = eqb-true other func e in

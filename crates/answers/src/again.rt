@@ -9,7 +9,7 @@ ghost use Rattle.answers.specs.KeptRows.{AreKept, AreOthersKept};
 
 use crate::answers::answer_to;
 use crate::callers::{Callers, touched_by};
-use crate::kept::KeptFunctions;
+use crate::kept_functions::KeptFunctions;
 use crate::kept_rows::KeptRows;
 use block_check::rows;
 use block_rules::Refusal;
