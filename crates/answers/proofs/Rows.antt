@@ -36,7 +36,7 @@ rows_stay stay p certs fs others func rows code section h =
 
 -- what is kept is of another function than one of which nothing is kept
 is_other : (places : Places) (func other : ℕ) (rows : List FactSet) → rows_at places func ≡ None → rows_at places other ≡ Some rows → other ≢ func
-is_other places func other rows none at same = let both : None ≡ Some rows = sym none ∙ ap (rows_at places) (sym same) ∙ at in absurd cc
+is_other places func other rows none at = λ same. let both : None ≡ Some rows = sym none ∙ ap (rows_at places) (sym same) ∙ at in absurd cc
 
 pub others_stay : StayGiven → OthersStay
 others_stay stay p certs q others func callers places edit h = (
@@ -68,7 +68,7 @@ kept_more program certs replaced func rows places after is apart here h =
     subst (AreOthersKept program certs replaced) (sym is) (at_other places func (Some rows) replaced differs ∙ h.0, λ other found at. by other found at (other == func) refl)
   where
     differs : replaced ≢ func
-    differs s = let t = eq-eqb func replaced (sym s) in absurd cc
+    differs = λ s. let t = eq-eqb func replaced (sym s) in absurd cc
     by : (other : ℕ) (found : List FactSet) → rows_at (slice_set places func (Some rows)) other ≡ Some found → (b : Bool) → (other == func) ≡ b → AreRowsOf program certs other found
     by other found at true e =
         let same : other ≡ func = eqb-true other func e in
@@ -90,6 +90,10 @@ kept_less program certs func places after is h =
   where
     none : rows_at (slice_set places func None) func ≡ None
     none = none_there places func (slice_get (slice_set places func None) func) refl
+
+-- nothing is kept where there are no places
+pub empty_first : (places : Places) → places ≡ [] → AreEmpty places
+empty_first places is = λ func. ap (λ (l : Places). rows_at l func) is
 
 -- places that are added are empty
 pub empty_more : (places after : Places) → after ≡ places ++ None ∷ [] → AreEmpty places → AreEmpty after

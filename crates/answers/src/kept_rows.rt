@@ -82,6 +82,7 @@ impl KeptRows {
 }
 
 /// Adds empty places, as far as there is memory for them.
+#[tactic(auto, using(crate::proofs::Rows::empty_first, crate::proofs::Rows::empty_more))]
 fn add_places(places: &mut Items<Option<Rows>>, count: usize)
     requires { places.old ≡ [] }
     ensures { AreEmpty places.new }
