@@ -69,6 +69,7 @@ kept_more program certs replaced func rows places after is apart here h =
   where
     differs : replaced ≢ func
     differs = λ s. let t = eq-eqb func replaced (sym s) in absurd cc
+
     by : (other : ℕ) (found : List FactSet) → rows_at (slice_set places func (Some rows)) other ≡ Some found → (b : Bool) → (other == func) ≡ b → AreRowsOf program certs other found
     by other found at true e =
         let same : other ≡ func = eqb-true other func e in

@@ -129,10 +129,9 @@ fn put_anew(
     };
     let past = certs.replace(func, section);
     let old = function_at(program.module(), func);
-    match answer_all(alloc, &anew, certs, func, old, &past, &mut kept.functions.answers) {
+    match answer_all(alloc, &anew, certs, func, old, &past, &mut kept.functions) {
         Ok(count) => {
             *program = anew;
-            kept.functions.rows.forget_all();
             kept.tables = None;
             Ok(count)
         }

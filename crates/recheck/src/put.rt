@@ -15,11 +15,9 @@ ghost use Rattle.recheck.specs.declared.edit_fault.EditFault.TheVariants.{Memory
 use crate::edit_fault::EditFault;
 use crate::told::{count_checked, seen};
 use answers::{KeptFunctions, answers_again, answers_to, rows_law, touched_by};
-use block_rules::Refusal;
 use certificate::read_section;
 use certs::{Certs, Section};
 use ir_ast::{FuncId, Function, Module};
-use items::Items;
 use layout::Program;
 use std::alloc::{AllocError, Global};
 
@@ -55,8 +53,8 @@ fn answer_anew(
     Ok(count_checked(program.module(), certs, func, old, past, checked))
 }
 
-/// Makes the answers those of a program in which more may be other: each function is checked. Returns how many the edit makes be
-/// checked.
+/// Makes the answers those of a program in which more may be other: each function is checked, and what their blocks begin with is
+/// kept no longer. Returns how many the edit makes be checked.
 pub fn answer_all(
     alloc: Global,
     program: &Program,
@@ -64,15 +62,17 @@ pub fn answer_all(
     func: FuncId,
     old: &Function,
     past: &Section,
-    answers: &mut Items<Option<Refusal>>,
+    kept: &mut KeptFunctions,
 ) -> Result<u64, AllocError>
-    ensures answers { OnOk result (AreAnswers program.now certs.now answers.new) }
+    ensures answers { OnOk result (AreAnswers program.now certs.now kept.new.answers) }
+    ensures rows { OnOk result (AreKept program.now certs.now kept.new.rows) }
     ensures count { IfOk result (λ count. count ≡ rechecked_by program.now.of_module certs.now func (Some old.now) (Some past.now)) }
-    ensures kept { OnErr result (answers.new ≡ answers.old) }
+    ensures kept { OnErr result (kept.new ≡ kept.old) }
 {
     let callers = seen(program.module(), certs, func, old, past);
     let touched = touched_by(alloc, program.module(), func, callers)?;
-    *answers = answers_to(alloc, program, certs)?;
+    kept.answers = answers_to(alloc, program, certs)?;
+    kept.rows.forget_all();
     Ok(count_checked(program.module(), certs, func, old, past, touched.len()))
 }
 

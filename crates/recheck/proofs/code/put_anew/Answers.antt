@@ -1,11 +1,10 @@
-use Rattle.std.proofs.Common.{◌≡◌, ◌<◌, ℕ, List, Option, Some, inl, slice_get, refl, ap, subst, sym}
+use Rattle.std.proofs.Common.{◌≡◌, ◌<◌, ℕ, Some, inl, slice_get, refl, ap, subst, sym}
 use Rattle.ir_ast.specs.declared.module.Module.{Module}
-use Rattle.block_rules.specs.declared.block_fault.Refusal.{Refusal}
+use Rattle.answers.specs.declared.kept_functions.KeptFunctions.{KeptFunctions}
 use Rattle.layout.specs.Layouts.{AreLayouts}
 use Rattle.recheck.proofs.Edited.{the_code, code_taken, code_refused, code_same, only_section, with_code, section_of_code, both_anew}
 use Rattle.recheck.proofs.Grown.{layouts_of_replaced}
 use Rattle.recheck.proofs.Puts.{certs_back, as_many_sections}
-use Rattle.recheck.proofs.Rows.{none_kept}
 use Rattle.recheck.proofs.code.put_anew.Goals as goal
 
 -- ---- the code is refused
@@ -73,8 +72,5 @@ pub returns-in-Err-answer_all-clause-kept : goal.returns-in-Err-answer_all-claus
 returns-in-Err-answer_all-clause-kept c = (
   refl,
   certs_back c.args.certs.now c.replace-past.new.self c.replace-in-Err-answer_all.new.self c.args.func c.replace-past.result c.in-Ok-read_text.section c.replace-past.ensures.new c.replace-past.ensures.given_back c.replace-in-Err-answer_all.ensures.new,
-  ap (λ (xs : List (Option Refusal)). record c.args.kept.now { functions = record c.args.kept.now.functions { answers = xs } }) c.in-Err-answer_all.ensures.kept,
+  ap (λ (functions : KeptFunctions). record c.args.kept.now { functions = functions }) c.in-Err-answer_all.ensures.kept,
 )
-
-pub returns-in-Ok-answer_all-clause-rows : goal.returns-in-Ok-answer_all-clause-rows
-returns-in-Ok-answer_all-clause-rows c = none_kept c.in-Ok-new.anew c.replace-past.new.self c.forget_all.new.self c.forget_all.ensures
