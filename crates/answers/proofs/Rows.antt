@@ -10,10 +10,8 @@ use Rattle.block_rules.specs.Certified.{scene_of}
 use Rattle.block_check.specs.Rows.{given_all, AreRowsIn, AreRowsOf}
 use Rattle.locality.specs.Laws.{StayGiven}
 use Rattle.locality.specs.Local.{laid_with}
-use Rattle.answers.specs.Edited.{IsEdited}
 use Rattle.answers.specs.KeptRows.{rows_at, AreEmpty, AreKept, AreOthersKept, RowsStay, OthersStay}
 use Rattle.answers.specs.OneReplaced.{get_set, get_other}
-use Rattle.answers.specs.declared.callers.Callers.{Callers}
 
 abbrev Places : Type 0
 Places = List (Option (List FactSet))

@@ -6,7 +6,7 @@ use Rattle.certs.specs.declared.section.Section.{Section}
 use Rattle.layout.specs.Functions.{laid_with}
 use Rattle.layout.specs.Layouts.{LaidOut}
 use Rattle.facts.specs.Facts.{FactSet}
-use Rattle.answers.specs.KeptRows.{rows_at, AreEmpty, AreKept, AreOthersKept, OthersStay}
+use Rattle.answers.specs.KeptRows.{AreEmpty, AreKept, AreOthersKept, OthersStay}
 use Rattle.answers.specs.OneReplaced.{get_other}
 use Rattle.answers.specs.declared.callers.Callers.TheVariants.{SeeChange}
 use Rattle.recheck.specs.declared.edit_fault.EditFault.{EditFault}
