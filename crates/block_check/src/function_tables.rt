@@ -10,7 +10,7 @@ use crate::subject::Subject;
 use block_rules::Scene;
 use facts::{Facts, KeptFacts};
 use ir_ast::{FuncId, Function, Module};
-use shadow_stack::Slots;
+use shadow_stack::{Slots, slots_of};
 use std::alloc::{AllocError, Global};
 
 /// What is found of a function once, for all its blocks.
@@ -32,7 +32,7 @@ impl FunctionTables {
     {
         let operands = operands_of(alloc, function)?;
         let predecessors = Predecessors::of(alloc, function)?;
-        let slots = Slots::of(alloc, module, function)?;
+        let slots = slots_of(alloc, module, function)?;
         let blank = Facts::new(alloc, function.locals.count(), slots.count())?;
         Ok(FunctionTables {
             slots,

@@ -263,7 +263,7 @@ fn learn(facts: &mut Facts, decided: Option<(ValueId, bool)>) -> Result<(), Allo
     match decided {
         Some((value, taken)) => {
             let test = facts.test(value);
-            facts.learn_test(test, taken)
+            facts.learn(test, taken)
         }
         None => Ok(()),
     }
@@ -275,5 +275,5 @@ fn unshown_among(slots: &Slots, facts: &Facts, there: &Facts, lines: &[Line]) ->
 {
     lines
         .iter()
-        .position(|line| !facts.shows_line(slots, there, *line))
+        .position(|line| !facts.implies(slots, there, *line))
 }

@@ -7,7 +7,7 @@ ghost use Rattle.certificate.specs.declared.draft.SectionDraft.{SectionDraft as 
 use certs::{Line, Promise};
 use ir_ast::{Block, BlockId, Function, Instr, MemoryOp, Module, Op, ValueId};
 use items::Items;
-use shadow_stack::Slots;
+use shadow_stack::{Slots, slots_of};
 use std::alloc::{AllocError, Global};
 
 /// A value that the block has to list.
@@ -84,7 +84,7 @@ fn root_names(
 ) -> Result<Items<bool>, AllocError>
     ensures { IfOk result (λ roots. roots ≡ root_spec.root_names «module».now function.now) }
 {
-    let slots = Slots::of(alloc, module, function)?;
+    let slots = slots_of(alloc, module, function)?;
     let none = vec![in alloc; false; function.locals.count()]?;
     let mut roots = Items::from_vec(none);
     note_blocks(&mut roots, &slots, function.blocks.as_slice());

@@ -119,7 +119,7 @@ fn make(alloc: Global, facts: &mut Facts, change: FactCall) -> Result<(), AllocE
         FactCall::DefineNew => facts.define_new(value, layout, Class::lost()),
         FactCall::DefineTest => facts.define_test(value, null_test(value)),
         FactCall::Receive => facts.receive(value, Given::Reference(layout), None),
-        FactCall::LearnTest => facts.learn_test(test, false),
+        FactCall::LearnTest => facts.learn(test, false),
         FactCall::AfterPhis => facts.after_phis([Entry { phi: value, known }].as_slice()),
         FactCall::DropFresh => facts.drop_fresh_of(known),
         FactCall::ClearSlot => facts.clear_slot(slot),

@@ -7,7 +7,7 @@ use Rattle.std.proofs.lemmas.List.{ext_get_or, get_or_past, get_or-set_same, get
 use Rattle.std.specs.Prelude.{not, ◌&&◌, ◌||◌, ◌==◌, if◌then◌else◌}
 use Rattle.std.specs.List.{list_any}
 use Rattle.lemmas.specs.Numbers.{test_no, test_same}
-use Rattle.facts.specs.declared.guests.Home.{Home}
+use Rattle.facts.specs.declared.owners.Owners.{Owners}
 use Rattle.facts.specs.declared.known.Class.{Class}
 use Rattle.facts.specs.declared.known.Known.{Known}
 use Rattle.facts.specs.declared.known.Known.TheVariants.{Nothing, Number, Cell, Null, Address, GlobalAddress}
@@ -16,13 +16,13 @@ use Rattle.facts.specs.declared.row.Row.{Row}
 use Rattle.facts.specs.declared.sweeps.Change.TheVariants.{Off}
 use Rattle.facts.specs.declared.uses.Use.{Use}
 use Rattle.facts.specs.Facts.{is_of, off_base, off_test, values_without}
-use Rattle.facts.specs.Guests.{OnlyGuests, is_home}
+use Rattle.facts.specs.Owners.{ListsNonOwners, owns_class}
 use Rattle.facts.specs.Sheets.{blank, row_at, known_of, class_of, test_of, names, IsOne, EachRow, OnlyMarked, OnlyCurrent, with_mark, with_current, is_settled, off_row, changed, row_is_of, other_is_of}
 use Rattle.facts.specs.Uses.{chain, IsUser, OnlyUsers, SameUses}
 use Rattle.facts.specs.Values.{facts_of_rows, defined, defined_row}
 use Rattle.facts.proofs.Changes.{off_less}
 use Rattle.facts.proofs.Current.{marked_after, off_settled}
-use Rattle.facts.proofs.Homes.{OnlyMembers, as_many, off_home, put_guests}
+use Rattle.facts.proofs.OwnersOf.{OnlyMembers, as_many, off_owns, put_non_owners}
 use Rattle.facts.proofs.Listed.{Unless, with_row, unless_after, set_unless}
 use Rattle.facts.proofs.Marked.{any_listed}
 use Rattle.facts.proofs.Says.{same_facts, each_same, each_mapped}
@@ -88,10 +88,10 @@ module _ (v : ℕ) (rows : List Row) where
     pub defined_current : (current : List ℕ) → OnlyCurrent current rows → OnlyCurrent (with_current v (row_at rows v) row current) after
     defined_current current only = defined_unless is_settled (λ u. refl) (off_settled v) current only
 
-    pub defined_guests : (homes : List Home) (guests : List ℕ) → OnlyGuests guests homes rows → IsOne v guests ⊎ (is_home (length rows) homes v row ≡ true) → OnlyGuests guests homes after
-    defined_guests homes guests only noted = put_guests v row offs homes guests
-        (as_many homes guests rows offs off_each.0 (unless_after (changed (Off v)) (λ w. refl) rows offs off_each (is_home (length rows) homes) guests (off_home (length rows) homes v) only))
-        (subst (λ n. IsOne v guests ⊎ (is_home n homes v row ≡ true)) (sym off_each.0) noted)
+    pub defined_non_owners : (class_owners : List Owners) (non_owners : List ℕ) → ListsNonOwners non_owners class_owners rows → IsOne v non_owners ⊎ (owns_class (length rows) class_owners v row ≡ true) → ListsNonOwners non_owners class_owners after
+    defined_non_owners class_owners non_owners only noted = put_non_owners v row offs class_owners non_owners
+        (as_many class_owners non_owners rows offs off_each.0 (unless_after (changed (Off v)) (λ w. refl) rows offs off_each (owns_class (length rows) class_owners) non_owners (off_owns (length rows) class_owners v) only))
+        (subst (λ n. IsOne v non_owners ⊎ (owns_class n class_owners v row ≡ true)) (sym off_each.0) noted)
 
     pub defined_users : (uses : List Use) → OnlyUsers uses rows → row.used ≡ (row_at rows v).used → ((w : ℕ) → names w row ≡ true → w < length rows → IsUser uses rows v w) → OnlyUsers uses after
     defined_users uses only same says = users_set uses offs v row (off_users uses only) (same ∙ sym (ap (λ (r : Row). r.used) (at_off v)))

@@ -1,4 +1,4 @@
--- The slots that came to hold each class.
+-- The slots that have held each class.
 use Rattle.std.proofs.Common.{◌≡◌, ◌<◌, ◌≤◌, ◌⊎◌, ◌+◌, ◌-◌, inl, inr, ℕ, suc, List, [], ◌∷◌, length, get_or, map, drop, drop-cons, add-one, refl, sym, ap, ◌∙◌, subst, true, false, Bool, Option, Some, None, slice_set, arith}
 use Rattle.std.specs.Prelude.{◌||◌, if◌then◌else◌, replicate, nat_eq, is_some}
 use Rattle.indexmap.specs.IndexMap.{get}

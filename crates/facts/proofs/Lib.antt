@@ -2,8 +2,8 @@ pub mod Sets
 mod Sheets
 mod Listed
 mod Current
-mod Homes
-mod Houses
+mod OwnersOf
+mod OwnersChange
 mod Marked
 mod Says
 mod Users

@@ -16,7 +16,7 @@ use Rattle.facts.specs.declared.sweeps.Change.TheVariants.{Off, Settle}
 use Rattle.facts.specs.Facts.{is_of, is_on, off_base, off_test}
 use Rattle.facts.specs.Lines.{covers_value}
 use Rattle.facts.specs.Sheets.{blank, row_at, known_of, class_of, IsOne, OnlyMarked, each, EachRow, off_row, keep_row, settle_row, changed, row_is_of, covers_row}
-use Rattle.facts.proofs.Homes.{OnlyMembers}
+use Rattle.facts.proofs.OwnersOf.{OnlyMembers}
 use Rattle.facts.proofs.Sets.{found, or_true}
 use Rattle.facts.proofs.Sheets.{length_each, each_row}
 

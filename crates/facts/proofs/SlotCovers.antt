@@ -55,7 +55,7 @@ module _ (c d : ℕ) (here there : List SlotFact) where
   within : (s : ℕ) → s < length there → covers_at c d here there s ≡ covers_slot c d (slot_at here s, slot_at there s)
   within s lt = ap (λ b. not b || covers_slot c d (slot_at here s, slot_at there s)) (lt_yes s (length there) lt)
 
-  -- the slots that came to hold the class decide
+  -- the slots that have held the class decide
   pub keepers_cover : (keepers : Chains) → OnlyKeepers keepers here → list_all (covers_at c d here there) (listed keepers c) ≡ list_all (covers_slot c d) (zip here there)
   keepers_cover keepers only = pick (list_all (covers_at c d here there) (listed keepers c)) refl (list_all (covers_slot c d) (zip here there)) refl where
     every : list_all (covers_at c d here there) (listed keepers c) ≡ true → (s : ℕ) → s < length here → s < length there → covers_slot c d (slot_at here s, slot_at there s) ≡ true

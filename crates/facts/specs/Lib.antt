@@ -4,8 +4,8 @@ pub mod Parts
 pub mod Lines
 pub mod Ties
 pub mod Sheets
-pub mod Guests
-pub mod Houses
+pub mod Owners
+pub mod Owned
 pub mod SlotRows
 pub mod Numbered
 pub mod Values

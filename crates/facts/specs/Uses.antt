@@ -21,7 +21,7 @@ abbrev pub chain : (count : ℕ) → List Use → Option ℕ → List ℕ
 chain zero uses at = []
 chain (suc count) uses at = users_of (use_at uses at) (chain count uses)
 
--- a row is one of those that came to name a value
+-- a row is one of those that have named a value
 abbrev pub IsUser : List Use → List Row → (u v : ℕ) → Type 0
 IsUser uses rows u v = IsOne u (chain (length uses) uses (row_at rows v).used)
 

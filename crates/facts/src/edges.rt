@@ -12,7 +12,7 @@ use std::alloc::AllocError;
 
 impl Facts {
     /// What the edge shows where this comparison decides it: `taken` where it is true.
-    pub fn learn_test(&mut self, test: Option<Test>, taken: bool) -> Result<(), AllocError>
+    pub fn learn(&mut self, test: Option<Test>, taken: bool) -> Result<(), AllocError>
         ensures ok { OnOk result (self.new ≡ learn_test test taken self.old) }
         ensures err { OnErr result (self.new ≡ self.old) }
     {

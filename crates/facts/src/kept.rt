@@ -1,9 +1,9 @@
 //! What is known at a place, kept in as much room as it fills.
 ghost use Rattle.std.specs.Prelude.{◌≡◌, length};
 
-use crate::guests::Home;
 use crate::known::Class;
 use crate::numbered::Numbered;
+use crate::owners::Owners;
 use crate::slot_rows::SlotRows;
 use crate::uses::Use;
 use std::marker::Model;
@@ -16,23 +16,23 @@ pub(crate) struct KeptSheet {
     /// The rows that the next safepoint may change.
     pub current: Vec<usize>,
     /// The values for which the classes that were added were made, in order.
-    pub homes: Vec<Home>,
-    /// The rows that may be of a class which was made for another value.
-    pub guests: Vec<usize>,
+    pub class_owners: Vec<Owners>,
+    /// The rows that may be of a class which their value does not own.
+    pub non_owners: Vec<usize>,
 }
 
 impl Model for KeptSheet {
     ghost use Rattle.std.specs.Prelude.{List};
     ghost use Rattle.facts.specs.declared.row.Row.{Row};
     ghost use Rattle.facts.specs.Numbered.{among_blank};
-    ghost use Rattle.facts.specs.Guests.{OnlyGuests};
+    ghost use Rattle.facts.specs.Owners.{ListsNonOwners};
     ghost use Rattle.facts.specs.Sheets.{OnlyCurrent};
 
     ghost Value = { List Row };
 
     ghost view = { λ kept. among_blank kept.count kept.rows.items };
 
-    ghost invariant = { λ kept. OnlyCurrent kept.current.items (among_blank kept.count kept.rows.items) × OnlyGuests kept.guests.items kept.homes.items (among_blank kept.count kept.rows.items) };
+    ghost invariant = { λ kept. OnlyCurrent kept.current.items (among_blank kept.count kept.rows.items) × ListsNonOwners kept.non_owners.items kept.class_owners.items (among_blank kept.count kept.rows.items) };
 }
 
 impl KeptSheet {

@@ -8,10 +8,10 @@ ghost use Rattle.facts.specs.Sheets.{row_at, blank, EachRow, changed, off_row, k
 ghost use Rattle.facts.specs.Uses.{OnlyUsers};
 
 use crate::class_id::ClassId;
-use crate::guests::{self, Home};
 use crate::kept::KeptSheet;
 use crate::known::Class;
 use crate::numbered::{number_rows, numbers_of, write_rows};
+use crate::owners::{self, Owners};
 use crate::row::Row;
 use crate::sweeps::{self, Change};
 use crate::uses::Use;
@@ -26,23 +26,23 @@ pub(crate) struct Sheet {
     marked: Vec<usize>,
     /// The rows that the next safepoint may change.
     current: Vec<usize>,
-    /// The values for which the classes that were added were made, in order.
-    homes: Vec<Home>,
-    /// The rows that may be of a class which was made for another value.
-    guests: Vec<usize>,
+    /// The owners of the classes that were added, in order.
+    class_owners: Vec<Owners>,
+    /// The rows that may be of a class which their value does not own.
+    non_owners: Vec<usize>,
 }
 
 impl Model for Sheet {
     ghost use Rattle.std.specs.Prelude.{List};
     ghost use Rattle.facts.specs.declared.row.Row.{Row};
     ghost use Rattle.facts.specs.Sheets.{OnlyMarked, OnlyCurrent};
-    ghost use Rattle.facts.specs.Guests.{OnlyGuests};
+    ghost use Rattle.facts.specs.Owners.{ListsNonOwners};
 
     ghost Value = { List Row };
 
     ghost view = { λ sheet. sheet.rows.items };
 
-    ghost invariant = { λ sheet. OnlyMarked sheet.marked.items sheet.rows.items × OnlyCurrent sheet.current.items sheet.rows.items × OnlyGuests sheet.guests.items sheet.homes.items sheet.rows.items };
+    ghost invariant = { λ sheet. OnlyMarked sheet.marked.items sheet.rows.items × OnlyCurrent sheet.current.items sheet.rows.items × ListsNonOwners sheet.non_owners.items sheet.class_owners.items sheet.rows.items };
 }
 
 impl Clone for Sheet {
@@ -52,14 +52,14 @@ impl Clone for Sheet {
         let rows = Vec::from_slice(*self.rows.allocator(), &self.rows)?;
         let marked = Vec::from_slice(*self.marked.allocator(), &self.marked)?;
         let current = Vec::from_slice(*self.current.allocator(), &self.current)?;
-        let homes = Vec::from_slice(*self.homes.allocator(), &self.homes)?;
-        let guests = Vec::from_slice(*self.guests.allocator(), &self.guests)?;
+        let class_owners = Vec::from_slice(*self.class_owners.allocator(), &self.class_owners)?;
+        let non_owners = Vec::from_slice(*self.non_owners.allocator(), &self.non_owners)?;
         Ok(Sheet {
             rows,
             marked,
             current,
-            homes,
-            guests,
+            class_owners,
+            non_owners,
         })
     }
 }
@@ -74,8 +74,8 @@ impl Sheet {
             rows,
             marked: Vec::new(alloc),
             current: Vec::new(alloc),
-            homes: Vec::new(alloc),
-            guests: Vec::new(alloc),
+            class_owners: Vec::new(alloc),
+            non_owners: Vec::new(alloc),
         })
     }
 
@@ -110,7 +110,13 @@ impl Sheet {
             sweeps::mark(&mut self.marked, &self.rows, at)?;
             let before = sweeps::row_at(&self.rows, at);
             sweeps::note(&mut self.current, at, &before, &row)?;
-            guests::note_guest(&mut self.guests, &mut self.homes, &self.rows, at, &row)?;
+            owners::note_non_owner(
+                &mut self.non_owners,
+                &mut self.class_owners,
+                &self.rows,
+                at,
+                &row,
+            )?;
             self.rows[at] = row;
         }
         Ok(())
@@ -136,8 +142,8 @@ impl Sheet {
         sweeps::copy(&mut self.rows, &self.marked, &[]);
         self.marked.clear();
         self.current.clear();
-        self.homes.clear();
-        self.guests.clear();
+        self.class_owners.clear();
+        self.non_owners.clear();
     }
 
     /// The rows are those of a sheet of the same length.
@@ -148,14 +154,14 @@ impl Sheet {
     {
         let marked = Vec::from_slice(alloc, &other.marked)?;
         let current = Vec::from_slice(alloc, &other.current)?;
-        let homes = Vec::from_slice(alloc, &other.homes)?;
-        let guests = Vec::from_slice(alloc, &other.guests)?;
+        let class_owners = Vec::from_slice(alloc, &other.class_owners)?;
+        let non_owners = Vec::from_slice(alloc, &other.non_owners)?;
         sweeps::copy(&mut self.rows, &self.marked, &[]);
         sweeps::copy(&mut self.rows, &marked, &other.rows);
         self.marked = marked;
         self.current = current;
-        self.homes = homes;
-        self.guests = guests;
+        self.class_owners = class_owners;
+        self.non_owners = non_owners;
         Ok(())
     }
 
@@ -165,14 +171,14 @@ impl Sheet {
     {
         let rows = number_rows(alloc, &self.rows, &self.marked)?;
         let current = Vec::from_slice(alloc, &self.current)?;
-        let homes = Vec::from_slice(alloc, &self.homes)?;
-        let guests = Vec::from_slice(alloc, &self.guests)?;
+        let class_owners = Vec::from_slice(alloc, &self.class_owners)?;
+        let non_owners = Vec::from_slice(alloc, &self.non_owners)?;
         Ok(KeptSheet {
             count: self.rows.len(),
             rows,
             current,
-            homes,
-            guests,
+            class_owners,
+            non_owners,
         })
     }
 
@@ -184,14 +190,14 @@ impl Sheet {
     {
         let marked = numbers_of(alloc, &kept.rows)?;
         let current = Vec::from_slice(alloc, &kept.current)?;
-        let homes = Vec::from_slice(alloc, &kept.homes)?;
-        let guests = Vec::from_slice(alloc, &kept.guests)?;
+        let class_owners = Vec::from_slice(alloc, &kept.class_owners)?;
+        let non_owners = Vec::from_slice(alloc, &kept.non_owners)?;
         sweeps::copy(&mut self.rows, &self.marked, &[]);
         write_rows(&mut self.rows, &kept.rows);
         self.marked = marked;
         self.current = current;
-        self.homes = homes;
-        self.guests = guests;
+        self.class_owners = class_owners;
+        self.non_owners = non_owners;
         Ok(())
     }
 
@@ -213,7 +219,13 @@ impl Sheet {
         sweeps::mark(&mut self.marked, &self.rows, at)?;
         let before = sweeps::row_at(&self.rows, at);
         sweeps::note(&mut self.current, at, &before, &row)?;
-        guests::note_guest(&mut self.guests, &mut self.homes, &self.rows, at, &row)?;
+        owners::note_non_owner(
+            &mut self.non_owners,
+            &mut self.class_owners,
+            &self.rows,
+            at,
+            &row,
+        )?;
         sweeps::end_names(&mut self.rows, &self.marked, uses, v);
         sweeps::write(&mut self.rows, at, row);
         Ok(())
@@ -223,10 +235,10 @@ impl Sheet {
     pub fn own(&mut self, v: ValueId) -> Result<(), AllocError>
         ensures { self.new ≡ self.old }
     {
-        let owner = v.number() as usize;
-        self.homes.push(Home {
-            owner,
-            second: owner,
+        let first = v.number() as usize;
+        self.class_owners.push(Owners {
+            first,
+            second: first,
         })?;
         Ok(())
     }
@@ -238,33 +250,33 @@ impl Sheet {
         sweeps::keep_rows(&mut self.rows, &self.current, added);
         sweeps::sweep(&mut self.rows, &self.current, &Change::Settle);
         self.current.clear();
-        self.homes.clear();
-        self.guests.clear();
+        self.class_owners.clear();
+        self.non_owners.clear();
     }
 
     /// Whether some value is of this class.
     pub fn any_of(&self, c: ClassId) -> bool
         ensures { result ≡ list_any (is_of c) (map known_of self.now) }
     {
-        let home = guests::home_of(self.rows.len(), &self.homes, c);
-        guests::any_of(&self.rows, &self.guests, home, c)
+        let owners = owners::owners_of(self.rows.len(), &self.class_owners, c);
+        owners::any_of(&self.rows, &self.non_owners, owners, c)
     }
 
     /// Whether some value but `v` is of this class.
     pub fn any_other(&self, v: ValueId, c: ClassId) -> bool
         ensures { result ≡ list_any (is_of c) (slice_set (map known_of self.now) v Nothing) }
     {
-        let home = guests::home_of(self.rows.len(), &self.homes, c);
-        guests::any_other(&self.rows, &self.guests, home, v.number() as usize, c)
+        let owners = owners::owners_of(self.rows.len(), &self.class_owners, c);
+        owners::any_other(&self.rows, &self.non_owners, owners, v.number() as usize, c)
     }
 
     /// Whether all values of a class here are listed there as of another.
     pub fn covers(&self, there: &Sheet, c: ClassId, d: ClassId) -> bool
         ensures { result ≡ list_all (covers_value c d) (zip (map known_of self.now) (map known_of there.now)) }
     {
-        if self.guests.len() < there.marked.len() {
-            let home = guests::home_of(self.rows.len(), &self.homes, c);
-            guests::covers(&self.rows, &self.guests, home, &there.rows, c, d)
+        if self.non_owners.len() < there.marked.len() {
+            let owners = owners::owners_of(self.rows.len(), &self.class_owners, c);
+            owners::covers(&self.rows, &self.non_owners, owners, &there.rows, c, d)
         } else {
             sweeps::covers(&self.rows, &there.marked, &there.rows, c, d)
         }

@@ -25,7 +25,7 @@ struct Asked {
 
 impl Facts {
     /// Whether a line of a target is shown; `there` is what the target begins with.
-    pub fn shows_line(&self, table: &Slots, there: &Facts, line: Line) -> bool
+    pub fn implies(&self, table: &Slots, there: &Facts, line: Line) -> bool
         ensures { result ≡ shows_line table.now self.now there.now line }
     {
         match line {

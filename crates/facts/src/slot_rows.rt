@@ -25,7 +25,7 @@ pub(crate) struct SlotRows {
     filled: Vec<usize>,
     /// The slots that may hold a class.
     holding: Vec<usize>,
-    /// The slots that came to hold each class.
+    /// The slots that have held each class.
     keepers: Chains,
 }
 
@@ -172,7 +172,7 @@ impl SlotRows {
         self.keepers = keepers;
     }
 
-    /// Whether a slot came to hold this class: if none did, none holds it.
+    /// Whether a slot has held this class: if none has, none holds it.
     pub fn may_hold(&self, c: ClassId) -> bool
         ensures { result ≡ false → list_any (holds c) self.now ≡ false }
     {

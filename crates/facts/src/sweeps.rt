@@ -132,7 +132,7 @@ pub fn sweep(rows: &mut Vec<Row>, marked: &[usize], change: &Change)
     }
 }
 
-/// No row names a value: those that came to use it end that, or all that are marked if the value has no row.
+/// No row names a value: those that have named it end that, or all that are marked if the value has no row.
 pub fn end_names(rows: &mut Vec<Row>, marked: &[usize], uses: &[Use], v: ValueId)
     ensures { OnlyUsers uses.now rows.old.items → OnlyMarked marked.now rows.old.items → EachRow (changed (Off v)) rows.old.items rows.new.items }
 {
@@ -145,7 +145,7 @@ pub fn end_names(rows: &mut Vec<Row>, marked: &[usize], uses: &[Use], v: ValueId
     }
 }
 
-/// The rows that came to use a value change, from this use of it back.
+/// The rows that have named a value change, from this use of it back.
 fn sweep_uses(rows: &mut Vec<Row>, uses: &[Use], newest: Option<usize>, change: &Change)
     ensures { rows.new.items ≡ each (changed change.now) (chain (length uses.now) uses.now newest) rows.old.items }
 {

@@ -2,7 +2,7 @@
 ghost use Rattle.std.specs.Prelude.{◌≡◌};
 ghost use Rattle.facts.specs.Uses.{use_at};
 
-/// A row that came to name a value, and the use of the value before it.
+/// A row that has named a value, and the use of the value before it.
 #[derive(Clone, Copy)]
 pub(crate) struct Use {
     pub user: usize,

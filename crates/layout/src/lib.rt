@@ -12,6 +12,7 @@ mod word;
 
 pub use fault::LayoutFault;
 pub use laws::layouts_stay_law;
+pub use pools::{Layouts, Pools};
 pub use program::{NotAProgram, Program};
 pub use step::Step;
 pub use struct_words::layouts;

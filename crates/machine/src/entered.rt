@@ -13,7 +13,7 @@ use crate::value::Value;
 use ir_ast::{BlockId, FuncId, Function, Module};
 use items::Items;
 use layout::Program;
-use shadow_stack::Slots;
+use shadow_stack::{Slots, slots_of};
 use std::alloc::{AllocError, Global};
 use std::marker::Model;
 
@@ -70,7 +70,7 @@ impl<'a> Entered<'a> {
         }
         let of_module = self.program.module();
         let function = function_of(of_module, number);
-        let slots = Slots::of(alloc, of_module, function)?;
+        let slots = slots_of(alloc, of_module, function)?;
         make_room(alloc, &mut self.phi_values, most_phis(function))?;
         self.tables.set(number.number() as usize, Some(slots));
         Ok(())

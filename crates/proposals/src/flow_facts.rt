@@ -178,7 +178,7 @@ impl FlowFacts {
         self.changed.set_from(alloc, &self.here)?;
         if let Some((value, taken)) = decided {
             let test = self.changed.test(value);
-            self.changed.learn_test(test, taken)?;
+            self.changed.learn(test, taken)?;
         }
         self.note_entries(scene, ground, from, to)?;
         self.changed.after_phis(self.entries.as_slice())

@@ -6,7 +6,7 @@ use crate::summaries::Summaries;
 use crate::wanted::wanted_of;
 use facts::Facts;
 use ir_ast::{FuncId, Function, Module};
-use shadow_stack::Slots;
+use shadow_stack::{Slots, slots_of};
 use std::alloc::{AllocError, Global};
 
 /// What is found of a function once, for a walk over its blocks.
@@ -36,7 +36,7 @@ impl Ground {
         function: &Function,
         summaries: &Summaries,
     ) -> Result<Ground, AllocError> {
-        let slots = Slots::of(alloc, module, function)?;
+        let slots = slots_of(alloc, module, function)?;
         let Ok(reading) = Reading::of(alloc, module, function, &slots, summaries) else {
             drop(slots);
             return Err(AllocError);

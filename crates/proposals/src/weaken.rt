@@ -61,7 +61,7 @@ fn shows_all(ground: &Ground, flow: &FlowFacts, lines: &[Line]) -> bool {
     let way = flow.way();
     lines
         .iter()
-        .all(|line| way.shows_line(&ground.slots, &flow.there, *line))
+        .all(|line| way.implies(&ground.slots, &flow.there, *line))
 }
 
 /// What both the lines and the way say, line by line.
@@ -415,7 +415,7 @@ fn without_lost_fresh(
     flow.begin_there(alloc, ground, kept.lines.as_slice())?;
     let mut left = BlockLines::new(alloc);
     for (line, grown) in kept.lines.as_slice().iter().zip(kept.grown.iter()) {
-        let shown = flow.way().shows_line(&ground.slots, &flow.there, *line);
+        let shown = flow.way().implies(&ground.slots, &flow.there, *line);
         let line = if shown { *line } else { held(*line) };
         left.add(line, *grown)?;
     }

@@ -7,4 +7,4 @@ mod slot_id;
 mod slots;
 
 pub use slot_id::SlotId;
-pub use slots::Slots;
+pub use slots::{Slots, slots_of};

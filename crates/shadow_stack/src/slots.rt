@@ -35,26 +35,27 @@ impl Model for Slots {
     ghost invariant = { λ slots. (length slots.rooted ≡ length slots.held) × ((slot : ℕ) → unwrap_or (slice_get slots.rooted slot) false ≡ is_among slots.roots slot) };
 }
 
-impl Slots {
-    pub fn of(alloc: Global, module: &Module, function: &Function) -> Result<Slots, AllocError>
-        ensures slots { IfOk result (λ slots. slots ≡ slots_of «module».now function.now) }
-        ensures names { IfOk result (λ slots. NamesAreExact (draft_of function.now).origins slots.names) }
-    {
-        let draft = Draft::of(alloc, function)?;
-        let names = names_of(alloc, draft.origins.as_slice())?;
-        let layouts = layouts_of(alloc, module, draft.held.as_slice())?;
-        let rooted = vec![in alloc; false; draft.held.len()]?;
-        let mut slots = Slots {
-            names,
-            held: draft.held,
-            layouts: Items::from_vec(layouts),
-            roots: Items::new(alloc),
-            rooted: Items::from_vec(rooted),
-        };
-        slots.note_blocks(module, function.blocks.as_slice())?;
-        Ok(slots)
-    }
+/// The slots of a function of a module.
+pub fn slots_of(alloc: Global, module: &Module, function: &Function) -> Result<Slots, AllocError>
+    ensures slots { IfOk result (λ slots. slots ≡ slots_of «module».now function.now) }
+    ensures names { IfOk result (λ slots. NamesAreExact (draft_of function.now).origins slots.names) }
+{
+    let draft = Draft::of(alloc, function)?;
+    let names = names_of(alloc, draft.origins.as_slice())?;
+    let layouts = layouts_of(alloc, module, draft.held.as_slice())?;
+    let rooted = vec![in alloc; false; draft.held.len()]?;
+    let mut slots = Slots {
+        names,
+        held: draft.held,
+        layouts: Items::from_vec(layouts),
+        roots: Items::new(alloc),
+        rooted: Items::from_vec(rooted),
+    };
+    slots.note_blocks(module, function.blocks.as_slice())?;
+    Ok(slots)
+}
 
+impl Slots {
     /// The slot that a local name names, if it names one.
     pub fn slot_of(&self, value: ValueId) -> Option<SlotId>
         ensures { result ≡ slot_of self.now value }

@@ -1,9 +1,16 @@
-ghost use Rattle.std.specs.Prelude.{◌≡◌};
+ghost use Rattle.std.specs.Prelude.{◌≡◌, ◌==◌};
 ghost use Rattle.types.specs.References.{pointee, referenced_layout, struct_named};
 ghost use Rattle.types.specs.ValueTypes.{points_to};
 
 use ir_ast::{IrType, Module, TypeId};
 use pools::LayoutId;
+
+/// Whether two types are the same. The table of a module that was read has each type once, so their numbers tell.
+pub fn type_eq(one: TypeId, other: TypeId) -> bool
+    ensures { result ≡ (one == other) }
+{
+    one == other
+}
 
 /// The type of what a pointer points to; None where the type is no pointer.
 pub fn pointee(module: &Module, written: TypeId) -> Option<TypeId>
@@ -20,7 +27,7 @@ pub(crate) fn points_to(module: &Module, written: TypeId, part: Option<TypeId>) 
     ensures { result ≡ points_to «module».now written part }
 {
     match (pointee(module, written), part) {
-        (Some(one), Some(other)) => one == other,
+        (Some(one), Some(other)) => type_eq(one, other),
         _ => false,
     }
 }

@@ -2,7 +2,7 @@ ghost use Rattle.std.specs.Prelude.{◌≡◌};
 ghost use Rattle.types.specs.ValueTypes.{element_of, instruction_at, has_type, target_of};
 
 use crate::element::element_type;
-use crate::reference::points_to;
+use crate::reference::{points_to, type_eq};
 use ir_ast::{BlockId, Function, LocalSort, Module, Op, TypeId, ValueId};
 
 /// The type that the getelementptr at a place of a block's body selects.
@@ -27,7 +27,7 @@ pub fn has_type(module: &Module, function: &Function, written: TypeId, value: Va
     ensures { result ≡ has_type «module».now function.now written value }
 {
     match function.sorts.get(value.number() as usize) {
-        Some(LocalSort::Value(given)) => *given == written,
+        Some(LocalSort::Value(given)) => type_eq(*given, written),
         Some(LocalSort::Slot(held)) => points_to(module, written, Some(*held)),
         Some(LocalSort::Element { block, place }) => points_to(
             module,

@@ -1,7 +1,7 @@
 use Rattle.std.proofs.Common.{◌≡◌, ◌∙◌, ap, length, replicate, [], ℕ, List}
 use Rattle.facts.specs.Sheets.{blank, each, copied}
 use Rattle.facts.proofs.Current.{blank_current}
-use Rattle.facts.proofs.Homes.{blank_guests}
+use Rattle.facts.proofs.OwnersOf.{blank_non_owners}
 use Rattle.facts.proofs.Sheets.{wiped_all, all_blank}
 use Rattle.facts.proofs.sheet.Sheet.clear.Goals as goal
 
@@ -12,7 +12,7 @@ pub invariant_of-self : goal.invariant_of-self
 invariant_of-self c = (
   all_blank c.clear.new.self.items (length c.self.inside.rows.items) c.copy.new.rows.items (empty c),
   blank_current c.clear-2.new.self.items (length c.self.inside.rows.items) c.copy.new.rows.items (empty c),
-  blank_guests c.clear-4.new.self.items c.clear-3.new.self.items (length c.self.inside.rows.items) c.copy.new.rows.items (empty c),
+  blank_non_owners c.clear-4.new.self.items c.clear-3.new.self.items (length c.self.inside.rows.items) c.copy.new.rows.items (empty c),
 )
 
 pub returns : goal.returns

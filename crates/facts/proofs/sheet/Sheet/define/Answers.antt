@@ -1,11 +1,11 @@
 use Rattle.std.proofs.Common.{◌≡◌, ◌⊎◌, ◌∙◌, ap, length, sym, subst, map, true, List, ℕ, slice_set}
 use Rattle.facts.specs.declared.row.Row.{Row}
 use Rattle.facts.specs.declared.sweeps.Change.TheVariants.{Off}
-use Rattle.facts.specs.Guests.{is_home, OnlyGuests}
+use Rattle.facts.specs.Owners.{owns_class, ListsNonOwners}
 use Rattle.facts.specs.Sheets.{row_at, IsOne, is_settled, with_mark, with_current, EachRow, OnlyMarked, OnlyCurrent, changed, off_row}
 use Rattle.facts.specs.Uses.{OnlyUsers}
-use Rattle.facts.proofs.Defines.{off_all, defined_marked, defined_current, defined_guests}
-use Rattle.facts.proofs.Homes.{kept_guests, noted_guests}
+use Rattle.facts.proofs.Defines.{off_all, defined_marked, defined_current, defined_non_owners}
+use Rattle.facts.proofs.OwnersOf.{kept_non_owners, noted_non_owners}
 use Rattle.facts.proofs.Listed.{more_unless}
 use Rattle.facts.proofs.Sheets.{more_marked}
 use Rattle.facts.proofs.sheet.Sheet.define.Goals as goal
@@ -28,12 +28,12 @@ invariant_of-self-in_err-note c = (
 noted_current : (rows seen : List Row) (v at : ℕ) (row before : Row) (current next : List ℕ) → next ≡ with_current at before row current → before ≡ row_at seen at → seen ≡ rows → at ≡ v → next ≡ with_current v (row_at rows v) row current
 noted_current rows seen v at row before current next noted is same e = noted ∙ ap (λ (r : Row). with_current at r row current) (is ∙ ap (λ (l : List Row). row_at l at) same) ∙ ap (λ u. with_current u (row_at rows u) row current) e
 
-pub invariant_of-self-in_err-note_guest : goal.invariant_of-self-in_err-note_guest
-invariant_of-self-in_err-note_guest c = (
+pub invariant_of-self-in_err-note_non_owner : goal.invariant_of-self-in_err-note_non_owner
+invariant_of-self-in_err-note_non_owner c = (
   all_marked c.self.inside.rows.items c.deref.result.now c.self.inside.marked.items c.mark.new.marked.items c.args.v c.number-at.result c.in_ok-mark.ensures.ok c.deref.ensures.value c.number-at.ensures c.self.invariant.0,
   more_unless is_settled c.args.v (row_at c.self.inside.rows.items c.args.v) c.args.row c.self.inside.current.items c.note.new.current.items c.self.inside.rows.items
       (noted_current c.self.inside.rows.items c.deref-2.result.now c.args.v c.number-at.result c.args.row c.row_at-before.result c.self.inside.current.items c.note.new.current.items c.in_ok-note.ensures.ok c.row_at-before.ensures c.deref-2.ensures.value c.number-at.ensures) c.self.invariant.1,
-  kept_guests c.deref-3.result.now c.self.inside.rows.items c.deref-3.ensures.value c.self.inside.guests.items c.note_guest.new.guests.items c.self.inside.homes.items c.note_guest.new.homes.items c.note_guest.ensures.kept c.self.invariant.2,
+  kept_non_owners c.deref-3.result.now c.self.inside.rows.items c.deref-3.ensures.value c.self.inside.non_owners.items c.note_non_owner.new.non_owners.items c.self.inside.class_owners.items c.note_non_owner.new.class_owners.items c.note_non_owner.ensures.kept c.self.invariant.2,
 )
 
 module _ (c : goal.After-write) where
@@ -49,18 +49,18 @@ module _ (c : goal.After-write) where
   notes : c.note.new.current.items ≡ with_current c.args.v (row_at before c.args.v) c.args.row c.self.inside.current.items
   notes = noted_current before c.deref-2.result.now c.args.v c.number-at.result c.args.row c.row_at-before.result c.self.inside.current.items c.note.new.current.items c.in_ok-note.ensures.ok c.row_at-before.ensures c.deref-2.ensures.value c.number-at.ensures
 
-  kept : OnlyGuests c.note_guest.new.guests.items c.note_guest.new.homes.items before
-  kept = kept_guests c.deref-3.result.now before c.deref-3.ensures.value c.self.inside.guests.items c.note_guest.new.guests.items c.self.inside.homes.items c.note_guest.new.homes.items c.note_guest.ensures.kept c.self.invariant.2
+  kept : ListsNonOwners c.note_non_owner.new.non_owners.items c.note_non_owner.new.class_owners.items before
+  kept = kept_non_owners c.deref-3.result.now before c.deref-3.ensures.value c.self.inside.non_owners.items c.note_non_owner.new.non_owners.items c.self.inside.class_owners.items c.note_non_owner.new.class_owners.items c.note_non_owner.ensures.kept c.self.invariant.2
 
-  noted : IsOne c.args.v c.note_guest.new.guests.items ⊎ (is_home (length before) c.note_guest.new.homes.items c.args.v c.args.row ≡ true)
-  noted = subst (λ (at : ℕ). IsOne at c.note_guest.new.guests.items ⊎ (is_home (length before) c.note_guest.new.homes.items at c.args.row ≡ true)) c.number-at.ensures
-      (noted_guests c.deref-3.result.now before c.deref-3.ensures.value c.number-at.result c.args.row c.self.inside.guests.items c.note_guest.new.guests.items c.self.inside.homes.items c.note_guest.new.homes.items c.in_ok-note_guest.ensures.noted c.self.invariant.2)
+  noted : IsOne c.args.v c.note_non_owner.new.non_owners.items ⊎ (owns_class (length before) c.note_non_owner.new.class_owners.items c.args.v c.args.row ≡ true)
+  noted = subst (λ (at : ℕ). IsOne at c.note_non_owner.new.non_owners.items ⊎ (owns_class (length before) c.note_non_owner.new.class_owners.items at c.args.row ≡ true)) c.number-at.ensures
+      (noted_non_owners c.deref-3.result.now before c.deref-3.ensures.value c.number-at.result c.args.row c.self.inside.non_owners.items c.note_non_owner.new.non_owners.items c.self.inside.class_owners.items c.note_non_owner.new.class_owners.items c.in_ok-note_non_owner.ensures.noted c.self.invariant.2)
 
 pub invariant_of-self-2 : goal.invariant_of-self-2
 invariant_of-self-2 c = (
   subst (λ (rows : List Row). OnlyMarked c.mark.new.marked.items rows) (sym (is c)) (subst (λ (us : List ℕ). OnlyMarked us (slice_set (map (off_row c.args.v) (before c)) c.args.v c.args.row)) (sym (marks (before c) c.deref.result.now c.self.inside.marked.items c.mark.new.marked.items c.args.v c.number-at.result c.in_ok-mark.ensures.ok c.deref.ensures.value c.number-at.ensures)) (defined_marked c.args.v (before c) c.args.row c.self.inside.marked.items c.self.invariant.0)),
   subst (λ (rows : List Row). OnlyCurrent c.note.new.current.items rows) (sym (is c)) (subst (λ (us : List ℕ). OnlyCurrent us (slice_set (map (off_row c.args.v) (before c)) c.args.v c.args.row)) (sym (notes c)) (defined_current c.args.v (before c) c.args.row c.self.inside.current.items c.self.invariant.1)),
-  subst (λ (rows : List Row). OnlyGuests c.note_guest.new.guests.items c.note_guest.new.homes.items rows) (sym (is c)) (defined_guests c.args.v (before c) c.args.row c.note_guest.new.homes.items c.note_guest.new.guests.items (kept c) (noted c)),
+  subst (λ (rows : List Row). ListsNonOwners c.note_non_owner.new.non_owners.items c.note_non_owner.new.class_owners.items rows) (sym (is c)) (defined_non_owners c.args.v (before c) c.args.row c.note_non_owner.new.class_owners.items c.note_non_owner.new.non_owners.items (kept c) (noted c)),
 )
 
 pub returns-clause-ok : goal.returns-clause-ok

@@ -1,11 +1,11 @@
 use Rattle.std.proofs.Common.{sym, subst, refl, List, ℕ, length}
 use Rattle.facts.specs.declared.row.Row.{Row}
 use Rattle.facts.specs.declared.sweeps.Change.TheVariants.{Off}
-use Rattle.facts.specs.Guests.{is_home}
+use Rattle.facts.specs.Owners.{owns_class}
 use Rattle.facts.specs.Sheets.{EachRow, OnlyMarked, changed, is_settled}
 use Rattle.facts.specs.Uses.{OnlyUsers}
 use Rattle.facts.proofs.Current.{marked_after, off_settled}
-use Rattle.facts.proofs.Homes.{as_many, off_home}
+use Rattle.facts.proofs.OwnersOf.{as_many, off_owns}
 use Rattle.facts.proofs.Listed.{unless_after}
 use Rattle.facts.proofs.sheet.Sheet.end_names.Goals as goal
 
@@ -23,8 +23,8 @@ pub invariant_of-self : goal.invariant_of-self
 invariant_of-self c = (
   marked_after (changed (Off c.args.v)) (λ u. refl) (before c) (after c) (off c) c.self.inside.marked.items c.self.invariant.0,
   unless_after (changed (Off c.args.v)) (λ u. refl) (before c) (after c) (off c) is_settled c.self.inside.current.items (off_settled c.args.v) c.self.invariant.1,
-  as_many c.self.inside.homes.items c.self.inside.guests.items (before c) (after c) (off c).0
-      (unless_after (changed (Off c.args.v)) (λ u. refl) (before c) (after c) (off c) (is_home (length (before c)) c.self.inside.homes.items) c.self.inside.guests.items (off_home (length (before c)) c.self.inside.homes.items c.args.v) c.self.invariant.2),
+  as_many c.self.inside.class_owners.items c.self.inside.non_owners.items (before c) (after c) (off c).0
+      (unless_after (changed (Off c.args.v)) (λ u. refl) (before c) (after c) (off c) (owns_class (length (before c)) c.self.inside.class_owners.items) c.self.inside.non_owners.items (off_owns (length (before c)) c.self.inside.class_owners.items c.args.v) c.self.invariant.2),
 )
 
 pub returns : goal.returns

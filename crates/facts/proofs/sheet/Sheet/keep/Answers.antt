@@ -2,7 +2,7 @@ use Rattle.std.proofs.Common.{◌≡◌, ◌∙◌, ap, arith, length, map, sym,
 use Rattle.facts.specs.declared.row.Row.{Row}
 use Rattle.facts.specs.Numbered.{numbered_at, among_blank}
 use Rattle.facts.specs.Sheets.{OnlyCurrent}
-use Rattle.facts.proofs.Homes.{guests_of}
+use Rattle.facts.proofs.OwnersOf.{non_owners_of}
 use Rattle.facts.proofs.KeptRows.{kept_all}
 use Rattle.facts.proofs.sheet.Sheet.keep.Goals as goal
 
@@ -22,7 +22,7 @@ module _ (c : goal.After-len) where
 pub invariant_of-result : goal.invariant_of-result
 invariant_of-result c = (
   subst (λ (rows : List Row). OnlyCurrent c.in_ok-current.current.items rows) (sym (same_rows c)) (subst (λ (us : List ℕ). OnlyCurrent us (here c)) (sym (c.in_ok-current.ensures.items ∙ c.deref-3.ensures.value)) c.self.invariant.1),
-  guests_of c.in_ok-guests.guests.items c.self.inside.guests.items c.in_ok-homes.homes.items c.self.inside.homes.items (among_blank c.len.result c.in_ok-rows.rows.items) (here c) (c.in_ok-guests.ensures.items ∙ c.deref-5.ensures.value) (c.in_ok-homes.ensures.items ∙ c.deref-4.ensures.value) (same_rows c) c.self.invariant.2,
+  non_owners_of c.in_ok-non_owners.non_owners.items c.self.inside.non_owners.items c.in_ok-class_owners.class_owners.items c.self.inside.class_owners.items (among_blank c.len.result c.in_ok-rows.rows.items) (here c) (c.in_ok-non_owners.ensures.items ∙ c.deref-5.ensures.value) (c.in_ok-class_owners.ensures.items ∙ c.deref-4.ensures.value) (same_rows c) c.self.invariant.2,
 )
 
 pub returns : goal.returns

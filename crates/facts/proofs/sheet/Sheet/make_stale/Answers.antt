@@ -7,7 +7,7 @@ use Rattle.facts.specs.declared.row.Row.{Row}
 use Rattle.facts.specs.Facts.{lost_class, class_at}
 use Rattle.facts.specs.Sheets.{blank, row_at, each, EachRow, OnlyMarked, OnlyCurrent, class_of, keep_row, settle_row, stale_row}
 use Rattle.facts.proofs.Current.{stale_all, stale_marked, stale_none}
-use Rattle.facts.proofs.Homes.{stale_guests}
+use Rattle.facts.proofs.OwnersOf.{stale_non_owners}
 use Rattle.facts.proofs.Marked.{settle_twice}
 use Rattle.facts.proofs.sheet.Sheet.make_stale.Goals as goal
 
@@ -38,7 +38,7 @@ pub invariant_of-self : goal.invariant_of-self
 invariant_of-self c = (
   subst (λ (rows : List Row). OnlyMarked c.self.inside.marked.items rows) (sym (is c)) (stale_marked (classes c) (current c) (before c) (own c) c.self.invariant.1 settle_twice c.self.inside.marked.items c.self.invariant.0),
   subst (λ (us : List ℕ). OnlyCurrent us c.sweep.new.rows.items) (sym c.clear.ensures.items) (subst (λ (rows : List Row). OnlyCurrent [] rows) (sym (is c)) (stale_none (classes c) (current c) (before c) (own c) c.self.invariant.1 settle_twice)),
-  stale_guests (classes c) c.clear-3.new.self.items c.clear-2.new.self.items (before c) c.sweep.new.rows.items (stale c),
+  stale_non_owners (classes c) c.clear-3.new.self.items c.clear-2.new.self.items (before c) c.sweep.new.rows.items (stale c),
 )
 
 pub returns : goal.returns

@@ -3,7 +3,7 @@ use Rattle.facts.specs.declared.numbered.Numbered.{Numbered}
 use Rattle.facts.specs.declared.row.Row.{Row}
 use Rattle.facts.specs.Numbered.{number_of, written, among_blank}
 use Rattle.facts.specs.Sheets.{OnlyMarked, OnlyCurrent, blank, each, copied}
-use Rattle.facts.proofs.Homes.{guests_of}
+use Rattle.facts.proofs.OwnersOf.{non_owners_of}
 use Rattle.facts.proofs.KeptRows.{length_among, written_marked}
 use Rattle.facts.proofs.Sheets.{wiped_all}
 use Rattle.facts.proofs.sheet.Sheet.open.Goals as goal
@@ -19,11 +19,11 @@ module _ (c : After-drop-self-inside-4) where
   same_current : c.in_ok-current.current.items ≡ c.kept.inside.current.items
   same_current = c.in_ok-current.ensures.items ∙ c.deref-2.ensures.value
 
-  same_homes : c.in_ok-homes.homes.items ≡ c.kept.inside.homes.items
-  same_homes = c.in_ok-homes.ensures.items ∙ c.deref-3.ensures.value
+  same_class_owners : c.in_ok-class_owners.class_owners.items ≡ c.kept.inside.class_owners.items
+  same_class_owners = c.in_ok-class_owners.ensures.items ∙ c.deref-3.ensures.value
 
-  same_guests : c.in_ok-guests.guests.items ≡ c.kept.inside.guests.items
-  same_guests = c.in_ok-guests.ensures.items ∙ c.deref-4.ensures.value
+  same_non_owners : c.in_ok-non_owners.non_owners.items ≡ c.kept.inside.non_owners.items
+  same_non_owners = c.in_ok-non_owners.ensures.items ∙ c.deref-4.ensures.value
 
   long : length c.self.inside.rows.items ≡ c.kept.inside.count
   long = ap length c.self.view_is ∙ c.requires ∙ sym (ap length c.kept.view_is) ∙ length_among c.kept.inside.count c.kept.inside.rows.items
@@ -38,7 +38,7 @@ pub invariant_of-self : goal.invariant_of-self
 invariant_of-self c = (
   subst (λ (rows : List Row). OnlyMarked c.in_ok-marked.marked.items rows) (sym (same_rows c)) (subst (λ (marked : List ℕ). OnlyMarked marked (kept c)) (sym (same_marks c)) (written_marked c.kept.inside.count c.kept.inside.rows.items)),
   subst (λ (rows : List Row). OnlyCurrent c.in_ok-current.current.items rows) (sym (same_rows c)) (subst (λ (us : List ℕ). OnlyCurrent us (kept c)) (sym (same_current c)) c.kept.invariant.0),
-  guests_of c.in_ok-guests.guests.items c.kept.inside.guests.items c.in_ok-homes.homes.items c.kept.inside.homes.items c.write_rows.new.rows.items (kept c) (same_guests c) (same_homes c) (same_rows c) c.kept.invariant.1,
+  non_owners_of c.in_ok-non_owners.non_owners.items c.kept.inside.non_owners.items c.in_ok-class_owners.class_owners.items c.kept.inside.class_owners.items c.write_rows.new.rows.items (kept c) (same_non_owners c) (same_class_owners c) (same_rows c) c.kept.invariant.1,
 )
 
 pub returns-clause-ok : goal.returns-clause-ok

@@ -1,11 +1,11 @@
 use Rattle.std.proofs.Common.{sym, subst, List}
-use Rattle.facts.specs.declared.guests.Home.{Home}
-use Rattle.facts.specs.Guests.{OnlyGuests}
-use Rattle.facts.proofs.Homes.{own_guests}
+use Rattle.facts.specs.declared.owners.Owners.{Owners}
+use Rattle.facts.specs.Owners.{ListsNonOwners}
+use Rattle.facts.proofs.OwnersOf.{own_non_owners}
 use Rattle.facts.proofs.sheet.Sheet.own.Goals as goal
 
 pub invariant_of-self : goal.invariant_of-self
-invariant_of-self c = (c.self.invariant.0, c.self.invariant.1, subst (λ (homes : List Home). OnlyGuests c.self.inside.guests.items homes c.self.inside.rows.items) (sym c.in_err-push.ensures.items) c.self.invariant.2)
+invariant_of-self c = (c.self.invariant.0, c.self.invariant.1, subst (λ (class_owners : List Owners). ListsNonOwners c.self.inside.non_owners.items class_owners c.self.inside.rows.items) (sym c.in_err-push.ensures.items) c.self.invariant.2)
 
 pub invariant_of-self-2 : goal.invariant_of-self-2
-invariant_of-self-2 c = (c.self.invariant.0, c.self.invariant.1, subst (λ (homes : List Home). OnlyGuests c.self.inside.guests.items homes c.self.inside.rows.items) (sym c.in_ok-push.ensures.items) (own_guests (record { owner = c.number-owner.result; second = c.number-owner.result }) c.self.inside.guests.items c.self.inside.homes.items c.self.inside.rows.items c.self.invariant.2))
+invariant_of-self-2 c = (c.self.invariant.0, c.self.invariant.1, subst (λ (class_owners : List Owners). ListsNonOwners c.self.inside.non_owners.items class_owners c.self.inside.rows.items) (sym c.in_ok-push.ensures.items) (own_non_owners (record { first = c.number-first.result; second = c.number-first.result }) c.self.inside.non_owners.items c.self.inside.class_owners.items c.self.inside.rows.items c.self.invariant.2))

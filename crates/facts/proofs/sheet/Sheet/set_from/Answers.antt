@@ -1,7 +1,7 @@
 use Rattle.std.proofs.Common.{◌≡◌, ◌∙◌, ap, length, replicate, [], sym, List, ℕ, subst}
 use Rattle.facts.specs.declared.row.Row.{Row}
 use Rattle.facts.specs.Sheets.{OnlyMarked, OnlyCurrent, blank, each, copied}
-use Rattle.facts.proofs.Homes.{guests_of}
+use Rattle.facts.proofs.OwnersOf.{non_owners_of}
 use Rattle.facts.proofs.Sheets.{wiped_all, copied_all}
 use Rattle.facts.proofs.sheet.Sheet.set_from.Goals as goal
 use Rattle.facts.proofs.sheet.Sheet.set_from.Goals.{After-drop-self-inside-4}
@@ -13,11 +13,11 @@ module _ (c : After-drop-self-inside-4) where
   same_current : c.in_ok-current.current.items ≡ c.other.inside.current.items
   same_current = c.in_ok-current.ensures.items ∙ c.deref-2.ensures.value
 
-  same_homes : c.in_ok-homes.homes.items ≡ c.other.inside.homes.items
-  same_homes = c.in_ok-homes.ensures.items ∙ c.deref-3.ensures.value
+  same_class_owners : c.in_ok-class_owners.class_owners.items ≡ c.other.inside.class_owners.items
+  same_class_owners = c.in_ok-class_owners.ensures.items ∙ c.deref-3.ensures.value
 
-  same_guests : c.in_ok-guests.guests.items ≡ c.other.inside.guests.items
-  same_guests = c.in_ok-guests.ensures.items ∙ c.deref-4.ensures.value
+  same_non_owners : c.in_ok-non_owners.non_owners.items ≡ c.other.inside.non_owners.items
+  same_non_owners = c.in_ok-non_owners.ensures.items ∙ c.deref-4.ensures.value
 
   long : length c.self.inside.rows.items ≡ length c.other.inside.rows.items
   long = ap length c.self.view_is ∙ c.requires ∙ sym (ap length c.other.view_is)
@@ -31,7 +31,7 @@ pub invariant_of-self : goal.invariant_of-self
 invariant_of-self c = (
   subst (λ (rows : List Row). OnlyMarked c.in_ok-marked.marked.items rows) (sym (same_rows c)) (subst (λ (marked : List ℕ). OnlyMarked marked c.other.inside.rows.items) (sym (same_marks c)) c.other.invariant.0),
   subst (λ (rows : List Row). OnlyCurrent c.in_ok-current.current.items rows) (sym (same_rows c)) (subst (λ (us : List ℕ). OnlyCurrent us c.other.inside.rows.items) (sym (same_current c)) c.other.invariant.1),
-  guests_of c.in_ok-guests.guests.items c.other.inside.guests.items c.in_ok-homes.homes.items c.other.inside.homes.items c.copy-2.new.rows.items c.other.inside.rows.items (same_guests c) (same_homes c) (same_rows c) c.other.invariant.2,
+  non_owners_of c.in_ok-non_owners.non_owners.items c.other.inside.non_owners.items c.in_ok-class_owners.class_owners.items c.other.inside.class_owners.items c.copy-2.new.rows.items c.other.inside.rows.items (same_non_owners c) (same_class_owners c) (same_rows c) c.other.invariant.2,
 )
 
 pub returns-clause-ok : goal.returns-clause-ok

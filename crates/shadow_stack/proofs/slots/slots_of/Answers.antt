@@ -2,7 +2,7 @@ use Rattle.std.proofs.Common.{rules, ◌≡◌, ap, sym, ◌∙◌, false, lengt
 use Rattle.lemmas.specs.Lists.{length_replicate}
 use Rattle.shadow_stack.specs.Slots.{is_among}
 use Rattle.shadow_stack.proofs.Rows.{none_rooted}
-use Rattle.shadow_stack.proofs.slots.Slots.of.Goals as goal
+use Rattle.shadow_stack.proofs.slots.slots_of.Goals as goal
 
 -- src/slots.rt:54:9
 pub invariant_of-slots : goal.invariant_of-slots
