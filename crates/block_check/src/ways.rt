@@ -1,7 +1,6 @@
 //! The edges out of a block, and the first line of a target that is not shown.
-ghost use Rattle.std.specs.Prelude.{◌≡◌, [], map, position, not, Some, OnOk, IfOk};
+ghost use Rattle.std.specs.Prelude.{◌≡◌, [], map, Some, OnOk, IfOk};
 ghost use Rattle.facts.specs.Facts.{nothing_known};
-ghost use Rattle.facts.specs.Lines.{shows_line};
 ghost use Rattle.types.specs.ValueTypes.{target_of};
 ghost use Rattle.block_rules.specs.Ways.{open_way, branch_ways, ways, decided_facts, entered, line_facts, unshown_line, unshown_at, unshown_on};
 ghost use Rattle.block_check.specs.Subject.{seen, IsReady};
@@ -13,11 +12,9 @@ use crate::given::begin_lines;
 use crate::phis::note_entries;
 use crate::subject::{Subject, phis_of};
 use block_rules::Detail;
-use certs::Line;
 use facts::{Entry, Facts};
 use ir_ast::{BlockId, Case, End, Operand, ValueId};
 use items::Items;
-use shadow_stack::Slots;
 use std::alloc::{AllocError, Global};
 use types::target_of;
 
@@ -213,18 +210,24 @@ impl Rooms {
         ensures { IfOk result (λ found. found ≡ unshown_line (seen subject.now) to (entered (seen subject.now) exit.now.block to (decided_facts decided exit.now.facts.now))) }
     {
         if decided.is_none() && phis_of(subject.scene.function, to).is_empty() {
-            return Ok(self.unshown_line(subject, exit.facts, to));
+            return Ok(self.unshown_line(alloc, subject, exit.facts, to));
         }
         self.enter(alloc, subject, exit, decided, to)?;
-        Ok(self.unshown_line(subject, &self.way, to))
+        Ok(self.unshown_line(alloc, subject, &self.way, to))
     }
 
     /// The first line of the target that these facts do not show.
-    fn unshown_line(&self, subject: &Subject, facts: &Facts, to: BlockId) -> Option<usize>
+    fn unshown_line(
+        &self,
+        alloc: Global,
+        subject: &Subject,
+        facts: &Facts,
+        to: BlockId,
+    ) -> Option<usize>
         requires { self.now.there ≡ line_facts (seen subject.now) to }
         ensures { result ≡ unshown_line (seen subject.now) to facts.now }
     {
-        unshown_among(subject.scene.slots, facts, &self.there, subject.lines(to))
+        facts.first_unshown(alloc, subject.scene.slots, &self.there, subject.lines(to))
     }
 
     /// What is known after the phis of the target.
@@ -267,13 +270,4 @@ fn learn(facts: &mut Facts, decided: Option<(ValueId, bool)>) -> Result<(), Allo
         }
         None => Ok(()),
     }
-}
-
-/// The first line that these facts do not show; `there` is what its block begins with.
-fn unshown_among(slots: &Slots, facts: &Facts, there: &Facts, lines: &[Line]) -> Option<usize>
-    ensures { result ≡ position (λ line. not (shows_line slots.now facts.now there.now line)) lines.now }
-{
-    lines
-        .iter()
-        .position(|line| !facts.implies(slots, there, *line))
 }

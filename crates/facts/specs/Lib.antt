@@ -12,4 +12,5 @@ pub mod Values
 pub mod Uses
 pub mod Chains
 pub mod Statements
+pub mod Covered
 pub mod Shown

@@ -4,6 +4,7 @@
 mod chains;
 mod class_id;
 mod contents;
+mod covered;
 mod edges;
 mod facts;
 mod kept;

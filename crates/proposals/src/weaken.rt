@@ -42,7 +42,7 @@ pub fn weakened(
     listed: &BlockLines,
 ) -> Result<Option<BlockLines>, AllocError> {
     flow.begin_there(alloc, ground, listed.lines.as_slice())?;
-    if shows_all(ground, flow, listed.lines.as_slice()) {
+    if shows_all(alloc, ground, flow, listed.lines.as_slice()) {
         return Ok(None);
     }
     let met = met(alloc, ground, flow.way(), lengths, listed)?;
@@ -57,11 +57,10 @@ pub fn weakened(
     }
 }
 
-fn shows_all(ground: &Ground, flow: &FlowFacts, lines: &[Line]) -> bool {
-    let way = flow.way();
-    lines
-        .iter()
-        .all(|line| way.implies(&ground.slots, &flow.there, *line))
+fn shows_all(alloc: Global, ground: &Ground, flow: &FlowFacts, lines: &[Line]) -> bool {
+    flow.way()
+        .first_unshown(alloc, &ground.slots, &flow.there, lines)
+        .is_none()
 }
 
 /// What both the lines and the way say, line by line.
