@@ -125,6 +125,14 @@ def back_class(n):
     return function(body, lines_of, "%Node* %x")
 
 
+@kind("one class of a fresh reference")
+def fresh_class(n):
+    """Bitcasts of a cell that was claimed, each listed as fresh and the same at the next block."""
+    body = ("  %a = call i8* @dg_alloc(i32 0)\n  %x = bitcast i8* %a to %Node*\n"
+            + lines(n, lambda i: f"  %y{i} = bitcast %Node* %x to %Node*") + "  br label %next\nnext:\n  ret void\n")
+    return function(body, "block %next\n%x ref Node fresh\n" + lines(n, lambda i: f"%y{i} ref Node fresh same %x"))
+
+
 @kind("classes of two")
 def classes(n):
     """Pairs of references that are the same."""

@@ -111,6 +111,15 @@ def values_blocks(n):
     return function(body, lines(n, lambda i: f"block %b{i}\n%v{i} i64"), K)
 
 
+@kind("values and blocks with phis", 20000)
+def values_phis(n):
+    """A switch to blocks with a phi and a line each, after numbers."""
+    listed = " ".join(f"i64 {i}, label %b{i}" for i in range(n))
+    body = (numbers(n) + f"  switch i64 %k, label %b0 [ {listed} ]\n"
+            + lines(n, lambda i: f"b{i}:\n  %p{i} = phi i64 [ {i}, %entry ]" + (f", [ {i}, %entry ]" if i == 0 else "") + "\n  ret void"))
+    return function(body, lines(n, lambda i: f"block %b{i}\n%p{i} i64"), K)
+
+
 @kind("lines and switch cases")
 def lines_cases(n):
     """Cases that lead to one block with lines."""

@@ -3,10 +3,11 @@
 
     workers.py DGC [--functions N] [--seed S] [--runs R] [--workers N ..]
 
-With several workers it is the time from the start of the first thread to the end of the last one, which `strace` notes. With one
-worker there is no thread to look at: it is the time of the whole, without the time of the same module with a function before all
-others that breaks a rule, since the check then stops there. Prints the fastest and the middle of R runs. For use by hand, where
-nothing else runs.
+With several workers it is the time from the start of the first thread to the end of the last share, which `strace` notes. One
+share runs on the first thread: where the first thread does not wait for another after its share, the end is that of its next
+call, the write of the verdict, so the time is too long rather than too short. With one worker there is no thread to look at: it
+is the time of the whole, without the time of the same module with a function before all others that breaks a rule, since the
+check then stops there. Prints the fastest and the middle of R runs. For use by hand, where nothing else runs.
 """
 import argparse
 import os
@@ -48,16 +49,23 @@ def by_one(dgc, base, refused, runs):
     return [whole - rest for whole, _ in pairs]
 
 
+def span(lines):
+    """The seconds from the start of the first thread to the end of the last share."""
+    calls = [(float(when), thread, name) for thread, when, name in re.findall(r"^(\d+) +([\d.]+) (\w+)\(", "\n".join(lines), re.M)]
+    starts = [(when, thread) for when, thread, name in calls if name.startswith("clone")]
+    ends = [when for when, _, name in calls if name == "exit"]
+    first, began = starts[0][1], starts[-1][0]
+    after = [(when, name) for when, thread, name in calls if thread == first and when > began and name in ("futex", "write")]
+    return max(max(ends), after[0][0]) - starts[0][0]
+
+
 def by_threads(dgc, base, workers, runs, noted):
-    """The seconds from the start of the first thread to the end of the last one, in each run."""
-    command = ["strace", "-f", "--seccomp-bpf", "-ttt", "-e", "trace=clone3,clone,exit", "-o", noted,
+    """The seconds from the start of the first thread to the end of the last share, in each run."""
+    command = ["strace", "-f", "--seccomp-bpf", "-ttt", "-e", "trace=clone3,clone,exit,futex,write", "-o", noted,
                dgc, "check", base + ".ll", base + ".cert", "--workers", str(workers)]
     for _ in range(runs):
         subprocess.run(command, check=True, stdout=subprocess.DEVNULL)
-        lines = content(noted).splitlines()
-        starts = [float(line.split()[1]) for line in lines if re.search(r"\bclone3?\(", line)]
-        ends = [float(line.split()[1]) for line in lines if re.search(r"\bexit\(", line)]
-        yield max(ends) - min(starts)
+        yield span(content(noted).splitlines())
 
 
 def main():

@@ -11,6 +11,7 @@ mod Changes
 mod Forgets
 mod Classes
 mod Stale
+mod Unfresh
 mod Shows
 mod Slots
 mod SlotLists
