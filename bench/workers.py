@@ -7,7 +7,9 @@ With several workers it is the time from the start of the first thread to the en
 share runs on the first thread: where the first thread does not wait for another after its share, the end is that of its next
 call, the write of the verdict, so the time is too long rather than too short. With one worker there is no thread to look at: it
 is the time of the whole, without the time of the same module with a function before all others that breaks a rule, since the
-check then stops there. Prints the fastest and the middle of R runs. For use by hand, where nothing else runs.
+check then stops there. Prints the fastest and the middle of R runs. The last column says how many times as fast N workers could
+be on this machine: N programs with one worker each run at once, and each takes longer than one alone. For use by hand, where
+nothing else runs.
 """
 import argparse
 import os
@@ -68,6 +70,17 @@ def by_threads(dgc, base, workers, runs, noted):
         yield span(content(noted).splitlines())
 
 
+def at_once(dgc, base, count, runs):
+    """The processor seconds of a check where `count` of them run at once, the middle of all."""
+    took = []
+    for _ in range(runs):
+        started = [subprocess.Popen([dgc, "check", base + ".ll", base + ".cert"], stdout=subprocess.DEVNULL) for _ in range(count)]
+        for _ in started:
+            used = os.wait3(0)[2]
+            took.append(used.ru_utime + used.ru_stime)
+    return statistics.median(took)
+
+
 def main():
     parser = argparse.ArgumentParser(description=__doc__.split("\n")[0])
     parser.add_argument("dgc")
@@ -82,13 +95,15 @@ def main():
                         "--seed", str(options.seed), base], check=True)
         with_refused(base, refused)
         print(f"{options.functions} functions, {os.path.getsize(base + '.ll') / 1e6:.2f} MB of text")
-        print("workers   fastest    middle  times as fast, by the fastest and by the middle")
+        print("workers   fastest    middle  times as fast, by the fastest and by the middle, and at most")
         alone = by_one(options.dgc, base, refused, options.runs)
         print(f"{1:7} {min(alone) * 1000:7.1f}ms {statistics.median(alone) * 1000:7.1f}ms")
+        lone = at_once(options.dgc, base, 1, options.runs)
         for workers in options.workers:
             took = list(by_threads(options.dgc, base, workers, options.runs, os.path.join(folder, "noted")))
             print(f"{workers:7} {min(took) * 1000:7.1f}ms {statistics.median(took) * 1000:7.1f}ms"
-                  f"  {min(alone) / min(took):5.2f} {statistics.median(alone) / statistics.median(took):5.2f}")
+                  f"  {min(alone) / min(took):5.2f} {statistics.median(alone) / statistics.median(took):5.2f}"
+                  f" {workers * lone / at_once(options.dgc, base, workers, options.runs):5.2f}")
 
 
 if __name__ == "__main__":
